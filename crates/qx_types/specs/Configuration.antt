@@ -1,0 +1,34 @@
+-- Who uses the system: names and numbers within the limits.
+use Rattle.std.specs.Prelude.{◌≢◌, ℕ, zero, suc, Option, None, slice_get, ◌≤◌, Bool, false, ◌&&◌, ◌||◌, nat_le, IsTrue, List, [], ◌∷◌, length, All, AllPairs}
+use Rattle.std.specs.List.{list_all}
+
+-- the users' names in the order of their numbers, and the number of workers
+pub record Configuration : Type 0 where
+  pub users : List (List ℕ)
+  pub workers : ℕ
+
+-- the name of the user with that number, from 1
+abbrev pub name_of : Configuration → ℕ → Option (List ℕ)
+name_of c zero = None
+name_of c (suc n) = slice_get c.users n
+
+-- a lower-case ASCII letter
+abbrev pub is_letter : ℕ → Bool
+is_letter c = nat_le 97 c && nat_le c 122
+
+-- a lower-case ASCII letter or a digit
+abbrev pub is_letter_or_digit : ℕ → Bool
+is_letter_or_digit c = is_letter c || (nat_le 48 c && nat_le c 57)
+
+-- 1 to 16 lower-case ASCII letters and digits, a letter first
+abbrev pub is_user_name : List ℕ → Bool
+is_user_name [] = false
+is_user_name (first ∷ rest) = is_letter first && list_all is_letter_or_digit rest && nat_le (length rest) 15
+
+-- at most 16 users with different names, and 1 to 8 workers
+pub record IsConfiguration (names : List (List ℕ)) (workers : ℕ) : Type 0 where
+  pub few_users : length names ≤ 16
+  pub good_names : All (λ name. IsTrue (is_user_name name)) names
+  pub different_names : AllPairs (λ one other. one ≢ other) names
+  pub some_worker : 1 ≤ workers
+  pub few_workers : workers ≤ 8

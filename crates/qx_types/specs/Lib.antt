@@ -1,0 +1,4 @@
+pub mod Configuration
+pub mod Errno
+pub mod Flags
+pub mod Step

@@ -1,0 +1,212 @@
+ghost use Rattle.std.specs.Prelude.{◌≡◌, ◌↔◌, ◌≢◌, ◌≤◌, All, AllPairs, IsTrue, IsSome, IfSome, length};
+ghost use Rattle.std.specs.List.{list_all};
+ghost use Rattle.std.specs.Option.{option_copied};
+ghost use Rattle.qx_types.specs.Configuration.{is_letter_or_digit, is_user_name, name_of, IsConfiguration};
+
+use crate::bytes::Bytes;
+use crate::limits::Limits;
+use crate::names::User;
+use std::alloc::AllocError;
+use std::marker::Model;
+
+/// Who uses the system and how many workers serve it. Users are numbered from 1 in the order of their names.
+#[derive(Debug, Drop)]
+pub struct Config {
+    names: Vec<Bytes>,
+    workers: u8,
+}
+
+impl Model for Config {
+    ghost use Rattle.qx_types.specs.Configuration.{Configuration};
+
+    ghost Value = { Configuration };
+
+    ghost view = { λ c. record { users = c.names.items; workers = c.workers } };
+
+    ghost use Rattle.std.specs.Prelude.{◌≤◌, vec_len};
+
+    ghost invariant = { λ c. (vec_len c.names ≤ 16) × (c.workers ≤ 8) };
+}
+
+// Written out and not derived, so that its contract says outright that the copy is equal.
+impl Clone for Config {
+    ghost is_clone = { λ original copy. copy ≡ original };
+
+    fn clone(&self) -> Result<Config, AllocError> {
+        Ok(Config {
+            names: self.names.clone()?,
+            workers: self.workers,
+        })
+    }
+}
+
+impl Config {
+    /// A configuration, exactly where the names and numbers are within the limits and no two names are equal.
+    pub fn new(names: Vec<Bytes>, workers: u8) -> Option<Config>
+        ensures valid { IsSome result ↔ IsConfiguration names.items workers }
+        ensures value { IfSome result (λ c. c ≡ record { users = names.items; workers = workers }) }
+    {
+        if names.len() <= Limits::USERS
+            && (1..=Limits::WORKERS).contains(&workers)
+            && are_names(&names)
+        {
+            Some(Config { names, workers })
+        } else {
+            None
+        }
+    }
+
+    /// How many workers there are.
+    pub fn workers(&self) -> u8
+        ensures workers { result ≡ self.now.workers }
+        ensures few { result ≤ 8 }
+    {
+        self.workers
+    }
+
+    /// The users' names, in the order of their numbers.
+    pub fn names(&self) -> &[Bytes]
+        ensures { result.now ≡ self.now.users }
+    {
+        self.names.as_slice()
+    }
+
+    /// How many users there are.
+    pub fn user_count(&self) -> usize
+        ensures count { result ≡ length self.now.users }
+        ensures few { result ≤ 16 }
+    {
+        self.names.len()
+    }
+
+    /// The user's name; no user has the number 0 or one past the last.
+    pub fn name(&self, user: User) -> Option<&Bytes>
+        ensures { option_copied result ≡ name_of self.now user.0 }
+    {
+        let index = usize::from(user.0).checked_sub(1)?;
+        self.names.get(index)
+    }
+}
+
+/// Whether all names are users' names and no two of them are equal.
+fn are_names(names: &[Bytes]) -> bool
+    ensures { IsTrue result ↔ (All (λ name. IsTrue (is_user_name name)) names.now × AllPairs (λ one other. one ≢ other) names.now) }
+{
+    names.iter().all(|name| is_name(name.as_slice())) && are_different(names)
+}
+
+/// Whether the bytes are a user's name.
+fn is_name(bytes: &[u8]) -> bool
+    ensures { result ≡ is_user_name bytes.now }
+{
+    match bytes.split_first() {
+        None => false,
+        Some((first, rest)) => {
+            first.is_ascii_lowercase() && are_letters_or_digits(rest) && rest.len() < Limits::NAME
+        }
+    }
+}
+
+/// Whether there are only lower-case letters and digits.
+fn are_letters_or_digits(bytes: &[u8]) -> bool
+    ensures { result ≡ list_all is_letter_or_digit bytes.now }
+{
+    bytes
+        .iter()
+        .all(|byte| byte.is_ascii_lowercase() || byte.is_ascii_digit())
+}
+
+/// Whether no two names are equal.
+fn are_different(names: &[Bytes]) -> bool
+    ensures { IsTrue result ↔ AllPairs (λ one other. one ≢ other) names.now }
+{
+    for (index, name) in names.iter().enumerate() {
+        if names[..index].contains(name) {
+            return false;
+        }
+    }
+    true
+}
+
+#[cfg(test)]
+mod tests {
+    use super::*;
+    use std::alloc::Global;
+    use std::test::Fail;
+
+    fn names_of(alloc: Global, texts: &[&str]) -> Result<Vec<Bytes>, AllocError> {
+        let mut names = Vec::new(alloc);
+        for text in texts {
+            names.push(Bytes::from_slice(alloc, text.as_bytes())?)?;
+        }
+        Ok(names)
+    }
+
+    fn letters(alloc: Global, last: u8) -> Result<Vec<Bytes>, AllocError> {
+        let mut names = Vec::new(alloc);
+        for letter in b'a'..=last {
+            names.push(Bytes::from_slice(alloc, &[letter])?)?;
+        }
+        Ok(names)
+    }
+
+    #[test]
+    fn refuses_each_broken_rule(rt: HostRuntime) -> Result<(), Fail> {
+        let alloc = rt.alloc();
+        assert!(rt; Config::new(letters(alloc, b'q')?, 1).is_none(), "17 users");
+        for name in ["", "abcdefghijklmnopq", "1abc", "aBc", "a-b"] {
+            assert!(rt;
+                Config::new(names_of(alloc, &["ann", name])?, 1).is_none(),
+                "the name {name:?}"
+            );
+        }
+        assert!(rt;
+            Config::new(names_of(alloc, &["ann", "bob", "ann"])?, 1).is_none(),
+            "equal names"
+        );
+        for workers in [0, 9] {
+            assert!(rt;
+                Config::new(names_of(alloc, &["ann"])?, workers).is_none(),
+                "{workers} workers"
+            );
+        }
+        Ok(())
+    }
+
+    #[test]
+    fn takes_the_last_allowed_values(rt: HostRuntime) -> Result<(), Fail> {
+        let alloc = rt.alloc();
+        assert!(rt;
+            Config::new(letters(alloc, b'p')?, 8).is_some(),
+            "16 users and 8 workers"
+        );
+        assert!(rt;
+            Config::new(names_of(alloc, &["abcdefghijklmn09", "z"])?, 1).is_some(),
+            "16 bytes"
+        );
+        assert!(rt; Config::new(Vec::new(alloc), 1).is_some(), "no users");
+        Ok(())
+    }
+
+    #[test]
+    fn numbers_users_from_one(rt: HostRuntime) -> Result<(), Fail> {
+        let Some(config) = Config::new(names_of(rt.alloc(), &["ann", "bob"])?, 3) else {
+            return Err(Fail::from("refused"));
+        };
+        let copy = config.clone()?;
+        assert_eq!(rt; copy.workers(), 3);
+        assert_eq!(rt; copy.user_count(), 2);
+        assert_eq!(rt; copy.names().len(), 2);
+        assert_eq!(rt;
+            copy.name(User(1)).map(|name| name.as_slice()),
+            Some(b"ann".as_slice())
+        );
+        assert_eq!(rt;
+            copy.name(User(2)).map(|name| name.as_slice()),
+            Some(b"bob".as_slice())
+        );
+        assert!(rt; copy.name(User(0)).is_none());
+        assert!(rt; copy.name(User(3)).is_none());
+        Ok(())
+    }
+}

@@ -1,0 +1,60 @@
+/// A user's number, from 1 in the order of the configuration.
+#[derive(Clone, Copy, Debug, PartialEq, Eq)]
+pub struct User(pub u8);
+
+/// A process: its user, and its number among that user's processes, from 1.
+#[derive(Clone, Copy, Debug, PartialEq, Eq)]
+pub struct Proc {
+    pub user: User,
+    pub num: u8,
+}
+
+/// A thread of a process, from 1 to 4.
+#[derive(Clone, Copy, Debug, PartialEq, Eq)]
+pub struct Thread {
+    pub proc: Proc,
+    pub tid: u8,
+}
+
+/// A connection's number in its process, from 3 as a file descriptor's (C Library Reference: `ConnectAttach`; that they
+/// begin at 3 is this profile).
+#[derive(Clone, Copy, Debug, PartialEq, Eq)]
+pub struct Coid(pub u8);
+
+/// A priority. The system gives 1 (lowest) to 63 (highest) to threads and messages; other numbers are refused where a
+/// step names them.
+#[derive(Clone, Copy, Debug, PartialEq, Eq)]
+pub struct Prio(pub u8);
+
+/// A resource manager.
+#[derive(Clone, Copy, Debug, PartialEq, Eq)]
+pub enum Manager {
+    /// Files and directories in memory.
+    Ram,
+    /// Pipes.
+    Pipe,
+}
+
+/// A worker's number, from 1.
+#[derive(Clone, Copy, Debug, PartialEq, Eq)]
+pub struct Worker(pub u8);
+
+/// Who takes a client step.
+#[derive(Clone, Copy, Debug, PartialEq, Eq)]
+pub enum Actor {
+    OfUser(User),
+    OfProc(Proc),
+    OfThread(Thread),
+}
+
+/// What a line holds and a worker takes (System Architecture: messages and pulses; that both stand in one line is this
+/// profile).
+#[derive(Clone, Copy, Debug, PartialEq, Eq)]
+pub enum Item {
+    /// The message that a thread sent.
+    Message(Thread),
+    /// The pulse that asks to unblock a thread.
+    Unblock(Thread),
+    /// The pulse that a process has lost its last connection.
+    Disconnect(Proc),
+}

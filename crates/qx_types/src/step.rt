@@ -1,0 +1,134 @@
+ghost use Rattle.std.specs.Prelude.{◌≡◌};
+ghost use Rattle.qx_types.specs.Step.{is_client_step};
+
+use crate::bytes::Bytes;
+use crate::flags::OFlags;
+use crate::names::{Coid, Manager, Prio, Thread, User, Worker};
+use std::alloc::AllocError;
+
+/// What a client asks of a resource manager.
+#[derive(Debug, Drop, PartialEq, Eq)]
+pub enum Request {
+    /// Opens a name (C Library Reference: `open`). The mode has at most the bits 0777.
+    OpenPath {
+        path: Bytes,
+        flags: OFlags,
+        mode: u16,
+    },
+    /// Closes a connection (C Library Reference: `close`).
+    Close {
+        coid: Coid,
+    },
+    /// Asks for the status of what a connection has open (C Library Reference: `fstat`).
+    Fstat {
+        coid: Coid,
+    },
+}
+
+/// One step of the system, taken by a client or by a worker.
+#[derive(Debug, Drop, PartialEq, Eq)]
+pub enum Step {
+    /// Starts a process of so many threads, each of that priority.
+    Spawn { user: User, threads: u8, prio: Prio },
+    /// Sends a request as a message and blocks the thread (C Library Reference: `MsgSend`).
+    Call { thread: Thread, request: Request },
+    /// Takes the answer that unblocks the thread.
+    TakeReply { thread: Thread },
+    /// Takes the first item of a manager's line (C Library Reference: `MsgReceive`).
+    Receive { worker: Worker, manager: Manager },
+    /// Does what the worker holds, at a moment that becomes the times of what it changes.
+    Perform { worker: Worker, moment: u64 },
+}
+
+impl Step {
+    /// Whether a client takes the step, and not a worker.
+    pub fn is_client(&self) -> bool
+        ensures { result ≡ is_client_step self.now }
+    {
+        match self {
+            Step::Spawn { .. } | Step::Call { .. } | Step::TakeReply { .. } => true,
+            Step::Receive { .. } | Step::Perform { .. } => false,
+        }
+    }
+}
+
+// Written out and not derived, so that its contract says outright that the copy is equal.
+impl Clone for Request {
+    ghost is_clone = { λ original copy. copy ≡ original };
+
+    fn clone(&self) -> Result<Request, AllocError> {
+        Ok(match self {
+            Request::OpenPath { path, flags, mode } => Request::OpenPath {
+                path: path.clone()?,
+                flags: *flags,
+                mode: *mode,
+            },
+            Request::Close { coid } => Request::Close { coid: *coid },
+            Request::Fstat { coid } => Request::Fstat { coid: *coid },
+        })
+    }
+}
+
+impl Clone for Step {
+    ghost is_clone = { λ original copy. copy ≡ original };
+
+    fn clone(&self) -> Result<Step, AllocError> {
+        Ok(match self {
+            Step::Spawn {
+                user,
+                threads,
+                prio,
+            } => Step::Spawn {
+                user: *user,
+                threads: *threads,
+                prio: *prio,
+            },
+            Step::Call { thread, request } => Step::Call {
+                thread: *thread,
+                request: request.clone()?,
+            },
+            Step::TakeReply { thread } => Step::TakeReply { thread: *thread },
+            Step::Receive { worker, manager } => Step::Receive {
+                worker: *worker,
+                manager: *manager,
+            },
+            Step::Perform { worker, moment } => Step::Perform {
+                worker: *worker,
+                moment: *moment,
+            },
+        })
+    }
+}
+
+#[cfg(test)]
+mod tests {
+    use super::*;
+    use crate::names::Proc;
+    use std::test::Fail;
+
+    #[test]
+    fn tells_client_steps(rt: HostRuntime) -> Result<(), Fail> {
+        let proc = Proc {
+            user: User(1),
+            num: 1,
+        };
+        let request = Request::OpenPath {
+            path: Bytes::from_slice(rt.alloc(), b"/tmp/log")?,
+            flags: OFlags::CREAT | OFlags::WRITE,
+            mode: 0o644,
+        };
+        let call = Step::Call {
+            thread: Thread { proc, tid: 1 },
+            request: request.clone()?,
+        };
+        assert!(rt; call.is_client());
+        assert_eq!(rt; call.clone()?, call);
+        assert_ne!(rt; request, Request::Close { coid: Coid(3) });
+        let receive = Step::Receive {
+            worker: Worker(1),
+            manager: Manager::Ram,
+        };
+        assert!(rt; !receive.is_client());
+        Ok(())
+    }
+}
