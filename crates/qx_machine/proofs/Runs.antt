@@ -1,0 +1,98 @@
+-- Runs: what the run without the steps that are not a user's gives that user.
+use Rattle.std.proofs.Common.{◌≡◌, ℕ, zero, suc, List, [], ◌∷◌, ◌++◌, refl, sym, ap, ◌∙◌}
+use Rattle.std.specs.Prelude.{None, map, replicate}
+use Rattle.std.proofs.lemmas.Bool.{cond_both}
+use Rattle.qx_types.specs.Configuration.{Configuration}
+use Rattle.qx_types.specs.declared.step.Step.{Step}
+use Rattle.qx_machine.specs.declared.rows.Entry.{Entry}
+use Rattle.qx_machine.specs.Laws.{own_entries}
+use Rattle.qx_machine.specs.Machine.{World, boot, boot_parts, rank, step, owner, own_hand, view}
+use Rattle.qx_machine.specs.Runs.{world_after, entries_from, run, seen_by, actor_of, received, is_owner, erase_from, erase}
+use Rattle.qx_machine.proofs.Orders.{in_order_none}
+use Rattle.qx_machine.proofs.Places.{set-row_at}
+use Rattle.qx_machine.proofs.Steps.{reached_step, step_own, step_other, owner_own, seen_other}
+use Rattle.qx_machine.proofs.Views.{IsReached}
+
+-- boot
+
+reached_boot : (config : Configuration) → IsReached (boot config)
+unfolding boot
+reached_boot config = record { ram = in_order_none rank; pipe = in_order_none rank; parts = refl }
+
+own_hand-replicate : (user workers : ℕ) → map (own_hand user) (replicate workers None) ≡ replicate workers None
+own_hand-replicate user zero = refl
+own_hand-replicate user (suc workers) = ap (λ hands. None ∷ hands) (own_hand-replicate user workers)
+
+view-boot : (user : ℕ) (config : Configuration) → view user (boot config) ≡ boot config
+unfolding view boot
+view-boot user config = λ i. record {
+  config = config;
+  parts = set-row_at (None ∷ boot_parts config 1 config.users) user i;
+  ram = [];
+  pipe = [];
+  hands = None ∷ own_hand-replicate user config.workers i;
+}
+
+reached_after : (w : World) (steps : List Step) → IsReached w → IsReached (world_after w steps)
+reached_after w [] h = h
+reached_after w (e ∷ steps) h = reached_after (step w e).world steps (reached_step w e h)
+
+-- from any world that a run reaches
+
+world_own : (user : ℕ) (w : World) (steps : List Step) → IsReached w → world_after (view user w) (erase_from user w steps) ≡ view user (world_after w steps)
+world_own user w [] h = refl
+world_own user w (e ∷ steps) h =
+    let next = (step w e).world in
+    let rest = erase_from user next steps in
+    let later = world_own user next steps (reached_step w e h) in
+    cond_both (is_owner user (owner w e)) (e ∷ rest) rest (λ l. world_after (view user w) l ≡ view user (world_after next steps))
+    (λ own. ap (λ after. world_after after.world rest) (step_own w user e h own) ∙ later)
+    (λ other. ap (λ v. world_after v rest) (sym (step_other w user e other)) ∙ later)
+
+entries_own : (user : ℕ) (w : World) (steps : List Step) → IsReached w → entries_from (view user w) (erase_from user w steps) ≡ own_entries user w steps
+entries_own user w [] h = refl
+entries_own user w (e ∷ steps) h =
+    let next = (step w e).world in
+    let rest = erase_from user next steps in
+    let later = entries_own user next steps (reached_step w e h) in
+    cond_both (is_owner user (owner w e)) (e ∷ rest) rest (λ l. entries_from (view user w) l ≡ own_entries user w (e ∷ steps))
+    (λ own. let same = step_own w user e h own in
+    rw own (λ i. record { step = e; outcome = (same i).outcome } ∷ (ap (λ after. entries_from after.world rest) same ∙ later) i))
+    (λ other. rw other (ap (λ v. entries_from v rest) (sym (step_other w user e other)) ∙ later))
+
+erased_own : (user : ℕ) (w : World) (steps : List Step) → IsReached w → erase_from user (view user w) (erase_from user w steps) ≡ erase_from user w steps
+erased_own user w [] h = refl
+erased_own user w (e ∷ steps) h =
+    let next = (step w e).world in
+    let rest = erase_from user next steps in
+    let later = erased_own user next steps (reached_step w e h) in
+    cond_both (is_owner user (owner w e)) (e ∷ rest) rest (λ l. erase_from user (view user w) l ≡ l)
+    (λ own. rw (ap (is_owner user) (owner_own w user e own) ∙ own) (ap (λ l. e ∷ l) (ap (λ after. erase_from user after.world rest) (step_own w user e h own) ∙ later)))
+    (λ other. ap (λ v. erase_from user v rest) (sym (step_other w user e other)) ∙ later)
+
+received_own : (user : ℕ) (w : World) (steps : List Step) → received user (entries_from w steps) ≡ received user (own_entries user w steps)
+received_own user w [] = refl
+received_own user w (e ∷ steps) =
+    let next = (step w e).world in
+    let entry : Entry = record { step = e; outcome = (step w e).outcome } in
+    let later = received_own user next steps in
+    cond_both (is_owner user (owner w e)) (entry ∷ own_entries user next steps) (own_entries user next steps) (λ l. received user (entry ∷ entries_from next steps) ≡ received user l)
+    (λ own. ap (λ l. seen_by user entry.outcome (actor_of e) ++ l) later)
+    (λ other. rw (seen_other w user e entry.outcome other) later)
+
+-- from boot
+
+pub run_entries : (config : Configuration) (steps : List Step) (user : ℕ) → (run config (erase user config steps)).entries ≡ own_entries user (boot config) steps
+run_entries config steps user = ap (λ w. entries_from w (erase user config steps)) (sym (view-boot user config)) ∙ entries_own user (boot config) steps (reached_boot config)
+
+pub run_world : (config : Configuration) (steps : List Step) (user : ℕ) → (run config (erase user config steps)).world ≡ view user (run config steps).world
+run_world config steps user = ap (λ w. world_after w (erase user config steps)) (sym (view-boot user config)) ∙ world_own user (boot config) steps (reached_boot config)
+
+pub run_received : (config : Configuration) (steps : List Step) (user : ℕ) → received user (run config steps).entries ≡ received user (run config (erase user config steps)).entries
+run_received config steps user = received_own user (boot config) steps ∙ ap (received user) (sym (run_entries config steps user))
+
+pub run_erased : (config : Configuration) (steps : List Step) (user : ℕ) → erase user config (erase user config steps) ≡ erase user config steps
+run_erased config steps user = ap (λ w. erase_from user w (erase user config steps)) (sym (view-boot user config)) ∙ erased_own user (boot config) steps (reached_boot config)
+
+pub run_reached : (config : Configuration) (steps : List Step) → IsReached (run config steps).world
+run_reached config steps = reached_after (boot config) steps (reached_boot config)

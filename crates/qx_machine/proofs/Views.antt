@@ -1,0 +1,105 @@
+-- What the end of a step, and a client's step, do to the view of their own user and to the views of others.
+use Rattle.std.proofs.Common.{◌≡◌, ◌≢◌, ℕ, List, length, false, refl, sym, ap, subst, ◌∙◌, length-set}
+use Rattle.std.specs.Prelude.{◌==◌, Option, Some, None, map, slice_set}
+use Rattle.std.proofs.lemmas.Bool.{eqb-false}
+use Rattle.std.proofs.lemmas.List.{set-set}
+use Rattle.qx_types.specs.declared.names.Manager.{Manager}
+use Rattle.qx_types.specs.declared.names.Manager.TheVariants.{Ram, Pipe}
+use Rattle.qx_types.specs.declared.step.Step.{Step}
+use Rattle.qx_machine.specs.Laws.{IsInOrder}
+use Rattle.qx_machine.specs.Machine.{World, After, boot, rank, own_held, own_hand, own_line, acted, client_step, client_acted, line_of, view}
+use Rattle.qx_machine.specs.Rows.{row_at}
+use Rattle.qx_machine.specs.Users.{Part, Change, client, settle}
+use Rattle.qx_machine.proofs.Changes.{own_held-view, own_line-after, own_line-after_other, in_order_after}
+use Rattle.qx_machine.proofs.Places.{row_at-set_other, set-row_at_set, row_at-set_row_at, row_at-map}
+
+-- what holds of each world that a run reaches
+pub record IsReached (w : World) : Type 0 where
+  pub ram : IsInOrder rank w.ram
+  pub pipe : IsInOrder rank w.pipe
+  pub parts : length w.parts ≡ length (boot w.config).parts
+
+-- what a step gives, as one user sees it
+abbrev pub viewed : ℕ → After → After
+viewed user after = record { world = view user after.world; outcome = after.outcome }
+
+row_at-view_self : (user : ℕ) (w : World) → IsReached w → row_at (view user w).parts user ≡ row_at w.parts user
+unfolding view
+row_at-view_self user w h = row_at-set_row_at (boot w.config).parts w.parts user h.parts
+
+pub row_at-view : (user of : ℕ) (w : World) → IsReached w → of ≡ user → row_at (view user w).parts of ≡ row_at w.parts of
+row_at-view user of w h same = subst (λ n. row_at (view n w).parts of ≡ row_at w.parts of) same (row_at-view_self of w h)
+
+pub row_at-hands : (user : ℕ) (w : World) (worker : ℕ) → row_at (view user w).hands worker ≡ own_hand user (row_at w.hands worker)
+unfolding view
+row_at-hands user w worker = row_at-map (own_hand user) w.hands worker refl
+
+pub line_of-view : (user : ℕ) (w : World) (manager : Manager) → line_of (view user w) manager ≡ own_line user (line_of w manager)
+unfolding view
+line_of-view user w Ram = refl
+line_of-view user w Pipe = refl
+
+-- the end of a step
+
+pub reached_acted : (user : ℕ) (before after : Part) (changes : List Change) (w : World) → IsReached w → IsReached (acted user before after changes w)
+reached_acted user before after changes w h = record {
+  ram = in_order_after user Ram w.ram changes h.ram;
+  pipe = in_order_after user Pipe w.pipe changes h.pipe;
+  parts = length-set w.parts user (Some (settle before (own_held user w.hands) after)) ∙ h.parts;
+}
+
+pub acted_self : (user : ℕ) (before after : Part) (changes : List Change) (w : World) → IsReached w → view user (acted user before after changes w) ≡ acted user before after changes (view user w)
+unfolding view
+acted_self user before after changes w h = λ i. record {
+  config = w.config;
+  parts = parts i;
+  ram = own_line-after user Ram w.ram changes h.ram i;
+  pipe = own_line-after user Pipe w.pipe changes h.pipe i;
+  hands = map (own_hand user) w.hands;
+}
+  where
+    parts : slice_set (boot w.config).parts user (row_at (slice_set w.parts user (Some (settle before (own_held user w.hands) after))) user)
+        ≡ slice_set (slice_set (boot w.config).parts user (row_at w.parts user)) user (Some (settle before (own_held user (map (own_hand user) w.hands)) after))
+    parts = rw (own_held-view user w.hands)
+        (set-row_at_set (boot w.config).parts w.parts user (Some (settle before (own_held user w.hands) after)) h.parts
+        ∙ sym (set-set (boot w.config).parts user (row_at w.parts user) (Some (settle before (own_held user w.hands) after))))
+
+pub acted_own : (user of : ℕ) (before after : Part) (changes : List Change) (w : World) → IsReached w → of ≡ user → view user (acted of before after changes w) ≡ acted of before after changes (view user w)
+acted_own user of before after changes w h same = subst (λ n. view n (acted of before after changes w) ≡ acted of before after changes (view n w)) same (acted_self of before after changes w h)
+
+pub acted_other : (user other : ℕ) (before after : Part) (changes : List Change) (w : World) → (other == user) ≡ false → view user (acted other before after changes w) ≡ view user w
+unfolding view
+acted_other user other before after changes w differ = λ i. record {
+  config = w.config;
+  parts = slice_set (boot w.config).parts user (row_at-set_other w.parts other user (Some (settle before (own_held other w.hands) after)) apart i);
+  ram = own_line-after_other user other Ram w.ram changes differ i;
+  pipe = own_line-after_other user other Pipe w.pipe changes differ i;
+  hands = map (own_hand user) w.hands;
+}
+  where
+    apart : user ≢ other
+    apart = λ e. eqb-false other user differ (sym e)
+
+-- a client's step
+
+pub reached_client : (w : World) (user : ℕ) (e : Step) (row : Option Part) → IsReached w → IsReached (client_step w user e row).world
+reached_client w user e None h = h
+reached_client w user e (Some part) h = let given = client w.config user (own_held user w.hands) part e in reached_acted user part given.part given.changes w h
+
+pub client_other : (w : World) (user other : ℕ) (e : Step) (row : Option Part) → (other == user) ≡ false → view user (client_step w other e row).world ≡ view user w
+client_other w user other e None differ = refl
+client_other w user other e (Some part) differ = let given = client w.config other (own_held other w.hands) part e in acted_other user other part given.part given.changes w differ
+
+client_row : (w : World) (user : ℕ) (e : Step) (row : Option Part) → IsReached w → client_step (view user w) user e row ≡ viewed user (client_step w user e row)
+unfolding view
+client_row w user e None h = refl
+client_row w user e (Some part) h =
+    let given = client w.config user (own_held user w.hands) part e in
+    ap (λ held. client_acted (view user w) user part (client w.config user held part e)) (own_held-view user w.hands)
+    ∙ ap (λ world. record { world = world; outcome = given.outcome }) (sym (acted_self user part given.part given.changes w h))
+
+client_self : (w : World) (user : ℕ) (e : Step) → IsReached w → client_step (view user w) user e (row_at (view user w).parts user) ≡ viewed user (client_step w user e (row_at w.parts user))
+client_self w user e h = rw (row_at-view_self user w h) (client_row w user e (row_at w.parts user) h)
+
+pub client_own : (w : World) (user of : ℕ) (e : Step) → IsReached w → of ≡ user → client_step (view user w) of e (row_at (view user w).parts of) ≡ viewed user (client_step w of e (row_at w.parts of))
+client_own w user of e h same = subst (λ n. client_step (view n w) of e (row_at (view n w).parts of) ≡ viewed n (client_step w of e (row_at w.parts of))) same (client_self w of e h)

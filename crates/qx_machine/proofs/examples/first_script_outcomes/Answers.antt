@@ -1,0 +1,10 @@
+-- By computation.
+use Rattle.std.proofs.Common.{refl}
+use Rattle.qx_machine.specs.Attributes.{stat_bytes}
+use Rattle.qx_machine.specs.Machine.{boot, step}
+use Rattle.qx_machine.specs.Users.{boot_part, client, serve, settle, take}
+use Rattle.qx_machine.proofs.examples.first_script_outcomes.Goals as goal
+
+pub returns : goal.returns
+unfolding boot step boot_part client serve settle take stat_bytes
+returns c = refl

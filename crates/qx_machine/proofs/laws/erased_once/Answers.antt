@@ -1,0 +1,5 @@
+use Rattle.qx_machine.proofs.Runs.{run_erased}
+use Rattle.qx_machine.proofs.laws.erased_once.Goals as goal
+
+pub returns : goal.returns
+returns c = run_erased

@@ -1,0 +1,5 @@
+use Rattle.qx_machine.proofs.Runs.{run_received}
+use Rattle.qx_machine.proofs.laws.isolation.Goals as goal
+
+pub returns : goal.returns
+returns c = run_received

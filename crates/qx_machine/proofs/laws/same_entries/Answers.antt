@@ -1,0 +1,5 @@
+use Rattle.qx_machine.proofs.Runs.{run_entries}
+use Rattle.qx_machine.proofs.laws.same_entries.Goals as goal
+
+pub returns : goal.returns
+returns c = run_entries

@@ -1,0 +1,23 @@
+-- The words of the machine's laws.
+use Rattle.std.specs.Prelude.{◌≡◌, ℕ, ◌≤◌, true, List, [], ◌∷◌, AllPairs, if◌then◌else◌}
+use Rattle.qx_types.specs.Configuration.{Configuration}
+use Rattle.qx_types.specs.declared.step.Step.{Step}
+use Rattle.qx_machine.specs.declared.rows.Entry.{Entry}
+use Rattle.qx_machine.specs.Machine.{World, step, owner}
+use Rattle.qx_machine.specs.Runs.{run, is_owner}
+
+-- no item has a higher priority than one before it
+abbrev pub IsInOrder : {A : Type 0} → (A → ℕ) → List A → Type 0
+IsInOrder rank line = AllPairs (λ earlier later. rank later ≤ rank earlier) line
+
+-- the steps from a world that are taken by or for a user, servers' steps too, each with the outcome that it has among all steps
+abbrev pub own_entries : ℕ → World → List Step → List Entry
+own_entries user w [] = []
+own_entries user w (e ∷ steps) =
+    if is_owner user (owner w e)
+    then record { step = e; outcome = (step w e).outcome } ∷ own_entries user (step w e).world steps
+    else own_entries user (step w e).world steps
+
+-- this holds in each world that a run reaches, of each step that is taken by or for the user there
+abbrev pub HoldsOfOwnSteps : (ℕ → World → Step → Type 0) → Type 0
+HoldsOfOwnSteps Holds = (config : Configuration) (steps : List Step) (user : ℕ) (e : Step) → is_owner user (owner (run config steps).world e) ≡ true → Holds user (run config steps).world e

@@ -1,0 +1,9 @@
+pub mod Attributes
+pub mod Examples
+pub mod Laws
+pub mod Lines
+pub mod Machine
+pub mod Processes
+pub mod Rows
+pub mod Runs
+pub mod Users

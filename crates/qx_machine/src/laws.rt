@@ -1,0 +1,64 @@
+//! The laws of the machine, each a theorem over every configuration, every list of steps and every user number.
+
+ghost use Rattle.std.specs.Prelude.{◌≡◌, ◌≢◌, ℕ, ◌<◌, ◌≤◌, false, List, Option, None};
+ghost use Rattle.qx_types.specs.Configuration.{Configuration};
+ghost use Rattle.qx_types.specs.declared.step.Step.{Step};
+ghost use Rattle.qx_machine.specs.Laws.{HoldsOfOwnSteps, IsInOrder, own_entries};
+ghost use Rattle.qx_machine.specs.Machine.{World, boot, owner, rank, step, view};
+ghost use Rattle.qx_machine.specs.Rows.{lowest_from, row_at};
+ghost use Rattle.qx_machine.specs.Runs.{erase, is_owner, received, run};
+
+/// A user receives the same if all steps that are not taken by or for that user are left out.
+pub fn isolation()
+    ensures { (config : Configuration) (steps : List Step) (user : ℕ) → received user (run config steps).entries ≡ received user (run config (erase user config steps)).entries }
+{}
+
+/// Two runs that differ only in what is not the user's give the user the same.
+pub fn same_erasure()
+    ensures { (config : Configuration) (steps others : List Step) (user : ℕ) → erase user config steps ≡ erase user config others → received user (run config steps).entries ≡ received user (run config others).entries }
+{}
+
+/// The run without what is not the user's ends in the user's view of the whole run's last world.
+pub fn ends_in_view()
+    ensures { (config : Configuration) (steps : List Step) (user : ℕ) → (run config (erase user config steps)).world ≡ view user (run config steps).world }
+{}
+
+/// The run without what is not the user's stores what the whole run stored of the user's steps, servers' steps included.
+pub fn same_entries()
+    ensures { (config : Configuration) (steps : List Step) (user : ℕ) → (run config (erase user config steps)).entries ≡ own_entries user (boot config) steps }
+{}
+
+/// What is left of the steps is left again.
+pub fn erased_once()
+    ensures { (config : Configuration) (steps : List Step) (user : ℕ) → erase user config (erase user config steps) ≡ erase user config steps }
+{}
+
+/// A step that is not taken by or for a user changes nothing that is that user's.
+pub fn others_unseen()
+    ensures { (config : Configuration) (steps : List Step) (user : ℕ) (e : Step) → is_owner user (owner (run config steps).world e) ≡ false → view user (step (run config steps).world e).world ≡ view user (run config steps).world }
+{}
+
+/// A step that is taken by or for a user goes in the user's view as in the whole world.
+pub fn own_in_view()
+    ensures same_owner { HoldsOfOwnSteps (λ user w e. owner (view user w) e ≡ owner w e) }
+    ensures same_outcome { HoldsOfOwnSteps (λ user w e. (step (view user w) e).outcome ≡ (step w e).outcome) }
+    ensures same_world { HoldsOfOwnSteps (λ user w e. (step (view user w) e).world ≡ view user (step w e).world) }
+{}
+
+/// A step that is nobody's changes nothing.
+pub fn nobody_idle()
+    ensures { (w : World) (e : Step) → owner w e ≡ None → (step w e).world ≡ w }
+{}
+
+/// Each line is in order of priority.
+pub fn lines_in_order()
+    ensures ram { (config : Configuration) (steps : List Step) → IsInOrder rank (run config steps).world.ram }
+    ensures pipe { (config : Configuration) (steps : List Step) → IsInOrder rank (run config steps).world.pipe }
+{}
+
+/// The lowest free number from a first one on.
+pub fn lowest_free<T>()
+    ensures free { (first : ℕ) (places : List (Option T)) → row_at places (lowest_from first places) ≡ None }
+    ensures not_below { (first : ℕ) (places : List (Option T)) → first ≤ lowest_from first places }
+    ensures lowest { (first number : ℕ) (places : List (Option T)) → first ≤ number → number < lowest_from first places → row_at places number ≢ None }
+{}

@@ -1,0 +1,11 @@
+//! The written machine: what the system does, as definitions, and the laws about them.
+#![tactic(auto)]
+
+pub mod examples;
+pub mod laws;
+pub mod rows;
+
+pub use rows::{
+    Attribute, Block, Connection, Entry, Held, Kind, Message, OwnItem, Queued, Seen, Sent, State,
+    ThreadRow,
+};

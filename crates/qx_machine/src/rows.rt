@@ -1,0 +1,110 @@
+use qx_types::{Actor, Answer, Coid, Manager, OFlags, Outcome, Prio, Step, User};
+
+/// A message to a resource manager (C Library Reference: `MsgSend`; Writing a Resource Manager: connect and I/O
+/// messages).
+#[derive(Clone, Copy, Debug, PartialEq, Eq)]
+pub enum Message {
+    /// Opens the root of the user's mount.
+    Open { flags: OFlags, mode: u16 },
+    /// Closes the connection that it comes over.
+    Close,
+    /// Asks for the status of what the connection has open.
+    Fstat,
+}
+
+/// A message and what its channel keeps beside it: the manager and the connection that it came over.
+#[derive(Clone, Copy, Debug, PartialEq, Eq)]
+pub struct Sent {
+    pub manager: Manager,
+    pub coid: Coid,
+    pub message: Message,
+}
+
+/// What a thread is doing (System Architecture: the SEND-blocked and REPLY-blocked states).
+#[derive(Debug, Drop)]
+pub enum State {
+    Ready,
+    /// Its message stands in a line.
+    Queued(Sent),
+    /// Its message was received and not yet answered.
+    Taken(Sent),
+    /// Its message was answered, and the answer not yet taken.
+    Answered(Answer),
+}
+
+/// A thread: its state, its priority and how many calls it has made.
+#[derive(Debug, Drop)]
+pub struct ThreadRow {
+    pub state: State,
+    pub prio: Prio,
+    pub calls: u64,
+}
+
+/// A connection: its manager, and its open control block once the open has been performed.
+#[derive(Clone, Copy, Debug, PartialEq, Eq)]
+pub struct Connection {
+    pub manager: Manager,
+    pub block: Option<u16>,
+}
+
+/// An open control block: the inode that it has open (Writing a Resource Manager: `iofunc_ocb_t`).
+#[derive(Clone, Copy, Debug, PartialEq, Eq)]
+pub struct Block {
+    pub inode: u32,
+}
+
+/// What an inode is.
+#[derive(Clone, Copy, Debug, PartialEq, Eq)]
+pub enum Kind {
+    File,
+    Directory,
+    Pipe,
+}
+
+/// The attribute of an inode (Writing a Resource Manager: `iofunc_attr_t`).
+#[derive(Clone, Copy, Debug, PartialEq, Eq)]
+pub struct Attribute {
+    pub kind: Kind,
+    pub mode: u16,
+    pub links: u32,
+    pub owner: u32,
+    pub size: u64,
+    pub mtime: u64,
+    pub ctime: u64,
+}
+
+/// An item of a line or of a worker, by the numbers of its user.
+#[derive(Clone, Copy, Debug, PartialEq, Eq)]
+pub enum OwnItem {
+    /// The message that a thread of a process sent.
+    Message { process: u8, thread: u8 },
+}
+
+/// An item in a line, with its user and its priority.
+#[derive(Clone, Copy, Debug, PartialEq, Eq)]
+pub struct Queued {
+    pub user: User,
+    pub item: OwnItem,
+    pub prio: Prio,
+}
+
+/// An item in a worker's hand, with its user.
+#[derive(Clone, Copy, Debug, PartialEq, Eq)]
+pub struct Held {
+    pub user: User,
+    pub item: OwnItem,
+}
+
+/// A step that was taken, with its outcome.
+#[derive(Debug, Drop)]
+pub struct Entry {
+    pub step: Step,
+    pub outcome: Outcome,
+}
+
+/// What a client step of a user gave, and to whom.
+#[derive(Debug, Drop)]
+pub struct Seen {
+    pub actor: Actor,
+    pub outcome: Outcome,
+}

@@ -1,0 +1,4 @@
+mod BootLemmas
+mod RowLemmas
+mod WorkerLemmas
+mod WorldLemmas

@@ -1,0 +1,30 @@
+-- A call in two parts: what it sends, and the world once that is sent.
+use Rattle.std.specs.Prelude.{ℕ, List, [], ◌∷◌, Option, Some, None, Result, Err}
+use Rattle.qx_types.specs.declared.names.Thread.{Thread}
+use Rattle.qx_types.specs.declared.outcome.Outcome.{Outcome}
+use Rattle.qx_types.specs.declared.outcome.Outcome.TheVariants.{WrongState}
+use Rattle.qx_types.specs.declared.step.Request.{Request}
+use Rattle.qx_machine.specs.declared.rows.OwnItem.TheVariants as item
+use Rattle.qx_machine.specs.declared.rows.Sent.{Sent}
+use Rattle.qx_machine.specs.Machine.{World, acted}
+use Rattle.qx_machine.specs.Processes.{sending}
+use Rattle.qx_machine.specs.Rows.{row_at}
+use Rattle.qx_machine.specs.Users.{Part, Put, judged, own_path, prio_of, thread_at, with_process}
+
+abbrev pub judged_part : List ℕ → Thread → Request → Option Part → Result Sent Outcome
+judged_part path thread request None = Err WrongState
+judged_part path thread request (Some part) = judged path part thread request
+
+-- what a call sends, or the outcome of one that sends nothing
+abbrev pub judged_call : World → Thread → Request → Result Sent Outcome
+judged_call w thread request = judged_part (own_path w.config thread.proc.user.0) thread request (row_at w.parts thread.proc.user.0)
+
+abbrev pub sent_from : World → Thread → Sent → Option Part → World
+sent_from w thread sent None = w
+sent_from w thread sent (Some part) =
+    acted thread.proc.user.0 part (with_process part thread.proc.num (sending thread.tid sent))
+    (Put sent.manager (item.Message thread.proc.num thread.tid) (prio_of (thread_at part thread.proc.num thread.tid)) ∷ []) w
+
+-- the world once a thread's message is sent
+abbrev pub after_sending : World → Thread → Sent → World
+after_sending w thread sent = sent_from w thread sent (row_at w.parts thread.proc.user.0)

@@ -1,0 +1,16 @@
+//! The world that the machine describes, and the trace of the steps that it took.
+#![tactic(auto)]
+
+mod connections;
+mod line;
+mod part;
+mod parts;
+mod places;
+mod process;
+mod processes;
+mod room;
+mod status;
+mod thread;
+mod threads;
+mod work;
+mod world;

@@ -1,0 +1,255 @@
+ghost use Rattle.std.specs.Prelude.{◌≡◌, ◌∷◌, ◌<◌, IsTrue, IfOk, OnOk, OnErr, Some, []};
+ghost use Rattle.std.specs.Option.{option_copied};
+ghost use Rattle.qx_types.specs.Configuration.{Configuration};
+ghost use Rattle.qx_machine.specs.Processes.{sending};
+ghost use Rattle.qx_machine.specs.Rows.{row_at, lowest_from};
+ghost use Rattle.qx_machine.specs.Users as users;
+ghost use Rattle.qx_world.specs.Reads.{is_thread_blocked, CanSend, performed_over, served_part};
+
+use crate::places;
+use crate::process::Process;
+use crate::processes::{self, Processes};
+use crate::room::Room;
+use crate::status::stat_bytes;
+use qx_machine::{Attribute, Block, Connection, Kind, Message, OwnItem, Sent, State, ThreadRow};
+use qx_types::{Answer, Coid, Errno, Limits, Manager, Outcome, Prio, Request, Thread, User};
+use std::alloc::{AllocError, Global};
+use std::marker::Model;
+
+/// The number of a mount's root.
+pub const ROOT_INODE: u32 = 1;
+
+/// All rows of one user: the root of the user's mount, and processes and open blocks from 1.
+#[derive(Drop)]
+pub struct Part {
+    root: Attribute,
+    processes: Processes,
+    blocks: Vec<Option<Block>>,
+}
+
+impl Model for Part {
+    ghost use Rattle.qx_machine.specs.Users as users;
+
+    ghost Value = { users.Part };
+
+    ghost view = { λ p. record { root = p.root; processes = p.processes.items; blocks = p.blocks.items } };
+}
+
+impl Part {
+    /// A user's rows at boot.
+    #[tactic(auto, unfolding(qx_machine::specs::Users::boot_part))]
+    pub fn boot(alloc: Global, user: User) -> Result<Self, AllocError>
+        ensures { IfOk result (λ part. (config : Configuration) → part ≡ users.boot_part config user.0) }
+    {
+        let root = Attribute {
+            kind: Kind::Directory,
+            mode: 0o700,
+            links: 1,
+            owner: user.0 as u32,
+            size: 0,
+            mtime: 0,
+            ctime: 0,
+        };
+        Ok(Part {
+            root,
+            processes: places::empty(alloc)?,
+            blocks: places::empty(alloc)?,
+        })
+    }
+
+    /// A thread's row.
+    pub fn thread(&self, thread: Thread) -> Option<&ThreadRow>
+        ensures { option_copied result ≡ users.thread_at self.now thread.proc.num thread.tid }
+    {
+        match places::row(self.processes.as_slice(), thread.proc.num as usize) {
+            Some(process) => process.thread(thread.tid),
+            None => None,
+        }
+    }
+
+    /// Starts a process.
+    pub fn spawn(&mut self, threads: u8, prio: Prio) -> Result<Outcome, AllocError>
+        ensures outcome { IfOk result (λ outcome. outcome ≡ (users.spawn self.old threads prio.0).outcome) }
+        ensures part { OnOk result (self.new ≡ (users.spawn self.old threads prio.0).part) }
+        ensures changes { (users.spawn self.old threads prio.0).changes ≡ [] }
+        ensures err { OnErr result (self.new ≡ self.old) }
+    {
+        let valid = 1 <= threads
+            && threads <= Limits::THREADS
+            && 1 <= prio.0
+            && prio.0 <= Limits::PRIORITY;
+        if !valid {
+            return Ok(Outcome::Refused(Errno::EINVAL));
+        }
+        let number = places::lowest_free(self.processes.as_slice(), 1);
+        if number > Limits::PROCESSES {
+            return Ok(Outcome::Refused(Errno::EAGAIN));
+        }
+        places::put(&mut self.processes, number, Process::new(threads, prio))?;
+        Ok(Outcome::Spawned(number as u8))
+    }
+
+    /// What a call sends, or the outcome of one that sends nothing.
+    pub fn judge(&self, name: &[u8], thread: Thread, request: &Request) -> Result<Sent, Outcome>
+        ensures judged { result ≡ users.judged (47 ∷ name.now) self.now thread request.now }
+        ensures sendable { IfOk result (λ sent. CanSend (users.thread_at self.now thread.proc.num thread.tid) sent) }
+    {
+        match places::row(self.processes.as_slice(), thread.proc.num as usize) {
+            Some(process) => process.judge(name, thread.tid, request),
+            None => Err(Outcome::WrongState),
+        }
+    }
+
+    /// A message of a thread goes into a line.
+    pub fn send(&mut self, thread: Thread, sent: Sent, room: Room)
+        requires { CanSend (users.thread_at self.old thread.proc.num thread.tid) sent }
+        ensures { self.new ≡ users.with_process self.old thread.proc.num (sending thread.tid sent) }
+    {
+        processes::send_in(&mut self.processes, thread.proc.num, thread.tid, sent, room);
+    }
+
+    /// A thread takes its answer.
+    pub fn take_reply(&mut self, thread: Thread) -> Outcome
+        ensures outcome { result ≡ (users.reply_of self.old thread (users.thread_at self.old thread.proc.num thread.tid)).outcome }
+        ensures part { self.new ≡ (users.reply_of self.old thread (users.thread_at self.old thread.proc.num thread.tid)).part }
+        ensures changes { (users.reply_of self.old thread (users.thread_at self.old thread.proc.num thread.tid)).changes ≡ [] }
+    {
+        match processes::take_answer_in(&mut self.processes, thread.proc.num, thread.tid) {
+            Some(Answer::Reply(status, bytes)) => Outcome::Reply(status, bytes),
+            Some(Answer::Failed(error)) => Outcome::Failed(error),
+            None => Outcome::WrongState,
+        }
+    }
+
+    /// An item of the user goes from a line into a worker's hand.
+    #[tactic(auto, unfolding(qx_machine::specs::Users::take))]
+    pub fn take(&mut self, item: OwnItem)
+        ensures { self.new ≡ users.take self.old item }
+    {
+        let OwnItem::Message { process, thread } = item;
+        processes::take_in(&mut self.processes, process, thread);
+    }
+
+    /// Does what a worker holds.
+    pub fn serve(&mut self, item: OwnItem) -> Result<(), AllocError>
+        ensures ok { OnOk result (self.new ≡ served_part self.old item) }
+        ensures err { OnErr result (self.new ≡ self.old) }
+    {
+        let OwnItem::Message { process, thread } = item;
+        self.perform(process, thread)
+    }
+
+    /// Does what a thread's message asks for, if it was received and is not answered.
+    fn perform(&mut self, process: u8, thread: u8) -> Result<(), AllocError>
+        ensures ok { OnOk result (self.new ≡ users.performed self.old process thread (row_at self.old.processes process)) }
+        ensures err { OnErr result (self.new ≡ self.old) }
+    {
+        let Some(row) = places::row(self.processes.as_slice(), process as usize) else {
+            return Ok(());
+        };
+        let Some(of_thread) = row.thread(thread) else {
+            return Ok(());
+        };
+        let State::Taken(sent) = of_thread.state else {
+            return Ok(());
+        };
+        let block = block_over(row, sent);
+        self.perform_message(process, thread, sent, block)
+    }
+
+    /// Does what a message asks for; the block is that of its connection.
+    fn perform_message(
+        &mut self,
+        process: u8,
+        thread: u8,
+        sent: Sent,
+        block: Option<u16>,
+    ) -> Result<(), AllocError>
+        requires { IsTrue (is_thread_blocked (users.thread_at self.old process thread)) }
+        ensures ok { OnOk result (self.new ≡ performed_over self.old process thread sent block sent.manager) }
+        ensures err { OnErr result (self.new ≡ self.old) }
+    {
+        match sent.manager {
+            Manager::Ram => match sent.message {
+                Message::Open { .. } => self.perform_open(process, thread, sent)?,
+                Message::Close => self.perform_close(process, thread, sent, block),
+                Message::Fstat => self.perform_fstat(process, thread, sent, block),
+            },
+            Manager::Pipe => processes::fail_in(
+                &mut self.processes,
+                process,
+                thread,
+                sent,
+                Errno::ENOSYS,
+            ),
+        }
+        Ok(())
+    }
+
+    /// Opens the root over a connection.
+    fn perform_open(&mut self, process: u8, thread: u8, sent: Sent) -> Result<(), AllocError>
+        requires { IsTrue (is_thread_blocked (users.thread_at self.old process thread)) }
+        ensures ok { OnOk result (self.new ≡ users.opened self.old process thread sent (lowest_from 1 self.old.blocks)) }
+        ensures err { OnErr result (self.new ≡ self.old) }
+    {
+        let number = places::lowest_free(self.blocks.as_slice(), 1);
+        if number > Limits::BLOCKS {
+            processes::fail_in(&mut self.processes, process, thread, sent, Errno::ENFILE);
+            return Ok(());
+        }
+        places::put(&mut self.blocks, number, Block { inode: ROOT_INODE })?;
+        processes::open_in(&mut self.processes, process, thread, sent, number as u16);
+        Ok(())
+    }
+
+    /// Closes a connection, and frees its block.
+    fn perform_close(&mut self, process: u8, thread: u8, sent: Sent, block: Option<u16>)
+        requires { IsTrue (is_thread_blocked (users.thread_at self.old process thread)) }
+        ensures { self.new ≡ users.closed self.old process thread sent block }
+    {
+        match block {
+            Some(block) => {
+                places::free(&mut self.blocks, block as usize);
+                processes::close_in(&mut self.processes, process, thread, sent.coid);
+            }
+            None => processes::fail_in(&mut self.processes, process, thread, sent, Errno::EBADF),
+        }
+    }
+
+    /// Tells the status of what is open.
+    fn perform_fstat(&mut self, process: u8, thread: u8, sent: Sent, block: Option<u16>)
+        requires { IsTrue (is_thread_blocked (users.thread_at self.old process thread)) }
+        ensures { self.new ≡ users.told self.old process thread sent (users.block_row self.old block) }
+    {
+        match self.block(block) {
+            Some(block) => {
+                let bytes = stat_bytes(block.inode, &self.root);
+                processes::reply_in(&mut self.processes, process, thread, 0, bytes.as_slice());
+            }
+            None => processes::fail_in(&mut self.processes, process, thread, sent, Errno::EBADF),
+        }
+    }
+
+    /// The row of an open block.
+    fn block(&self, block: Option<u16>) -> Option<Block>
+        ensures { result ≡ users.block_row self.now block }
+    {
+        match block {
+            Some(number) => places::row(self.blocks.as_slice(), number as usize).copied(),
+            None => None,
+        }
+    }
+}
+
+/// The block of the connection that a message came over.
+fn block_over(process: &Process, sent: Sent) -> Option<u16>
+    ensures { result ≡ users.block_over process.now sent }
+{
+    match process.connection(sent.coid) {
+        Some(connection) => match connection.manager {
+            Manager::Ram => connection.block,
+            Manager::Pipe => None,
+        },
+        None => None,
+    }
+}

@@ -1,0 +1,66 @@
+//! The rows of all users, from 1: a place for each number.
+
+ghost use Rattle.std.specs.Prelude.{◌≡◌, OnOk, OnErr};
+ghost use Rattle.std.specs.Option.{option_copied};
+ghost use Rattle.qx_machine.specs.Processes.{sending};
+ghost use Rattle.qx_machine.specs.Rows.{row_at, with_row};
+ghost use Rattle.qx_machine.specs.Users as users;
+ghost use Rattle.qx_world.specs.Reads.{CanSend, thread_in, served_part};
+
+use crate::part::Part;
+use crate::places;
+use crate::room::Room;
+use qx_machine::{OwnItem, Sent, ThreadRow};
+use qx_types::{Thread, User};
+use std::alloc::AllocError;
+
+pub type Parts = Vec<Option<Part>>;
+
+/// A thread's row.
+pub fn thread_row(parts: &Parts, thread: Thread) -> Option<&ThreadRow>
+    ensures { option_copied result ≡ thread_in thread (row_at parts.now.items thread.proc.user.0) }
+{
+    match places::row(parts.as_slice(), thread.proc.user.0 as usize) {
+        Some(part) => part.thread(thread),
+        None => None,
+    }
+}
+
+/// A message of a thread goes into a line.
+pub fn send_in(parts: &mut Parts, thread: Thread, sent: Sent, room: Room)
+    requires { CanSend (thread_in thread (row_at parts.old.items thread.proc.user.0)) sent }
+    ensures { parts.new.items ≡ with_row parts.old.items thread.proc.user.0 (λ part. users.with_process part thread.proc.num (sending thread.tid sent)) }
+{
+    let place = thread.proc.user.0 as usize;
+    if place < parts.len() {
+        if let Some(part) = parts[place].as_mut() {
+            part.send(thread, sent, room);
+        }
+    }
+}
+
+/// An item of a user goes from a line into a worker's hand.
+pub fn take_in(parts: &mut Parts, user: User, item: OwnItem)
+    ensures { parts.new.items ≡ with_row parts.old.items user.0 (λ part. users.take part item) }
+{
+    let place = user.0 as usize;
+    if place < parts.len() {
+        if let Some(part) = parts[place].as_mut() {
+            part.take(item);
+        }
+    }
+}
+
+/// Does what a worker holds of a user.
+pub fn serve_in(parts: &mut Parts, user: User, item: OwnItem) -> Result<(), AllocError>
+    ensures ok { OnOk result (parts.new.items ≡ with_row parts.old.items user.0 (λ part. served_part part item)) }
+    ensures err { OnErr result (parts.new.items ≡ parts.old.items) }
+{
+    let place = user.0 as usize;
+    if place < parts.len() {
+        if let Some(part) = parts[place].as_mut() {
+            part.serve(item)?;
+        }
+    }
+    Ok(())
+}

@@ -1,0 +1,71 @@
+//! Tables of rows under small numbers: a place for each number, as long as the table has grown.
+
+ghost use Rattle.std.specs.Prelude.{◌≡◌, ◌+◌, ◌<◌, ◌^◌, length, IfOk, OnOk, OnErr, OnSome, None, [], ◌∷◌, slice_set, Some};
+ghost use Rattle.std.specs.Option.{option_copied};
+ghost use Rattle.qx_machine.specs.Rows.{row_at, lowest_from, put_row};
+
+use std::alloc::{AllocError, Global};
+
+/// The row under a number.
+pub fn row<T>(places: &[Option<T>], number: usize) -> Option<&T>
+    ensures row { option_copied result ≡ row_at places.now number }
+    ensures within { OnSome result (number < length places.now) }
+{
+    match places.get(number) {
+        Some(Some(row)) => Some(row),
+        _ => None,
+    }
+}
+
+/// The lowest free number that is not below the first.
+pub fn lowest_free<T>(places: &[Option<T>], first: usize) -> usize
+    requires { first < 2 ^ 32 }
+    ensures { result ≡ lowest_from first places.now }
+{
+    for number in first..places.len() {
+        if places[number].is_none() {
+            return number;
+        }
+    }
+    places.len().max(first)
+}
+
+/// Puts a row under a number, for which the table may grow.
+pub fn put<T: Drop>(places: &mut Vec<Option<T>>, number: usize, row: T) -> Result<(), AllocError>
+    ensures ok { OnOk result (places.new.items ≡ put_row places.old.items number row) }
+    ensures err { OnErr result (places.new.items ≡ places.old.items) }
+{
+    if number < places.len() {
+        places[number] = Some(row);
+    } else {
+        places.push(Some(row))?;
+    }
+    Ok(())
+}
+
+/// A table with no row.
+pub fn empty<T>(alloc: Global) -> Result<Vec<Option<T>>, AllocError>
+    ensures { IfOk result (λ places. places.items ≡ None ∷ []) }
+{
+    let mut places = Vec::with_capacity(alloc, 1)?;
+    places.push_reserved(None);
+    Ok(places)
+}
+
+/// Puts a row under a number of the table.
+pub fn set<T: Drop>(places: &mut Vec<Option<T>>, number: usize, row: T)
+    ensures { places.new.items ≡ slice_set places.old.items number (Some row) }
+{
+    if number < places.len() {
+        places[number] = Some(row);
+    }
+}
+
+/// Frees a number.
+pub fn free<T: Drop>(places: &mut Vec<Option<T>>, number: usize)
+    ensures { places.new.items ≡ slice_set places.old.items number None }
+{
+    if number < places.len() {
+        places[number] = None;
+    }
+}

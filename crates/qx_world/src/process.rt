@@ -1,0 +1,229 @@
+ghost use Rattle.std.specs.Prelude.{◌≡◌, ◌+◌, ◌∷◌, ◌≤◌, ◌<◌, length, IsTrue, IfOk, OnSome, Some, MatchOption};
+ghost use Rattle.std.specs.Option.{option_copied};
+ghost use Rattle.qx_machine.specs.Processes.{new_process, taking, ready, message_of, sent_anew, sent_over, judged_thread, judged_ready, in_ranges, sending};
+ghost use Rattle.std.specs.Str.{bytes_eq};
+ghost use Rattle.qx_machine.specs.Rows.{row_at, lowest_from};
+ghost use Rattle.qx_machine.specs.declared.rows.Message.TheVariants as machine;
+ghost use Rattle.qx_machine.specs.Users.{answering, failing, opening, closing};
+ghost use Rattle.qx_world.specs.declared.room.TheConstants.{REPLY_BYTES};
+ghost use Rattle.qx_world.specs.Reads.{is_thread_blocked, thread_answer, CanCall, CanSend};
+
+use crate::connections::{self, Connections};
+use crate::places;
+use crate::room::Room;
+use crate::threads::{self, Threads};
+use qx_machine::{Connection, Message, Sent, State, ThreadRow};
+use qx_types::{Answer, Coid, Errno, Limits, Manager, OFlags, Outcome, Prio, Request};
+use std::marker::Model;
+
+/// A process: its threads from 1 and its connections from 3.
+#[derive(Drop)]
+pub struct Process {
+    threads: Threads,
+    connections: Connections,
+}
+
+impl Model for Process {
+    ghost use Rattle.qx_machine.specs.Processes as machine;
+
+    ghost Value = { machine.Process };
+
+    ghost view = { λ p. record { threads = p.threads.items; connections = p.connections.items } };
+}
+
+impl Process {
+    /// A process with so many ready threads and no connection.
+    pub fn new(threads: u8, prio: Prio) -> Self
+        requires { threads ≤ 4 }
+        ensures { result ≡ new_process threads prio.0 }
+    {
+        Process {
+            threads: threads::new_threads(threads, prio),
+            connections: connections::no_connections(),
+        }
+    }
+
+    /// A thread's row.
+    pub fn thread(&self, thread: u8) -> Option<&ThreadRow>
+        ensures { option_copied result ≡ row_at self.now.threads thread }
+    {
+        threads::thread_row(&self.threads, thread)
+    }
+
+    /// A connection's row.
+    pub fn connection(&self, coid: Coid) -> Option<&Connection>
+        ensures row { option_copied result ≡ row_at self.now.connections coid.0 }
+        ensures within { OnSome result (coid.0 < 67) }
+    {
+        places::row(self.connections.as_slice(), coid.0 as usize)
+    }
+
+    /// A message of a thread goes into a line; that of an open attaches its connection.
+    pub fn send(&mut self, thread: u8, sent: Sent, room: Room)
+        requires call { CanCall (row_at self.old.threads thread) }
+        requires connection { sent.coid.0 < 67 }
+        ensures { self.new ≡ sending thread sent self.old }
+    {
+        threads::send_from(&mut self.threads, thread, sent, room);
+        if let Message::Open { .. } = sent.message {
+            let connection = Connection {
+                manager: sent.manager,
+                block: None,
+            };
+            connections::attach(&mut self.connections, sent.coid, connection);
+        }
+    }
+
+    /// A thread's queued message is received.
+    pub fn take(&mut self, thread: u8)
+        ensures { self.new ≡ taking thread self.old }
+    {
+        threads::take_message(&mut self.threads, thread);
+    }
+
+    /// A blocked thread gets a reply.
+    pub fn reply(&mut self, thread: u8, status: u64, bytes: &[u8])
+        requires blocked { IsTrue (is_thread_blocked (row_at self.old.threads thread)) }
+        requires fits { length bytes.now ≤ REPLY_BYTES }
+        ensures { self.new ≡ answering thread (Answer.Reply status bytes.now) self.old }
+    {
+        threads::reply_to(&mut self.threads, thread, status, bytes);
+    }
+
+    /// A thread gets an error; that to an open gives its connection back.
+    pub fn fail(&mut self, thread: u8, sent: Sent, error: Errno)
+        ensures { self.new ≡ failing thread sent error self.old }
+    {
+        threads::fail_to(&mut self.threads, thread, error);
+        if let Message::Open { .. } = sent.message {
+            connections::detach(&mut self.connections, sent.coid);
+        }
+    }
+
+    /// An open is done: its connection has an open control block, and the thread gets the connection's number.
+    pub fn open(&mut self, thread: u8, sent: Sent, block: u16)
+        requires { IsTrue (is_thread_blocked (row_at self.old.threads thread)) }
+        ensures { self.new ≡ opening thread sent block self.old }
+    {
+        threads::reply_to(&mut self.threads, thread, sent.coid.0 as u64, &[]);
+        connections::set_block(&mut self.connections, sent.coid, block);
+    }
+
+    /// A close is done: the connection goes, and the thread gets its answer.
+    pub fn close(&mut self, thread: u8, coid: Coid)
+        requires { IsTrue (is_thread_blocked (row_at self.old.threads thread)) }
+        ensures { self.new ≡ closing thread coid.0 self.old }
+    {
+        threads::reply_to(&mut self.threads, thread, 0, &[]);
+        connections::detach(&mut self.connections, coid);
+    }
+
+    /// A thread's answer, after which it is ready.
+    pub fn take_answer(&mut self, thread: u8) -> Option<Answer>
+        ensures answer { result ≡ thread_answer (row_at self.old.threads thread) }
+        ensures taken { MatchOption result (self.new ≡ self.old) (λ _. self.new ≡ ready thread self.old) }
+    {
+        threads::take_answer(&mut self.threads, thread)
+    }
+
+    /// What a thread's request becomes, or the outcome of a call that sends nothing.
+    pub fn judge(&self, name: &[u8], thread: u8, request: &Request) -> Result<Sent, Outcome>
+        ensures judged { result ≡ judged_thread (47 ∷ name.now) self.now request.now (row_at self.now.threads thread) }
+        ensures sendable { IfOk result (λ sent. CanSend (row_at self.now.threads thread) sent) }
+    {
+        match self.thread(thread) {
+            Some(row) => match row.state {
+                State::Ready => match self.judge_ready(name, row, request) {
+                    Ok(sent) => Ok(sent),
+                    Err(error) => Err(Outcome::Refused(error)),
+                },
+                State::Queued(_) | State::Taken(_) | State::Answered(_) => Err(Outcome::WrongState),
+            },
+            None => Err(Outcome::WrongState),
+        }
+    }
+
+    /// What the request of a ready thread becomes.
+    fn judge_ready(&self, name: &[u8], row: &ThreadRow, request: &Request) -> Result<Sent, Errno>
+        ensures judged { result ≡ judged_ready (47 ∷ name.now) self.now row.now request.now }
+        ensures sendable { IfOk result (λ sent. CanSend (Some row.now) sent) }
+    {
+        if !is_in_ranges(request) {
+            return Err(Errno::EINVAL);
+        }
+        if row.calls == u64::MAX {
+            return Err(Errno::EAGAIN);
+        }
+        self.address(name, request)
+    }
+
+    /// The message of a request, and the connection that it goes over.
+    fn address(&self, name: &[u8], request: &Request) -> Result<Sent, Errno>
+        ensures message { result ≡ message_of (47 ∷ name.now) self.now request.now }
+        ensures connection { IfOk result (λ sent. sent.coid.0 < 67) }
+    {
+        match request {
+            Request::OpenPath { path, flags, mode } => {
+                if is_own_path(name, path.as_slice()) {
+                    self.open_message(*flags, *mode)
+                } else {
+                    Err(Errno::ENOENT)
+                }
+            }
+            Request::Close { coid } => self.message_over(*coid, Message::Close),
+            Request::Fstat { coid } => self.message_over(*coid, Message::Fstat),
+        }
+    }
+
+    /// An open over the lowest free connection.
+    fn open_message(&self, flags: OFlags, mode: u16) -> Result<Sent, Errno>
+        ensures message { result ≡ sent_anew (machine.Open flags mode) (lowest_from 3 self.now.connections) }
+        ensures connection { IfOk result (λ sent. sent.coid.0 < 67) }
+    {
+        let number = places::lowest_free(self.connections.as_slice(), Limits::FIRST_CONNECTION);
+        if number <= Limits::LAST_CONNECTION {
+            Ok(Sent {
+                manager: Manager::Ram,
+                coid: Coid(number as u8),
+                message: Message::Open { flags, mode },
+            })
+        } else {
+            Err(Errno::EMFILE)
+        }
+    }
+
+    /// A message over a connection that is there.
+    fn message_over(&self, coid: Coid, message: Message) -> Result<Sent, Errno>
+        ensures message { result ≡ sent_over coid.0 message (row_at self.now.connections coid.0) }
+        ensures connection { IfOk result (λ sent. sent.coid.0 < 67) }
+    {
+        match self.connection(coid) {
+            Some(connection) => Ok(Sent {
+                manager: connection.manager,
+                coid,
+                message,
+            }),
+            None => Err(Errno::EBADF),
+        }
+    }
+}
+
+/// Whether each field of a request is in its range.
+fn is_in_ranges(request: &Request) -> bool
+    ensures { result ≡ in_ranges request.now }
+{
+    match request {
+        Request::OpenPath { flags, mode, .. } => *flags == OFlags::READ && *mode <= Limits::MODE,
+        Request::Close { .. } | Request::Fstat { .. } => true,
+    }
+}
+
+/// Whether a path is a slash and the name.
+fn is_own_path(name: &[u8], path: &[u8]) -> bool
+    ensures { result ≡ bytes_eq path.now (47 ∷ name.now) }
+{
+    match path.split_first() {
+        Some((first, rest)) => *first == b'/' && rest == name,
+        None => false,
+    }
+}
