@@ -1,4 +1,5 @@
 mod BootLemmas
 mod RowLemmas
+mod TraceLemmas
 mod WorkerLemmas
 mod WorldLemmas

@@ -1,4 +1,6 @@
 pub mod Calls
 pub mod Held
+pub mod Lending
 pub mod Reads
+pub mod Trace
 pub mod Workers

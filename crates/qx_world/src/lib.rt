@@ -12,5 +12,10 @@ mod room;
 mod status;
 mod thread;
 mod threads;
-mod work;
-mod world;
+pub mod trace;
+pub mod work;
+pub mod world;
+
+pub use trace::{Traced, Unstored};
+pub use work::{PerformFault, Work, WorkRef};
+pub use world::World;

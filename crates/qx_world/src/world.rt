@@ -1,4 +1,4 @@
-ghost use Rattle.std.specs.Prelude.{◌≡◌, ◌<◌, ◌+◌, IfOk, OnOk, OnErr, length, None, [], ◌∷◌, replicate, unwrap_or, MatchOption, IfNone, IsTrue, IsErrOf, ◌↔◌, option_map, if◌then◌else◌};
+ghost use Rattle.std.specs.Prelude.{◌≡◌, ◌<◌, ◌^◌, ◌+◌, IfOk, OnOk, OnErr, length, None, [], ◌∷◌, replicate, unwrap_or, MatchOption, IfNone, IsTrue, IsErrOf, ◌↔◌, option_map, is_some, if◌then◌else◌};
 ghost use Rattle.std.specs.Option.{option_copied};
 ghost use Rattle.qx_machine.specs.Machine as machine;
 ghost use Rattle.qx_machine.specs.Rows.{row_at};
@@ -250,7 +250,7 @@ impl World {
     }
 
     /// Whether something is held that the work is not.
-    fn is_stale(&self, worker: Worker, work: &Work) -> bool
+    pub(crate) fn is_stale(&self, worker: Worker, work: &Work) -> bool
         ensures { IsTrue result ↔ IsStale (held_work self.now worker.0) work.now }
     {
         match self.held(worker) {
@@ -278,6 +278,13 @@ impl World {
             State::Taken(sent) => Some(WorkRef::Message(&sent.message)),
             State::Ready | State::Queued(_) | State::Answered(_) => None,
         }
+    }
+
+    /// Whether a worker holds an item. False where there is no such worker.
+    pub fn holds(&self, worker: Worker) -> bool
+        ensures { result ≡ is_some (row_at self.now.hands worker.0) }
+    {
+        self.hand(worker).is_some()
     }
 
     /// Whether a thread has an answer that it has not yet taken. False for a thread that is not there.
@@ -309,7 +316,8 @@ impl World {
 
     /// How many items stand in a manager's line.
     pub fn waiting(&self, manager: Manager) -> usize
-        ensures { result ≡ length (machine.line_of self.now manager) }
+        ensures items { result ≡ length (machine.line_of self.now manager) }
+        ensures bounded { result < 2 ^ 63 }
     {
         match manager {
             Manager::Ram => self.ram.len(),

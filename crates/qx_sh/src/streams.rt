@@ -1,0 +1,83 @@
+ghost use Rattle.std.specs.Prelude.{[], ◌≡◌, ◌+◌, ◌^◌, ◌<◌, ◌≤◌, IfOk, IfSome, IsErrOf, OnErr, OnOk, drop, length};
+ghost use Rattle.std.specs.Io.{StartsWith};
+ghost use Rattle.std.specs.Io.KnownBytes.{Appends, Consumes, IsAtEnd};
+ghost use Rattle.qx_sh.specs.Written.{AppendsFront};
+
+use std::alloc::Global;
+use std::io::{Read, Write};
+
+/// Why not all was read.
+#[derive(Clone, Copy, Debug, PartialEq, Eq)]
+pub enum ReadFault {
+    /// A read failed.
+    Failed,
+    /// There are more bytes than the limit.
+    TooLong,
+    /// A growth was refused.
+    NoMemory,
+}
+
+/// A write failed, or took nothing.
+#[derive(Clone, Copy, Debug, PartialEq, Eq)]
+pub struct WriteFailed;
+
+/// How many bytes are asked for at once.
+const CHUNK: usize = 4096;
+
+/// Reads to the end, where that comes after at most `limit` bytes.
+pub fn read_all<R: Read>(alloc: Global, reader: &mut R, limit: usize) -> Result<Vec<u8>, ReadFault>
+    requires small { limit < 2 ^ 63 }
+    ensures all { IfOk result (λ text. IfSome (R.remaining reader.old) (λ bytes. text.items ≡ bytes)) }
+    ensures within { IfOk result (λ text. length text.items ≤ limit) }
+    ensures at_end { OnOk result (IsAtEnd (R.remaining reader.new)) }
+    ensures too_long { IsErrOf result ReadFault.TooLong → IfSome (R.remaining reader.old) (λ bytes. limit < length bytes) }
+{
+    let mut text = Vec::new(alloc);
+    'reads: while text.len() <= limit {
+        let count = read_more(reader, &mut text, limit)?;
+        if count == 0 {
+            return Ok(text);
+        }
+    }
+    Err(ReadFault::TooLong)
+}
+
+/// Reads once, at most one byte past the limit, and says how many bytes that gave.
+fn read_more<R: Read>(reader: &mut R, text: &mut Vec<u8>, limit: usize) -> Result<usize, ReadFault>
+    requires small { limit < 2 ^ 63 }
+    requires room { length text.old.items ≤ limit }
+    ensures kept { OnOk result (StartsWith text.new.items text.old.items) }
+    ensures count { IfOk result (λ count. length text.new.items ≡ length text.old.items + count) }
+    ensures within { OnOk result (length text.new.items ≤ limit + 1) }
+    ensures consumed { OnOk result (Consumes (R.remaining reader.old) (R.remaining reader.new) (drop (length text.old.items) text.new.items)) }
+    ensures at_end { IfOk result (λ count. count ≡ 0 → IsAtEnd (R.remaining reader.new)) }
+    ensures not_long { IsErrOf result ReadFault.TooLong → ⊥ }
+{
+    let mut chunk = [0; CHUNK];
+    let room = CHUNK.min(limit + 1 - text.len());
+    let Ok(count) = reader.read(&mut chunk[..room]) else {
+        return Err(ReadFault::Failed);
+    };
+    match text.extend_from_slice(&chunk[..count]) {
+        Ok(()) => Ok(count),
+        Err(_) => Err(ReadFault::NoMemory),
+    }
+}
+
+/// Writes all bytes, or a front of them.
+pub fn write_out<W: Write>(writer: &mut W, bytes: &[u8]) -> Result<(), WriteFailed>
+    ensures whole { OnOk result (Appends (W.contents writer.old) (W.contents writer.new) bytes.now) }
+    ensures front { OnErr result (AppendsFront (W.contents writer.old) (W.contents writer.new) bytes.now) }
+{
+    let mut written = 0;
+    'writes: while written < bytes.len() {
+        let Ok(count) = writer.write(&bytes[written..]) else {
+            return Err(WriteFailed);
+        };
+        if count == 0 {
+            return Err(WriteFailed);
+        }
+        written += count;
+    }
+    Ok(())
+}

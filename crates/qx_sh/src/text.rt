@@ -1,0 +1,170 @@
+ghost use Rattle.std.specs.Prelude.{◌≡◌, ◌++◌, IfOk, OnOk, codes, decimal};
+ghost use Rattle.qx_sh.specs.Text.{actor_text, bytes_text, item_text, outcome_text, process_text, seen_text, thread_text, transcript_text, user_text};
+
+use itoa::Buffer;
+use qx_machine::Seen;
+use qx_types::{Actor, Bytes, Config, Item, NoMemory, Outcome, Proc, Thread, User};
+use std::alloc::Global;
+
+/// The lines of what a user was shown.
+pub fn transcript(alloc: Global, config: &Config, seen: &[Seen]) -> Result<Vec<u8>, NoMemory>
+    ensures text { IfOk result (λ text. text.items ≡ transcript_text config.now seen.now) }
+{
+    let mut text = Vec::new(alloc);
+    'lines: for line in seen {
+        push_seen(alloc, &mut text, config, line)?;
+    }
+    Ok(text)
+}
+
+/// One line: who, and what came of it.
+#[tactic(auto, unfolding(crate::specs::Text::seen_text))]
+fn push_seen(
+    alloc: Global,
+    text: &mut Vec<u8>,
+    config: &Config,
+    seen: &Seen,
+) -> Result<(), NoMemory>
+    ensures ok { OnOk result (text.new.items ≡ text.old.items ++ seen_text config.now seen.now) }
+{
+    push_actor(text, config, seen.actor)?;
+    text.extend_from_slice(b" ")?;
+    push_outcome(alloc, text, config, &seen.outcome)?;
+    text.extend_from_slice(b"\n")?;
+    Ok(())
+}
+
+#[tactic(auto, unfolding(crate::specs::Text::actor_text))]
+fn push_actor(text: &mut Vec<u8>, config: &Config, actor: Actor) -> Result<(), NoMemory>
+    ensures ok { OnOk result (text.new.items ≡ text.old.items ++ actor_text config.now actor) }
+{
+    match actor {
+        Actor::OfUser(user) => push_user(text, config, user),
+        Actor::OfProc(process) => push_process(text, config, process),
+        Actor::OfThread(thread) => push_thread(text, config, thread),
+    }
+}
+
+#[tactic(auto, unfolding(crate::specs::Text::user_text))]
+fn push_user(text: &mut Vec<u8>, config: &Config, user: User) -> Result<(), NoMemory>
+    ensures ok { OnOk result (text.new.items ≡ text.old.items ++ user_text config.now user.0) }
+{
+    match config.name(user) {
+        Some(name) => Ok(text.extend_from_slice(name.as_slice())?),
+        None => Ok(()),
+    }
+}
+
+#[tactic(auto, unfolding(crate::specs::Text::process_text))]
+fn push_process(text: &mut Vec<u8>, config: &Config, process: Proc) -> Result<(), NoMemory>
+    ensures ok { OnOk result (text.new.items ≡ text.old.items ++ process_text config.now process) }
+{
+    push_user(text, config, process.user)?;
+    text.extend_from_slice(b".")?;
+    push_number(text, process.num as u64)
+}
+
+#[tactic(auto, unfolding(crate::specs::Text::thread_text))]
+fn push_thread(text: &mut Vec<u8>, config: &Config, thread: Thread) -> Result<(), NoMemory>
+    ensures ok { OnOk result (text.new.items ≡ text.old.items ++ thread_text config.now thread) }
+{
+    push_process(text, config, thread.proc)?;
+    text.extend_from_slice(b".")?;
+    push_number(text, thread.tid as u64)
+}
+
+#[tactic(auto, unfolding(crate::specs::Text::item_text))]
+fn push_item(text: &mut Vec<u8>, config: &Config, item: Item) -> Result<(), NoMemory>
+    ensures ok { OnOk result (text.new.items ≡ text.old.items ++ item_text config.now item) }
+{
+    match item {
+        Item::Message(thread) => {
+            push_thread(text, config, thread)?;
+            Ok(text.extend_from_slice(b" message")?)
+        }
+        Item::Unblock(thread) => {
+            push_thread(text, config, thread)?;
+            Ok(text.extend_from_slice(b" unblock")?)
+        }
+        Item::Disconnect(process) => {
+            push_process(text, config, process)?;
+            Ok(text.extend_from_slice(b" disconnect")?)
+        }
+    }
+}
+
+fn push_number(text: &mut Vec<u8>, number: u64) -> Result<(), NoMemory>
+    ensures ok { OnOk result (text.new.items ≡ text.old.items ++ decimal number) }
+{
+    let mut buffer = Buffer::new();
+    Ok(text.extend_from_slice(buffer.format(number).as_bytes())?)
+}
+
+/// Hexadecimal digits, or `-` for no bytes.
+#[tactic(auto, unfolding(crate::specs::Text::bytes_text))]
+fn push_bytes(alloc: Global, text: &mut Vec<u8>, bytes: &Bytes) -> Result<(), NoMemory>
+    ensures ok { OnOk result (text.new.items ≡ text.old.items ++ bytes_text bytes.now) }
+{
+    if bytes.is_empty() {
+        return Ok(text.extend_from_slice(b"-")?);
+    }
+    let digits = hex::encode(alloc, bytes.as_slice())?;
+    Ok(text.extend_from_slice(digits.as_bytes())?)
+}
+
+#[tactic(auto, unfolding(crate::specs::Text::outcome_text))]
+fn push_outcome(
+    alloc: Global,
+    text: &mut Vec<u8>,
+    config: &Config,
+    outcome: &Outcome,
+) -> Result<(), NoMemory>
+    ensures ok { OnOk result (text.new.items ≡ text.old.items ++ outcome_text config.now outcome.now) }
+{
+    match outcome {
+        Outcome::Spawned(number) => {
+            text.extend_from_slice(b"spawned ")?;
+            push_number(text, *number as u64)
+        }
+        Outcome::Refused(error) => {
+            text.extend_from_slice(b"refused ")?;
+            Ok(text.extend_from_slice(error.name().as_bytes())?)
+        }
+        Outcome::Done => Ok(text.extend_from_slice(b"done")?),
+        Outcome::Sent => Ok(text.extend_from_slice(b"sent")?),
+        Outcome::Reply(status, bytes) => push_reply(alloc, text, *status, bytes),
+        Outcome::Failed(error) => {
+            text.extend_from_slice(b"error ")?;
+            Ok(text.extend_from_slice(error.name().as_bytes())?)
+        }
+        Outcome::Pulse(code, value) => push_pulse(text, *code, *value),
+        Outcome::NoPulse => Ok(text.extend_from_slice(b"nopulse")?),
+        Outcome::WrongState => Ok(text.extend_from_slice(b"wrongstate")?),
+        Outcome::Took(item) => {
+            text.extend_from_slice(b"took ")?;
+            push_item(text, config, *item)
+        }
+        Outcome::Idle => Ok(text.extend_from_slice(b"idle")?),
+        Outcome::Busy => Ok(text.extend_from_slice(b"busy")?),
+        Outcome::Handled => Ok(text.extend_from_slice(b"handled")?),
+        Outcome::Nothing => Ok(text.extend_from_slice(b"nothing")?),
+    }
+}
+
+fn push_reply(alloc: Global, text: &mut Vec<u8>, status: u64, bytes: &Bytes) -> Result<(), NoMemory>
+    ensures ok { OnOk result (text.new.items ≡ text.old.items ++ (codes "reply " ++ decimal status ++ codes " " ++ bytes_text bytes.now)) }
+{
+    text.extend_from_slice(b"reply ")?;
+    push_number(text, status)?;
+    text.extend_from_slice(b" ")?;
+    push_bytes(alloc, text, bytes)
+}
+
+fn push_pulse(text: &mut Vec<u8>, code: u8, value: u32) -> Result<(), NoMemory>
+    ensures ok { OnOk result (text.new.items ≡ text.old.items ++ (codes "pulse " ++ decimal code ++ codes " " ++ decimal value)) }
+{
+    text.extend_from_slice(b"pulse ")?;
+    push_number(text, code as u64)?;
+    text.extend_from_slice(b" ")?;
+    push_number(text, value as u64)
+}

@@ -1,0 +1,19 @@
+use Rattle.std.proofs.Common.{◌∙◌, ap, refl, rules}
+use Rattle.qx_types.specs.declared.step.Step.TheVariants.{Perform}
+use Rattle.qx_machine.specs.Machine.{boot, step}
+use Rattle.qx_machine.specs.Runs.{world_after}
+use Rattle.qx_world.proofs.TraceLemmas.{is_run-last}
+use Rattle.qx_world.proofs.trace.Traced.perform.Goals as goal
+
+pub returns : goal.returns
+returns c =
+    let stored = rw c.if-is_err.ensures.negation at c.store.ensures.after in
+    let after = rw (← c.self-2.view_is) at stored in
+    let last = is_run-last _ _ _ _ (Perform c.args.worker c.args.moment) c.self-2.invariant after.steps in (
+      (refl, (λ _. tt), after),
+      record {
+        after = tt;
+        outcome = c.last_outcome.ensures _ _ (c.as_slice.ensures.value ∙ last) ∙ ap (λ config. (step (world_after (boot config) c.args.self.now.steps) (Perform c.args.worker c.args.moment)).outcome) after.config;
+        stale = search rules;
+      },
+    )

@@ -1,0 +1,57 @@
+-- The trace of a run: its configuration, its steps, and for how many more it has memory.
+use Rattle.std.specs.Prelude.{◌≡◌, ℕ, ◌+◌, ◌≤◌, Bool, true, false, List, [], ◌∷◌, ◌++◌, Option, option_map, map, if◌then◌else◌}
+use Rattle.qx_types.specs.Configuration.{Configuration}
+use Rattle.qx_types.specs.declared.names.User.{User}
+use Rattle.qx_types.specs.declared.outcome.Outcome.{Outcome}
+use Rattle.qx_types.specs.declared.step.Step.{Step}
+use Rattle.qx_types.specs.declared.step.Step.TheVariants.{Spawn, Call, TakeReply, Receive, Perform}
+use Rattle.qx_machine.specs.declared.rows.Entry.{Entry}
+use Rattle.qx_machine.specs.Machine.{World, boot, step, owner}
+use Rattle.qx_machine.specs.Runs.{Run, run}
+
+-- a configuration and the steps taken from boot; `room` more can be stored without more memory for the trace itself
+pub record Trace : Type 0 where
+  pub config : Configuration
+  pub steps : List Step
+  pub room : ℕ
+
+-- the run that a trace is the trace of
+abbrev pub run_of : Trace → Run
+run_of trace = run trace.config trace.steps
+
+-- after a call that stores a step, or does not
+pub record IsAfter (before : Trace) (e : Step) (stored : Bool) (after : Trace) : Type 0 where
+  pub config : after.config ≡ before.config
+  pub steps : after.steps ≡ (if stored then before.steps ++ e ∷ [] else before.steps)
+  pub room : before.room ≤ (if stored then after.room + 1 else after.room)
+
+-- what a step would give now
+abbrev pub outcome_of : Trace → Step → Outcome
+outcome_of trace e = (step (run_of trace).world e).outcome
+
+-- the outcome of the last step
+abbrev pub IsLast : Trace → Outcome → Type 0
+IsLast trace outcome = (earlier : List Step) (e : Step) → trace.steps ≡ earlier ++ e ∷ [] → outcome ≡ (step (run trace.config earlier).world e).outcome
+
+-- a step that may be refused for want of memory
+abbrev pub wants_memory : Step → Bool
+wants_memory (Spawn user threads prio) = true
+wants_memory (Call thread request) = true
+wants_memory (TakeReply thread) = false
+wants_memory (Receive worker manager) = false
+wants_memory (Perform worker moment) = true
+
+-- the steps that were stored
+abbrev pub steps_of : List Entry → List Step
+steps_of entries = map (λ entry. entry.step) entries
+
+-- by or for whom each step is taken, from a world on
+abbrev pub owners_from : World → List Step → List (Option ℕ)
+owners_from w [] = []
+owners_from w (e ∷ steps) = owner w e ∷ owners_from (step w e).world steps
+
+-- the world, the entries and the owners are those of the run of the stored steps
+pub record IsRun (world : World) (entries : List Entry) (owners : List (Option User)) : Type 0 where
+  pub same_world : world ≡ (run world.config (steps_of entries)).world
+  pub same_entries : entries ≡ (run world.config (steps_of entries)).entries
+  pub same_owners : map (option_map (λ user. user.0)) owners ≡ owners_from (boot world.config) (steps_of entries)
