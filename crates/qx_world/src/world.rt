@@ -57,7 +57,8 @@ impl World {
         })
     }
 
-    /// Starts a process of so many threads of a priority.
+    /// Starts a process of 1 to 4 ready threads of a priority from 1 to 63 (System Architecture: processes and threads).
+    /// EINVAL for other numbers; EAGAIN where the user has 16 processes; `WrongState` for a user who is not configured.
     #[tactic(auto, unfolding(qx_machine::specs::Machine::step, qx_machine::specs::Users::client, qx_machine::specs::Users::settle))]
     pub fn spawn(&mut self, user: User, threads: u8, prio: Prio) -> Result<Outcome, AllocError>
         ensures outcome { IfOk result (λ outcome. outcome ≡ (machine.step self.old (Step.Spawn user threads prio)).outcome) }
@@ -74,7 +75,8 @@ impl World {
         Ok(Outcome::WrongState)
     }
 
-    /// A thread takes its answer.
+    /// A thread takes its answer and is ready (C Library Reference: what `MsgSend` returns). `WrongState` where the thread
+    /// is not there or has none.
     #[tactic(auto, unfolding(qx_machine::specs::Machine::step, qx_machine::specs::Users::client, qx_machine::specs::Users::settle))]
     pub fn take_reply(&mut self, thread: Thread) -> Outcome
         ensures outcome { result ≡ (machine.step self.old (Step.TakeReply thread)).outcome }
@@ -90,7 +92,10 @@ impl World {
         Outcome::WrongState
     }
 
-    /// A client's request goes as a message into its manager's line.
+    /// A client's request goes as a message into its manager's line, and the thread is blocked (C Library Reference:
+    /// `MsgSend`). `WrongState` where the thread is not there or not ready; then EINVAL for fields out of their ranges,
+    /// EAGAIN where the thread's calls are used up, ENOENT for a path other than the user's own root, EMFILE where no
+    /// connection is free, EBADF where there is no such connection.
     pub fn call(&mut self, thread: Thread, request: &Request) -> Result<Outcome, NoMemory>
         ensures outcome { IfOk result (λ outcome. outcome ≡ (machine.step self.old (Step.Call thread request.now)).outcome) }
         ensures world { OnOk result (self.new ≡ (machine.step self.old (Step.Call thread request.now)).world) }
@@ -170,7 +175,8 @@ impl World {
         }
     }
 
-    /// A worker takes the first item of a line.
+    /// A worker takes the first item of a line (C Library Reference: `MsgReceive`). `WrongState` where there is no such
+    /// worker, `Busy` where it holds an item, `Idle` on an empty line.
     #[tactic(auto, using(crate::proofs::WorkerLemmas::receive_steps))]
     pub fn receive(&mut self, worker: Worker, manager: Manager) -> Outcome
         ensures outcome { result ≡ (machine.step self.old (Step.Receive worker manager)).outcome }
@@ -202,7 +208,8 @@ impl World {
         parts::take_in(&mut self.parts, first.user, first.item);
     }
 
-    /// A worker does what it holds.
+    /// A worker does what it holds (C Library Reference: `MsgReply`, `MsgError`), at a moment that becomes the times of
+    /// what it changes. `WrongState` where there is no such worker, `Nothing` where it holds nothing.
     #[tactic(auto, using(crate::proofs::WorkerLemmas::perform_steps))]
     pub fn perform_held(&mut self, worker: Worker, moment: u64) -> Result<Outcome, NoMemory>
         ensures outcome { IfOk result (λ outcome. outcome ≡ (machine.step self.old (Step.Perform worker moment)).outcome) }
@@ -230,8 +237,8 @@ impl World {
         Ok(())
     }
 
-    /// A worker does what it holds, if that is the work at hand (C Library Reference: `MsgReply`, `MsgError`). `Stale`
-    /// comes where something else is held.
+    /// Does what `perform_held` does, if what the worker holds is the work at hand, else answers `Stale`. For a worker that
+    /// read its item before and comes back with it.
     pub fn perform(
         &mut self,
         worker: Worker,
