@@ -1,6 +1,8 @@
 -- What a worker holds, as the work that it has to do.
-use Rattle.std.specs.Prelude.{◌≢◌, ℕ, Option, Some, None, if◌then◌else◌}
+use Rattle.std.specs.Prelude.{◌≢◌, ℕ, Bool, true, false, Option, Some, None, if◌then◌else◌}
 use Rattle.qx_machine.specs.declared.rows.Held.{Held}
+use Rattle.qx_machine.specs.declared.rows.Message.{Message}
+use Rattle.qx_machine.specs.declared.rows.Message.TheVariants as message
 use Rattle.qx_machine.specs.declared.rows.OwnItem.{OwnItem}
 use Rattle.qx_machine.specs.declared.rows.OwnItem.TheVariants as item
 use Rattle.qx_machine.specs.declared.rows.State.{State}
@@ -46,3 +48,34 @@ work_now lent.Pulse = work.Pulse
 abbrev pub IsStale : Option Work → Work → Type 0
 IsStale None given = ⊥
 IsStale (Some held) given = held ≢ given
+
+-- the held message is an open, the one message whose performing may want memory
+abbrev pub is_open : Message → Bool
+is_open (message.Open flags mode) = true
+is_open message.Close = false
+is_open message.Fstat = false
+
+abbrev pub opens_in : State → Bool
+opens_in Ready = false
+opens_in (Queued sent) = false
+opens_in (Taken sent) = is_open sent.message
+opens_in (Answered answer) = false
+
+abbrev pub opens_thread : Option ThreadRow → Bool
+opens_thread None = false
+opens_thread (Some row) = opens_in row.state
+
+abbrev pub opens_item : OwnItem → Part → Bool
+opens_item (item.Message process thread) part = opens_thread (thread_at part process thread)
+
+abbrev pub opens_part : OwnItem → Option Part → Bool
+opens_part item None = false
+opens_part item (Some part) = opens_item item part
+
+abbrev pub opens_hand : World → Option Held → Bool
+opens_hand w None = false
+opens_hand w (Some held) = opens_part held.item (row_at w.parts held.user.0)
+
+-- the worker holds an open
+abbrev pub holds_open : World → ℕ → Bool
+holds_open w worker = opens_hand w (row_at w.hands worker)

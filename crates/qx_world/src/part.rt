@@ -1,9 +1,10 @@
-ghost use Rattle.std.specs.Prelude.{◌≡◌, ◌∷◌, ◌<◌, IsTrue, IfOk, OnOk, OnErr, Some, []};
+ghost use Rattle.std.specs.Prelude.{◌≡◌, ◌∷◌, ◌<◌, IsTrue, IsFalse, IsOk, IfOk, OnOk, OnErr, Some, []};
 ghost use Rattle.std.specs.Option.{option_copied};
 ghost use Rattle.qx_types.specs.Configuration.{Configuration};
 ghost use Rattle.qx_machine.specs.Processes.{sending};
 ghost use Rattle.qx_machine.specs.Rows.{row_at, lowest_from};
 ghost use Rattle.qx_machine.specs.Users as users;
+ghost use Rattle.qx_world.specs.Held.{is_open, opens_item, opens_thread};
 ghost use Rattle.qx_world.specs.Reads.{is_thread_blocked, CanSend, performed_over, served_part};
 
 use crate::places;
@@ -134,6 +135,7 @@ impl Part {
     pub fn serve(&mut self, item: OwnItem) -> Result<(), AllocError>
         ensures ok { OnOk result (self.new ≡ served_part self.old item) }
         ensures err { OnErr result (self.new ≡ self.old) }
+        ensures sure { IsFalse (opens_item item self.old) → IsOk result }
     {
         let OwnItem::Message { process, thread } = item;
         self.perform(process, thread)
@@ -143,6 +145,7 @@ impl Part {
     fn perform(&mut self, process: u8, thread: u8) -> Result<(), AllocError>
         ensures ok { OnOk result (self.new ≡ users.performed self.old process thread (row_at self.old.processes process)) }
         ensures err { OnErr result (self.new ≡ self.old) }
+        ensures sure { IsFalse (opens_thread (users.thread_at self.old process thread)) → IsOk result }
     {
         let Some(row) = places::row(self.processes.as_slice(), process as usize) else {
             return Ok(());
@@ -168,6 +171,7 @@ impl Part {
         requires { IsTrue (is_thread_blocked (users.thread_at self.old process thread)) }
         ensures ok { OnOk result (self.new ≡ performed_over self.old process thread sent block sent.manager) }
         ensures err { OnErr result (self.new ≡ self.old) }
+        ensures sure { IsFalse (is_open sent.message) → IsOk result }
     {
         match sent.manager {
             Manager::Ram => match sent.message {

@@ -1,10 +1,11 @@
 //! The rows of all users, from 1: a place for each number.
 
-ghost use Rattle.std.specs.Prelude.{◌≡◌, OnOk, OnErr};
+ghost use Rattle.std.specs.Prelude.{◌≡◌, IsFalse, IsOk, OnOk, OnErr};
 ghost use Rattle.std.specs.Option.{option_copied};
 ghost use Rattle.qx_machine.specs.Processes.{sending};
 ghost use Rattle.qx_machine.specs.Rows.{row_at, with_row};
 ghost use Rattle.qx_machine.specs.Users as users;
+ghost use Rattle.qx_world.specs.Held.{opens_part};
 ghost use Rattle.qx_world.specs.Reads.{CanSend, thread_in, served_part};
 
 use crate::part::Part;
@@ -55,6 +56,7 @@ pub fn take_in(parts: &mut Parts, user: User, item: OwnItem)
 pub fn serve_in(parts: &mut Parts, user: User, item: OwnItem) -> Result<(), AllocError>
     ensures ok { OnOk result (parts.new.items ≡ with_row parts.old.items user.0 (λ part. served_part part item)) }
     ensures err { OnErr result (parts.new.items ≡ parts.old.items) }
+    ensures sure { IsFalse (opens_part item (row_at parts.old.items user.0)) → IsOk result }
 {
     let place = user.0 as usize;
     if place < parts.len() {

@@ -1,9 +1,9 @@
-ghost use Rattle.std.specs.Prelude.{◌≡◌, ◌<◌, ◌^◌, ◌+◌, IfOk, OnOk, OnErr, length, None, [], ◌∷◌, replicate, unwrap_or, MatchOption, IfNone, IsTrue, IsErrOf, ◌↔◌, option_map, is_some, if◌then◌else◌};
+ghost use Rattle.std.specs.Prelude.{◌≡◌, ◌<◌, ◌^◌, ◌+◌, IfOk, OnOk, OnErr, length, None, [], ◌∷◌, replicate, unwrap_or, MatchOption, IfNone, IsTrue, IsFalse, IsOk, Err, Some, ◌≢◌, IsErrOf, ◌↔◌, option_map, is_some, if◌then◌else◌};
 ghost use Rattle.std.specs.Option.{option_copied};
 ghost use Rattle.qx_machine.specs.Machine as machine;
 ghost use Rattle.qx_machine.specs.Rows.{row_at};
 ghost use Rattle.qx_world.specs.Calls.{judged_call, after_sending};
-ghost use Rattle.qx_world.specs.Held.{held_work, work_now, IsStale};
+ghost use Rattle.qx_world.specs.Held.{held_work, holds_open, opens_hand, work_now, IsStale};
 ghost use Rattle.qx_world.specs.Reads.{CanSend, thread_in, is_thread_answered, is_thread_blocked};
 ghost use Rattle.qx_world.specs.Workers.{with_line, after_holding, after_serving};
 
@@ -215,6 +215,7 @@ impl World {
         ensures outcome { IfOk result (λ outcome. outcome ≡ (machine.step self.old (Step.Perform worker moment)).outcome) }
         ensures world { OnOk result (self.new ≡ (machine.step self.old (Step.Perform worker moment)).world) }
         ensures err { OnErr result (self.new ≡ self.old) }
+        ensures sure { IsFalse (holds_open self.old worker.0) → IsOk result }
     {
         if !self.is_worker(worker) {
             return Ok(Outcome::WrongState);
@@ -231,6 +232,7 @@ impl World {
     fn serve(&mut self, worker: Worker, held: Held) -> Result<(), NoMemory>
         ensures ok { OnOk result (self.new ≡ after_serving self.old worker.0 held) }
         ensures err { OnErr result (self.new ≡ self.old) }
+        ensures sure { IsFalse (opens_hand self.old (Some held)) → IsOk result }
     {
         parts::serve_in(&mut self.parts, held.user, held.item)?;
         places::free(&mut self.hands, worker.0 as usize);
@@ -249,6 +251,7 @@ impl World {
         ensures world { OnOk result (self.new ≡ (machine.step self.old (Step.Perform worker moment)).world) }
         ensures err { OnErr result (self.new ≡ self.old) }
         ensures stale { IsErrOf result PerformFault.Stale ↔ IsStale (held_work self.old worker.0) work.now }
+        ensures sure { IsFalse (holds_open self.old worker.0) → result ≢ Err PerformFault.NoMemory }
     {
         if self.is_stale(worker, work) {
             return Err(PerformFault::Stale);
