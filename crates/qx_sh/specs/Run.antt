@@ -1,5 +1,5 @@
 -- How a run ends, told by the bytes that its reader had and its writer holds.
-use Rattle.std.specs.Prelude.{◌≡◌, ℕ, List, Option, IfSome}
+use Rattle.std.specs.Prelude.{◌≡◌, ◌≤◌, ℕ, List, Option, IfSome, length}
 use Rattle.std.specs.Io.KnownBytes.{Appends}
 use Rattle.qx_types.specs.Configuration.{Configuration}
 use Rattle.qx_sh.specs.declared.command.Command.{Command}
@@ -16,31 +16,42 @@ pub record Prints (bytes text : List ℕ) : Type 0 where
   pub good : script bytes ≡ Good config commands
   pub text_is : text ≡ shown config commands
 
--- the whole text of the script was written
-pub record WritesAll (old new : Option (List ℕ)) (bytes : List ℕ) : Type 0 where
+-- the bytes that were read are no more than the limit, and all that there were to read, where those are known
+pub record IsRead (limit : ℕ) (known : Option (List ℕ)) (bytes : List ℕ) : Type 0 where
+  pub within : length bytes ≤ limit
+  pub all : IfSome known (λ there. bytes ≡ there)
+
+-- a script was read, and its whole text was written
+pub record WritesAll (limit : ℕ) (known old new : Option (List ℕ)) : Type 0 where
+  pub bytes : List ℕ
+  pub read : IsRead limit known bytes
   pub text : List ℕ
   pub prints : Prints bytes text
   pub appends : Appends old new text
 
--- a front of the text of the script was written
-pub record WritesFront (old new : Option (List ℕ)) (bytes : List ℕ) : Type 0 where
+-- a script was read, and a front of its text was written
+pub record WritesFront (limit : ℕ) (known old new : Option (List ℕ)) : Type 0 where
+  pub bytes : List ℕ
+  pub read : IsRead limit known bytes
   pub text : List ℕ
   pub prints : Prints bytes text
   pub appends : AppendsFront old new text
 
--- the script is bad, first at this line, and nothing was written
-pub record RefusedAt (line : ℕ) (old new : Option (List ℕ)) (bytes : List ℕ) : Type 0 where
+-- a script was read that is bad, first at this line, and nothing was written
+pub record RefusedAt (line limit : ℕ) (known old new : Option (List ℕ)) : Type 0 where
+  pub bytes : List ℕ
+  pub read : IsRead limit known bytes
   pub bad : script bytes ≡ Bad line
   pub unwritten : new ≡ old
 
--- how a run ends, by the bytes that there were to read and those that the writer holds before and after it; it never refuses words
-abbrev pub EndsAs : Option (List ℕ) → Option (List ℕ) → Option (List ℕ) → End → Type 0
-EndsAs bytes old new Done = IfSome bytes (WritesAll old new)
-EndsAs bytes old new Input = new ≡ old
-EndsAs bytes old new Output = IfSome bytes (WritesFront old new)
-EndsAs bytes old new Words = ⊥
-EndsAs bytes old new (Line line) = IfSome bytes (RefusedAt line old new)
-EndsAs bytes old new Memory = new ≡ old
+-- how a run ends, by the most bytes that it may read, those that there are to read, where they are known, and those that the writer holds before and after it; it never refuses words
+abbrev pub EndsAs : ℕ → Option (List ℕ) → Option (List ℕ) → Option (List ℕ) → End → Type 0
+EndsAs limit known old new Done = WritesAll limit known old new
+EndsAs limit known old new Input = new ≡ old
+EndsAs limit known old new Output = WritesFront limit known old new
+EndsAs limit known old new Words = ⊥
+EndsAs limit known old new (Line line) = RefusedAt line limit known old new
+EndsAs limit known old new Memory = new ≡ old
 
 -- how a script ends that prints nothing
 abbrev pub EndsUnprinted : List ℕ → End → Type 0

@@ -9,14 +9,14 @@ use crate::streams::{ReadFault, read_all, write_out};
 use std::alloc::Global;
 use std::io::{Read, Write};
 
-/// Reads a script, runs it and writes what its `show` lines print.
+/// Reads a script, runs it and writes what its `show` lines print. A script that is longer than the limit is not run.
 pub fn run<R: Read, W: Write>(
     alloc: Global,
     reader: &mut R,
     writer: &mut W,
     options: &Options,
 ) -> End
-    ensures ending { EndsAs (R.remaining reader.old) (W.contents writer.old) (W.contents writer.new) result }
+    ensures ending { EndsAs options.now.limit (R.remaining reader.old) (W.contents writer.old) (W.contents writer.new) result }
 {
     let text = match read_all(alloc, reader, options.limit) {
         Ok(text) => text,
@@ -45,3 +45,6 @@ fn printed(alloc: Global, text: &[u8]) -> Result<Vec<u8>, End>
         Err(_) => Err(End::Memory),
     }
 }
+
+#[cfg(test)]
+mod tests;

@@ -1,4 +1,5 @@
 mod BootLemmas
+mod LoanLemmas
 mod RowLemmas
 mod TraceLemmas
 mod WorkerLemmas

@@ -1,6 +1,6 @@
 //! A world with the steps that it took from boot, each with its outcome.
 
-ghost use Rattle.std.specs.Prelude.{◌≡◌, ◌≢◌, ◌≤◌, ◌+◌, ◌<◌, ◌++◌, ◌∷◌, [], List, length, IfOk, IfErr, OnOk, OnErr, IsOk, IsErrOf, ◌↔◌, ◌⊎◌, IsTrue, IsFalse, option_map, None, slice_index_or, is_ok, Err};
+ghost use Rattle.std.specs.Prelude.{◌≡◌, ◌≢◌, ◌≤◌, ◌<◌, ◌++◌, ◌∷◌, [], List, length, IfOk, IfErr, OnOk, OnErr, IsOk, IsErrOf, ◌↔◌, IsFalse, option_map, None, slice_index_or, is_ok, Err};
 ghost use Rattle.std.specs.Option.{option_to_list};
 ghost use Rattle.std.specs.Borrow.{sem};
 ghost use Rattle.qx_types.specs.declared.step.Step.{Step};
@@ -82,7 +82,7 @@ impl Traced {
     pub fn entries(&self) -> &[Entry]
         ensures { result.now ≡ (run_of self.now).entries }
     {
-        self.entries.as_slice()
+        &self.entries
     }
 
     /// Makes room for more steps: each of the next ones is stored for sure, as far as it wants no memory itself.
@@ -124,6 +124,18 @@ impl Traced {
         ensures { IsLast self.now result.now }
     {
         last_outcome(self.entries.as_slice())
+    }
+
+    /// Takes a step, stores it with its outcome, and lends the outcome; or hands the step back.
+    pub fn step(&mut self, step: Step) -> Result<&Outcome, Unstored>
+        ensures* after { sem 𝓛 (Ends self.entry (IsAfter self.old step (is_ok result))) }
+        ensures outcome { IfOk result (λ outcome. outcome.now ≡ outcome_of self.old step) }
+        ensures handed_back { IfErr result (λ unstored. unstored.step ≡ step) }
+        ensures sure { 0 < self.old.room → IsFalse (wants_memory step) → IsOk result }
+    {
+        let stored = self.store(step);
+        let run = self.rest();
+        told(stored, run)
     }
 
     /// Hands the loan on, for reading.

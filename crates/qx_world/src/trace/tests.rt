@@ -2,6 +2,7 @@ use super::*;
 use crate::work::WorkRef;
 use qx_machine::Message;
 use qx_types::{Bytes, Coid, Errno, Item, Manager, OFlags, Prio, Proc, Request, Thread};
+use std::process::Abort;
 use std::test::Fail;
 
 const RAM_WORKER: Worker = Worker(1);
@@ -54,7 +55,7 @@ fn perform(moment: u64) -> Step {
 
 /// The steps of a call that is served at a moment, to its reply.
 fn exchange(
-    rt: &HostRuntime,
+    rt: &impl Abort,
     traced: &mut Traced,
     thread: Thread,
     request: Request,
@@ -92,5 +93,143 @@ fn runs_the_first_path(rt: HostRuntime) -> Result<(), Fail> {
         Outcome::Reply(0, Bytes::from_slice(alloc, &bytes)?)
     );
     assert_eq!(rt; traced.entries().len(), 17);
+    Ok(())
+}
+
+/// Two users open their roots while the worker's hand is full for one receive.
+fn two_users(rt: &impl Abort, alloc: Global) -> Result<Traced, Fail> {
+    let mut traced = Traced::new(alloc, config(alloc)?)?;
+    let (ann, bob) = (first_thread(User(1)), first_thread(User(2)));
+    let steps = [
+        spawn(User(2)),
+        spawn(User(1)),
+        Step::Call {
+            thread: ann,
+            request: open(alloc, "/ann")?,
+        },
+        Step::Call {
+            thread: bob,
+            request: open(alloc, "/ann")?,
+        },
+        receive(),
+        receive(),
+        perform(5),
+        Step::TakeReply { thread: ann },
+        Step::TakeReply { thread: bob },
+    ];
+    for step in steps {
+        store_at_last(rt, &mut traced, step)?;
+    }
+    Ok(traced)
+}
+
+/// Stores a step; where memory was refused nothing has changed, and the step that came back is stored.
+fn store_at_last(rt: &impl Abort, traced: &mut Traced, step: Step) -> Result<(), Fail> {
+    let (count, line) = (traced.entries().len(), traced.world().waiting(Manager::Ram));
+    if let Err(unstored) = traced.store(step) {
+        assert_eq!(rt; traced.entries().len(), count);
+        assert_eq!(rt; traced.world().waiting(Manager::Ram), line);
+        traced.store(unstored.step)?;
+    }
+    Ok(())
+}
+
+#[test]
+fn tells_each_user_its_own(rt: HostRuntime) -> Result<(), Fail> {
+    let alloc = rt.alloc();
+    let traced = two_users(&rt, alloc)?;
+    let ann = traced.transcript(User(1))?;
+    let outcomes = [
+        Outcome::Spawned(1),
+        Outcome::Sent,
+        Outcome::Reply(3, Bytes::new(alloc)),
+    ];
+    assert_eq!(rt; ann.len(), outcomes.len());
+    for (seen, outcome) in ann.iter().zip(outcomes.iter()) {
+        assert_eq!(rt; seen.outcome, *outcome);
+    }
+    assert_eq!(rt; ann[0].actor, Actor::OfUser(User(1)));
+    assert_eq!(rt; ann[1].actor, Actor::OfThread(first_thread(User(1))));
+    let bob = traced.transcript(User(2))?;
+    assert_eq!(rt; bob.len(), 3);
+    assert_eq!(rt; bob[1].outcome, Outcome::Refused(Errno::ENOENT));
+    assert_eq!(rt; bob[2].outcome, Outcome::WrongState);
+    Ok(())
+}
+
+#[test]
+fn runs_what_is_left_anew(rt: HostRuntime) -> Result<(), Fail> {
+    let traced = two_users(&rt, rt.alloc())?;
+    let erased = traced.erased(User(1))?;
+    assert_eq!(rt; erased.entries().len(), 5);
+    let (whole, left) = (traced.transcript(User(1))?, erased.transcript(User(1))?);
+    assert_eq!(rt; left.len(), whole.len());
+    for (seen, other) in left.iter().zip(whole.iter()) {
+        assert_eq!(rt; seen.actor, other.actor);
+        assert_eq!(rt; seen.outcome, other.outcome);
+    }
+    Ok(())
+}
+
+#[test]
+fn stores_in_reserved_room(rt: HostRuntime) -> Result<(), Fail> {
+    let alloc = rt.alloc();
+    let mut traced = Traced::new(alloc, config(alloc)?)?;
+    traced.reserve(3)?;
+    let ann = first_thread(User(1));
+    assert_eq!(rt; *traced.step(receive())?, Outcome::Idle);
+    assert_eq!(rt;
+        *traced.step(Step::TakeReply { thread: ann })?,
+        Outcome::WrongState
+    );
+    assert_eq!(rt; *traced.step(receive())?, Outcome::Idle);
+    Ok(())
+}
+
+#[test]
+fn performs_what_is_held(rt: HostRuntime) -> Result<(), Fail> {
+    let alloc = rt.alloc();
+    let ann = first_thread(User(1));
+    let mut traced = Traced::new(alloc, config(alloc)?)?;
+    traced.step(spawn(User(1)))?;
+    traced.step(Step::Call {
+        thread: ann,
+        request: open(alloc, "/ann")?,
+    })?;
+    assert_eq!(rt; traced.world().waiting(Manager::Ram), 1);
+    traced.step(receive())?;
+    let message = match traced.world().held(RAM_WORKER) {
+        Some(WorkRef::Message(message)) => *message,
+        Some(WorkRef::Pulse) | None => return Err(Fail::new("no message is held")),
+    };
+    assert!(rt; traced.world().blocked(ann));
+    let stale = traced.perform(RAM_WORKER, &Work::Message(Message::Close), 5);
+    assert!(rt; matches!(stale, Err(PerformFault::Stale)));
+    assert_eq!(rt; traced.entries().len(), 3);
+    assert_eq!(rt;
+        *traced.perform(RAM_WORKER, &Work::Message(message), 5)?,
+        Outcome::Handled
+    );
+    assert!(rt; traced.world().answered(ann));
+    assert_eq!(rt; traced.world().config().user_count(), 2);
+    Ok(())
+}
+
+#[test]
+fn runs_a_world_alone(rt: HostRuntime) -> Result<(), Fail> {
+    let alloc = rt.alloc();
+    let bob = first_thread(User(2));
+    let mut world = World::new(alloc, config(alloc)?)?;
+    assert_eq!(rt; world.spawn(User(2), 1, Prio(10))?, Outcome::Spawned(1));
+    assert_eq!(rt; world.call(bob, &open(alloc, "/bob")?)?, Outcome::Sent);
+    assert_eq!(rt; world.owner(&receive()), Some(User(2)));
+    assert_eq!(rt;
+        world.receive(RAM_WORKER, Manager::Ram),
+        Outcome::Took(Item::Message(bob))
+    );
+    assert_eq!(rt; world.perform_held(RAM_WORKER, 5)?, Outcome::Handled);
+    assert_eq!(rt; world.take_reply(bob), Outcome::Reply(3, Bytes::new(alloc)));
+    let nothing = world.perform(RAM_WORKER, &Work::Pulse, 6)?;
+    assert_eq!(rt; nothing, Outcome::Nothing);
     Ok(())
 }

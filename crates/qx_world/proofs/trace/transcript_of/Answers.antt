@@ -1,6 +1,5 @@
 use Rattle.std.proofs.Common.{[], ◌∷◌, ◌∙◌, sym}
 use Rattle.std.proofs.lemmas.List.{append-nil}
-use Rattle.qx_machine.specs.Runs.{received}
 use Rattle.qx_world.proofs.TraceLemmas.{received-next}
 use Rattle.qx_world.proofs.trace.transcript_of.Goals as goal
 use Rattle.qx_world.proofs.trace.transcript_of.Goals.{in-Some+in_ok-push, in_default}

@@ -1,4 +1,4 @@
-use Rattle.std.proofs.Common.{◌≡◌, ◌<◌, ◌∙◌, ap, length, map}
+use Rattle.std.proofs.Common.{◌<◌, ◌∙◌, ap, length}
 use Rattle.std.proofs.lemmas.List.{length-map}
 use Rattle.qx_machine.specs.Runs.{is_owner}
 use Rattle.qx_world.proofs.TraceLemmas.{is_run-length, is_run-owner}

@@ -1,4 +1,4 @@
-use Rattle.std.proofs.Common.{◌∙◌, ap}
+use Rattle.std.proofs.Common.{◌∙◌}
 use Rattle.qx_world.proofs.TraceLemmas.{is_run-last}
 use Rattle.qx_world.proofs.trace.Traced.last.Goals as goal
 

@@ -1,0 +1,56 @@
+//! Runs each script of its folder, and prints what the script writes and how it ends.
+#![tactic(auto)]
+
+use qx_sh::ending::report;
+use qx_sh::limit::Options;
+use qx_sh::run::run;
+use std::fs::File;
+use std::io;
+use std::io::Write;
+
+/// The names of the scripts, in the order in which they are run.
+const SCRIPTS: [&str; 24] = [
+    "empty",
+    "first_path",
+    "bad_line",
+    "bad_last_line",
+    "layout",
+    "two_roots",
+    "priorities",
+    "ann_alone",
+    "sixteen_users",
+    "seventeen_users",
+    "processes",
+    "connections",
+    "blocks",
+    "thread_numbers",
+    "priority_numbers",
+    "refused_flags",
+    "refused_paths",
+    "refused_connections",
+    "wrong_states",
+    "early_close",
+    "late_fstat",
+    "two_workers",
+    "arrival_order",
+    "refused_do",
+];
+
+fn main(rt: HostRuntime) -> io::Result<()> {
+    for name in SCRIPTS {
+        run_script(&rt, name)?;
+    }
+    Ok(())
+}
+
+/// Runs a script, and prints its name, its text, its exit status and its report.
+fn run_script(rt: &HostRuntime, name: &str) -> io::Result<()> {
+    let path = format!(in rt.alloc(); "{name}.script")?;
+    let mut script = File::open(rt, path.as_str())?;
+    let mut output = io::writer(rt);
+    writeln!(output, "== {name}")?;
+    let end = run(rt.alloc(), &mut script, &mut output, &Options::default());
+    writeln!(output, "status {}", end.status())?;
+    report(&end, &mut output);
+    Ok(())
+}
