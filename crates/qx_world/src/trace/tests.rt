@@ -123,12 +123,25 @@ fn two_users(rt: &impl Abort, alloc: Global) -> Result<Traced, Fail> {
     Ok(traced)
 }
 
+/// What can be seen of a trace: how many steps are stored and how many items wait, what is held and answered.
+fn seen_of(traced: &Traced) -> (usize, usize, bool, bool, bool) {
+    let world = traced.world();
+    (
+        traced.entries().len(),
+        world.waiting(Manager::Ram),
+        world.held(RAM_WORKER).is_some(),
+        world.answered(first_thread(User(1))),
+        world.answered(first_thread(User(2))),
+    )
+}
+
 /// Stores a step; where memory was refused nothing has changed, and the step that came back is stored.
 fn store_at_last(rt: &impl Abort, traced: &mut Traced, step: Step) -> Result<(), Fail> {
-    let (count, line) = (traced.entries().len(), traced.world().waiting(Manager::Ram));
+    let before = seen_of(traced);
+    let shown = traced.transcript(User(1))?.len();
     if let Err(unstored) = traced.store(step) {
-        assert_eq!(rt; traced.entries().len(), count);
-        assert_eq!(rt; traced.world().waiting(Manager::Ram), line);
+        assert_eq!(rt; seen_of(traced), before);
+        assert_eq!(rt; traced.transcript(User(1))?.len(), shown);
         traced.store(unstored.step)?;
     }
     Ok(())

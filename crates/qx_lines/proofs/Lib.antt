@@ -1,0 +1,2 @@
+pub mod LineFacts
+pub mod NodeLemmas

@@ -1,0 +1,86 @@
+ghost use Rattle.std.specs.Prelude.{◌≤◌, IfOk};
+ghost use Rattle.qx_lines.specs.Line.{IsInLine, IsLineOf};
+
+use super::*;
+use std::alloc::AllocFailed;
+use std::cmp::Reverse;
+use std::test::Fail;
+
+#[derive(Drop)]
+struct Sent {
+    prio: Prio,
+    ghost lowest: { 1 ≤ prio.0 },
+    ghost highest: { prio.0 ≤ 63 },
+}
+
+impl Ranked for Sent {
+    ghost rank = { λ sent. sent.prio.0 };
+
+    fn prio(&self) -> Prio {
+        self.prio
+    }
+}
+
+// Makes a node for the value, and puts it into the line.
+fn send<T: Ranked>(table: &mut Table<T>, line: &mut Line, value: T) -> Result<usize, AllocFailed<T>>
+    requires { IsLineOf T.rank table.old line.old }
+    ensures of { IsLineOf T.rank table.new line.new }
+    ensures in_line { IfOk result (IsInLine table.new line.new) }
+{
+    table.know();
+    let node = table.new_node(value)?;
+    line.put(table, node);
+    Ok(node)
+}
+
+#[test]
+fn goes_by_priority_and_then_by_age(rt: HostRuntime) -> Result<(), Fail> {
+    let mut table = Table::new(rt.alloc());
+    let mut line = Line::new(&mut table)?;
+    let first = send(&mut table, &mut line, Sent { prio: Prio(10) })?;
+    let second = send(&mut table, &mut line, Sent { prio: Prio(10) })?;
+    let urgent = send(&mut table, &mut line, Sent { prio: Prio(63) })?;
+    assert_eq!(rt; line.first(&table), Some(urgent));
+    assert_eq!(rt; line.len(), 3);
+    line.remove(&mut table, urgent);
+    assert_eq!(rt; line.take(&mut table), Some(first));
+    assert_eq!(rt; line.take(&mut table), Some(second));
+    assert_eq!(rt; line.take(&mut table), None);
+    assert_eq!(rt; line.len(), 0);
+    Ok(())
+}
+
+#[test]
+fn goes_as_a_sorted_list(rt: HostRuntime) -> Result<(), Fail> {
+    let mut table = Table::new(rt.alloc());
+    let mut line = Line::new(&mut table)?;
+    let mut expected = Vec::new(rt.alloc());
+    let mut seed: u32 = 1;
+    'steps: for _ in 0..200 {
+        seed = seed.wrapping_mul(1_103_515_245).wrapping_add(12_345);
+        let prio = (seed >> 16) % 4 + 1;
+        let node = send(
+            &mut table,
+            &mut line,
+            Sent {
+                prio: Prio(prio as u8),
+            },
+        )?;
+        let choice = (seed >> 20) % 3;
+        if choice == 0 {
+            line.remove(&mut table, node);
+        } else {
+            expected.push((node, prio))?;
+            expected.sort_by_key(|sent| Reverse(sent.1))?;
+        }
+        if choice == 1 && !expected.is_empty() {
+            let (first, _) = expected.remove(0);
+            assert_eq!(rt; line.take(&mut table), Some(first));
+        }
+        assert_eq!(rt; line.len(), expected.len());
+    }
+    'rest: for (node, _) in &expected {
+        assert_eq!(rt; line.take(&mut table), Some(*node));
+    }
+    Ok(())
+}

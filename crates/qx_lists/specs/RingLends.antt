@@ -1,0 +1,13 @@
+-- What the rings end as, where a `&mut` to a value is returned. No public clause cites this module.
+use Rattle.std.specs.Prelude.{ℕ}
+use Rattle.std.specs.Borrow.{Lends, Fml, RattleType, MutBor}
+use Rattle.qx_lists.specs.Rings.{changed_at}
+use Rattle.qx_lists.specs.declared.rings.Rings.{Rings}
+use Rattle.qx_lists.specs.contracts.rings.Rings.{the_row}
+
+-- the rings with another value of one node
+abbrev pub with_value : {T : Type 0} → Rings T → ℕ → T → Rings T
+with_value r node value = record r { nodes = changed_at (λ n. record n { value = value }) r.nodes node }
+
+abbrev pub lends_value : (T : RattleType) → MutBor (Rings T.Denot) → ℕ → MutBor T.Denot → Fml
+lends_value T s node r = Lends (the_row T) T s r (with_value s.now node)

@@ -1,0 +1,89 @@
+//! The links of the lists: each list is a ring of places, of which one is the list itself.
+ghost use Rattle.std.specs.Prelude.{◌≡◌, Some, IsSome, option_map};
+ghost use Rattle.std.specs.Borrow.{sem};
+ghost use Rattle.slab.specs.Slab.{get, ContainsKey};
+ghost use Rattle.qx_lists.specs.Rings.{links_at, with_next, with_previous, joined};
+
+use slab::Slab;
+
+/// The places next to a place of a ring. `None` is the place of the list itself.
+#[derive(Clone, Copy)]
+pub(crate) struct Links {
+    pub(crate) next: Option<usize>,
+    pub(crate) previous: Option<usize>,
+}
+
+impl Links {
+    /// The links of a place that is alone in its ring.
+    pub(crate) const ALONE: Links = Links {
+        next: None,
+        previous: None,
+    };
+}
+
+#[derive(Drop)]
+pub(crate) struct Node<T> {
+    pub(crate) value: T,
+    pub(crate) links: Links,
+}
+
+#[derive(Drop)]
+pub(crate) struct Rings<T> {
+    pub(crate) nodes: Slab<Node<T>>,
+    pub(crate) lists: Slab<Links>,
+}
+
+impl<T> Rings<T> {
+    ghost use Rattle.qx_lists.specs.RingLends.{lends_value};
+
+    /// The links of a place of the list's ring.
+    pub(crate) fn links(&self, list: usize, place: Option<usize>) -> Links
+        requires { IsSome (links_at self.now list place) }
+        ensures { links_at self.now list place ≡ Some result }
+    {
+        match place {
+            None => self.lists[list],
+            Some(node) => self.nodes[node].links,
+        }
+    }
+
+    /// Makes `after` come right after `before` in the list's ring.
+    pub(crate) fn join(&mut self, list: usize, before: Option<usize>, after: Option<usize>)
+        requires before { IsSome (links_at self.old list before) }
+        requires after { IsSome (links_at self.old list after) }
+        ensures { self.new ≡ joined self.old list before after }
+    {
+        self.set_next(list, before, after);
+        self.set_previous(list, after, before);
+    }
+
+    /// The value of a node, for writing.
+    pub(crate) fn value_mut(&mut self, node: usize) -> &mut T
+        requires { ContainsKey self.old.nodes node }
+        ensures* writes_back { sem 𝓛 (lends_value T.row self.entry node result) }
+        ensures value { option_map (λ n. n.value) (get self.old.nodes node) ≡ Some result.now }
+    {
+        let node = &mut self.nodes[node];
+        &mut node.value
+    }
+
+    fn set_next(&mut self, list: usize, place: Option<usize>, next: Option<usize>)
+        requires { IsSome (links_at self.old list place) }
+        ensures { self.new ≡ with_next self.old list place next }
+    {
+        match place {
+            None => self.lists[list].next = next,
+            Some(node) => self.nodes[node].links.next = next,
+        }
+    }
+
+    fn set_previous(&mut self, list: usize, place: Option<usize>, previous: Option<usize>)
+        requires { IsSome (links_at self.old list place) }
+        ensures { self.new ≡ with_previous self.old list place previous }
+    {
+        match place {
+            None => self.lists[list].previous = previous,
+            Some(node) => self.nodes[node].links.previous = previous,
+        }
+    }
+}

@@ -1,0 +1,33 @@
+use super::*;
+use std::test::Fail;
+
+#[test]
+#[tactic(auto, using(crate::proofs::TableFacts::table_facts))]
+fn nodes_are_put_in_and_taken_out(rt: HostRuntime) -> Result<(), Fail> {
+    let mut table = Table::new(rt.alloc());
+    table.reserve(2)?;
+    let list = table.add_list()?;
+    let first = table.new_node('a')?;
+    let second = table.new_node('b')?;
+    table.push_back(list, second);
+    table.insert_before(list, second, first);
+    assert_eq!(rt; table.first(list), Some(first));
+    *table.value_mut(second) = 'c';
+    assert_eq!(rt; *table.value(second), 'c');
+    if let Some(node) = table.pop_front(list) {
+        assert_eq!(rt; node, first);
+        assert_eq!(rt; table.free_node(node), 'a');
+    }
+    assert_eq!(rt; table.first(list), Some(second));
+    Ok(())
+}
+
+#[test]
+fn an_empty_list_is_freed(rt: HostRuntime) -> Result<(), Fail> {
+    let mut table: Table<char> = Table::new(rt.alloc());
+    let list = table.add_list()?;
+    table.know();
+    assert_eq!(rt; table.pop_front(list), None);
+    table.free_list(list);
+    Ok(())
+}
