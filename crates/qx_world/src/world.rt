@@ -90,6 +90,22 @@ impl World {
         Outcome::WrongState
     }
 
+    /// A thread gets another priority; a message that it sent keeps the one that it was sent with.
+    #[tactic(auto, unfolding(qx_machine::specs::Machine::step, qx_machine::specs::Users::client, qx_machine::specs::Users::settle))]
+    pub fn set_prio(&mut self, thread: Thread, prio: Prio) -> Outcome
+        ensures outcome { result ≡ (machine.step self.old (Step.SetPrio thread prio)).outcome }
+        ensures world { self.new ≡ (machine.step self.old (Step.SetPrio thread prio)).world }
+    {
+        let place = thread.proc.user.0 as usize;
+        if place >= self.parts.len() {
+            return Outcome::WrongState;
+        }
+        if let Some(part) = self.parts[place].as_mut() {
+            return part.set_prio(thread, prio);
+        }
+        Outcome::WrongState
+    }
+
     /// A client's request goes as a message into its manager's line.
     pub fn call(&mut self, thread: Thread, request: &Request) -> Result<Outcome, NoMemory>
         ensures outcome { IfOk result (λ outcome. outcome ≡ (machine.step self.old (Step.Call thread request.now)).outcome) }
@@ -340,7 +356,9 @@ impl World {
     {
         match step {
             Step::Spawn { user, .. } => Some(*user),
-            Step::Call { thread, .. } | Step::TakeReply { thread } => Some(thread.proc.user),
+            Step::Call { thread, .. }
+            | Step::TakeReply { thread }
+            | Step::SetPrio { thread, .. } => Some(thread.proc.user),
             Step::Receive { worker, manager } => self.receive_owner(*worker, *manager),
             Step::Perform { worker, .. } => self.perform_owner(*worker),
         }
