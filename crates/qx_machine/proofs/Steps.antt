@@ -5,7 +5,7 @@ use Rattle.std.proofs.lemmas.Bool.{eqb-true, false≢true}
 use Rattle.qx_types.specs.declared.names.Manager.{Manager}
 use Rattle.qx_types.specs.declared.outcome.Outcome.TheVariants.{WrongState}
 use Rattle.qx_types.specs.declared.step.Step.{Step}
-use Rattle.qx_types.specs.declared.step.Step.TheVariants.{Spawn, Call, TakeReply, Receive, Perform}
+use Rattle.qx_types.specs.declared.step.Step.TheVariants.{Spawn, Call, TakeReply, SetPrio, Receive, Perform}
 use Rattle.qx_machine.specs.declared.rows.Held.{Held}
 use Rattle.qx_machine.specs.declared.rows.Queued.{Queued}
 use Rattle.qx_machine.specs.Machine.{World, own_hand, own_line, unchanged, is_worker, line_of, receive_line, receive_hand, perform_hand, step, first_user, receive_owner, owner, view}
@@ -22,6 +22,7 @@ unfolding step
 reached_step w (Spawn user threads prio) h = reached_client w user.0 (Spawn user threads prio) (row_at w.parts user.0) h
 reached_step w (Call thread request) h = reached_client w thread.proc.user.0 (Call thread request) (row_at w.parts thread.proc.user.0) h
 reached_step w (TakeReply thread) h = reached_client w thread.proc.user.0 (TakeReply thread) (row_at w.parts thread.proc.user.0) h
+reached_step w (SetPrio thread prio) h = reached_client w thread.proc.user.0 (SetPrio thread prio) (row_at w.parts thread.proc.user.0) h
 reached_step w (Receive worker manager) h = reached_worker w worker.0 manager (is_worker w.config worker.0) h
 reached_step w (Perform worker moment) h = reached_perform w worker.0 moment (is_worker w.config worker.0) h
 
@@ -31,6 +32,7 @@ unfolding step owner view
 step_own w user (Spawn of threads prio) h own = client_own w user of.0 (Spawn of threads prio) h (eqb-true of.0 user own)
 step_own w user (Call thread request) h own = client_own w user thread.proc.user.0 (Call thread request) h (eqb-true thread.proc.user.0 user own)
 step_own w user (TakeReply thread) h own = client_own w user thread.proc.user.0 (TakeReply thread) h (eqb-true thread.proc.user.0 user own)
+step_own w user (SetPrio thread prio) h own = client_own w user thread.proc.user.0 (SetPrio thread prio) h (eqb-true thread.proc.user.0 user own)
 step_own w user (Receive worker manager) h own = receive_worker_own w user worker.0 manager (is_worker w.config worker.0) h own
 step_own w user (Perform worker moment) h own = perform_worker_own w user worker.0 moment (is_worker w.config worker.0) h own
 
@@ -40,6 +42,7 @@ unfolding step owner
 step_other w user (Spawn of threads prio) differ = client_other w user of.0 (Spawn of threads prio) (row_at w.parts of.0) differ
 step_other w user (Call thread request) differ = client_other w user thread.proc.user.0 (Call thread request) (row_at w.parts thread.proc.user.0) differ
 step_other w user (TakeReply thread) differ = client_other w user thread.proc.user.0 (TakeReply thread) (row_at w.parts thread.proc.user.0) differ
+step_other w user (SetPrio thread prio) differ = client_other w user thread.proc.user.0 (SetPrio thread prio) (row_at w.parts thread.proc.user.0) differ
 step_other w user (Receive worker manager) differ = receive_worker_other w user worker.0 manager (is_worker w.config worker.0) differ
 step_other w user (Perform worker moment) differ = perform_worker_other w user worker.0 moment (is_worker w.config worker.0) differ
 
@@ -72,6 +75,7 @@ unfolding owner view
 owner_own w user (Spawn of threads prio) own = refl
 owner_own w user (Call thread request) own = refl
 owner_own w user (TakeReply thread) own = refl
+owner_own w user (SetPrio thread prio) own = refl
 owner_own w user (Receive worker manager) own = receiver_own w user worker.0 manager (is_worker w.config worker.0) own
 owner_own w user (Perform worker moment) own = performer_own w user worker.0 (is_worker w.config worker.0) own
 
@@ -81,6 +85,7 @@ unfolding owner
 seen_other w user (Spawn of threads prio) outcome differ = rw differ refl
 seen_other w user (Call thread request) outcome differ = rw differ refl
 seen_other w user (TakeReply thread) outcome differ = rw differ refl
+seen_other w user (SetPrio thread prio) outcome differ = rw differ refl
 seen_other w user (Receive worker manager) outcome differ = refl
 seen_other w user (Perform worker moment) outcome differ = refl
 
@@ -112,5 +117,6 @@ unfolding step owner
 step_idle w (Spawn of threads prio) none = absurd (cc)
 step_idle w (Call thread request) none = absurd (cc)
 step_idle w (TakeReply thread) none = absurd (cc)
+step_idle w (SetPrio thread prio) none = absurd (cc)
 step_idle w (Receive worker manager) none = idle_receiver w worker.0 manager (is_worker w.config worker.0) none
 step_idle w (Perform worker moment) none = idle_performer w worker.0 moment (is_worker w.config worker.0) none

@@ -8,7 +8,7 @@ use Rattle.qx_types.specs.declared.names.Manager.TheVariants.{Ram, Pipe}
 use Rattle.qx_types.specs.declared.outcome.Outcome.{Outcome}
 use Rattle.qx_types.specs.declared.outcome.Outcome.TheVariants.{WrongState, Took, Idle, Busy, Handled, Nothing}
 use Rattle.qx_types.specs.declared.step.Step.{Step}
-use Rattle.qx_types.specs.declared.step.Step.TheVariants.{Spawn, Call, TakeReply, Receive, Perform}
+use Rattle.qx_types.specs.declared.step.Step.TheVariants.{Spawn, Call, TakeReply, SetPrio, Receive, Perform}
 use Rattle.qx_machine.specs.declared.rows.Held.{Held}
 use Rattle.qx_machine.specs.declared.rows.OwnItem.{OwnItem}
 use Rattle.qx_machine.specs.declared.rows.OwnItem.TheVariants.{Message}
@@ -178,6 +178,7 @@ unfoldable pub step : World → Step → After
 step w (Spawn user threads prio) = client_step w user.0 (Spawn user threads prio) (row_at w.parts user.0)
 step w (Call thread request) = client_step w thread.proc.user.0 (Call thread request) (row_at w.parts thread.proc.user.0)
 step w (TakeReply thread) = client_step w thread.proc.user.0 (TakeReply thread) (row_at w.parts thread.proc.user.0)
+step w (SetPrio thread prio) = client_step w thread.proc.user.0 (SetPrio thread prio) (row_at w.parts thread.proc.user.0)
 step w (Receive worker manager) = receive w worker.0 manager
 step w (Perform worker moment) = perform w worker.0 moment
 
@@ -194,6 +195,7 @@ unfoldable pub owner : World → Step → Option ℕ
 owner w (Spawn user threads prio) = Some user.0
 owner w (Call thread request) = Some thread.proc.user.0
 owner w (TakeReply thread) = Some thread.proc.user.0
+owner w (SetPrio thread prio) = Some thread.proc.user.0
 owner w (Receive worker manager) =
     if is_worker w.config worker.0 then receive_owner (line_of w manager) (row_at w.hands worker.0) else None
 owner w (Perform worker moment) =

@@ -110,6 +110,13 @@ taking thread process = record { threads = with_row process.threads thread takin
 abbrev pub answered_thread : Answer → ThreadRow → ThreadRow
 answered_thread given row = record { state = Answered given; prio = row.prio; calls = row.calls }
 
+-- a thread of another priority
+abbrev pub ranked_thread : ℕ → ThreadRow → ThreadRow
+ranked_thread prio row = record { state = row.state; prio = record { 0 = prio }; calls = row.calls }
+
+abbrev pub ranked : ℕ → ℕ → Process → Process
+ranked thread prio process = record { threads = with_row process.threads thread (ranked_thread prio); connections = process.connections }
+
 -- a thread that took its answer
 abbrev pub ready_thread : ThreadRow → ThreadRow
 ready_thread row = record { state = Ready; prio = row.prio; calls = row.calls }

@@ -5,7 +5,7 @@ use Rattle.qx_types.specs.declared.names.Actor.{Actor}
 use Rattle.qx_types.specs.declared.names.Actor.TheVariants.{OfUser, OfProc, OfThread}
 use Rattle.qx_types.specs.declared.outcome.Outcome.{Outcome}
 use Rattle.qx_types.specs.declared.step.Step.{Step}
-use Rattle.qx_types.specs.declared.step.Step.TheVariants.{Spawn, Call, TakeReply, Receive, Perform}
+use Rattle.qx_types.specs.declared.step.Step.TheVariants.{Spawn, Call, TakeReply, SetPrio, Receive, Perform}
 use Rattle.qx_machine.specs.declared.rows.Entry.{Entry}
 use Rattle.qx_machine.specs.declared.rows.Seen.{Seen}
 use Rattle.qx_machine.specs.Machine.{World, boot, step, owner}
@@ -32,6 +32,7 @@ abbrev pub actor_of : Step → Option Actor
 actor_of (Spawn user threads prio) = Some (OfUser user)
 actor_of (Call thread request) = Some (OfThread thread)
 actor_of (TakeReply thread) = Some (OfThread thread)
+actor_of (SetPrio thread prio) = Some (OfThread thread)
 actor_of (Receive worker manager) = None
 actor_of (Perform worker moment) = None
 

@@ -9,10 +9,10 @@ use Rattle.qx_types.specs.declared.names.Thread.{Thread}
 use Rattle.qx_types.specs.declared.outcome.Answer.{Answer}
 use Rattle.qx_types.specs.declared.outcome.Answer.TheVariants as answer
 use Rattle.qx_types.specs.declared.outcome.Outcome.{Outcome}
-use Rattle.qx_types.specs.declared.outcome.Outcome.TheVariants.{Spawned, Refused, Sent, Reply, Failed, WrongState}
+use Rattle.qx_types.specs.declared.outcome.Outcome.TheVariants.{Spawned, Refused, Done, Sent, Reply, Failed, WrongState}
 use Rattle.qx_types.specs.declared.step.Request.{Request}
 use Rattle.qx_types.specs.declared.step.Step.{Step}
-use Rattle.qx_types.specs.declared.step.Step.TheVariants.{Spawn, Call, TakeReply, Receive, Perform}
+use Rattle.qx_types.specs.declared.step.Step.TheVariants.{Spawn, Call, TakeReply, SetPrio, Receive, Perform}
 use Rattle.qx_machine.specs.declared.rows.Attribute.{Attribute}
 use Rattle.qx_machine.specs.declared.rows.Block.{Block}
 use Rattle.qx_machine.specs.declared.rows.Connection.{Connection}
@@ -25,7 +25,7 @@ use Rattle.qx_machine.specs.declared.rows.State.{State}
 use Rattle.qx_machine.specs.declared.rows.State.TheVariants.{Ready, Queued, Taken, Answered}
 use Rattle.qx_machine.specs.declared.rows.ThreadRow.{ThreadRow}
 use Rattle.qx_machine.specs.Attributes.{root_attribute, root_inode, stat_bytes}
-use Rattle.qx_machine.specs.Processes.{Process, new_process, judged_process, sending, taking, ready, answered_thread}
+use Rattle.qx_machine.specs.Processes.{Process, new_process, judged_process, sending, taking, ready, answered_thread, ranked}
 use Rattle.qx_machine.specs.Rows.{row_at, lowest_from, put_row, with_row}
 
 -- all rows of one user: the root of the user's mount, and processes and open blocks from 1
@@ -123,11 +123,20 @@ abbrev pub reply_of : Part → Thread → Option ThreadRow → ClientStep
 reply_of part thread None = unchanged_part part WrongState
 reply_of part thread (Some row) = reply_from part thread row.state
 
+-- a thread gets another priority, from 1 to 63
+abbrev pub prio_set : Part → Thread → ℕ → Option ThreadRow → ClientStep
+prio_set part thread prio None = unchanged_part part WrongState
+prio_set part thread prio (Some row) =
+    if nat_le 1 prio && nat_le prio 63
+    then record { outcome = Done; part = with_process part thread.proc.num (ranked thread.tid prio); changes = [] }
+    else unchanged_part part (Refused EINVAL)
+
 -- a client's step, from its user's rows and the items of that user in workers' hands
 unfoldable pub client : Configuration → ℕ → List OwnItem → Part → Step → ClientStep
 client config user held part (Spawn of_user threads prio) = spawn part threads prio.0
 client config user held part (Call thread request) = called part thread (judged (own_path config user) part thread request)
 client config user held part (TakeReply thread) = reply_of part thread (thread_at part thread.proc.num thread.tid)
+client config user held part (SetPrio thread prio) = prio_set part thread prio.0 (thread_at part thread.proc.num thread.tid)
 client config user held part (Receive worker manager) = unchanged_part part WrongState
 client config user held part (Perform worker moment) = unchanged_part part WrongState
 

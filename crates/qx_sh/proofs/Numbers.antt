@@ -12,7 +12,7 @@ use Rattle.std.proofs.lemmas.Fmt.{IsAscii-from_digits}
 use Rattle.std.proofs.lemmas.Str.Parse.{IsNumeralModel, numerals_by_value, parse_digits}
 use Rattle.qx_sh.specs.Words.{is_numeral, number_of}
 
-own : IsNumeralModel (λ word. list_all is_ascii_digit word ≡ true) (digits_value 10)
+pub own : IsNumeralModel (λ word. list_all is_ascii_digit word ≡ true) (digits_value 10)
 own = numerals_by_value _ (search rules)
 
 digits : (word : List ℕ) → is_numeral word ≡ true → list_all is_ascii_digit word ≡ true

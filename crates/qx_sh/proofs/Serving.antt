@@ -7,7 +7,7 @@ use Rattle.qx_types.specs.Configuration.{Configuration}
 use Rattle.qx_types.specs.declared.names.Manager.{Manager}
 use Rattle.qx_types.specs.declared.names.Manager.TheVariants.{Ram, Pipe}
 use Rattle.qx_types.specs.declared.step.Step.{Step}
-use Rattle.qx_types.specs.declared.step.Step.TheVariants.{Spawn, Call, TakeReply, Receive, Perform}
+use Rattle.qx_types.specs.declared.step.Step.TheVariants.{Spawn, Call, TakeReply, SetPrio, Receive, Perform}
 use Rattle.qx_machine.specs.declared.rows.Held.{Held}
 use Rattle.qx_machine.specs.declared.rows.OwnItem.{OwnItem}
 use Rattle.qx_machine.specs.declared.rows.OwnItem.TheVariants.{Message}
@@ -62,6 +62,7 @@ unfolding step
 kept n w (Spawn user threads prio) k = client n w user.0 _ (row_at w.parts user.0) k
 kept n w (Call thread request) k = client n w thread.proc.user.0 _ (row_at w.parts thread.proc.user.0) k
 kept n w (TakeReply thread) k = client n w thread.proc.user.0 _ (row_at w.parts thread.proc.user.0) k
+kept n w (SetPrio thread prio) k = client n w thread.proc.user.0 _ (row_at w.parts thread.proc.user.0) k
 kept n w (Receive worker manager) k = choice n (is_worker w.config worker.0) _ _ (hand n w worker.0 manager (row_at w.hands worker.0) k) k
 kept n w (Perform worker moment) k = choice n (is_worker w.config worker.0) _ _ (does n w worker.0 moment (row_at w.hands worker.0) k) k
 

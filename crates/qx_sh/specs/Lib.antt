@@ -1,8 +1,10 @@
 pub mod Lines
 pub mod Options
 pub mod Play
+pub mod Replay
 pub mod Run
 pub mod Script
+pub mod StepText
 pub mod Text
 pub mod Words
 pub mod Written

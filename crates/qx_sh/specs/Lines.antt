@@ -5,9 +5,9 @@ use Rattle.qx_types.specs.declared.names.Thread.{Thread}
 use Rattle.qx_types.specs.declared.step.Request.{Request}
 use Rattle.qx_types.specs.declared.step.Request.TheVariants.{OpenPath, Close, Fstat}
 use Rattle.qx_types.specs.declared.step.Step.{Step}
-use Rattle.qx_types.specs.declared.step.Step.TheVariants.{Spawn, Call, TakeReply, Receive, Perform}
+use Rattle.qx_types.specs.declared.step.Step.TheVariants.{Spawn, Call, TakeReply, SetPrio, Receive, Perform}
 use Rattle.qx_sh.specs.declared.command.Command.{Command}
-use Rattle.qx_sh.specs.declared.command.Command.TheVariants.{Take, Serve, Do, Show}
+use Rattle.qx_sh.specs.declared.command.Command.TheVariants.{Take, Serve, Do, Show, Trace}
 use Rattle.qx_sh.specs.Words.{◌>>=◌, byte_of, moment_of, user_of, thread_of, flags_of, mode_of, manager_of, one_of, two_of, three_of, four_of}
 
 -- user, threads, priority
@@ -51,6 +51,14 @@ reply_of users words = do
   thread ← thread_of users word
   Some (TakeReply thread)
 
+-- thread, priority
+unfoldable pub prio_of : List (List ℕ) → List (List ℕ) → Option Step
+prio_of users words = do
+  parts ← two_of words
+  thread ← thread_of users parts.0
+  prio ← byte_of parts.1
+  Some (SetPrio thread (record { 0 = prio }))
+
 -- worker, manager
 unfoldable pub receive_of : List (List ℕ) → Option Step
 receive_of words = do
@@ -83,6 +91,7 @@ unfoldable pub step_of : List (List ℕ) → List ℕ → List (List ℕ) → Op
 step_of users name words =
     if bytes_eq name (codes "spawn") then spawn_of users words
     else if bytes_eq name (codes "reply") then reply_of users words
+    else if bytes_eq name (codes "prio") then prio_of users words
     else if bytes_eq name (codes "receive") then receive_of words
     else if bytes_eq name (codes "perform") then perform_of words
     else option_map call_step (call_of users name words)
@@ -110,10 +119,16 @@ show_of users words = do
   user ← user_of users word
   Some (Show user)
 
+-- no further word
+unfoldable pub trace_of : List (List ℕ) → Option Command
+trace_of [] = Some Trace
+trace_of (word ∷ words) = None
+
 -- a line that takes steps or prints, by its first word
 unfoldable pub command_of : List (List ℕ) → List ℕ → List (List ℕ) → Option Command
 command_of users name words =
     if bytes_eq name (codes "serve") then serve_of words
     else if bytes_eq name (codes "do") then do_of users words
     else if bytes_eq name (codes "show") then show_of users words
+    else if bytes_eq name (codes "trace") then trace_of words
     else option_map Take (step_of users name words)

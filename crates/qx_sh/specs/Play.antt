@@ -14,7 +14,8 @@ use Rattle.qx_machine.specs.Rows.{row_at}
 use Rattle.qx_machine.specs.Runs.{run, received}
 use Rattle.qx_world.specs.Reads.{is_thread_answered, thread_in}
 use Rattle.qx_sh.specs.declared.command.Command.{Command}
-use Rattle.qx_sh.specs.declared.command.Command.TheVariants.{Take, Serve, Do, Show}
+use Rattle.qx_sh.specs.declared.command.Command.TheVariants.{Take, Serve, Do, Show, Trace}
+use Rattle.qx_sh.specs.StepText.{trace_text}
 use Rattle.qx_sh.specs.Text.{transcript_text}
 
 -- the steps taken and the text printed so far
@@ -109,6 +110,8 @@ played_line config played (Do moment thread request) =
     record { steps = called config moment thread (Call thread request) played.steps; text = played.text }
 played_line config played (Show user) =
     record { steps = played.steps; text = played.text ++ transcript_text config (received user.0 (run config played.steps).entries) }
+played_line config played Trace =
+    record { steps = played.steps; text = played.text ++ trace_text config (run config played.steps).entries }
 
 abbrev pub played_lines : Configuration → Played → List Command → Played
 played_lines config played [] = played

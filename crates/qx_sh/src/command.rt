@@ -11,4 +11,6 @@ pub enum Command {
     Do(u64, Thread, Request),
     /// Prints what a user was shown so far.
     Show(User),
+    /// Prints all steps so far, each with its outcome.
+    Trace,
 }

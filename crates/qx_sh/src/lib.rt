@@ -4,6 +4,7 @@
 pub mod command;
 pub mod ending;
 mod items;
+pub mod laws;
 pub mod limit;
 mod lines;
 pub mod options;

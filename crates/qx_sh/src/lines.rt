@@ -1,5 +1,5 @@
 ghost use Rattle.std.specs.Prelude.{◌≡◌, IfOk, map, option_map};
-ghost use Rattle.qx_sh.specs.Lines.{spawn_of, open_of, close_of, fstat_of, reply_of, receive_of, perform_of, call_of, step_of, serve_of, do_of, show_of, command_of};
+ghost use Rattle.qx_sh.specs.Lines.{spawn_of, open_of, close_of, fstat_of, reply_of, prio_of, receive_of, perform_of, call_of, step_of, serve_of, do_of, show_of, trace_of, command_of};
 
 use crate::command::Command;
 use crate::items::{four, one, three, two};
@@ -80,6 +80,17 @@ fn reply(users: &Users, words: &[&[u8]]) -> Option<Step>
     Some(Step::TakeReply { thread })
 }
 
+/// `prio THREAD PRIORITY`
+#[tactic(auto, unfolding(crate::specs::Lines::prio_of))]
+fn prio(users: &Users, words: &[&[u8]]) -> Option<Step>
+    ensures step { result ≡ prio_of users.now (map (λ word. word.now) words.now) }
+{
+    let (thread_word, prio) = two(words)?;
+    let thread = thread(users, thread_word)?;
+    let prio = Prio(byte(prio)?);
+    Some(Step::SetPrio { thread, prio })
+}
+
 /// `receive WORKER ram|pipe`
 #[tactic(auto, unfolding(crate::specs::Lines::receive_of))]
 fn receive(words: &[&[u8]]) -> Option<Step>
@@ -137,6 +148,8 @@ fn step(
         Ok(spawn(users, words))
     } else if name == b"reply".as_slice() {
         Ok(reply(users, words))
+    } else if name == b"prio".as_slice() {
+        Ok(prio(users, words))
     } else if name == b"receive".as_slice() {
         Ok(receive(words))
     } else if name == b"perform".as_slice() {
@@ -184,6 +197,17 @@ fn show(users: &Users, words: &[&[u8]]) -> Option<Command>
     Some(Command::Show(user))
 }
 
+/// `trace`
+#[tactic(auto, unfolding(crate::specs::Lines::trace_of))]
+fn trace(words: &[&[u8]]) -> Option<Command>
+    ensures command { result ≡ trace_of (map (λ word. word.now) words.now) }
+{
+    if !words.is_empty() {
+        return None;
+    }
+    Some(Command::Trace)
+}
+
 /// A line that takes steps or prints, by its first word.
 #[tactic(auto, unfolding(crate::specs::Lines::command_of))]
 pub fn command(
@@ -200,6 +224,8 @@ pub fn command(
         do_call(alloc, users, words)
     } else if name == b"show".as_slice() {
         Ok(show(users, words))
+    } else if name == b"trace".as_slice() {
+        Ok(trace(words))
     } else {
         match step(alloc, users, name, words)? {
             Some(step) => Ok(Some(Command::Take(step))),

@@ -55,6 +55,11 @@ fn play_line(
             text.extend_from_slice(&lines)?;
             Ok(())
         }
+        Command::Trace => {
+            let lines = text::trace(alloc, traced.config(), traced.entries())?;
+            text.extend_from_slice(&lines)?;
+            Ok(())
+        }
     }
 }
 

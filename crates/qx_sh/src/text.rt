@@ -1,10 +1,14 @@
 ghost use Rattle.std.specs.Prelude.{◌≡◌, ◌++◌, IfOk, OnOk, codes, decimal};
+ghost use Rattle.qx_sh.specs.StepText.{entry_text, trace_text};
 ghost use Rattle.qx_sh.specs.Text.{actor_text, bytes_text, item_text, outcome_text, process_text, seen_text, thread_text, transcript_text, user_text};
 
+mod steps;
+
 use itoa::Buffer;
-use qx_machine::Seen;
+use qx_machine::{Entry, Seen};
 use qx_types::{Actor, Bytes, Config, Item, NoMemory, Outcome, Proc, Thread, User};
 use std::alloc::Global;
+use steps::push_step;
 
 /// The lines of what a user was shown.
 pub fn transcript(alloc: Global, config: &Config, seen: &[Seen]) -> Result<Vec<u8>, NoMemory>
@@ -15,6 +19,37 @@ pub fn transcript(alloc: Global, config: &Config, seen: &[Seen]) -> Result<Vec<u
         push_seen(alloc, &mut text, config, line)?;
     }
     Ok(text)
+}
+
+/// The lines of all steps, numbered from 1.
+pub fn trace(alloc: Global, config: &Config, entries: &[Entry]) -> Result<Vec<u8>, NoMemory>
+    ensures text { IfOk result (λ text. text.items ≡ trace_text config.now entries.now) }
+{
+    let mut text = Vec::new(alloc);
+    'lines: for (index, entry) in entries.iter().enumerate() {
+        push_entry(alloc, &mut text, config, index as u64 + 1, entry)?;
+    }
+    Ok(text)
+}
+
+/// One line: the step's number, the step, and what came of it.
+#[tactic(auto, unfolding(crate::specs::StepText::entry_text))]
+fn push_entry(
+    alloc: Global,
+    text: &mut Vec<u8>,
+    config: &Config,
+    number: u64,
+    entry: &Entry,
+) -> Result<(), NoMemory>
+    ensures ok { OnOk result (text.new.items ≡ text.old.items ++ entry_text config.now number entry.now) }
+{
+    push_number(text, number)?;
+    text.extend_from_slice(b" ")?;
+    push_step(text, config, &entry.step)?;
+    text.extend_from_slice(b" -> ")?;
+    push_outcome(alloc, text, config, &entry.outcome)?;
+    text.extend_from_slice(b"\n")?;
+    Ok(())
 }
 
 /// One line: who, and what came of it.

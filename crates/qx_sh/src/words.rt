@@ -130,7 +130,7 @@ pub fn thread(users: &Users, word: &[u8]) -> Option<Thread>
 }
 
 /// The flag that a letter names.
-fn flag(letter: u8) -> Option<u16>
+pub fn flag(letter: u8) -> Option<u16>
     ensures flag { result ≡ flag_of letter }
 {
     match letter {

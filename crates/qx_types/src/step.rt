@@ -34,6 +34,9 @@ pub enum Step {
     Call { thread: Thread, request: Request },
     /// Takes the answer that unblocks the thread.
     TakeReply { thread: Thread },
+    /// Gives a thread another priority; a message that it sent keeps the one that it was sent with (C Library
+    /// Reference: `SchedSet`).
+    SetPrio { thread: Thread, prio: Prio },
     /// Takes the first item of a manager's line (C Library Reference: `MsgReceive`).
     Receive { worker: Worker, manager: Manager },
     /// Does what the worker holds, at a moment that becomes the times of what it changes.
@@ -46,7 +49,10 @@ impl Step {
         ensures { result ≡ is_client_step self.now }
     {
         match self {
-            Step::Spawn { .. } | Step::Call { .. } | Step::TakeReply { .. } => true,
+            Step::Spawn { .. }
+            | Step::Call { .. }
+            | Step::TakeReply { .. }
+            | Step::SetPrio { .. } => true,
             Step::Receive { .. } | Step::Perform { .. } => false,
         }
     }
@@ -88,6 +94,10 @@ impl Clone for Step {
                 request: request.clone()?,
             },
             Step::TakeReply { thread } => Step::TakeReply { thread: *thread },
+            Step::SetPrio { thread, prio } => Step::SetPrio {
+                thread: *thread,
+                prio: *prio,
+            },
             Step::Receive { worker, manager } => Step::Receive {
                 worker: *worker,
                 manager: *manager,

@@ -10,7 +10,7 @@ use Rattle.qx_types.specs.declared.names.Manager.TheVariants.{Ram, Pipe}
 use Rattle.qx_types.specs.declared.names.User.{User}
 use Rattle.qx_types.specs.declared.outcome.Outcome.TheVariants.{WrongState}
 use Rattle.qx_types.specs.declared.step.Step.{Step}
-use Rattle.qx_types.specs.declared.step.Step.TheVariants.{Spawn, Call, TakeReply, Receive, Perform}
+use Rattle.qx_types.specs.declared.step.Step.TheVariants.{Spawn, Call, TakeReply, SetPrio, Receive, Perform}
 use Rattle.qx_machine.specs.declared.rows.Entry.{Entry}
 use Rattle.qx_machine.specs.declared.rows.Held.{Held}
 use Rattle.qx_machine.specs.declared.rows.Queued.{Queued}
@@ -54,6 +54,7 @@ unfolding step
 step-config w (Spawn user threads prio) = client_step-config w user.0 (Spawn user threads prio) (row_at w.parts user.0)
 step-config w (Call thread request) = client_step-config w thread.proc.user.0 (Call thread request) (row_at w.parts thread.proc.user.0)
 step-config w (TakeReply thread) = client_step-config w thread.proc.user.0 (TakeReply thread) (row_at w.parts thread.proc.user.0)
+step-config w (SetPrio thread prio) = client_step-config w thread.proc.user.0 (SetPrio thread prio) (row_at w.parts thread.proc.user.0)
 step-config w (Receive worker manager) =
     cond_both (is_worker w.config worker.0) (receive_hand w worker.0 manager (row_at w.hands worker.0)) (unchanged w WrongState) (λ after. after.world.config ≡ w.config)
     (λ _. receive_hand-config w worker.0 manager (row_at w.hands worker.0)) (λ _. refl)

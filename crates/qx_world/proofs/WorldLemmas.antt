@@ -6,7 +6,7 @@ use Rattle.qx_types.specs.declared.names.User.{User}
 use Rattle.qx_types.specs.declared.outcome.Outcome.{Outcome}
 use Rattle.qx_types.specs.declared.outcome.Outcome.TheVariants as outcome
 use Rattle.qx_types.specs.declared.step.Request.{Request}
-use Rattle.qx_types.specs.declared.step.Step.TheVariants.{Spawn, Call, TakeReply}
+use Rattle.qx_types.specs.declared.step.Step.TheVariants.{Spawn, Call, TakeReply, SetPrio}
 use Rattle.qx_machine.specs.declared.rows.Sent.{Sent}
 use Rattle.qx_machine.specs.Machine.{World, step, client_step}
 use Rattle.qx_machine.specs.Rows.{row_at}
@@ -21,6 +21,10 @@ spawn-none w user threads prio none = rw none
 pub take_reply-none : (w : World) (thread : Thread) → row_at w.parts thread.proc.user.0 ≡ None → (step w (TakeReply thread)).world ≡ w
 unfolding step
 take_reply-none w thread none = rw none
+
+pub set_prio-none : (w : World) (thread : Thread) (prio : Prio) → row_at w.parts thread.proc.user.0 ≡ None → (step w (SetPrio thread prio)).world ≡ w
+unfolding step
+set_prio-none w thread prio none = rw none
 
 call_sent_by : (w : World) (thread : Thread) (request : Request) (sent : Sent) (part : Option Part) → judged_part (own_path w.config thread.proc.user.0) thread request part ≡ Ok sent → client_step w thread.proc.user.0 (Call thread request) part ≡ record { world = sent_from w thread sent part; outcome = outcome.Sent }
 unfolding client

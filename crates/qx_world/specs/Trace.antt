@@ -4,7 +4,7 @@ use Rattle.qx_types.specs.Configuration.{Configuration}
 use Rattle.qx_types.specs.declared.names.User.{User}
 use Rattle.qx_types.specs.declared.outcome.Outcome.{Outcome}
 use Rattle.qx_types.specs.declared.step.Step.{Step}
-use Rattle.qx_types.specs.declared.step.Step.TheVariants.{Spawn, Call, TakeReply, Receive, Perform}
+use Rattle.qx_types.specs.declared.step.Step.TheVariants.{Spawn, Call, TakeReply, SetPrio, Receive, Perform}
 use Rattle.qx_machine.specs.declared.rows.Entry.{Entry}
 use Rattle.qx_machine.specs.Machine.{World, boot, step, owner}
 use Rattle.qx_machine.specs.Runs.{Run, run}
@@ -38,6 +38,7 @@ abbrev pub wants_memory : Step → Bool
 wants_memory (Spawn user threads prio) = true
 wants_memory (Call thread request) = true
 wants_memory (TakeReply thread) = false
+wants_memory (SetPrio thread prio) = false
 wants_memory (Receive worker manager) = false
 wants_memory (Perform worker moment) = true
 

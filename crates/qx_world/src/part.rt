@@ -122,6 +122,22 @@ impl Part {
         }
     }
 
+    /// A thread gets another priority.
+    pub fn set_prio(&mut self, thread: Thread, prio: Prio) -> Outcome
+        ensures outcome { result ≡ (users.prio_set self.old thread prio.0 (users.thread_at self.old thread.proc.num thread.tid)).outcome }
+        ensures part { self.new ≡ (users.prio_set self.old thread prio.0 (users.thread_at self.old thread.proc.num thread.tid)).part }
+        ensures changes { (users.prio_set self.old thread prio.0 (users.thread_at self.old thread.proc.num thread.tid)).changes ≡ [] }
+    {
+        if self.thread(thread).is_none() {
+            return Outcome::WrongState;
+        }
+        if prio.0 < 1 || Limits::PRIORITY < prio.0 {
+            return Outcome::Refused(Errno::EINVAL);
+        }
+        processes::set_prio_in(&mut self.processes, thread.proc.num, thread.tid, prio);
+        Outcome::Done
+    }
+
     /// An item of the user goes from a line into a worker's hand.
     #[tactic(auto, unfolding(qx_machine::specs::Users::take))]
     pub fn take(&mut self, item: OwnItem)

@@ -1,6 +1,6 @@
 ghost use Rattle.std.specs.Prelude.{◌≡◌, ◌+◌, ◌∷◌, ◌≤◌, ◌<◌, length, IsTrue, IfOk, OnSome, Some, MatchOption};
 ghost use Rattle.std.specs.Option.{option_copied};
-ghost use Rattle.qx_machine.specs.Processes.{new_process, taking, ready, message_of, sent_anew, sent_over, judged_thread, judged_ready, in_ranges, sending};
+ghost use Rattle.qx_machine.specs.Processes.{new_process, taking, ready, ranked, message_of, sent_anew, sent_over, judged_thread, judged_ready, in_ranges, sending};
 ghost use Rattle.std.specs.Str.{bytes_eq};
 ghost use Rattle.qx_machine.specs.Rows.{row_at, lowest_from};
 ghost use Rattle.qx_machine.specs.declared.rows.Message.TheVariants as machine;
@@ -116,6 +116,13 @@ impl Process {
     {
         threads::reply_to(&mut self.threads, thread, 0, &[]);
         connections::detach(&mut self.connections, coid);
+    }
+
+    /// A thread gets another priority.
+    pub fn set_prio(&mut self, thread: u8, prio: Prio)
+        ensures { self.new ≡ ranked thread prio.0 self.old }
+    {
+        threads::set_prio(&mut self.threads, thread, prio);
     }
 
     /// A thread's answer, after which it is ready.

@@ -1,7 +1,7 @@
 //! The processes of a user, from 1: a place for each number.
 
 ghost use Rattle.std.specs.Prelude.{◌≡◌, ◌≤◌, ◌<◌, length, IsTrue, MatchOption};
-ghost use Rattle.qx_machine.specs.Processes.{sending, taking, ready};
+ghost use Rattle.qx_machine.specs.Processes.{sending, taking, ready, ranked};
 ghost use Rattle.qx_machine.specs.Rows.{row_at, with_row};
 ghost use Rattle.qx_machine.specs.Users.{answering, failing, opening, closing, thread_of};
 ghost use Rattle.qx_world.specs.declared.room.TheConstants.{REPLY_BYTES};
@@ -10,7 +10,7 @@ ghost use Rattle.qx_world.specs.Reads.{is_thread_blocked, thread_answer, CanCall
 use crate::process::Process;
 use crate::room::Room;
 use qx_machine::Sent;
-use qx_types::{Answer, Coid, Errno};
+use qx_types::{Answer, Coid, Errno, Prio};
 
 pub type Processes = Vec<Option<Process>>;
 
@@ -88,6 +88,18 @@ pub fn close_in(processes: &mut Processes, process: u8, thread: u8, coid: Coid)
     if place < processes.len() {
         if let Some(row) = processes[place].as_mut() {
             row.close(thread, coid);
+        }
+    }
+}
+
+/// A thread gets another priority.
+pub fn set_prio_in(processes: &mut Processes, process: u8, thread: u8, prio: Prio)
+    ensures { processes.new.items ≡ with_row processes.old.items process (ranked thread prio.0) }
+{
+    let place = process as usize;
+    if place < processes.len() {
+        if let Some(row) = processes[place].as_mut() {
+            row.set_prio(thread, prio);
         }
     }
 }

@@ -1,5 +1,5 @@
 ghost use Rattle.std.specs.Prelude.{◌≡◌, ◌+◌, ◌≤◌, ◌<◌, ◌^◌, length, IsTrue, MatchOption};
-ghost use Rattle.qx_machine.specs.Processes.{new_thread, sending_thread, taking_thread, answered_thread, ready_thread};
+ghost use Rattle.qx_machine.specs.Processes.{new_thread, sending_thread, taking_thread, answered_thread, ready_thread, ranked_thread};
 ghost use Rattle.qx_world.specs.declared.room.TheConstants.{REPLY_BYTES};
 ghost use Rattle.qx_world.specs.Reads.{is_blocked, answer_in};
 
@@ -88,6 +88,13 @@ impl ThreadCell {
     {
         self.row.state = State::Answered(Answer::Failed(error));
         self.room = None;
+    }
+
+    /// The thread gets another priority.
+    pub fn set_prio(&mut self, prio: Prio)
+        ensures { self.new ≡ ranked_thread prio.0 self.old }
+    {
+        self.row.prio = prio;
     }
 
     /// The thread's answer, after which it is ready.

@@ -2,7 +2,7 @@
 
 ghost use Rattle.std.specs.Prelude.{◌≡◌, ◌≤◌, ◌+◌, ◌∷◌, [], Some, None, replicate, length, IsTrue, MatchOption};
 ghost use Rattle.std.specs.Option.{option_copied};
-ghost use Rattle.qx_machine.specs.Processes.{new_thread, sending_thread, taking_thread, answered_thread, ready_thread};
+ghost use Rattle.qx_machine.specs.Processes.{new_thread, sending_thread, taking_thread, answered_thread, ready_thread, ranked_thread};
 ghost use Rattle.qx_machine.specs.Rows.{row_at, with_row};
 ghost use Rattle.qx_world.specs.declared.room.TheConstants.{REPLY_BYTES};
 ghost use Rattle.qx_world.specs.Reads.{is_thread_blocked, thread_answer, CanCall};
@@ -86,6 +86,18 @@ pub fn fail_to(threads: &mut Threads, thread: u8, error: Errno)
     if place < threads.len() {
         if let Some(cell) = threads[place].as_mut() {
             cell.fail(error);
+        }
+    }
+}
+
+/// A thread gets another priority.
+pub fn set_prio(threads: &mut Threads, thread: u8, prio: Prio)
+    ensures { threads.new.items ≡ with_row threads.old.items thread (ranked_thread prio.0) }
+{
+    let place = thread as usize;
+    if place < threads.len() {
+        if let Some(cell) = threads[place].as_mut() {
+            cell.set_prio(prio);
         }
     }
 }

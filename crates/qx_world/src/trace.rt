@@ -240,6 +240,7 @@ fn take(world: &mut World, step: &Step) -> Result<Outcome, NoMemory>
         } => Ok(world.spawn(*user, *threads, *prio)?),
         Step::Call { thread, request } => world.call(*thread, request),
         Step::TakeReply { thread } => Ok(world.take_reply(*thread)),
+        Step::SetPrio { thread, prio } => Ok(world.set_prio(*thread, *prio)),
         Step::Receive { worker, manager } => Ok(world.receive(*worker, *manager)),
         Step::Perform { worker, moment } => world.perform_held(*worker, *moment),
     }
@@ -269,7 +270,8 @@ fn actor_of(step: &Step) -> Option<Actor>
 {
     match step {
         Step::Spawn { user, .. } => Some(Actor::OfUser(*user)),
-        Step::Call { thread, .. } | Step::TakeReply { thread } => Some(Actor::OfThread(*thread)),
+        Step::Call { thread, .. } | Step::TakeReply { thread } | Step::SetPrio { thread, .. } =>
+            Some(Actor::OfThread(*thread)),
         Step::Receive { .. } | Step::Perform { .. } => None,
     }
 }

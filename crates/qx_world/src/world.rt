@@ -92,6 +92,23 @@ impl World {
         Outcome::WrongState
     }
 
+    /// A thread gets another priority, from 1 to 63; a message that it sent keeps the one that it was sent with (C Library
+    /// Reference: `SchedSet`). `WrongState` where the thread is not there, then EINVAL for another number.
+    #[tactic(auto, unfolding(qx_machine::specs::Machine::step, qx_machine::specs::Users::client, qx_machine::specs::Users::settle))]
+    pub fn set_prio(&mut self, thread: Thread, prio: Prio) -> Outcome
+        ensures outcome { result ≡ (machine.step self.old (Step.SetPrio thread prio)).outcome }
+        ensures world { self.new ≡ (machine.step self.old (Step.SetPrio thread prio)).world }
+    {
+        let place = thread.proc.user.0 as usize;
+        if place >= self.parts.len() {
+            return Outcome::WrongState;
+        }
+        if let Some(part) = self.parts[place].as_mut() {
+            return part.set_prio(thread, prio);
+        }
+        Outcome::WrongState
+    }
+
     /// A client's request goes as a message into its manager's line, and the thread is blocked (C Library Reference:
     /// `MsgSend`). `WrongState` where the thread is not there or not ready; then EINVAL for fields out of their ranges,
     /// EAGAIN where the thread's calls are used up, ENOENT for a path other than the user's own root, EMFILE where no
@@ -350,7 +367,8 @@ impl World {
     {
         match step {
             Step::Spawn { user, .. } => Some(*user),
-            Step::Call { thread, .. } | Step::TakeReply { thread } => Some(thread.proc.user),
+            Step::Call { thread, .. } | Step::TakeReply { thread } | Step::SetPrio { thread, .. } =>
+                Some(thread.proc.user),
             Step::Receive { worker, manager } => self.receive_owner(*worker, *manager),
             Step::Perform { worker, .. } => self.perform_owner(*worker),
         }

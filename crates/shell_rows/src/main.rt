@@ -9,7 +9,7 @@ use std::io;
 use std::io::Write;
 
 /// The names of the scripts, in the order in which they are run.
-const SCRIPTS: [&str; 24] = [
+const SCRIPTS: [&str; 26] = [
     "empty",
     "first_path",
     "bad_line",
@@ -34,6 +34,8 @@ const SCRIPTS: [&str; 24] = [
     "two_workers",
     "arrival_order",
     "refused_do",
+    "three_users",
+    "changed_priority",
 ];
 
 fn main(rt: HostRuntime) -> io::Result<()> {
