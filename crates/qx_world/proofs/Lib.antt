@@ -1,6 +1,5 @@
 mod BootLemmas
 mod LoanLemmas
-mod RowLemmas
 mod TraceLemmas
 mod WorkerLemmas
 mod WorldLemmas

@@ -12,7 +12,7 @@ use Rattle.qx_machine.specs.declared.rows.Queued.{Queued}
 use Rattle.qx_machine.specs.Machine.{World, step, is_worker, line_of, with_taken, with_empty_hand, receive_hand, received_part, performed_part, shown_item}
 use Rattle.qx_machine.specs.Rows.{row_at}
 use Rattle.qx_machine.specs.Users.{Part, take, serve, settle}
-use Rattle.qx_world.proofs.RowLemmas.{with_row-none}
+use Rattle.qx_procs.proofs.RowLemmas.{with_row-none}
 use Rattle.qx_world.specs.Reads.{served_part}
 use Rattle.qx_world.specs.Workers.{with_line, after_holding, after_serving}
 

@@ -11,7 +11,7 @@ use Rattle.qx_machine.specs.declared.rows.Sent.{Sent}
 use Rattle.qx_machine.specs.Machine.{World, step, client_step}
 use Rattle.qx_machine.specs.Rows.{row_at}
 use Rattle.qx_machine.specs.Users.{Part, client, settle, own_path}
-use Rattle.qx_world.proofs.RowLemmas.{set-row}
+use Rattle.qx_procs.proofs.RowLemmas.{set-row}
 use Rattle.qx_world.specs.Calls.{judged_part, judged_call, sent_from, after_sending}
 
 pub spawn-none : (w : World) (user : User) (threads : ℕ) (prio : Prio) → row_at w.parts user.0 ≡ None → (step w (Spawn user threads prio)).world ≡ w

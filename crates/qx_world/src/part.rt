@@ -5,14 +5,13 @@ ghost use Rattle.qx_machine.specs.Processes.{sending};
 ghost use Rattle.qx_machine.specs.Rows.{row_at, lowest_from};
 ghost use Rattle.qx_machine.specs.Users as users;
 ghost use Rattle.qx_world.specs.Held.{is_open, opens_item, opens_thread};
-ghost use Rattle.qx_world.specs.Reads.{is_thread_blocked, CanSend, performed_over, served_part};
+ghost use Rattle.qx_procs.specs.Reads.{is_thread_blocked};
+ghost use Rattle.qx_world.specs.Reads.{CanSend, performed_over, served_part};
 
-use crate::places;
-use crate::process::Process;
-use crate::processes::{self, Processes};
-use crate::room::Room;
+use crate::judge;
 use crate::status::stat_bytes;
 use qx_machine::{Attribute, Block, Connection, Kind, Message, OwnItem, Sent, State, ThreadRow};
+use qx_procs::{places, Process, Processes, Room};
 use qx_types::{Answer, Coid, Errno, Limits, Manager, Outcome, Prio, Request, Thread, User};
 use std::alloc::{AllocError, Global};
 use std::marker::Model;
@@ -33,7 +32,7 @@ impl Model for Part {
 
     ghost Value = { users.Part };
 
-    ghost view = { λ p. record { root = p.root; processes = p.processes.items; blocks = p.blocks.items } };
+    ghost view = { λ p. record { root = p.root; processes = p.processes; blocks = p.blocks.items } };
 }
 
 impl Part {
@@ -53,7 +52,7 @@ impl Part {
         };
         Ok(Part {
             root,
-            processes: places::empty(alloc)?,
+            processes: Processes::new(alloc)?,
             blocks: places::empty(alloc)?,
         })
     }
@@ -62,10 +61,7 @@ impl Part {
     pub fn thread(&self, thread: Thread) -> Option<&ThreadRow>
         ensures { option_copied result ≡ users.thread_at self.now thread.proc.num thread.tid }
     {
-        match places::row(self.processes.as_slice(), thread.proc.num as usize) {
-            Some(process) => process.thread(thread.tid),
-            None => None,
-        }
+        self.processes.thread(thread.proc.num, thread.tid)
     }
 
     /// Starts a process.
@@ -75,19 +71,7 @@ impl Part {
         ensures changes { (users.spawn self.old threads prio.0).changes ≡ [] }
         ensures err { OnErr result (self.new ≡ self.old) }
     {
-        let valid = 1 <= threads
-            && threads <= Limits::THREADS
-            && 1 <= prio.0
-            && prio.0 <= Limits::PRIORITY;
-        if !valid {
-            return Ok(Outcome::Refused(Errno::EINVAL));
-        }
-        let number = places::lowest_free(self.processes.as_slice(), 1);
-        if number > Limits::PROCESSES {
-            return Ok(Outcome::Refused(Errno::EAGAIN));
-        }
-        places::put(&mut self.processes, number, Process::new(threads, prio))?;
-        Ok(Outcome::Spawned(number as u8))
+        self.processes.spawn(threads, prio)
     }
 
     /// What a call sends, or the outcome of one that sends nothing.
@@ -95,8 +79,8 @@ impl Part {
         ensures judged { result ≡ users.judged (47 ∷ name.now) self.now thread request.now }
         ensures sendable { IfOk result (λ sent. CanSend (users.thread_at self.now thread.proc.num thread.tid) sent) }
     {
-        match places::row(self.processes.as_slice(), thread.proc.num as usize) {
-            Some(process) => process.judge(name, thread.tid, request),
+        match self.processes.process(thread.proc.num) {
+            Some(process) => judge::judge(process, name, thread.tid, request),
             None => Err(Outcome::WrongState),
         }
     }
@@ -106,7 +90,7 @@ impl Part {
         requires { CanSend (users.thread_at self.old thread.proc.num thread.tid) sent }
         ensures { self.new ≡ users.with_process self.old thread.proc.num (sending thread.tid sent) }
     {
-        processes::send_in(&mut self.processes, thread.proc.num, thread.tid, sent, room);
+        self.processes.send(thread.proc.num, thread.tid, sent, room);
     }
 
     /// A thread takes its answer.
@@ -115,7 +99,7 @@ impl Part {
         ensures part { self.new ≡ (users.reply_of self.old thread (users.thread_at self.old thread.proc.num thread.tid)).part }
         ensures changes { (users.reply_of self.old thread (users.thread_at self.old thread.proc.num thread.tid)).changes ≡ [] }
     {
-        match processes::take_answer_in(&mut self.processes, thread.proc.num, thread.tid) {
+        match self.processes.take_answer(thread.proc.num, thread.tid) {
             Some(Answer::Reply(status, bytes)) => Outcome::Reply(status, bytes),
             Some(Answer::Failed(error)) => Outcome::Failed(error),
             None => Outcome::WrongState,
@@ -128,14 +112,7 @@ impl Part {
         ensures part { self.new ≡ (users.prio_set self.old thread prio.0 (users.thread_at self.old thread.proc.num thread.tid)).part }
         ensures changes { (users.prio_set self.old thread prio.0 (users.thread_at self.old thread.proc.num thread.tid)).changes ≡ [] }
     {
-        if self.thread(thread).is_none() {
-            return Outcome::WrongState;
-        }
-        if prio.0 < 1 || Limits::PRIORITY < prio.0 {
-            return Outcome::Refused(Errno::EINVAL);
-        }
-        processes::set_prio_in(&mut self.processes, thread.proc.num, thread.tid, prio);
-        Outcome::Done
+        self.processes.set_prio(thread.proc.num, thread.tid, prio)
     }
 
     /// An item of the user goes from a line into a worker's hand.
@@ -144,7 +121,7 @@ impl Part {
         ensures { self.new ≡ users.take self.old item }
     {
         let OwnItem::Message { process, thread } = item;
-        processes::take_in(&mut self.processes, process, thread);
+        self.processes.take(process, thread);
     }
 
     /// Does what a worker holds.
@@ -163,7 +140,7 @@ impl Part {
         ensures err { OnErr result (self.new ≡ self.old) }
         ensures sure { IsFalse (opens_thread (users.thread_at self.old process thread)) → IsOk result }
     {
-        let Some(row) = places::row(self.processes.as_slice(), process as usize) else {
+        let Some(row) = self.processes.process(process) else {
             return Ok(());
         };
         let Some(of_thread) = row.thread(thread) else {
@@ -195,13 +172,7 @@ impl Part {
                 Message::Close => self.perform_close(process, thread, sent, block),
                 Message::Fstat => self.perform_fstat(process, thread, sent, block),
             },
-            Manager::Pipe => processes::fail_in(
-                &mut self.processes,
-                process,
-                thread,
-                sent,
-                Errno::ENOSYS,
-            ),
+            Manager::Pipe => self.processes.fail(process, thread, sent, Errno::ENOSYS),
         }
         Ok(())
     }
@@ -214,11 +185,11 @@ impl Part {
     {
         let number = places::lowest_free(self.blocks.as_slice(), 1);
         if number > Limits::BLOCKS {
-            processes::fail_in(&mut self.processes, process, thread, sent, Errno::ENFILE);
+            self.processes.fail(process, thread, sent, Errno::ENFILE);
             return Ok(());
         }
         places::put(&mut self.blocks, number, Block { inode: ROOT_INODE })?;
-        processes::open_in(&mut self.processes, process, thread, sent, number as u16);
+        self.processes.open(process, thread, sent, number as u16);
         Ok(())
     }
 
@@ -230,9 +201,9 @@ impl Part {
         match block {
             Some(block) => {
                 places::free(&mut self.blocks, block as usize);
-                processes::close_in(&mut self.processes, process, thread, sent.coid);
+                self.processes.close(process, thread, sent.coid);
             }
-            None => processes::fail_in(&mut self.processes, process, thread, sent, Errno::EBADF),
+            None => self.processes.fail(process, thread, sent, Errno::EBADF),
         }
     }
 
@@ -244,9 +215,9 @@ impl Part {
         match self.block(block) {
             Some(block) => {
                 let bytes = stat_bytes(block.inode, &self.root);
-                processes::reply_in(&mut self.processes, process, thread, 0, bytes.as_slice());
+                self.processes.reply(process, thread, 0, bytes.as_slice());
             }
-            None => processes::fail_in(&mut self.processes, process, thread, sent, Errno::EBADF),
+            None => self.processes.fail(process, thread, sent, Errno::EBADF),
         }
     }
 
@@ -265,7 +236,7 @@ impl Part {
 fn block_over(process: &Process, sent: Sent) -> Option<u16>
     ensures { result ≡ users.block_over process.now sent }
 {
-    match process.connection(sent.coid) {
+    match process.conn_of(sent.coid) {
         Some(connection) => match connection.manager {
             Manager::Ram => connection.block,
             Manager::Pipe => None,

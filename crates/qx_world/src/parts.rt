@@ -9,9 +9,8 @@ ghost use Rattle.qx_world.specs.Held.{opens_part};
 ghost use Rattle.qx_world.specs.Reads.{CanSend, thread_in, served_part};
 
 use crate::part::Part;
-use crate::places;
-use crate::room::Room;
 use qx_machine::{OwnItem, Sent, ThreadRow};
+use qx_procs::{places, Room};
 use qx_types::{Thread, User};
 use std::alloc::AllocError;
 

@@ -4,15 +4,16 @@ ghost use Rattle.qx_machine.specs.Machine as machine;
 ghost use Rattle.qx_machine.specs.Rows.{row_at};
 ghost use Rattle.qx_world.specs.Calls.{judged_call, after_sending};
 ghost use Rattle.qx_world.specs.Held.{held_work, holds_open, opens_hand, work_now, IsStale};
-ghost use Rattle.qx_world.specs.Reads.{CanSend, thread_in, is_thread_answered, is_thread_blocked};
+ghost use Rattle.qx_procs.specs.Reads.{is_thread_blocked};
+ghost use Rattle.qx_world.specs.Reads.{CanSend, thread_in, is_thread_answered};
 ghost use Rattle.qx_world.specs.Workers.{with_line, after_holding, after_serving};
 
 use crate::part::Part;
 use crate::parts::{self, Parts};
-use crate::room::Room;
 use crate::work::{PerformFault, Work, WorkRef};
-use crate::{line, places};
+use crate::line;
 use qx_machine::{Held, OwnItem, Queued, Sent, State};
+use qx_procs::{places, Room};
 use qx_types::{
     Bytes, Config, Item, Manager, NoMemory, Outcome, Prio, Proc, Request, Step, Thread, User,
     Worker,

@@ -1,6 +1,6 @@
 use Rattle.std.proofs.Common.{◌≡◌, ◌<◌, ◌∙◌, ap, sym, length, arith, rules, None}
 use Rattle.qx_machine.specs.Rows.{row_at}
-use Rattle.qx_world.proofs.RowLemmas.{row_at-place, set-same}
+use Rattle.qx_procs.proofs.RowLemmas.{row_at-place, set-same}
 use Rattle.qx_world.proofs.WorldLemmas.{take_reply-none}
 use Rattle.qx_world.proofs.world.World.take_reply.Goals as goal
 

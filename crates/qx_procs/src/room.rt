@@ -1,0 +1,46 @@
+ghost use Rattle.std.specs.Prelude.{◌≡◌, ◌≤◌, length};
+ghost use Rattle.qx_procs.specs.declared.room.TheConstants.{REPLY_BYTES};
+
+use qx_types::Bytes;
+use std::alloc::{AllocError, Global};
+use std::marker::Model;
+
+/// The most bytes of a reply.
+pub const REPLY_BYTES: usize = 40;
+
+/// Memory for the bytes of a reply, made when the message is sent, so that answering takes none.
+#[derive(Drop)]
+pub struct Room {
+    bytes: Vec<u8>,
+}
+
+impl Model for Room {
+    ghost use Rattle.std.specs.Prelude.{◌≡◌, ◌≤◌, ℕ, [], vec_len, vec_capacity};
+    ghost use Rattle.qx_procs.specs.declared.room.TheConstants.{REPLY_BYTES};
+
+    ghost Value = { ℕ };
+
+    ghost view = { λ _. REPLY_BYTES };
+
+    ghost invariant = { λ r. (vec_len r.bytes ≡ 0) × (REPLY_BYTES ≤ vec_capacity r.bytes) };
+}
+
+impl Room {
+    pub fn new(alloc: Global) -> Result<Self, AllocError> {
+        Ok(Room {
+            bytes: Vec::with_capacity(alloc, REPLY_BYTES)?,
+        })
+    }
+
+    /// The room filled with the bytes of a reply.
+    pub fn filled(self, reply: &[u8]) -> Bytes
+        requires { length reply.now ≤ REPLY_BYTES }
+        ensures { result ≡ reply.now }
+    {
+        let Room { mut bytes } = self;
+        match bytes.extend_from_slice(reply) {
+            Ok(()) => Bytes::from_vec(bytes),
+            Err(_) => unreachable!(),
+        }
+    }
+}

@@ -1,0 +1,113 @@
+ghost use Rattle.std.specs.Prelude.{◌≡◌, ◌+◌, ◌≤◌, ◌<◌, ◌^◌, length, IsTrue, MatchOption};
+ghost use Rattle.qx_machine.specs.Processes.{new_thread, sending_thread, taking_thread, answered_thread, ready_thread, ranked_thread};
+ghost use Rattle.qx_procs.specs.declared.room.TheConstants.{REPLY_BYTES};
+ghost use Rattle.qx_procs.specs.Reads.{is_blocked, answer_in};
+
+use crate::room::Room;
+use qx_machine::{Sent, State, ThreadRow};
+use qx_types::{Answer, Errno, Prio};
+use std::marker::Model;
+use std::mem;
+
+/// A thread, with the room for its reply while it is blocked.
+#[derive(Drop)]
+pub struct ThreadCell {
+    row: ThreadRow,
+    room: Option<Room>,
+}
+
+impl Model for ThreadCell {
+    ghost use Rattle.std.specs.Prelude.{◌≡◌, IsTrue, IsSome};
+    ghost use Rattle.qx_machine.specs.declared.rows.ThreadRow.{ThreadRow};
+    ghost use Rattle.qx_procs.specs.Reads.{is_blocked};
+
+    ghost Value = { ThreadRow };
+
+    ghost view = { λ c. c.row };
+
+    ghost invariant = { λ c. IsTrue (is_blocked c.row.state) → IsSome c.room };
+}
+
+impl ThreadCell {
+    /// A ready thread of a priority.
+    pub fn new(prio: Prio) -> Self
+        ensures { result ≡ new_thread prio.0 }
+    {
+        let row = ThreadRow {
+            state: State::Ready,
+            prio,
+            calls: 0,
+        };
+        ThreadCell { row, room: None }
+    }
+
+    /// The thread's row.
+    pub fn row(&self) -> &ThreadRow
+        ensures { result.now ≡ self.now }
+    {
+        &self.row
+    }
+
+    /// A message of the thread goes into a line.
+    pub fn send(&mut self, sent: Sent, room: Room)
+        requires { self.old.calls + 1 < 2 ^ 64 }
+        ensures { self.new ≡ sending_thread sent self.old }
+    {
+        self.row.state = State::Queued(sent);
+        self.row.calls += 1;
+        self.room = Some(room);
+    }
+
+    /// The thread's message is received.
+    pub fn take(&mut self)
+        ensures { self.new ≡ taking_thread self.old }
+    {
+        if let State::Queued(sent) = self.row.state {
+            self.row.state = State::Taken(sent);
+        }
+    }
+
+    /// The thread gets a reply.
+    pub fn reply(&mut self, status: u64, bytes: &[u8])
+        requires blocked { IsTrue (is_blocked self.old.state) }
+        requires fits { length bytes.now ≤ REPLY_BYTES }
+        ensures { self.new ≡ answered_thread (Answer.Reply status bytes.now) self.old }
+    {
+        match self.room.take() {
+            Some(room) => {
+                let reply = Answer::Reply(status, room.filled(bytes));
+                self.row.state = State::Answered(reply);
+            }
+            None => unreachable!(),
+        }
+    }
+
+    /// The thread gets an error.
+    pub fn fail(&mut self, error: Errno)
+        ensures { self.new ≡ answered_thread (Answer.Failed error) self.old }
+    {
+        self.row.state = State::Answered(Answer::Failed(error));
+        self.room = None;
+    }
+
+    /// The thread gets another priority.
+    pub fn set_prio(&mut self, prio: Prio)
+        ensures { self.new ≡ ranked_thread prio.0 self.old }
+    {
+        self.row.prio = prio;
+    }
+
+    /// The thread's answer, after which it is ready.
+    pub fn take_answer(&mut self) -> Option<Answer>
+        ensures answer { result ≡ answer_in self.old.state }
+        ensures taken { MatchOption result (self.new ≡ self.old) (λ _. self.new ≡ ready_thread self.old) }
+    {
+        match mem::replace(&mut self.row.state, State::Ready) {
+            State::Answered(answer) => Some(answer),
+            state => {
+                self.row.state = state;
+                None
+            }
+        }
+    }
+}
