@@ -5,7 +5,7 @@ use Rattle.qx_types.specs.declared.outcome.Outcome.{Outcome}
 use Rattle.qx_types.specs.declared.outcome.Outcome.TheVariants.{Spawned, Refused, Done, WrongState}
 use Rattle.qx_machine.specs.declared.rows.ThreadRow.{ThreadRow}
 use Rattle.qx_machine.specs.Processes.{Process, new_process, ranked}
-use Rattle.qx_machine.specs.Rows.{row_at, lowest_from, put_row, with_row}
+use Rattle.qx_machine.specs.Rows.{lowest_from, put_row, with_row}
 
 -- 1 to 4 threads of a priority from 1 to 63
 abbrev pub is_spawn : ℕ → ℕ → Bool

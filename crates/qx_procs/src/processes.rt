@@ -180,7 +180,13 @@ fn take_in(processes: &mut Vec<Option<Process>>, process: u8, thread: u8)
 }
 
 /// A blocked thread gets a reply.
-fn reply_in(processes: &mut Vec<Option<Process>>, process: u8, thread: u8, status: u64, bytes: &[u8])
+fn reply_in(
+    processes: &mut Vec<Option<Process>>,
+    process: u8,
+    thread: u8,
+    status: u64,
+    bytes: &[u8],
+)
     requires blocked { IsTrue (is_thread_blocked (thread_of thread (row_at processes.old.items process))) }
     requires fits { length bytes.now ≤ REPLY_BYTES }
     ensures { processes.new.items ≡ with_row processes.old.items process (answering thread (Answer.Reply status bytes.now)) }
