@@ -29,7 +29,12 @@ pub fn judge(process: &Process, name: &[u8], thread: u8, request: &Request) -> R
 }
 
 /// What the request of a ready thread becomes.
-fn judge_ready(process: &Process, name: &[u8], row: &ThreadRow, request: &Request) -> Result<Sent, Errno>
+fn judge_ready(
+    process: &Process,
+    name: &[u8],
+    row: &ThreadRow,
+    request: &Request,
+) -> Result<Sent, Errno>
     ensures judged { result ≡ judged_ready (47 ∷ name.now) process.now row.now request.now }
     ensures sendable { IfOk result (λ sent. CanSend (Some row.now) sent) }
 {

@@ -11,7 +11,7 @@ ghost use Rattle.qx_world.specs.Reads.{CanSend, performed_over, served_part};
 use crate::judge;
 use crate::status::stat_bytes;
 use qx_machine::{Attribute, Block, Connection, Kind, Message, OwnItem, Sent, State, ThreadRow};
-use qx_procs::{places, Process, Processes, Room};
+use qx_procs::{Process, Processes, Room, places};
 use qx_types::{Answer, Coid, Errno, Limits, Manager, Outcome, Prio, Request, Thread, User};
 use std::alloc::{AllocError, Global};
 use std::marker::Model;

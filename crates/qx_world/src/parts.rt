@@ -10,7 +10,7 @@ ghost use Rattle.qx_world.specs.Reads.{CanSend, thread_in, served_part};
 
 use crate::part::Part;
 use qx_machine::{OwnItem, Sent, ThreadRow};
-use qx_procs::{places, Room};
+use qx_procs::{Room, places};
 use qx_types::{Thread, User};
 use std::alloc::AllocError;
 

@@ -8,12 +8,12 @@ ghost use Rattle.qx_procs.specs.Reads.{is_thread_blocked};
 ghost use Rattle.qx_world.specs.Reads.{CanSend, thread_in, is_thread_answered};
 ghost use Rattle.qx_world.specs.Workers.{with_line, after_holding, after_serving};
 
+use crate::line;
 use crate::part::Part;
 use crate::parts::{self, Parts};
 use crate::work::{PerformFault, Work, WorkRef};
-use crate::line;
 use qx_machine::{Held, OwnItem, Queued, Sent, State};
-use qx_procs::{places, Room};
+use qx_procs::{Room, places};
 use qx_types::{
     Bytes, Config, Item, Manager, NoMemory, Outcome, Prio, Proc, Request, Step, Thread, User,
     Worker,
