@@ -1,5 +1,5 @@
 -- What a thread's row tells.
-use Rattle.std.specs.Prelude.{◌+◌, ◌<◌, ◌^◌, Bool, true, false, Option, Some, None}
+use Rattle.std.specs.Prelude.{ℕ, ◌+◌, ◌<◌, ◌≤◌, ◌^◌, Bool, true, false, Option, Some, None}
 use Rattle.qx_types.specs.declared.outcome.Answer.{Answer}
 use Rattle.qx_machine.specs.declared.rows.State.{State}
 use Rattle.qx_machine.specs.declared.rows.State.TheVariants.{Ready, Queued, Taken, Answered}
@@ -31,3 +31,7 @@ thread_answer (Some row) = answer_in row.state
 abbrev pub CanCall : Option ThreadRow → Type 0
 CanCall None = ⊥
 CanCall (Some row) = row.calls + 1 < 2 ^ 64
+
+-- a priority of a thread
+abbrev pub IsPriority : ℕ → Type 0
+IsPriority prio = (1 ≤ prio) × (prio ≤ 63)

@@ -1,10 +1,10 @@
-ghost use Rattle.std.specs.Prelude.{◌≡◌, ◌≤◌, ◌<◌, length, IsTrue, OnSome, MatchOption};
+ghost use Rattle.std.specs.Prelude.{◌≡◌, ◌≤◌, ◌<◌, length, IsTrue, IfSome, OnSome, MatchOption};
 ghost use Rattle.std.specs.Option.{option_copied};
 ghost use Rattle.qx_machine.specs.Processes.{new_process, taking, ready, ranked, sending};
 ghost use Rattle.qx_machine.specs.Rows.{row_at, lowest_from};
 ghost use Rattle.qx_machine.specs.Users.{answering, failing, opening, closing};
 ghost use Rattle.qx_procs.specs.declared.room.TheConstants.{REPLY_BYTES};
-ghost use Rattle.qx_procs.specs.Reads.{is_thread_blocked, thread_answer, CanCall};
+ghost use Rattle.qx_procs.specs.Reads.{is_thread_blocked, thread_answer, CanCall, IsPriority};
 
 use crate::connections::{self, Connections};
 use crate::places;
@@ -32,7 +32,8 @@ impl Model for Process {
 impl Process {
     /// A process with so many ready threads and no connection.
     pub fn new(threads: u8, prio: Prio) -> Self
-        requires { threads ≤ 4 }
+        requires threads { threads ≤ 4 }
+        requires priority { IsPriority prio.0 }
         ensures { result ≡ new_process threads prio.0 }
     {
         Process {
@@ -43,7 +44,8 @@ impl Process {
 
     /// A thread's row.
     pub fn thread(&self, thread: u8) -> Option<&ThreadRow>
-        ensures { option_copied result ≡ row_at self.now.threads thread }
+        ensures row { option_copied result ≡ row_at self.now.threads thread }
+        ensures priority { IfSome result (λ row. IsPriority row.now.prio.0) }
     {
         threads::thread_row(&self.threads, thread)
     }
@@ -125,6 +127,7 @@ impl Process {
 
     /// A thread gets another priority.
     pub fn set_prio(&mut self, thread: u8, prio: Prio)
+        requires { IsPriority prio.0 }
         ensures { self.new ≡ ranked thread prio.0 self.old }
     {
         threads::set_prio(&mut self.threads, thread, prio);

@@ -1,13 +1,13 @@
 //! The processes of a user, from 1: a place for each number.
 
-ghost use Rattle.std.specs.Prelude.{◌≡◌, ◌∷◌, ◌≤◌, ◌<◌, [], None, length, IsTrue, MatchOption, IfOk, OnOk, OnErr};
+ghost use Rattle.std.specs.Prelude.{◌≡◌, ◌∷◌, ◌≤◌, ◌<◌, [], None, length, IsTrue, IfSome, MatchOption, IfOk, OnOk, OnErr};
 ghost use Rattle.std.specs.Option.{option_copied};
 ghost use Rattle.qx_machine.specs.Processes.{sending, taking, ready, ranked};
 ghost use Rattle.qx_machine.specs.Rows.{row_at, with_row};
 ghost use Rattle.qx_machine.specs.Users.{answering, failing, opening, closing, thread_of};
 ghost use Rattle.qx_procs.specs.declared.room.TheConstants.{REPLY_BYTES};
 ghost use Rattle.qx_procs.specs.Calls.{spawn_outcome, spawned, prio_outcome, with_prio};
-ghost use Rattle.qx_procs.specs.Reads.{is_thread_blocked, thread_answer, CanCall};
+ghost use Rattle.qx_procs.specs.Reads.{is_thread_blocked, thread_answer, CanCall, IsPriority};
 
 use crate::places;
 use crate::process::Process;
@@ -24,12 +24,14 @@ pub struct Processes {
 }
 
 impl Model for Processes {
-    ghost use Rattle.std.specs.Prelude.{List, Option};
+    ghost use Rattle.std.specs.Prelude.{◌<◌, List, Option, length};
     ghost use Rattle.qx_machine.specs.Processes as machine;
 
     ghost Value = { List (Option machine.Process) };
 
     ghost view = { λ p. p.rows.items };
+
+    ghost invariant = { λ p. 0 < length p.rows.items };
 }
 
 impl Processes {
@@ -51,7 +53,8 @@ impl Processes {
 
     /// A thread's row.
     pub fn thread(&self, process: u8, thread: u8) -> Option<&ThreadRow>
-        ensures { option_copied result ≡ thread_of thread (row_at self.now process) }
+        ensures row { option_copied result ≡ thread_of thread (row_at self.now process) }
+        ensures priority { IfSome result (λ row. IsPriority row.now.prio.0) }
     {
         match places::row(self.rows.as_slice(), process as usize) {
             Some(row) => row.thread(thread),
@@ -64,8 +67,10 @@ impl Processes {
     pub fn spawn(&mut self, threads: u8, prio: Prio) -> Result<Outcome, AllocError>
         ensures outcome { IfOk result (λ outcome. outcome ≡ spawn_outcome self.old threads prio.0) }
         ensures processes { OnOk result (self.new ≡ spawned self.old threads prio.0) }
+        ensures place { 0 < length self.old }
         ensures err { OnErr result (self.new ≡ self.old) }
     {
+        let number = places::lowest_free(self.rows.as_slice(), 1);
         let valid = 1 <= threads
             && threads <= Limits::THREADS
             && 1 <= prio.0
@@ -73,7 +78,6 @@ impl Processes {
         if !valid {
             return Ok(Outcome::Refused(Errno::EINVAL));
         }
-        let number = places::lowest_free(self.rows.as_slice(), 1);
         if number > Limits::PROCESSES {
             return Ok(Outcome::Refused(Errno::EAGAIN));
         }
@@ -239,6 +243,7 @@ fn close_in(processes: &mut Vec<Option<Process>>, process: u8, thread: u8, coid:
 
 /// A thread gets another priority.
 fn set_prio_in(processes: &mut Vec<Option<Process>>, process: u8, thread: u8, prio: Prio)
+    requires { IsPriority prio.0 }
     ensures { processes.new.items ≡ with_row processes.old.items process (ranked thread prio.0) }
 {
     let place = process as usize;

@@ -1,7 +1,7 @@
 ghost use Rattle.std.specs.Prelude.{◌≡◌, ◌+◌, ◌≤◌, ◌<◌, ◌^◌, length, IsTrue, MatchOption};
 ghost use Rattle.qx_machine.specs.Processes.{new_thread, sending_thread, taking_thread, answered_thread, ready_thread, ranked_thread};
 ghost use Rattle.qx_procs.specs.declared.room.TheConstants.{REPLY_BYTES};
-ghost use Rattle.qx_procs.specs.Reads.{is_blocked, answer_in};
+ghost use Rattle.qx_procs.specs.Reads.{is_blocked, answer_in, IsPriority};
 
 use crate::room::Room;
 use qx_machine::{Sent, State, ThreadRow};
@@ -19,18 +19,19 @@ pub struct ThreadCell {
 impl Model for ThreadCell {
     ghost use Rattle.std.specs.Prelude.{◌≡◌, IsTrue, IsSome};
     ghost use Rattle.qx_machine.specs.declared.rows.ThreadRow.{ThreadRow};
-    ghost use Rattle.qx_procs.specs.Reads.{is_blocked};
+    ghost use Rattle.qx_procs.specs.Reads.{is_blocked, IsPriority};
 
     ghost Value = { ThreadRow };
 
     ghost view = { λ c. c.row };
 
-    ghost invariant = { λ c. IsTrue (is_blocked c.row.state) → IsSome c.room };
+    ghost invariant = { λ c. (IsTrue (is_blocked c.row.state) → IsSome c.room) × IsPriority c.row.prio.0 };
 }
 
 impl ThreadCell {
     /// A ready thread of a priority.
     pub fn new(prio: Prio) -> Self
+        requires { IsPriority prio.0 }
         ensures { result ≡ new_thread prio.0 }
     {
         let row = ThreadRow {
@@ -43,7 +44,8 @@ impl ThreadCell {
 
     /// The thread's row.
     pub fn row(&self) -> &ThreadRow
-        ensures { result.now ≡ self.now }
+        ensures row { result.now ≡ self.now }
+        ensures priority { IsPriority result.now.prio.0 }
     {
         &self.row
     }
@@ -92,6 +94,7 @@ impl ThreadCell {
 
     /// The thread gets another priority.
     pub fn set_prio(&mut self, prio: Prio)
+        requires { IsPriority prio.0 }
         ensures { self.new ≡ ranked_thread prio.0 self.old }
     {
         self.row.prio = prio;

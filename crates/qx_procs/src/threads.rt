@@ -1,11 +1,11 @@
 //! The threads of a process, from 1: a place for each number.
 
-ghost use Rattle.std.specs.Prelude.{◌≡◌, ◌≤◌, ◌+◌, ◌∷◌, [], Some, None, replicate, length, IsTrue, MatchOption};
+ghost use Rattle.std.specs.Prelude.{◌≡◌, ◌≤◌, ◌+◌, ◌∷◌, [], Some, None, replicate, length, IsTrue, IfSome, MatchOption};
 ghost use Rattle.std.specs.Option.{option_copied};
 ghost use Rattle.qx_machine.specs.Processes.{new_thread, sending_thread, taking_thread, answered_thread, ready_thread, ranked_thread};
 ghost use Rattle.qx_machine.specs.Rows.{row_at, with_row};
 ghost use Rattle.qx_procs.specs.declared.room.TheConstants.{REPLY_BYTES};
-ghost use Rattle.qx_procs.specs.Reads.{is_thread_blocked, thread_answer, CanCall};
+ghost use Rattle.qx_procs.specs.Reads.{is_thread_blocked, thread_answer, CanCall, IsPriority};
 
 use crate::places;
 use crate::room::Room;
@@ -18,7 +18,8 @@ pub type Threads = ArrayVec<Option<ThreadCell>, 5>;
 
 /// So many ready threads.
 pub fn new_threads(count: u8, prio: Prio) -> Threads
-    requires { count ≤ 4 }
+    requires count { count ≤ 4 }
+    requires priority { IsPriority prio.0 }
     ensures { result.items ≡ None ∷ replicate count (Some (new_thread prio.0)) }
 {
     let mut threads = ArrayVec::new();
@@ -31,7 +32,8 @@ pub fn new_threads(count: u8, prio: Prio) -> Threads
 
 /// A thread's row.
 pub fn thread_row(threads: &Threads, thread: u8) -> Option<&ThreadRow>
-    ensures { option_copied result ≡ row_at threads.now.items thread }
+    ensures row { option_copied result ≡ row_at threads.now.items thread }
+    ensures priority { IfSome result (λ row. IsPriority row.now.prio.0) }
 {
     match places::row(threads.as_slice(), thread as usize) {
         Some(cell) => Some(cell.row()),
@@ -92,6 +94,7 @@ pub fn fail_to(threads: &mut Threads, thread: u8, error: Errno)
 
 /// A thread gets another priority.
 pub fn set_prio(threads: &mut Threads, thread: u8, prio: Prio)
+    requires { IsPriority prio.0 }
     ensures { threads.new.items ≡ with_row threads.old.items thread (ranked_thread prio.0) }
 {
     let place = thread as usize;

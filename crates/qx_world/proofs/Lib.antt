@@ -1,5 +1,11 @@
 mod BootLemmas
+mod ChannelLemmas
+mod EntryLemmas
+mod KeptLemmas
 mod LoanLemmas
+mod NodesLemmas
+mod SpawnLemmas
+mod StandingLemmas
 mod TraceLemmas
 mod WorkerLemmas
 mod WorldLemmas

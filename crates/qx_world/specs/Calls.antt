@@ -1,5 +1,5 @@
 -- A call in two parts: what it sends, and the world once that is sent.
-use Rattle.std.specs.Prelude.{ℕ, List, [], ◌∷◌, Option, Some, None, Result, Err}
+use Rattle.std.specs.Prelude.{ℕ, ◌<◌, length, List, [], ◌∷◌, Option, Some, None, Result, Err}
 use Rattle.qx_types.specs.declared.names.Thread.{Thread}
 use Rattle.qx_types.specs.declared.outcome.Outcome.{Outcome}
 use Rattle.qx_types.specs.declared.outcome.Outcome.TheVariants.{WrongState}
@@ -9,7 +9,7 @@ use Rattle.qx_machine.specs.declared.rows.Sent.{Sent}
 use Rattle.qx_machine.specs.Machine.{World, acted}
 use Rattle.qx_machine.specs.Processes.{sending}
 use Rattle.qx_machine.specs.Rows.{row_at}
-use Rattle.qx_machine.specs.Users.{Part, Put, judged, own_path, prio_of, thread_at, with_process}
+use Rattle.qx_machine.specs.Users.{Part, Put, judged, own_path, prio_of, prio_set, reply_of, spawn, thread_at, with_process}
 
 abbrev pub judged_part : List ℕ → Thread → Request → Option Part → Result Sent Outcome
 judged_part path thread request None = Err WrongState
@@ -28,3 +28,25 @@ sent_from w thread sent (Some part) =
 -- the world once a thread's message is sent
 abbrev pub after_sending : World → Thread → Sent → World
 after_sending w thread sent = sent_from w thread sent (row_at w.parts thread.proc.user.0)
+
+-- the outcomes of a client's steps, by the rows of its user
+abbrev pub spawn_outcome : ℕ → ℕ → Option Part → Outcome
+spawn_outcome threads prio None = WrongState
+spawn_outcome threads prio (Some part) = (spawn part threads prio).outcome
+
+abbrev pub reply_outcome : Thread → Option Part → Outcome
+reply_outcome thread None = WrongState
+reply_outcome thread (Some part) = (reply_of part thread (thread_at part thread.proc.num thread.tid)).outcome
+
+abbrev pub prio_outcome : Thread → ℕ → Option Part → Outcome
+prio_outcome thread prio None = WrongState
+prio_outcome thread prio (Some part) = (prio_set part thread prio (thread_at part thread.proc.num thread.tid)).outcome
+
+-- the table of a user's processes has a place for each number below the next one
+abbrev pub HasPlace : Option Part → Type 0
+HasPlace None = Unit {0}
+HasPlace (Some part) = 0 < length part.processes
+
+-- the world with other rows of its users
+abbrev pub with_parts : World → List (Option Part) → World
+with_parts w parts = record { config = w.config; parts = parts; ram = w.ram; pipe = w.pipe; hands = w.hands }

@@ -1,11 +1,11 @@
-ghost use Rattle.std.specs.Prelude.{◌≡◌, ◌∷◌, ◌<◌, IsTrue, IsFalse, IsOk, IfOk, OnOk, OnErr, Some, []};
+ghost use Rattle.std.specs.Prelude.{◌≡◌, ◌∷◌, ◌<◌, IsTrue, IsFalse, IsOk, IfOk, IfSome, OnOk, OnErr, Some, [], length};
 ghost use Rattle.std.specs.Option.{option_copied};
 ghost use Rattle.qx_types.specs.Configuration.{Configuration};
 ghost use Rattle.qx_machine.specs.Processes.{sending};
 ghost use Rattle.qx_machine.specs.Rows.{row_at, lowest_from};
 ghost use Rattle.qx_machine.specs.Users as users;
 ghost use Rattle.qx_world.specs.Held.{is_open, opens_item, opens_thread};
-ghost use Rattle.qx_procs.specs.Reads.{is_thread_blocked};
+ghost use Rattle.qx_procs.specs.Reads.{is_thread_blocked, IsPriority};
 ghost use Rattle.qx_world.specs.Reads.{CanSend, performed_over, served_part};
 
 use crate::judge;
@@ -59,7 +59,8 @@ impl Part {
 
     /// A thread's row.
     pub fn thread(&self, thread: Thread) -> Option<&ThreadRow>
-        ensures { option_copied result ≡ users.thread_at self.now thread.proc.num thread.tid }
+        ensures row { option_copied result ≡ users.thread_at self.now thread.proc.num thread.tid }
+        ensures priority { IfSome result (λ row. IsPriority row.now.prio.0) }
     {
         self.processes.thread(thread.proc.num, thread.tid)
     }
@@ -69,6 +70,7 @@ impl Part {
         ensures outcome { IfOk result (λ outcome. outcome ≡ (users.spawn self.old threads prio.0).outcome) }
         ensures part { OnOk result (self.new ≡ (users.spawn self.old threads prio.0).part) }
         ensures changes { (users.spawn self.old threads prio.0).changes ≡ [] }
+        ensures place { 0 < length self.old.processes }
         ensures err { OnErr result (self.new ≡ self.old) }
     {
         self.processes.spawn(threads, prio)

@@ -1,21 +1,22 @@
-ghost use Rattle.std.specs.Prelude.{◌≡◌, ◌<◌, ◌^◌, ◌+◌, IfOk, OnOk, OnErr, length, None, [], ◌∷◌, replicate, unwrap_or, MatchOption, IfNone, IsTrue, IsFalse, IsOk, Err, Some, ◌≢◌, IsErrOf, ◌↔◌, option_map, is_some, if◌then◌else◌};
+ghost use Rattle.std.specs.Prelude.{◌≡◌, ◌<◌, ◌^◌, ◌+◌, IfOk, OnOk, OnErr, length, None, [], ◌∷◌, replicate, unwrap_or, MatchOption, IfNone, IsTrue, IsFalse, IsOk, Err, Some, ◌≢◌, IsErrOf, ◌↔◌, option_map, is_some, if◌then◌else◌, slice_set};
 ghost use Rattle.std.specs.Option.{option_copied};
 ghost use Rattle.qx_machine.specs.Machine as machine;
 ghost use Rattle.qx_machine.specs.Rows.{row_at};
 ghost use Rattle.qx_world.specs.Calls.{judged_call, after_sending};
+ghost use Rattle.qx_world.specs.Kept.{row_of, standing};
 ghost use Rattle.qx_world.specs.Held.{held_work, holds_open, opens_hand, work_now, IsStale};
 ghost use Rattle.qx_procs.specs.Reads.{is_thread_blocked};
 ghost use Rattle.qx_world.specs.Reads.{CanSend, thread_in, is_thread_answered};
-ghost use Rattle.qx_world.specs.Workers.{with_line, after_holding, after_serving};
+ghost use Rattle.qx_world.specs.Workers.{after_serving};
 
-use crate::line;
+use crate::channel::Channel;
 use crate::part::Part;
 use crate::parts::{self, Parts};
 use crate::work::{PerformFault, Work, WorkRef};
 use qx_machine::{Held, OwnItem, Queued, Sent, State};
 use qx_procs::{Room, places};
 use qx_types::{
-    Bytes, Config, Item, Manager, NoMemory, Outcome, Prio, Proc, Request, Step, Thread, User,
+    Bytes, Config, Item, Limits, Manager, NoMemory, Outcome, Prio, Proc, Request, Step, Thread, User,
     Worker,
 };
 use std::alloc::{AllocError, Global};
@@ -27,17 +28,19 @@ pub struct World {
     alloc: Global,
     config: Config,
     parts: Parts,
-    ram: Vec<Queued>,
-    pipe: Vec<Queued>,
+    channel: Channel,
     hands: Vec<Option<Held>>,
 }
 
 impl Model for World {
     ghost use Rattle.qx_machine.specs.Machine as machine;
+    ghost use Rattle.qx_world.specs.Kept.{Kept};
 
     ghost Value = { machine.World };
 
-    ghost view = { λ w. record { config = w.config; parts = w.parts.items; ram = w.ram.items; pipe = w.pipe.items; hands = w.hands.items } };
+    ghost view = { λ w. record { config = w.config; parts = w.parts.items; ram = w.channel.ram; pipe = w.channel.pipe; hands = w.hands.items } };
+
+    ghost invariant = { λ w. Kept w.parts.items w.channel };
 }
 
 impl World {
@@ -48,66 +51,51 @@ impl World {
     {
         let parts = boot_parts(alloc, &config)?;
         let hands = empty_hands(alloc, config.workers())?;
+        let channel = Channel::new(alloc, config.user_count())?;
         Ok(World {
             alloc,
             config,
             parts,
-            ram: Vec::new(alloc),
-            pipe: Vec::new(alloc),
+            channel,
             hands,
         })
     }
 
     /// Starts a process of 1 to 4 ready threads of a priority from 1 to 63 (System Architecture: processes and threads).
     /// EINVAL for other numbers; EAGAIN where the user has 16 processes; `WrongState` for a user who is not configured.
-    #[tactic(auto, unfolding(qx_machine::specs::Machine::step, qx_machine::specs::Users::client, qx_machine::specs::Users::settle))]
+    #[tactic(auto, using(crate::proofs::WorldLemmas::client_steps))]
     pub fn spawn(&mut self, user: User, threads: u8, prio: Prio) -> Result<Outcome, AllocError>
         ensures outcome { IfOk result (λ outcome. outcome ≡ (machine.step self.old (Step.Spawn user threads prio)).outcome) }
         ensures world { OnOk result (self.new ≡ (machine.step self.old (Step.Spawn user threads prio)).world) }
         ensures err { OnErr result (self.new ≡ self.old) }
     {
-        let place = user.0 as usize;
-        if place >= self.parts.len() {
-            return Ok(Outcome::WrongState);
+        self.channel.reserve(threads.min(Limits::THREADS))?;
+        let outcome = parts::spawn_in(&mut self.parts, user, threads, prio)?;
+        if let Outcome::Spawned(number) = &outcome {
+            let proc = Proc { user, num: *number };
+            self.channel.add_process(proc, threads, prio);
         }
-        if let Some(part) = self.parts[place].as_mut() {
-            return part.spawn(threads, prio);
-        }
-        Ok(Outcome::WrongState)
+        Ok(outcome)
     }
 
     /// A thread takes its answer and is ready (C Library Reference: what `MsgSend` returns). `WrongState` where the thread
     /// is not there or has none.
-    #[tactic(auto, unfolding(qx_machine::specs::Machine::step, qx_machine::specs::Users::client, qx_machine::specs::Users::settle))]
+    #[tactic(auto, using(crate::proofs::WorldLemmas::client_steps))]
     pub fn take_reply(&mut self, thread: Thread) -> Outcome
         ensures outcome { result ≡ (machine.step self.old (Step.TakeReply thread)).outcome }
         ensures world { self.new ≡ (machine.step self.old (Step.TakeReply thread)).world }
     {
-        let place = thread.proc.user.0 as usize;
-        if place >= self.parts.len() {
-            return Outcome::WrongState;
-        }
-        if let Some(part) = self.parts[place].as_mut() {
-            return part.take_reply(thread);
-        }
-        Outcome::WrongState
+        parts::take_reply_in(&mut self.parts, thread)
     }
 
     /// A thread gets another priority, from 1 to 63; a message that it sent keeps the one that it was sent with (C Library
     /// Reference: `SchedSet`). `WrongState` where the thread is not there, then EINVAL for another number.
-    #[tactic(auto, unfolding(qx_machine::specs::Machine::step, qx_machine::specs::Users::client, qx_machine::specs::Users::settle))]
+    #[tactic(auto, using(crate::proofs::WorldLemmas::client_steps))]
     pub fn set_prio(&mut self, thread: Thread, prio: Prio) -> Outcome
         ensures outcome { result ≡ (machine.step self.old (Step.SetPrio thread prio)).outcome }
         ensures world { self.new ≡ (machine.step self.old (Step.SetPrio thread prio)).world }
     {
-        let place = thread.proc.user.0 as usize;
-        if place >= self.parts.len() {
-            return Outcome::WrongState;
-        }
-        if let Some(part) = self.parts[place].as_mut() {
-            return part.set_prio(thread, prio);
-        }
-        Outcome::WrongState
+        parts::set_prio_in(&mut self.parts, thread, prio)
     }
 
     /// A client's request goes as a message into its manager's line, and the thread is blocked (C Library Reference:
@@ -143,26 +131,17 @@ impl World {
     /// A message goes into its manager's line, and its thread is blocked.
     #[tactic(auto, unfolding(qx_machine::specs::Users::settle))]
     fn send(&mut self, thread: Thread, sent: Sent) -> Result<(), NoMemory>
-        requires { CanSend (thread_in thread (row_at self.old.parts thread.proc.user.0)) sent }
+        requires ready { standing (row_of self.old.parts thread) ≡ Some None }
+        requires sendable { CanSend (thread_in thread (row_at self.old.parts thread.proc.user.0)) sent }
         ensures ok { OnOk result (self.new ≡ after_sending self.old thread sent) }
         ensures err { OnErr result (self.new ≡ self.old) }
     {
         let Some(row) = parts::thread_row(&self.parts, thread) else {
             unreachable!();
         };
-        let queued = Queued {
-            user: thread.proc.user,
-            item: OwnItem::Message {
-                process: thread.proc.num,
-                thread: thread.tid,
-            },
-            prio: row.prio,
-        };
+        let prio = row.prio;
         let room = Room::new(self.alloc)?;
-        match sent.manager {
-            Manager::Ram => line::put(&mut self.ram, queued)?,
-            Manager::Pipe => line::put(&mut self.pipe, queued)?,
-        }
+        self.channel.put(sent.manager, thread, prio);
         parts::send_in(&mut self.parts, thread, sent, room);
         Ok(())
     }
@@ -181,18 +160,6 @@ impl World {
         places::row(self.hands.as_slice(), worker.0 as usize).copied()
     }
 
-    /// Takes the first item out of a line.
-    fn take_first(&mut self, manager: Manager) -> Option<Queued>
-        ensures first { MatchOption result (machine.line_of self.old manager ≡ []) (λ first. machine.line_of self.old manager ≡ first ∷ machine.line_of self.new manager) }
-        ensures world { self.new ≡ with_line self.old manager (machine.line_of self.new manager) }
-        ensures none { IfNone result (self.new ≡ self.old) }
-    {
-        match manager {
-            Manager::Ram => line::take(&mut self.ram),
-            Manager::Pipe => line::take(&mut self.pipe),
-        }
-    }
-
     /// A worker takes the first item of a line (C Library Reference: `MsgReceive`). `WrongState` where there is no such
     /// worker, `Busy` where it holds an item, `Idle` on an empty line.
     #[tactic(auto, using(crate::proofs::WorkerLemmas::receive_steps))]
@@ -206,24 +173,12 @@ impl World {
         if self.hand(worker).is_some() {
             return Outcome::Busy;
         }
-        let Some(first) = self.take_first(manager) else {
+        let Some(first) = self.channel.take(manager) else {
             return Outcome::Idle;
         };
-        self.hold(worker, first);
-        Outcome::Took(shown_item(first.user, first.item))
-    }
-
-    /// An item that left its line goes into a worker's hand.
-    #[tactic(auto, unfolding(qx_machine::specs::Users::settle))]
-    fn hold(&mut self, worker: Worker, first: Queued)
-        ensures { self.new ≡ after_holding self.old worker.0 first }
-    {
-        let held = Held {
-            user: first.user,
-            item: first.item,
-        };
-        places::set(&mut self.hands, worker.0 as usize, held);
+        hold_in(&mut self.hands, worker, first);
         parts::take_in(&mut self.parts, first.user, first.item);
+        Outcome::Took(shown_item(first.user, first.item))
     }
 
     /// A worker does what it holds (C Library Reference: `MsgReply`, `MsgError`), at a moment that becomes the times of
@@ -344,13 +299,9 @@ impl World {
 
     /// How many items stand in a manager's line.
     pub fn waiting(&self, manager: Manager) -> usize
-        ensures items { result ≡ length (machine.line_of self.now manager) }
-        ensures bounded { result < 2 ^ 63 }
+        ensures { result ≡ length (machine.line_of self.now manager) }
     {
-        match manager {
-            Manager::Ram => self.ram.len(),
-            Manager::Pipe => self.pipe.len(),
-        }
+        self.channel.len(manager)
     }
 
     /// The configuration.
@@ -382,11 +333,7 @@ impl World {
         if !self.is_worker(worker) || self.hand(worker).is_some() {
             return None;
         }
-        let first = match manager {
-            Manager::Ram => self.ram.first(),
-            Manager::Pipe => self.pipe.first(),
-        };
-        Some(first?.user)
+        Some(self.channel.first(manager)?.user)
     }
 
     /// The user of the item that a worker would do.
@@ -421,6 +368,17 @@ fn empty_hands(alloc: Global, workers: u8) -> Result<Vec<Option<Held>>, AllocErr
         hands.push(None)?;
     }
     Ok(hands)
+}
+
+/// An item goes into a worker's hand.
+fn hold_in(hands: &mut Vec<Option<Held>>, worker: Worker, first: Queued)
+    ensures { hands.new.items ≡ slice_set hands.old.items worker.0 (Some (record { user = first.user; item = first.item })) }
+{
+    let held = Held {
+        user: first.user,
+        item: first.item,
+    };
+    places::set(hands, worker.0 as usize, held);
 }
 
 /// The bytes of a user's name.

@@ -1,12 +1,29 @@
-use Rattle.std.proofs.Common.{◌≡◌, ◌<◌, ◌∙◌, ap, sym, length, arith, rules, None}
+use Rattle.std.proofs.Common.{◌≡◌, ◌<◌, length, ap, sym, ◌∙◌, rules}
+use Rattle.qx_types.specs.declared.outcome.Outcome.TheVariants.{Spawned}
 use Rattle.qx_machine.specs.Rows.{row_at}
-use Rattle.qx_procs.proofs.RowLemmas.{row_at-place, set-same}
-use Rattle.qx_world.proofs.WorldLemmas.{spawn-none}
+use Rattle.qx_world.specs.Calls.{spawn_outcome}
+use Rattle.qx_world.specs.Kept.{Kept}
+use Rattle.qx_world.proofs.KeptLemmas.{Kept-room, Kept-same}
+use Rattle.qx_world.proofs.SpawnLemmas.{Kept-started, fresh, refused_stands, row_within, started}
 use Rattle.qx_world.proofs.world.World.spawn.Goals as goal
 
-pub returns-clause-world : goal.returns-clause-world
-returns-clause-world c =
-    let here : c.args.user.0 < length c.self.inside.parts.items = omega arith in
-    let none : row_at c.self.inside.parts.items c.args.user.0 ≡ None = row_at-place _ _ _ here c.index_mut.ensures.value ∙ search rules in
-    let same = set-same _ _ _ c.index_mut.ensures.value in
-    rw (← c.self.view_is) (ap (λ parts. record { config = c.self.inside.config; parts = parts; ram = c.self.inside.ram.items; pipe = c.self.inside.pipe.items; hands = c.self.inside.hands.items }) same ∙ sym (spawn-none _ c.args.user c.args.threads c.args.prio none))
+pub add_process-requires-clause-fresh : goal.add_process-requires-clause-fresh
+add_process-requires-clause-fresh c =
+    let begun = started c.self.inside.parts.items c.args.user.0 c.args.threads c.args.prio.0 c.in-Spawned.number (sym c.in_ok-outcome.ensures.outcome ∙ c.in-Spawned.is) in
+    rw c.in_ok-reserve.ensures.ok (fresh _ _ _ _ _ _ begun c.self.invariant)
+
+pub add_process-requires-clause-user : goal.add_process-requires-clause-user
+add_process-requires-clause-user c =
+    let begun = started c.self.inside.parts.items c.args.user.0 c.args.threads c.args.prio.0 c.in-Spawned.number (sym c.in_ok-outcome.ensures.outcome ∙ c.in-Spawned.is) in
+    rw (c.in_ok-reserve.ensures.ok, c.self.invariant.users) (row_within _ _ _ begun.row)
+
+pub invariant_of-self-in-Spawned : goal.invariant_of-self-in-Spawned
+invariant_of-self-in-Spawned c =
+    let begun = started c.self.inside.parts.items c.args.user.0 c.args.threads c.args.prio.0 c.in-Spawned.number (sym c.in_ok-outcome.ensures.outcome ∙ c.in-Spawned.is) in
+    let kept : Kept c.self.inside.parts.items c.reserve.new.self = Kept-room _ c.self.inside.channel _ (ap (λ v. v.ram) c.in_ok-reserve.ensures.ok) (ap (λ v. v.pipe) c.in_ok-reserve.ensures.ok) (ap (λ v. v.nodes) c.in_ok-reserve.ensures.ok) c.self.invariant in
+    rw c.in_ok-outcome.ensures.parts (Kept-started _ _ _ _ _ _ _ begun c.in_ok-outcome.ensures.places kept c.add_process.ensures.ram c.add_process.ensures.pipe c.add_process.ensures.users c.add_process.ensures.own)
+
+pub invariant_of-self-in_default : goal.invariant_of-self-in_default
+invariant_of-self-in_default c =
+    let kept : Kept c.self.inside.parts.items c.reserve.new.self = Kept-room _ c.self.inside.channel _ (ap (λ v. v.ram) c.in_ok-reserve.ensures.ok) (ap (λ v. v.pipe) c.in_ok-reserve.ensures.ok) (ap (λ v. v.nodes) c.in_ok-reserve.ensures.ok) c.self.invariant in
+    rw c.in_ok-outcome.ensures.parts (Kept-same _ _ _ _ (λ part is. refused_stands part c.args.threads c.args.prio.0 (λ number made. c.in_default.not-Spawned number (c.in_ok-outcome.ensures.outcome ∙ rw is made))) kept)

@@ -1,0 +1,5 @@
+use Rattle.qx_world.proofs.KeptLemmas.{Kept-boot}
+use Rattle.qx_world.proofs.world.World.new.Goals as goal
+
+pub invariant_of-result : goal.invariant_of-result
+invariant_of-result c = rw c.in_ok-parts.ensures (Kept-boot c.args.config c.args.config.users _ (rw c.user_count.ensures.count at c.in_ok-channel.ensures))
