@@ -1,1 +1,3 @@
+pub mod MachineRows
 pub mod RowLemmas
+pub mod ServerLemmas

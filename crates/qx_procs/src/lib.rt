@@ -1,4 +1,4 @@
-//! Processes, threads and connections of a user.
+//! Processes, threads, connections and server connections of a user.
 #![tactic(auto)]
 
 mod connections;
@@ -6,9 +6,13 @@ pub mod places;
 pub mod process;
 pub mod processes;
 pub mod room;
+pub mod servers;
+#[cfg(test)]
+mod tests;
 mod thread;
 mod threads;
 
 pub use process::Process;
 pub use processes::Processes;
 pub use room::Room;
+pub use servers::{ServerConnection, Servers};

@@ -13,8 +13,8 @@ use qx_types::{Coid, Errno, Limits, Manager, OFlags, Outcome, Request};
 
 /// What a thread's request becomes, or the outcome of a call that sends nothing.
 pub fn judge(process: &Process, name: &[u8], thread: u8, request: &Request) -> Result<Sent, Outcome>
-    ensures judged { result ≡ judged_thread (47 ∷ name.now) process.now request.now (row_at process.now.threads thread) }
-    ensures sendable { IfOk result (λ sent. CanSend (row_at process.now.threads thread) sent) }
+    ensures judged { result ≡ judged_thread (47 ∷ name.now) process.now.process request.now (row_at process.now.process.threads thread) }
+    ensures sendable { IfOk result (λ sent. CanSend (row_at process.now.process.threads thread) sent) }
 {
     match process.thread(thread) {
         Some(row) => match row.state {
@@ -35,7 +35,7 @@ fn judge_ready(
     row: &ThreadRow,
     request: &Request,
 ) -> Result<Sent, Errno>
-    ensures judged { result ≡ judged_ready (47 ∷ name.now) process.now row.now request.now }
+    ensures judged { result ≡ judged_ready (47 ∷ name.now) process.now.process row.now request.now }
     ensures sendable { IfOk result (λ sent. CanSend (Some row.now) sent) }
 {
     if !is_in_ranges(request) {
@@ -49,7 +49,7 @@ fn judge_ready(
 
 /// The message of a request, and the connection that it goes over.
 fn address(process: &Process, name: &[u8], request: &Request) -> Result<Sent, Errno>
-    ensures message { result ≡ message_of (47 ∷ name.now) process.now request.now }
+    ensures message { result ≡ message_of (47 ∷ name.now) process.now.process request.now }
     ensures connection { IfOk result (λ sent. sent.coid.0 < 67) }
 {
     match request {
@@ -67,7 +67,7 @@ fn address(process: &Process, name: &[u8], request: &Request) -> Result<Sent, Er
 
 /// An open over the lowest free connection.
 fn open_message(process: &Process, flags: OFlags, mode: u16) -> Result<Sent, Errno>
-    ensures message { result ≡ sent_anew (machine.Open flags mode) (lowest_from 3 process.now.connections) }
+    ensures message { result ≡ sent_anew (machine.Open flags mode) (lowest_from 3 process.now.process.connections) }
     ensures connection { IfOk result (λ sent. sent.coid.0 < 67) }
 {
     let number = process.free_connection();
@@ -84,7 +84,7 @@ fn open_message(process: &Process, flags: OFlags, mode: u16) -> Result<Sent, Err
 
 /// A message over a connection that is there.
 fn message_over(process: &Process, coid: Coid, message: Message) -> Result<Sent, Errno>
-    ensures message { result ≡ sent_over coid.0 message (row_at process.now.connections coid.0) }
+    ensures message { result ≡ sent_over coid.0 message (row_at process.now.process.connections coid.0) }
     ensures connection { IfOk result (λ sent. sent.coid.0 < 67) }
 {
     match process.conn_of(coid) {

@@ -29,10 +29,11 @@ pub struct Part {
 
 impl Model for Part {
     ghost use Rattle.qx_machine.specs.Users as users;
+    ghost use Rattle.qx_procs.specs.Servers.{machine_rows};
 
     ghost Value = { users.Part };
 
-    ghost view = { λ p. record { root = p.root; processes = p.processes; blocks = p.blocks.items } };
+    ghost view = { λ p. record { root = p.root; processes = machine_rows p.processes; blocks = p.blocks.items } };
 }
 
 impl Part {
@@ -236,7 +237,7 @@ impl Part {
 
 /// The block of the connection that a message came over.
 fn block_over(process: &Process, sent: Sent) -> Option<u16>
-    ensures { result ≡ users.block_over process.now sent }
+    ensures { result ≡ users.block_over process.now.process sent }
 {
     match process.conn_of(sent.coid) {
         Some(connection) => match connection.manager {
