@@ -1,5 +1,29 @@
+ghost use Rattle.std.specs.Prelude.{◌≡◌, IfOk};
+
 use super::*;
 use std::test::Fail;
+
+// Fifteen calls in a row, which need no answer under the facts for callers.
+#[tactic(auto, using(crate::proofs::TableFacts::table_facts))]
+fn calls_in_a_row(table: &mut Table<u32>) -> Result<u32, Fail>
+    ensures { IfOk result (λ value. value ≡ 11) }
+{
+    table.reserve(3)?;
+    let list = table.add_list()?;
+    let other = table.add_list()?;
+    let first = table.new_node(10)?;
+    let second = table.new_node(11)?;
+    let third = table.new_node(12)?;
+    table.push_back(list, third);
+    table.insert_before(list, third, first);
+    table.insert_before(list, third, second);
+    table.unlink(list, second);
+    table.push_back(other, second);
+    table.unlink(other, second);
+    let value = table.free_node(second);
+    table.free_list(other);
+    Ok(value)
+}
 
 #[test]
 #[tactic(auto, using(crate::proofs::TableFacts::table_facts))]
