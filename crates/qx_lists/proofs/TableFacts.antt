@@ -1,12 +1,13 @@
 -- What a caller of a table's calls uses: which lists and nodes are there, which nodes are free and which stand in a list, as one entry changes.
-use Rattle.std.proofs.Common.{◌≡◌, ◌≢◌, inl, inr, ℕ, true, List, [], ◌∷◌, ◌++◌, Contains, is_some, unwrap_or, drop, refl, sym, ◌∙◌, ap, arith}
+use Rattle.std.proofs.Common.{◌≡◌, ◌≢◌, inl, inr, ℕ, true, List, [], ◌∷◌, ◌++◌, Contains, get_or, length, ◌<◌, is_some, unwrap_or, drop, refl, sym, ◌∙◌, ap, arith}
 use Rattle.std.specs.FinMap as map
 use Rattle.std.specs.Ordering.{nat_cmp}
+use Rattle.std.proofs.lemmas.Grind.{StandsIn}
 use Rattle.std.proofs.lemmas.Bool.Decides.{eqb_tells}
-use Rattle.std.proofs.lemmas.List.Elements.{Contains-push, Contains-push_cases}
-use Rattle.qx_lists.specs.Table.{Table, ContainsList, IsIn, StandsNowhere, nodes_of, put_before, with_nodes, without}
+use Rattle.std.proofs.lemmas.List.Elements.{Contains-append_left, Contains-push, Contains-push_cases}
+use Rattle.qx_lists.specs.Table.{Table, ContainsList, StandsNowhere, nodes_of, put_before, with_nodes, without}
 use Rattle.qx_lists.proofs.MapLemmas.{get-insert_same, get-insert_other, get-remove_same, get-remove_other}
-use Rattle.qx_lists.proofs.ListLemmas.{contains_put_before, contains_rest, contains_without, nowhere_from, stands_nowhere}
+use Rattle.qx_lists.proofs.ListLemmas.{contains_put_before, contains_rest, contains_without, nowhere_from, put_before_keeps, put_before_puts, stands_nowhere, without_keeps}
 
 module _ {T : Type 0} (t : Table T) (list : ℕ) (nodes : List ℕ) where
   pub nodes_of-with_nodes_same : nodes_of (with_nodes t list nodes) list ≡ nodes
@@ -69,7 +70,21 @@ module _ (lists : map.FinMap nat_cmp (List ℕ)) (list : ℕ) where
   pub nowhere-pop_front : (other : ℕ) → StandsNowhere lists other → StandsNowhere (map.insert lists list (drop 1 (nodes_at list))) other
   nowhere-pop_front other nowhere = nowhere-insert _ other nowhere (λ stands. stands_nowhere lists other nowhere list (contains_rest other (nodes_at list) stands))
 
-pub IsIn-push_back : {T : Type 0} (t : Table T) (list node : ℕ) → IsIn (with_nodes t list (nodes_of t list ++ node ∷ [])) list node
-IsIn-push_back t list node = rw (nodes_of-with_nodes_same t list (nodes_of t list ++ node ∷ [])) (Contains-push (nodes_of t list) node)
+-- a node that stands in a list. The index is the premises', for `grind`
+module _ (nodes : List ℕ) (node : ℕ) where
+  pub in_push_back : StandsIn (nodes ++ node ∷ []) node
+  in_push_back = (refl, Contains-push nodes node)
 
-pub ruleset table_facts = (kept_there, nowhere-add_list, nowhere-free_list, nowhere-push_back, nowhere-insert_before, nowhere-unlink, nowhere-pop_front, IsIn-push_back, get-insert_same, get-insert_other, get-remove_same, get-remove_other)
+  pub in_push_back_still : (k other : ℕ) → k < length nodes → other ≡ get_or nodes k other → StandsIn (nodes ++ node ∷ []) other
+  in_push_back_still k other within is = (refl, Contains-append_left nodes (node ∷ []) other (k, within, sym is))
+
+  pub in_insert_before : (at k : ℕ) → k < length nodes → at ≡ get_or nodes k at → StandsIn (put_before node at nodes) node
+  in_insert_before at k within is = (refl, put_before_puts node at nodes (k, within, sym is))
+
+  pub in_insert_before_still : (at k other : ℕ) → k < length nodes → other ≡ get_or nodes k other → StandsIn (put_before node at nodes) other
+  in_insert_before_still at k other within is = (refl, put_before_keeps node at other nodes (k, within, sym is))
+
+  pub in_unlink_still : (k other : ℕ) → k < length nodes → other ≡ get_or nodes k other → other ≢ node → StandsIn (without node nodes) other
+  in_unlink_still k other within is differs = (refl, without_keeps node other nodes (k, within, sym is) differs)
+
+pub ruleset table_facts = (kept_there, nowhere-add_list, nowhere-free_list, nowhere-push_back, nowhere-insert_before, nowhere-unlink, nowhere-pop_front, in_push_back, in_push_back_still, in_insert_before, in_insert_before_still, in_unlink_still, get-insert_same, get-insert_other, get-remove_same, get-remove_other)

@@ -1,12 +1,13 @@
-ghost use Rattle.std.specs.Prelude.{◌≡◌, IfOk};
+ghost use Rattle.std.specs.Prelude.{◌≡◌, ◌≢◌, IfOk};
+ghost use Rattle.qx_lists.specs.Table.{IsIn};
 
 use super::*;
 use std::test::Fail;
 
-// Fifteen calls in a row, which need no answer under the facts for callers.
+// Calls in a row, which need no answer under the facts for callers.
 #[tactic(auto, using(crate::proofs::TableFacts::table_facts))]
-fn calls_in_a_row(table: &mut Table<u32>) -> Result<u32, Fail>
-    ensures { IfOk result (λ value. value ≡ 11) }
+fn calls_in_a_row(table: &mut Table<u32>) -> Result<(Option<usize>, u32), Fail>
+    ensures { IfOk result (λ taken. taken.1 ≡ 11) }
 {
     table.reserve(3)?;
     let list = table.add_list()?;
@@ -17,12 +18,32 @@ fn calls_in_a_row(table: &mut Table<u32>) -> Result<u32, Fail>
     table.push_back(list, third);
     table.insert_before(list, third, first);
     table.insert_before(list, third, second);
+    let next = table.next(list, first);
     table.unlink(list, second);
     table.push_back(other, second);
-    table.unlink(other, second);
+    table.pop_front(other);
     let value = table.free_node(second);
     table.free_list(other);
-    Ok(value)
+    Ok((next, value))
+}
+
+// Calls on lists of which only one node is known.
+#[tactic(auto, using(crate::proofs::TableFacts::table_facts))]
+fn moves_a_node(table: &mut Table<u32>, from: usize, to: usize, node: usize, at: usize) -> u32
+    requires from { IsIn table.old from node }
+    requires to { IsIn table.old to at }
+    requires apart { from ≢ to }
+{
+    table.know();
+    table.unlink(from, node);
+    table.insert_before(to, at, node);
+    let value = *table.value(node);
+    let next = table.next(to, node);
+    let after = table.next(to, at);
+    table.unlink(to, at);
+    table.push_back(from, at);
+    let last = table.next(from, at);
+    value
 }
 
 #[test]
@@ -47,6 +68,7 @@ fn nodes_are_put_in_and_taken_out(rt: HostRuntime) -> Result<(), Fail> {
 }
 
 #[test]
+#[tactic(auto, using(crate::proofs::TableFacts::table_facts))]
 fn an_empty_list_is_freed(rt: HostRuntime) -> Result<(), Fail> {
     let mut table: Table<char> = Table::new(rt.alloc());
     let list = table.add_list()?;
