@@ -114,6 +114,17 @@ pub contains_rest : (x : ℕ) (xs : List ℕ) → Contains (drop 1 xs) x → Con
 contains_rest x [] stands = stands
 contains_rest x (y ∷ ys) stands = contains_later y x ys stands
 
+pub contains_slice_first : (xs : List ℕ) (x : ℕ) → slice_get xs 0 ≡ Some x → Contains xs x
+contains_slice_first [] x is = absurd (cc)
+contains_slice_first (y ∷ ys) x is = let same : y ≡ x = cc in rw (sym same) (contains_first y ys)
+
+pub contains_next : (xs : List ℕ) (at x : ℕ) → next_after at xs ≡ Some x → Contains xs x
+contains_next [] at x is = absurd (cc)
+contains_next (y ∷ ys) at x is = elim (eqb_tells y at) [
+  | inl same ↦ contains_later y x ys (contains_slice_first ys x (rw same.0 at is))
+  | inr differs ↦ contains_later y x ys (contains_next ys at x (rw differs.0 at is))
+]
+
 without_kept : (x : ℕ) (xs : List ℕ) → Avoids (Some x) xs → without x xs ≡ xs
 without_kept x [] avoids = refl
 without_kept x (y ∷ ys) avoids = elim (eqb_tells y x) [

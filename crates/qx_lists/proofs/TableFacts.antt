@@ -1,13 +1,13 @@
 -- What a caller of a table's calls uses: which lists and nodes are there, which nodes are free and which stand in a list, as one entry changes.
-use Rattle.std.proofs.Common.{◌≡◌, ◌≢◌, inl, inr, ℕ, true, List, [], ◌∷◌, ◌++◌, Contains, get_or, length, ◌<◌, is_some, unwrap_or, drop, refl, sym, ◌∙◌, ap, arith}
+use Rattle.std.proofs.Common.{◌≡◌, ◌≢◌, inl, inr, ℕ, true, List, [], ◌∷◌, ◌++◌, Contains, Some, slice_get, get_or, length, ◌<◌, is_some, unwrap_or, drop, refl, sym, ◌∙◌, ap, arith}
 use Rattle.std.specs.FinMap as map
 use Rattle.std.specs.Ordering.{nat_cmp}
 use Rattle.std.proofs.lemmas.Grind.{StandsIn}
 use Rattle.std.proofs.lemmas.Bool.Decides.{eqb_tells}
 use Rattle.std.proofs.lemmas.List.Elements.{Contains-append_left, Contains-push, Contains-push_cases}
-use Rattle.qx_lists.specs.Table.{Table, ContainsList, StandsNowhere, nodes_of, put_before, with_nodes, without}
+use Rattle.qx_lists.specs.Table.{Table, ContainsList, StandsNowhere, next_after, nodes_of, put_before, with_nodes, without}
 use Rattle.qx_lists.proofs.MapLemmas.{get-insert_same, get-insert_other, get-remove_same, get-remove_other}
-use Rattle.qx_lists.proofs.ListLemmas.{contains_put_before, contains_rest, contains_without, nowhere_from, put_before_keeps, put_before_puts, stands_nowhere, without_keeps}
+use Rattle.qx_lists.proofs.ListLemmas.{contains_next, contains_put_before, contains_rest, contains_slice_first, contains_without, nowhere_from, put_before_keeps, put_before_puts, stands_nowhere, without_keeps}
 
 module _ {T : Type 0} (t : Table T) (list : ℕ) (nodes : List ℕ) where
   pub nodes_of-with_nodes_same : nodes_of (with_nodes t list nodes) list ≡ nodes
@@ -87,4 +87,11 @@ module _ (nodes : List ℕ) (node : ℕ) where
   pub in_unlink_still : (k other : ℕ) → k < length nodes → other ≡ get_or nodes k other → other ≢ node → StandsIn (without node nodes) other
   in_unlink_still k other within is differs = (refl, without_keeps node other nodes (k, within, sym is) differs)
 
-pub ruleset table_facts = (kept_there, nowhere-add_list, nowhere-free_list, nowhere-push_back, nowhere-insert_before, nowhere-unlink, nowhere-pop_front, in_push_back, in_push_back_still, in_insert_before, in_insert_before_still, in_unlink_still, get-insert_same, get-insert_other, get-remove_same, get-remove_other)
+-- the node that a step of a walk gives stands in the list
+pub in_first : (nodes : List ℕ) (node : ℕ) → slice_get nodes 0 ≡ Some node → (slice_get nodes 0 ≡ slice_get nodes 0) × Contains nodes node
+in_first nodes node is = (refl, contains_slice_first nodes node is)
+
+pub in_next : (nodes : List ℕ) (at node : ℕ) → next_after at nodes ≡ Some node → (next_after at nodes ≡ next_after at nodes) × Contains nodes node
+in_next nodes at node is = (refl, contains_next nodes at node is)
+
+pub ruleset table_facts = (kept_there, nowhere-add_list, nowhere-free_list, nowhere-push_back, nowhere-insert_before, nowhere-unlink, nowhere-pop_front, in_push_back, in_push_back_still, in_insert_before, in_insert_before_still, in_unlink_still, in_first, in_next, get-insert_same, get-insert_other, get-remove_same, get-remove_other)
