@@ -14,7 +14,7 @@ use Rattle.qx_machine.specs.Laws.{IsInOrder}
 use Rattle.qx_machine.specs.Lines.{into}
 use Rattle.qx_machine.proofs.Orders.{in_order_rest}
 use Rattle.qx_lines.specs.declared.Line.{Line}
-use Rattle.qx_lines.specs.Line.{IsLineOf, IsOwn, IsRanked, SameElsewhere, item_count, nodes_in, rank_at}
+use Rattle.qx_lines.specs.Line.{IsLineOf, IsOwn, IsRanked, SameElsewhere, item_count, rank_at}
 use Rattle.qx_lines.proofs.NodeLemmas.{contains_into, into_keeps, length-into}
 
 pub in_order_drop : {A : Type 0} (rank : A → ℕ) (line : List A) → IsInOrder rank line → IsInOrder rank (drop 1 line)

@@ -35,7 +35,12 @@ fn send<T: Ranked>(table: &mut Table<T>, line: &mut Line, value: T) -> Result<us
 
 // Calls in a row, which need no answer under the facts for callers.
 #[tactic(auto, using(crate::proofs::LineFacts::line_facts))]
-fn calls_in_a_row(table: &mut Table<Sent>, one: Sent, two: Sent, three: Sent) -> Result<(usize, Option<usize>), Fail>
+fn calls_in_a_row(
+    table: &mut Table<Sent>,
+    one: Sent,
+    two: Sent,
+    three: Sent,
+) -> Result<(usize, Option<usize>), Fail>
     ensures { IfOk result (λ found. found.0 ≡ 3) }
 {
     let mut line = Line::new(table)?;
