@@ -88,9 +88,9 @@ put_before_keeps node at x [] stands = stands
 put_before_keeps node at x (y ∷ ys) stands = elim (eqb_tells y at) [
   | inl same ↦ rw same.0 (contains_later node x (y ∷ ys) stands)
   | inr differs ↦ rw differs.0 (elim (contains_cases y x ys stands) [
-      | inl first ↦ rw first (contains_first y (put_before node at ys))
-      | inr later ↦ contains_later y x (put_before node at ys) (put_before_keeps node at x ys later)
-    ])
+    | inl first ↦ rw first (contains_first y (put_before node at ys))
+    | inr later ↦ contains_later y x (put_before node at ys) (put_before_keeps node at x ys later)
+  ])
 ]
 
 pub put_before_puts : (node at : ℕ) (xs : List ℕ) → Contains xs at → Contains (put_before node at xs) node
@@ -98,9 +98,9 @@ put_before_puts node at [] stands = absurd (omega (arith, stands.1))
 put_before_puts node at (y ∷ ys) stands = elim (eqb_tells y at) [
   | inl same ↦ rw same.0 (contains_first node (y ∷ ys))
   | inr differs ↦ rw differs.0 (elim (contains_cases y at ys stands) [
-      | inl first ↦ absurd (differs.1 (sym first))
-      | inr later ↦ contains_later y node (put_before node at ys) (put_before_puts node at ys later)
-    ])
+    | inl first ↦ absurd (differs.1 (sym first))
+    | inr later ↦ contains_later y node (put_before node at ys) (put_before_puts node at ys later)
+  ])
 ]
 
 pub without_keeps : (y x : ℕ) (xs : List ℕ) → Contains xs x → x ≢ y → Contains (without y xs) x

@@ -18,10 +18,13 @@ module _ {T : Type 0} (t : Table T) (list : ℕ) (nodes : List ℕ) where
 
 -- what is there stays there. The first part says nothing: it shows `grind` the call to match
 pub kept_there : {X : Type 0} (m : map.FinMap nat_cmp X) (k : ℕ) (v : X) (q : ℕ) → is_some (map.get m q) ≡ true → (map.get (map.insert m k v) q ≡ map.get (map.insert m k v) q) × (is_some (map.get (map.insert m k v) q) ≡ true)
-kept_there m k v q there = (refl, elim (eqb_tells q k) [
-  | inl same ↦ rw same.1 (ap is_some (get-insert_same m k v))
-  | inr differs ↦ ap is_some (get-insert_other m k v q differs.1) ∙ there
-])
+kept_there m k v q there = (
+  refl,
+  elim (eqb_tells q k) [
+    | inl same ↦ rw same.1 (ap is_some (get-insert_same m k v))
+    | inr differs ↦ ap is_some (get-insert_other m k v q differs.1) ∙ there
+  ],
+)
 
 -- a node that no list has, as one list changes
 module _ (lists : map.FinMap nat_cmp (List ℕ)) (list : ℕ) where

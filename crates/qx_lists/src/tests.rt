@@ -113,7 +113,12 @@ fn has_nodes(table: &Table<u32>, list: usize, nodes: &Vec<(usize, u32)>) -> bool
 
 // Makes a node at the end of the list, and of the vector.
 #[tactic(auto, using(crate::proofs::TableFacts::table_facts))]
-fn push_new(table: &mut Table<u32>, list: usize, nodes: &mut Vec<(usize, u32)>, value: u32) -> Result<(), Fail>
+fn push_new(
+    table: &mut Table<u32>,
+    list: usize,
+    nodes: &mut Vec<(usize, u32)>,
+    value: u32,
+) -> Result<(), Fail>
     requires { ContainsList table.old list }
     ensures { (other : ℕ) → ContainsList table.old other → ContainsList table.new other }
 {
@@ -125,7 +130,13 @@ fn push_new(table: &mut Table<u32>, list: usize, nodes: &mut Vec<(usize, u32)>, 
 
 // Makes a node before the one at a place, if there is one.
 #[tactic(auto, using(crate::proofs::TableFacts::table_facts))]
-fn insert_new(table: &mut Table<u32>, list: usize, nodes: &mut Vec<(usize, u32)>, place: usize, value: u32) -> Result<(), Fail>
+fn insert_new(
+    table: &mut Table<u32>,
+    list: usize,
+    nodes: &mut Vec<(usize, u32)>,
+    place: usize,
+    value: u32,
+) -> Result<(), Fail>
     requires { ContainsList table.old list }
     ensures { (other : ℕ) → ContainsList table.old other → ContainsList table.new other }
 {
@@ -141,7 +152,15 @@ fn insert_new(table: &mut Table<u32>, list: usize, nodes: &mut Vec<(usize, u32)>
 
 // Moves the node at a place to the end of another list, and writes its value.
 #[tactic(auto, using(crate::proofs::TableFacts::table_facts))]
-fn move_node(table: &mut Table<u32>, list: usize, nodes: &mut Vec<(usize, u32)>, place: usize, other: usize, others: &mut Vec<(usize, u32)>, value: u32) -> Result<(), Fail>
+fn move_node(
+    table: &mut Table<u32>,
+    list: usize,
+    nodes: &mut Vec<(usize, u32)>,
+    place: usize,
+    other: usize,
+    others: &mut Vec<(usize, u32)>,
+    value: u32,
+) -> Result<(), Fail>
     requires list { ContainsList table.old list }
     requires other { ContainsList table.old other }
     ensures { (other : ℕ) → ContainsList table.old other → ContainsList table.new other }
@@ -191,7 +210,12 @@ fn free_at(table: &mut Table<u32>, list: usize, nodes: &mut Vec<(usize, u32)>, p
 
 // Puts a new node into a list of its own and takes it out, before it goes last in the list.
 #[tactic(auto, using(crate::proofs::TableFacts::table_facts))]
-fn push_by_another_list(table: &mut Table<u32>, list: usize, nodes: &mut Vec<(usize, u32)>, value: u32) -> Result<(), Fail>
+fn push_by_another_list(
+    table: &mut Table<u32>,
+    list: usize,
+    nodes: &mut Vec<(usize, u32)>,
+    value: u32,
+) -> Result<(), Fail>
     requires { ContainsList table.old list }
     ensures { (other : ℕ) → ContainsList table.old other → ContainsList table.new other }
 {
@@ -206,7 +230,15 @@ fn push_by_another_list(table: &mut Table<u32>, list: usize, nodes: &mut Vec<(us
 }
 
 // One step of a sequence that the number chooses, on two of the lists.
-fn step(rt: &impl Abort, table: &mut Table<u32>, list: usize, nodes: &mut Vec<(usize, u32)>, other: usize, others: &mut Vec<(usize, u32)>, chosen: u32) -> Result<(), Fail>
+fn step(
+    rt: &impl Abort,
+    table: &mut Table<u32>,
+    list: usize,
+    nodes: &mut Vec<(usize, u32)>,
+    other: usize,
+    others: &mut Vec<(usize, u32)>,
+    chosen: u32,
+) -> Result<(), Fail>
     requires list { ContainsList table.old list }
     requires other { ContainsList table.old other }
     ensures { (other : ℕ) → ContainsList table.old other → ContainsList table.new other }
@@ -241,9 +273,18 @@ fn goes_as_three_vectors(rt: HostRuntime) -> Result<(), Fail> {
             1 => step(&rt, &mut table, two, &mut twos, three, &mut threes, seed)?,
             _ => step(&rt, &mut table, three, &mut threes, one, &mut ones, seed)?,
         }
-        assert!(rt; has_nodes(&table, one, &ones), "the first list after step {turn}");
-        assert!(rt; has_nodes(&table, two, &twos), "the second list after step {turn}");
-        assert!(rt; has_nodes(&table, three, &threes), "the third list after step {turn}");
+        assert!(rt;
+            has_nodes(&table, one, &ones),
+            "the first list after step {turn}"
+        );
+        assert!(rt;
+            has_nodes(&table, two, &twos),
+            "the second list after step {turn}"
+        );
+        assert!(rt;
+            has_nodes(&table, three, &threes),
+            "the third list after step {turn}"
+        );
     }
     assert!(rt; ones.len() > 30 && twos.len() > 30 && threes.len() > 30);
     Ok(())
