@@ -1,5 +1,5 @@
 -- Lists of nodes that differ: the place of a node among them, and how long the list is as a node comes or goes.
-use Rattle.std.proofs.Common.{Option, ◌==◌, nat_lt, below_more, ◌≡◌, inl, inr, ℕ, zero, suc, ◌+◌, ◌<◌, ◌≤◌, false, nat_eq, List, [], ◌∷◌, ◌++◌, length, get_or, Contains, Some, None, slice_get, refl, sym, arith}
+use Rattle.std.proofs.Common.{Bool, true, Option, ◌==◌, nat_lt, below_more, ◌≡◌, inl, inr, ℕ, zero, suc, ◌+◌, ◌<◌, ◌≤◌, false, nat_eq, List, [], ◌∷◌, ◌++◌, length, get_or, Contains, Some, None, slice_get, refl, sym, arith}
 use Rattle.std.specs.Prelude.{if◌then◌else◌}
 use Rattle.std.specs.List.{IsDistinct, AllByRecursion}
 use Rattle.std.proofs.lemmas.Bool.Decides.{eqb_tells, nat_tests}
@@ -93,3 +93,14 @@ contains_into rank [] node = contains_first node []
 contains_into rank (x ∷ xs) node = cond_both (nat_lt (rank x) (rank node)) (node ∷ x ∷ xs) (x ∷ into rank xs node) (λ line. Contains line node)
     (λ above. contains_first node (x ∷ xs))
     (λ below. contains_later x node (into rank xs node) (contains_into rank xs node))
+
+pub into_keeps : (rank : ℕ → ℕ) (nodes : List ℕ) (node other : ℕ) → Contains nodes other → Contains (into rank nodes node) other
+into_keeps rank [] node other stands = absurd (omega (arith, stands.1))
+into_keeps rank (first ∷ nodes) node other stands = by_test (nat_lt (rank first) (rank node)) refl (elim (contains_cases first other nodes stands) [
+  | inl same ↦ rw same (contains_first first (into rank nodes node))
+  | inr later ↦ contains_later first other (into rank nodes node) (into_keeps rank nodes node other later)
+])
+  where
+    by_test : (b : Bool) → nat_lt (rank first) (rank node) ≡ b → Contains (first ∷ into rank nodes node) other → Contains (into rank (first ∷ nodes) node) other
+    by_test true is past = rw is (contains_later node other (first ∷ nodes) stands)
+    by_test false is past = rw is past

@@ -1,4 +1,4 @@
-ghost use Rattle.std.specs.Prelude.{◌≤◌, IfOk};
+ghost use Rattle.std.specs.Prelude.{◌≡◌, ◌≤◌, IfOk};
 ghost use Rattle.qx_lines.specs.Line.{IsInLine, IsLineOf};
 
 use super::*;
@@ -22,15 +22,41 @@ impl Ranked for Sent {
 }
 
 // Makes a node for the value, and puts it into the line.
+#[tactic(auto, using(crate::proofs::LineFacts::line_facts))]
 fn send<T: Ranked>(table: &mut Table<T>, line: &mut Line, value: T) -> Result<usize, AllocFailed<T>>
     requires { IsLineOf T.rank table.old line.old }
     ensures of { IsLineOf T.rank table.new line.new }
     ensures in_line { IfOk result (IsInLine table.new line.new) }
 {
-    table.know();
     let node = table.new_node(value)?;
     line.put(table, node);
     Ok(node)
+}
+
+// Calls in a row, which need no answer under the facts for callers.
+#[tactic(auto, using(crate::proofs::LineFacts::line_facts))]
+fn calls_in_a_row(
+    table: &mut Table<Sent>,
+    one: Sent,
+    two: Sent,
+    three: Sent,
+) -> Result<(usize, Option<usize>), Fail>
+    ensures { IfOk result (λ found. found.0 ≡ 3) }
+{
+    let mut line = Line::new(table)?;
+    let first = table.new_node(one)?;
+    line.put(table, first);
+    let second = table.new_node(two)?;
+    line.put(table, second);
+    let third = table.new_node(three)?;
+    line.put(table, third);
+    let count = line.len();
+    let front = line.first(table);
+    line.remove(table, second);
+    table.free_node(second);
+    line.take(table);
+    line.take(table);
+    Ok((count, front))
 }
 
 #[test]

@@ -1,12 +1,12 @@
 -- Lists of nodes: where a node stands, and the list without it.
-use Rattle.std.proofs.Common.{◌≡◌, ◌≢◌, ◌⊎◌, inl, inr, ℕ, zero, suc, ◌<◌, true, false, nat_eq, IsSome, is_some, ◌≤◌, ◌-◌, cond, List, [], ◌∷◌, ◌++◌, length, get_or, Contains, Option, None, Some, drop, slice_get, refl, sym, ◌∙◌, ap, arith}
+use Rattle.std.proofs.Common.{◌≡◌, ◌≢◌, ◌⊎◌, inl, inr, ℕ, zero, suc, ◌<◌, true, false, nat_eq, IsSome, is_some, ◌≤◌, ◌-◌, cond, List, [], ◌∷◌, ◌++◌, length, get_or, Contains, Option, None, Some, unwrap_or, drop, slice_get, refl, sym, ◌∙◌, ap, arith}
 use Rattle.std.proofs.lemmas.Bool.Decides.{eqb_tells}
 use Rattle.std.specs.List.{IsDistinct, AllByRecursion}
 use Rattle.std.specs.FinMap as map
 use Rattle.std.specs.Ordering.{nat_cmp}
 use Rattle.std.proofs.lemmas.Cmp.{nat_cmp_total}
 use Rattle.qx_lists.proofs.MapLemmas.{get-remove_other}
-use Rattle.qx_lists.specs.Table.{without, put_before, next_after}
+use Rattle.qx_lists.specs.Table.{without, put_before, next_after, StandsNowhere}
 use Rattle.qx_lists.proofs.PathLemmas.{Avoids, IsApart, first_place, last_place}
 
 pub contains_first : (x : ℕ) (xs : List ℕ) → Contains (x ∷ xs) x
@@ -59,6 +59,70 @@ contains_without y x [] at = at
 contains_without y x (z ∷ zs) at = elim (eqb_tells z y) [
   | inl same ↦ contains_later z x zs (contains_without y x zs (rw same.0 at at))
   | inr differs ↦ let here : Contains (z ∷ without y zs) x = rw differs.0 at at in elim (contains_cases z x (without y zs) here) [ inl first ↦ rw first (contains_first z zs) | inr later ↦ contains_later z x zs (contains_without y x zs later) ]
+]
+
+-- what it is that no list has a node
+module _ (lists : map.FinMap nat_cmp (List ℕ)) (node : ℕ) where
+  pub stands_nowhere : StandsNowhere lists node → (list : ℕ) → Contains (unwrap_or (map.get lists list) []) node → ⊥
+  unfolding StandsNowhere
+  stands_nowhere h = h
+
+  pub nowhere_from : ((list : ℕ) → Contains (unwrap_or (map.get lists list) []) node → ⊥) → StandsNowhere lists node
+  unfolding StandsNowhere
+  nowhere_from h = h
+
+pub contains_put_before : (node at x : ℕ) (xs : List ℕ) → Contains (put_before node at xs) x → (x ≡ node) ⊎ Contains xs x
+contains_put_before node at x [] stands = inr stands
+contains_put_before node at x (y ∷ ys) stands = elim (eqb_tells y at) [
+  | inl same ↦ let here : Contains (node ∷ y ∷ ys) x = rw same.0 at stands in contains_cases node x (y ∷ ys) here
+  | inr differs ↦
+      let here : Contains (y ∷ put_before node at ys) x = rw differs.0 at stands in
+      elim (contains_cases y x (put_before node at ys) here) [
+        | inl first ↦ inr (rw first (contains_first y ys))
+        | inr later ↦ elim (contains_put_before node at x ys later) [ inl new ↦ inl new | inr old ↦ inr (contains_later y x ys old) ]
+      ]
+]
+
+pub put_before_keeps : (node at x : ℕ) (xs : List ℕ) → Contains xs x → Contains (put_before node at xs) x
+put_before_keeps node at x [] stands = stands
+put_before_keeps node at x (y ∷ ys) stands = elim (eqb_tells y at) [
+  | inl same ↦ rw same.0 (contains_later node x (y ∷ ys) stands)
+  | inr differs ↦ rw differs.0 (elim (contains_cases y x ys stands) [
+    | inl first ↦ rw first (contains_first y (put_before node at ys))
+    | inr later ↦ contains_later y x (put_before node at ys) (put_before_keeps node at x ys later)
+  ])
+]
+
+pub put_before_puts : (node at : ℕ) (xs : List ℕ) → Contains xs at → Contains (put_before node at xs) node
+put_before_puts node at [] stands = absurd (omega (arith, stands.1))
+put_before_puts node at (y ∷ ys) stands = elim (eqb_tells y at) [
+  | inl same ↦ rw same.0 (contains_first node (y ∷ ys))
+  | inr differs ↦ rw differs.0 (elim (contains_cases y at ys stands) [
+    | inl first ↦ absurd (differs.1 (sym first))
+    | inr later ↦ contains_later y node (put_before node at ys) (put_before_puts node at ys later)
+  ])
+]
+
+pub without_keeps : (y x : ℕ) (xs : List ℕ) → Contains xs x → x ≢ y → Contains (without y xs) x
+without_keeps y x [] stands differs = stands
+without_keeps y x (z ∷ zs) stands differs = elim (eqb_tells z y) [
+  | inl same ↦ rw same.0 (elim (contains_cases z x zs stands) [ inl first ↦ absurd (differs (first ∙ same.1)) | inr later ↦ without_keeps y x zs later differs ])
+  | inr other ↦ rw other.0 (elim (contains_cases z x zs stands) [ inl first ↦ rw first (contains_first z (without y zs)) | inr later ↦ contains_later z x (without y zs) (without_keeps y x zs later differs) ])
+]
+
+pub contains_rest : (x : ℕ) (xs : List ℕ) → Contains (drop 1 xs) x → Contains xs x
+contains_rest x [] stands = stands
+contains_rest x (y ∷ ys) stands = contains_later y x ys stands
+
+pub contains_slice_first : (xs : List ℕ) (x : ℕ) → slice_get xs 0 ≡ Some x → Contains xs x
+contains_slice_first [] x is = absurd (cc)
+contains_slice_first (y ∷ ys) x is = let same : y ≡ x = cc in rw (sym same) (contains_first y ys)
+
+pub contains_next : (xs : List ℕ) (at x : ℕ) → next_after at xs ≡ Some x → Contains xs x
+contains_next [] at x is = absurd (cc)
+contains_next (y ∷ ys) at x is = elim (eqb_tells y at) [
+  | inl same ↦ contains_later y x ys (contains_slice_first ys x (rw same.0 at is))
+  | inr differs ↦ contains_later y x ys (contains_next ys at x (rw differs.0 at is))
 ]
 
 without_kept : (x : ℕ) (xs : List ℕ) → Avoids (Some x) xs → without x xs ≡ xs

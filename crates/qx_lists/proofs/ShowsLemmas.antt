@@ -13,7 +13,7 @@ use Rattle.qx_lists.specs.Table.{Table, ContainsList, ContainsNode, IsFree, IsPl
 use Rattle.qx_lists.specs.declared.rings.Links.{Links}
 use Rattle.qx_lists.specs.declared.rings.Node.{Node}
 use Rattle.qx_lists.specs.declared.rings.Rings.{Rings}
-use Rattle.qx_lists.proofs.ListLemmas.{split_at, avoids_from, contains_first, contains_later, contains_cases, contains-last, contains-first, contains_without, absent_without, without-split, put_before-split, next_after-split, none_first}
+use Rattle.qx_lists.proofs.ListLemmas.{split_at, avoids_from, contains_first, contains_later, contains_cases, contains-last, contains-first, contains_without, absent_without, without-split, put_before-split, next_after-split, none_first, stands_nowhere, nowhere_from}
 use Rattle.qx_lists.proofs.MapLemmas.{get-insert_same, get-insert_other, get-remove_same, get-remove_other, insert-there}
 use Rattle.qx_lists.proofs.PathLemmas.{AllPlaces, Avoids, IsApart, last_place, first_place, avoids_before, apart_back, path_apart, path_split, path_front, next-path, previous-path, next-last, previous-first, path_along, path_without, path_with}
 use Rattle.qx_lists.proofs.RingLemmas.{IsElsewhere, elsewhere_none, elsewhere_node, next-joined, previous-joined, joined_joins, there-joined, is_some-list-joined, value-joined, slab_len-joined, capacity-joined, is_some-option_map}
@@ -359,14 +359,14 @@ module _ {T : Type 0} (r : Rings T) (list : ℕ) (a b : Option ℕ) where
 pub free_without : {T : Type 0} (t : Table T) (list node : ℕ) → ContainsNode t node → IsIn t list node → ((one two : ℕ) → IsIn t one node → IsIn t two node → one ≡ two) → IsFree (with_nodes t list (without node (nodes_of t list))) node
 free_without t list node there at apart = record {
   there = there;
-  in_no_list = λ other at_other. elim (eqb_tells other list) [
+  in_no_list = nowhere_from _ node (λ other at_other. elim (eqb_tells other list) [
     | inl same ↦
         let here : Contains (nodes_at (map.insert t.lists list (without node (nodes_of t list))) list) node = rw same.1 at at_other in
         absent_without node (nodes_of t list) (rw (get-insert_same t.lists list (without node (nodes_of t list))) at here)
     | inr differs ↦
         let there_too : Contains (nodes_at t.lists other) node = rw (get-insert_other t.lists list (without node (nodes_of t list)) other differs.1) at at_other in
         differs.1 (apart other list there_too at)
-  ];
+  ]);
 }
 
 -- the nodes of a list differ
@@ -417,7 +417,7 @@ module _ {T : Type 0} (r : Rings T) (t : Table T) (shows : Shows r t.lists) (lis
     linked_node_there = is_some-option_map (λ n. n.links) (get r.nodes node) ∙ node_there r.nodes node (rw values at free.there)
 
     pub before_there : IsSome (links_at r list links.previous)
-    before_there = let p = parts node in link_previous_there r t.lists shows list node at p.front p.back links p.whole p.at_is p.there linked_node_there free.in_no_list linked
+    before_there = let p = parts node in link_previous_there r t.lists shows list node at p.front p.back links p.whole p.at_is p.there linked_node_there (stands_nowhere _ _ free.in_no_list) linked
 
     pub node_there_still : IsSome (links_at (joined r list links.previous (Some node)) list (Some node))
     node_there_still = there-joined r list links.previous (Some node) list (Some node) linked_node_there
@@ -426,7 +426,7 @@ module _ {T : Type 0} (r : Rings T) (t : Table T) (shows : Shows r t.lists) (lis
     at_there_still = there-joined r list links.previous (Some node) list at place_there
 
     pub Shows-placed : Shows (joined (joined r list links.previous (Some node)) list (Some node) at) (map.insert t.lists list (placed node at (nodes_at t.lists list)))
-    Shows-placed = let p = parts node in rw p.put (Shows-link r t.lists shows list node at p.front p.back links p.whole p.at_is p.there linked_node_there free.in_no_list linked)
+    Shows-placed = let p = parts node in rw p.put (Shows-link r t.lists shows list node at p.front p.back links p.whole p.at_is p.there linked_node_there (stands_nowhere _ _ free.in_no_list) linked)
 
 -- a node of a list has no vacant key
 pub member_differs : {T : Type 0} (r : Rings T) (lists : Lists) (list node key : ℕ) → Shows r lists → Contains (nodes_at lists list) node → get r.nodes key ≡ None → node ≢ key
@@ -437,7 +437,7 @@ member_differs r lists list node key shows at vacant same =
 
 -- a new node is free
 pub free_new : {T : Type 0} (r : Rings T) (lists : Lists) (key : ℕ) (value : T) (room : ℕ) → Shows r lists → get r.nodes key ≡ None → IsFree (record { lists = lists; values = map.insert (node_values r.nodes) key value; room = room }) key
-free_new r lists key value room shows vacant = record { there = ap is_some (get-insert_same (node_values r.nodes) key value); in_no_list = λ list at. member_differs r lists list key key shows at vacant refl }
+free_new r lists key value room shows vacant = record { there = ap is_some (get-insert_same (node_values r.nodes) key value); in_no_list = nowhere_from lists key (λ list at. member_differs r lists list key key shows at vacant refl) }
 
 -- a list without a first node is empty
 pub unchanged_empty : {T : Type 0} (t : Table T) (list : ℕ) → ContainsList t list → slice_get (nodes_of t list) 0 ≡ None → t ≡ with_nodes t list (drop 1 (nodes_of t list))

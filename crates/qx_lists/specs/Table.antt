@@ -39,6 +39,10 @@ abbrev pub next_after : ℕ → List ℕ → Option ℕ
 next_after node [] = None
 next_after node (first ∷ rest) = if first == node then slice_get rest 0 else next_after node rest
 
+-- none of the lists has the node
+unfoldable pub StandsNowhere : map.FinMap nat_cmp (List ℕ) → ℕ → Type 0
+StandsNowhere lists node = (list : ℕ) → ¬ (Contains (unwrap_or (map.get lists list) []) node)
+
 module _ {T : Type 0} where
   abbrev pub ContainsList : Table T → ℕ → Type 0
   ContainsList t list = IsTrue (map.contains_key t.lists list)
@@ -62,7 +66,7 @@ module _ {T : Type 0} where
   -- the node is there and stands in no list
   pub record IsFree (t : Table T) (node : ℕ) : Type 0 where
     pub there : ContainsNode t node
-    pub in_no_list : (list : ℕ) → ¬ (IsIn t list node)
+    pub in_no_list : StandsNowhere t.lists node
 
   -- the table with other nodes in one list
   abbrev pub with_nodes : Table T → ℕ → List ℕ → Table T
