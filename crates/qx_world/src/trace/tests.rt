@@ -5,6 +5,8 @@ use qx_types::{Bytes, Coid, Errno, Item, Manager, OFlags, Prio, Proc, Request, T
 use std::process::Abort;
 use std::test::Fail;
 
+mod memory;
+
 const RAM_WORKER: Worker = Worker(1);
 
 fn config(alloc: Global) -> Result<Config, Fail> {
@@ -12,7 +14,7 @@ fn config(alloc: Global) -> Result<Config, Fail> {
     for name in ["ann", "bob"] {
         names.push(Bytes::from_slice(alloc, name.as_bytes())?)?;
     }
-    match Config::new(names, 1) {
+    match Config::new(names, 2) {
         Some(config) => Ok(config),
         None => Err(Fail::new("refused")),
     }
@@ -97,7 +99,7 @@ fn runs_the_first_path(rt: HostRuntime) -> Result<(), Fail> {
 }
 
 /// Two users open their roots while the worker's hand is full for one receive.
-fn two_users(rt: &impl Abort, alloc: Global) -> Result<Traced, Fail> {
+fn two_users(alloc: Global) -> Result<Traced, Fail> {
     let mut traced = Traced::new(alloc, config(alloc)?)?;
     let (ann, bob) = (first_thread(User(1)), first_thread(User(2)));
     let steps = [
@@ -118,39 +120,24 @@ fn two_users(rt: &impl Abort, alloc: Global) -> Result<Traced, Fail> {
         Step::TakeReply { thread: bob },
     ];
     for step in steps {
-        store_at_last(rt, &mut traced, step)?;
+        traced.store(step)?;
     }
     Ok(traced)
 }
 
-/// What can be seen of a trace: how many steps are stored and how many items wait, what is held and answered.
-fn seen_of(traced: &Traced) -> (usize, usize, bool, bool, bool) {
-    let world = traced.world();
-    (
-        traced.entries().len(),
-        world.waiting(Manager::Ram),
-        world.held(RAM_WORKER).is_some(),
-        world.answered(first_thread(User(1))),
-        world.answered(first_thread(User(2))),
-    )
-}
-
-/// Stores a step; where memory was refused nothing has changed, and the step that came back is stored.
-fn store_at_last(rt: &impl Abort, traced: &mut Traced, step: Step) -> Result<(), Fail> {
-    let before = seen_of(traced);
-    let shown = traced.transcript(User(1))?.len();
-    if let Err(unstored) = traced.store(step) {
-        assert_eq!(rt; seen_of(traced), before);
-        assert_eq!(rt; traced.transcript(User(1))?.len(), shown);
-        traced.store(unstored.step)?;
+/// Asserts that two transcripts are the same.
+fn assert_same_transcript(rt: &impl Abort, one: &[Seen], other: &[Seen]) {
+    assert_eq!(rt; one.len(), other.len());
+    for (seen, other) in one.iter().zip(other.iter()) {
+        assert_eq!(rt; seen.actor, other.actor);
+        assert_eq!(rt; seen.outcome, other.outcome);
     }
-    Ok(())
 }
 
 #[test]
 fn tells_each_user_its_own(rt: HostRuntime) -> Result<(), Fail> {
     let alloc = rt.alloc();
-    let traced = two_users(&rt, alloc)?;
+    let traced = two_users(alloc)?;
     let ann = traced.transcript(User(1))?;
     let outcomes = [
         Outcome::Spawned(1),
@@ -172,15 +159,11 @@ fn tells_each_user_its_own(rt: HostRuntime) -> Result<(), Fail> {
 
 #[test]
 fn runs_what_is_left_anew(rt: HostRuntime) -> Result<(), Fail> {
-    let traced = two_users(&rt, rt.alloc())?;
+    let traced = two_users(rt.alloc())?;
     let erased = traced.erased(User(1))?;
     assert_eq!(rt; erased.entries().len(), 5);
     let (whole, left) = (traced.transcript(User(1))?, erased.transcript(User(1))?);
-    assert_eq!(rt; left.len(), whole.len());
-    for (seen, other) in left.iter().zip(whole.iter()) {
-        assert_eq!(rt; seen.actor, other.actor);
-        assert_eq!(rt; seen.outcome, other.outcome);
-    }
+    assert_same_transcript(&rt, left.as_slice(), whole.as_slice());
     Ok(())
 }
 
