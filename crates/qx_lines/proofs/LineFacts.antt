@@ -14,7 +14,7 @@ use Rattle.qx_machine.specs.Laws.{IsInOrder}
 use Rattle.qx_machine.specs.Lines.{into}
 use Rattle.qx_machine.proofs.Orders.{in_order_rest}
 use Rattle.qx_lines.specs.declared.Line.{Line}
-use Rattle.qx_lines.specs.Line.{IsLineOf, IsOwn, IsRanked, SameElsewhere, item_count, rank_at}
+use Rattle.qx_lines.specs.Line.{IsInLine, IsLineOf, IsOwn, IsRanked, SameElsewhere, item_count, nodes_in, rank_at}
 use Rattle.qx_lines.proofs.NodeLemmas.{contains_into, into_keeps, length-into}
 
 pub in_order_drop : {A : Type 0} (rank : A → ℕ) (line : List A) → IsInOrder rank line → IsInOrder rank (drop 1 line)
@@ -68,6 +68,30 @@ module _ {T : Type 0} (rank : T → ℕ) (values : map.FinMap nat_cmp T) (lists 
 
   pub ranked-free_node : IsRanked rank values (unwrap_or (map.get lists list) []) → StandsNowhere lists node → IsRanked rank (map.remove values node) (unwrap_or (map.get lists list) [])
   ranked-free_node = same_order _ (λ other differs. get-remove_other values node other differs)
+
+-- a line stays one where its own lists and the priorities of its nodes stay
+pub IsLineOf-same : {T : Type 0} (rank : T → ℕ) (t new : Table T) (line : Line) → IsLineOf rank t line → ((list : ℕ) → IsOwn line list → map.get new.lists list ≡ map.get t.lists list) → ((node : ℕ) → IsInLine t line node → rank_at rank new node ≡ rank_at rank t node) → IsLineOf rank new line
+IsLineOf-same rank t new line stands same_lists same_ranks =
+    let same : map.get new.lists line.list ≡ map.get t.lists line.list = same_lists line.list refl in
+    let nodes : nodes_in new line ≡ nodes_in t line = ap (λ o. unwrap_or o []) same in
+    let in_order : IsInOrder (rank_at rank t) (nodes_in t line) = in_rank_order rank t (nodes_in t line) stands.in_order in
+    record {
+      there = ap is_some same ∙ stands.there;
+      counted = stands.counted ∙ ap length (sym nodes);
+      in_order = ranked_from rank new (nodes_in new line) (rw nodes (λ i j d before within.
+          let earlier = same_ranks _ (Contains-get_or (nodes_in t line) i d (omega arith)) in
+          let later = same_ranks _ (Contains-get_or (nodes_in t line) j d within) in
+          omega (arith, earlier, later, in_order i j d before within)));
+    }
+
+-- a line stays one as another line changes
+pub IsLineOf-elsewhere : {T : Type 0} (rank : T → ℕ) (t new : Table T) (line other : Line) → IsLineOf rank t line → SameElsewhere t new other → ((list : ℕ) → IsOwn line list → IsOwn other list → ⊥) → IsLineOf rank new line
+IsLineOf-elsewhere rank t new line other stands same apart =
+    IsLineOf-same rank t new line stands (λ list own. same.lists list (apart list own)) (λ node at. ap (λ values. unwrap_or (option_map rank (map.get values node)) 0) same.values)
+
+-- a line keeps its nodes as another line changes
+pub nodes_in-elsewhere : {T : Type 0} (t new : Table T) (line other : Line) → SameElsewhere t new other → ((list : ℕ) → IsOwn line list → IsOwn other list → ⊥) → nodes_in new line ≡ nodes_in t line
+nodes_in-elsewhere t new line other same apart = ap (λ o. unwrap_or o []) (same.lists line.list (apart line.list refl))
 
 -- a new line has no list of one that was there
 pub apart_from_new : {T : Type 0} (rank : T → ℕ) (t : Table T) (line new : Line) → IsLineOf rank t line → ((list : ℕ) → IsOwn new list → map.get t.lists list ≡ None) → (list : ℕ) → IsOwn line list → IsOwn new list → ⊥

@@ -6,7 +6,7 @@ use Rattle.std.proofs.lemmas.Bool.{cases_Bool}
 use Rattle.std.proofs.lemmas.Bool.Decides.{eqb_tells, nat_tests}
 use Rattle.qx_types.specs.declared.names.Thread.{Thread}
 use Rattle.qx_lists.specs.Table.{Table, ContainsNode, IsFree, IsIn, nodes_of, with_value}
-use Rattle.qx_lists.proofs.ListLemmas.{contains_cases, contains_first, contains_later}
+use Rattle.qx_lists.proofs.ListLemmas.{contains_cases, contains_first, contains_later, nowhere_from, stands_nowhere}
 use Rattle.qx_lists.proofs.MapLemmas.{get-insert_same, get-insert_other}
 use Rattle.qx_lines.specs.declared.Line.{Line}
 use Rattle.qx_lines.specs.Line.{IsLineOf, IsOwn, SameElsewhere, nodes_in, rank_at}
@@ -20,6 +20,10 @@ use Rattle.qx_world.specs.Channel.{PutIn, TakenOut, Tied, entries, entry_at, is_
 use Rattle.qx_world.specs.Nodes.{nodes_at, with_nodes_at}
 use Rattle.qx_world.proofs.NodesLemmas.{nodes_at-other, same_or_not}
 use Rattle.qx_world.proofs.EntryLemmas.{contains_into, contains_rest, entry-insert_same, entry-insert_other, into-map, is_same_thread-same, is_same_thread-differs, map-agree, map-drop, stands-entry, stands-find}
+
+-- a free node stands in no list
+nowhere : {node : ℕ} (t : Table Queued) → IsFree t node → (list : ℕ) → IsIn t list node → ⊥
+nowhere {node = node} t free = stands_nowhere t.lists node free.in_no_list
 
 absent_is : {A : Type 0} (o : Option A) → is_some o ≡ true → o ≡ None → ⊥
 absent_is o there none = let clash : false ≡ true = ap is_some (sym none) ∙ there in cc
@@ -50,7 +54,7 @@ IsFree-own t one other nodes thread kept tied is not_one not_other =
     let own = tied.own thread kept is in
     record {
       there = own.0;
-      in_no_list = λ list at. elim (tied.listed list kept.message at).0 [
+      in_no_list = nowhere_from t.lists kept.message (λ list at. elim (tied.listed list kept.message at).0 [
         | inl of_one ↦
             let here : Contains (nodes_in t one) kept.message = rw of_one at at in
             let clash : true ≡ false = sym (stands-entry (entry_at t) thread (nodes_in t one) kept.message here own.1) ∙ not_one in
@@ -59,7 +63,7 @@ IsFree-own t one other nodes thread kept tied is not_one not_other =
             let here : Contains (nodes_in t other) kept.message = rw of_other at at in
             let clash : true ≡ false = sym (stands-entry (entry_at t) thread (nodes_in t other) kept.message here own.1) ∙ not_other in
             cc
-      ];
+      ]);
     }
 
 module _ (old new : Table Queued) (node : ℕ) (entry : Queued) where
@@ -96,7 +100,7 @@ module _ (old new : Table Queued) (before after other : Line) (nodes : List User
   pub Tied-put : (thread : Thread) (kept : ThreadNodes) (entry : Queued) → Tied old before other nodes → nodes_at nodes thread ≡ Some kept → IsFree old kept.message → sender entry ≡ thread → PutIn old new before after kept.message entry → Tied new after other nodes
   Tied-put thread kept entry tied is free names put = record {
     one_line = put.line;
-    other_line = line-kept old new kept.message entry other tied.other_line put.values (other_lists tied put.lists) (free.in_no_list other.list);
+    other_line = line-kept old new kept.message entry other tied.other_line put.values (other_lists tied put.lists) (nowhere old free other.list);
     apart = λ list of_after of_other. tied.apart list ((put.own list).0 of_after) of_other;
     own = λ any has has_is.
       let own = tied.own any has has_is in
@@ -117,7 +121,7 @@ module _ (old new : Table Queued) (before after other : Line) (nodes : List User
           elim (put.among node here) [
             | inl earlier ↦
                 let was = tied.listed before.list node earlier in
-                (inl of_after, rw (entry-other old new kept.message entry node put.values (λ same_node. free.in_no_list before.list (rw same_node at earlier))) was.1)
+                (inl of_after, rw (entry-other old new kept.message entry node put.values (λ same_node. nowhere old free before.list (rw same_node at earlier))) was.1)
             | inr same_node ↦
                 (inl of_after, rw (same_node, entry-same old new kept.message entry put.values, names, is) refl)
           ]
@@ -126,12 +130,12 @@ module _ (old new : Table Queued) (before after other : Line) (nodes : List User
           let earlier : IsIn old list node = rw nodes_same at at in
           let was = tied.listed list node earlier in
           (elim was.0 [ inl of_before ↦ absurd (differs.1 of_before) | inr of_other ↦ inr of_other ],
-          rw (entry-other old new kept.message entry node put.values (λ same_node. free.in_no_list list (rw same_node at earlier))) was.1)
+          rw (entry-other old new kept.message entry node put.values (λ same_node. nowhere old free list (rw same_node at earlier))) was.1)
     ];
   }
 
   pub entries-put : (kept : ThreadNodes) (entry : Queued) → Tied old before other nodes → IsFree old kept.message → PutIn old new before after kept.message entry → entries new other ≡ entries old other
-  entries-put kept entry tied free put = entries-kept old new kept.message entry other put.values (other_lists tied put.lists) (free.in_no_list other.list)
+  entries-put kept entry tied free put = entries-kept old new kept.message entry other put.values (other_lists tied put.lists) (nowhere old free other.list)
 
   pub entries-taken : Tied old before other nodes → TakenOut old new before after → entries new other ≡ entries old other
   entries-taken tied taken =
@@ -168,7 +172,7 @@ PutIn-of old mid new before after node entry is free line nodes elsewhere own =
     let mid_values : mid.values ≡ maps.insert old.values node entry = ap (λ t. t.values) is in
     let mid_lists : (list : ℕ) → maps.get mid.lists list ≡ maps.get old.lists list = λ list. ap (λ t. maps.get t.lists list) is in
     let mid_nodes : nodes_in mid before ≡ nodes_in old before = ap (λ o. unwrap_or o []) (mid_lists before.list) in
-    let kept : map (entry_at mid) (nodes_in old before) ≡ entries old before = map-agree (entry_at mid) (entry_at old) (nodes_in old before) (λ other at. entry-other old mid node entry other mid_values (λ same. free.in_no_list before.list (rw same at at))) in
+    let kept : map (entry_at mid) (nodes_in old before) ≡ entries old before = map-agree (entry_at mid) (entry_at old) (nodes_in old before) (λ other at. entry-other old mid node entry other mid_values (λ same. nowhere old free before.list (rw same at at))) in
     let placed : entries new after ≡ map (entry_at mid) (into (rank_at rank mid) (nodes_in old before) node) = rw (nodes, elsewhere.values, mid_nodes) refl in
     let read : into rank (map (entry_at mid) (nodes_in old before)) (entry_at mid node) ≡ into rank (entries old before) entry = rw (kept, entry-same old mid node entry mid_values) refl in
     record {
@@ -186,7 +190,7 @@ PutIn-of old mid new before after node entry is free line nodes elsewhere own =
 -- a free node that got a value
 module _ (old new : Table Queued) (node : ℕ) (entry : Queued) (line : Line) (is : new ≡ with_value old node entry) (free : IsFree old node) where
   pub IsLineOf-value : IsLineOf rank old line → IsLineOf rank new line
-  IsLineOf-value stands = line-kept old new node entry line stands (ap (λ t. t.values) is) (ap (λ t. maps.get t.lists line.list) is) (free.in_no_list line.list)
+  IsLineOf-value stands = line-kept old new node entry line stands (ap (λ t. t.values) is) (ap (λ t. maps.get t.lists line.list) is) (nowhere old free line.list)
 
 pub IsFree-value : (old new : Table Queued) (node : ℕ) (entry : Queued) → new ≡ with_value old node entry → IsFree old node → IsFree new node
 IsFree-value old new node entry is free = record {
