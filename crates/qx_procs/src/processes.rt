@@ -82,7 +82,8 @@ impl Processes {
             return Ok(Outcome::Refused(Errno::EINVAL));
         }
         let number = places::lowest_free(self.rows.as_slice(), 1);
-        if number > Limits::PROCESSES {
+        let is_full = number > Limits::PROCESSES;
+        if is_full {
             return Ok(Outcome::Refused(Errno::EAGAIN));
         }
         places::put(&mut self.rows, number, Process::new(threads, prio))?;
