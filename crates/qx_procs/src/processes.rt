@@ -86,7 +86,8 @@ impl Processes {
         if !valid {
             return Ok(Outcome::Refused(Errno::EINVAL));
         }
-        if number > Limits::PROCESSES {
+        let is_full = number > Limits::PROCESSES;
+        if is_full {
             return Ok(Outcome::Refused(Errno::EAGAIN));
         }
         places::put(&mut self.rows, number, Process::new(threads, prio))?;
