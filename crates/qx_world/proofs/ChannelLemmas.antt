@@ -103,17 +103,18 @@ module _ (old new : Table Queued) (before after other : Line) (nodes : List User
     other_line = line-kept old new kept.message entry other tied.other_line put.values (other_lists tied put.lists) (nowhere old free other.list);
     apart = λ list of_after of_other. tied.apart list ((put.own list).0 of_after) of_other;
     own = λ any has has_is.
-      let own = tied.own any has has_is in
-      (contains-insert old new kept.message entry has.message put.values own.0,
-      elim (eqb_tells has.message kept.message) [
-        | inl same ↦
-            let here : entry_at new has.message ≡ entry = rw same.1 (entry-same old new kept.message entry put.values) in
-            let kept_own = tied.own thread kept is in
-            let any_is : sender (entry_at old has.message) ≡ any = own.1 in
-            let thread_is : sender (entry_at old has.message) ≡ thread = rw same.1 kept_own.1 in
-            ap sender here ∙ names ∙ sym thread_is ∙ any_is
-        | inr differs ↦ ap sender (entry-other old new kept.message entry has.message put.values differs.1) ∙ own.1
-      ]);
+        let own = tied.own any has has_is in (
+          contains-insert old new kept.message entry has.message put.values own.0,
+          elim (eqb_tells has.message kept.message) [
+            | inl same ↦
+                let here : entry_at new has.message ≡ entry = rw same.1 (entry-same old new kept.message entry put.values) in
+                let kept_own = tied.own thread kept is in
+                let any_is : sender (entry_at old has.message) ≡ any = own.1 in
+                let thread_is : sender (entry_at old has.message) ≡ thread = rw same.1 kept_own.1 in
+                ap sender here ∙ names ∙ sym thread_is ∙ any_is
+            | inr differs ↦ ap sender (entry-other old new kept.message entry has.message put.values differs.1) ∙ own.1
+          ],
+        );
     listed = λ list node at. elim (eqb_tells list before.list) [
       | inl same ↦
           let of_after : IsOwn after list = (put.own list).1 same.1 in
@@ -128,9 +129,10 @@ module _ (old new : Table Queued) (before after other : Line) (nodes : List User
       | inr differs ↦
           let nodes_same : nodes_of new list ≡ nodes_of old list = ap (λ o. unwrap_or o []) (put.lists list differs.1) in
           let earlier : IsIn old list node = rw nodes_same at at in
-          let was = tied.listed list node earlier in
-          (elim was.0 [ inl of_before ↦ absurd (differs.1 of_before) | inr of_other ↦ inr of_other ],
-          rw (entry-other old new kept.message entry node put.values (λ same_node. nowhere old free list (rw same_node at earlier))) was.1)
+          let was = tied.listed list node earlier in (
+            elim was.0 [ inl of_before ↦ absurd (differs.1 of_before) | inr of_other ↦ inr of_other ],
+            rw (entry-other old new kept.message entry node put.values (λ same_node. nowhere old free list (rw same_node at earlier))) was.1,
+          )
     ];
   }
 
@@ -181,8 +183,8 @@ PutIn-of old mid new before after node entry is free line nodes elsewhere own =
       values = elsewhere.values ∙ mid_values;
       room = elsewhere.room ∙ ap (λ t. t.room) is;
       among = λ other at.
-        let here : Contains (into (rank_at rank mid) (nodes_in old before) node) other = rw (nodes, mid_nodes) at at in
-        contains_into (rank_at rank mid) (nodes_in old before) node other here;
+          let here : Contains (into (rank_at rank mid) (nodes_in old before) node) other = rw (nodes, mid_nodes) at at in
+          contains_into (rank_at rank mid) (nodes_in old before) node other here;
       lists = λ list not_own. elsewhere.lists list not_own ∙ mid_lists list;
       own = own;
     }
@@ -260,13 +262,14 @@ module _ (t new : Table Queued) (node : ℕ) (entry : Queued) (room : ℕ) (is :
     other_line = line-kept t new node entry other tied.other_line new_values (new_list other.list) (not_listed other.list);
     apart = tied.apart;
     own = λ thread kept has.
-      let own = tied.own thread kept has in
-      (contains-insert t new node entry kept.message new_values own.0,
-      ap sender (entry-other t new node entry kept.message new_values (λ same. absent_is (maps.get t.values node) (rw (← same) own.0) absent)) ∙ own.1);
+        let own = tied.own thread kept has in (
+          contains-insert t new node entry kept.message new_values own.0,
+          ap sender (entry-other t new node entry kept.message new_values (λ same. absent_is (maps.get t.values node) (rw (← same) own.0) absent)) ∙ own.1,
+        );
     listed = λ list other at.
-      let earlier : IsIn t list other = rw (ap (λ o. unwrap_or o []) (new_list list)) at at in
-      let was = tied.listed list other earlier in
-      (was.0, rw (entry-other t new node entry other new_values (λ same. not_listed list (rw same at earlier))) was.1);
+        let earlier : IsIn t list other = rw (ap (λ o. unwrap_or o []) (new_list list)) at at in
+        let was = tied.listed list other earlier in
+        (was.0, rw (entry-other t new node entry other new_values (λ same. not_listed list (rw same at earlier))) was.1);
   }
 
 -- a thread that had no nodes gets its own
@@ -283,14 +286,16 @@ Tied-own t one other nodes thread kept tied fresh there contains names = record 
     | inr differs ↦ tied.own any has (sym (nodes_at-other nodes thread any kept differs) ∙ has_is)
   ];
   listed = λ list node at.
-    let was = tied.listed list node at in
-    (was.0, elim (same_or_not (sender (entry_at t node)) thread) [
-      | inl same ↦
-          let here : option_map (λ own. own.message) (nodes_at nodes thread) ≡ Some node = rw same at was.1 in
-          let clash : None ≡ Some node = sym (ap (option_map (λ own. own.message)) fresh) ∙ here in
-          absurd (cc)
-      | inr differs ↦ ap (option_map (λ own. own.message)) (nodes_at-other nodes thread (sender (entry_at t node)) kept differs) ∙ was.1
-    ]);
+      let was = tied.listed list node at in (
+        was.0,
+        elim (same_or_not (sender (entry_at t node)) thread) [
+          | inl same ↦
+              let here : option_map (λ own. own.message) (nodes_at nodes thread) ≡ Some node = rw same at was.1 in
+              let clash : None ≡ Some node = sym (ap (option_map (λ own. own.message)) fresh) ∙ here in
+              absurd (cc)
+          | inr differs ↦ ap (option_map (λ own. own.message)) (nodes_at-other nodes thread (sender (entry_at t node)) kept differs) ∙ was.1
+        ],
+      );
 }
 
 -- two new lines, and no thread's nodes

@@ -88,11 +88,11 @@ Kept-sent parts channel thread sent prio ready kept = record {
     | inr differs ↦ ap (λ row. is_some (standing row)) (sym (apart other differs))
   ]);
   queued = λ other manager. lines-tell channel sent.manager manager line other (λ b. b ≡ is_at manager (standing (row_of new other)))
-    (λ at. rw (← at) (in_line other))
-    (λ not_at. kept.queued other manager ∙ elim (same_or_not other thread) [
-      | inl same ↦ rw (same, ready, here) (sym not_at)
-      | inr differs ↦ ap (λ row. is_at manager (standing row)) (sym (apart other differs))
-    ]);
+      (λ at. rw (← at) (in_line other))
+      (λ not_at. kept.queued other manager ∙ elim (same_or_not other thread) [
+        | inl same ↦ rw (same, ready, here) (sym not_at)
+        | inr differs ↦ ap (λ row. is_at manager (standing row)) (sym (apart other differs))
+      ]);
 }
   where
     line : List Queued
@@ -132,11 +132,11 @@ Kept-taken_at parts channel manager first rest line gone kept = record {
     | inr differs ↦ ap (λ row. is_some (standing row)) (sym (apart other differs))
   ]);
   queued = λ other any. lines-tell channel manager any rest other (λ b. b ≡ is_at any (standing (row_of new other)))
-    (λ at. rw (← at) (in_rest other))
-    (λ not_at. kept.queued other any ∙ elim (same_or_not other thread) [
-      | inl same ↦ rw (same, was, here) not_at
-      | inr differs ↦ ap (λ row. is_at any (standing row)) (sym (apart other differs))
-    ]);
+      (λ at. rw (← at) (in_rest other))
+      (λ not_at. kept.queued other any ∙ elim (same_or_not other thread) [
+        | inl same ↦ rw (same, was, here) not_at
+        | inr differs ↦ ap (λ row. is_at any (standing row)) (sym (apart other differs))
+      ]);
 }
   where
     thread : Thread

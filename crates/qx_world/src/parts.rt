@@ -30,7 +30,12 @@ pub fn thread_row(parts: &Parts, thread: Thread) -> Option<&ThreadRow>
 }
 
 /// Starts a process of a user.
-pub fn spawn_in(parts: &mut Parts, user: User, threads: u8, prio: Prio) -> Result<Outcome, AllocError>
+pub fn spawn_in(
+    parts: &mut Parts,
+    user: User,
+    threads: u8,
+    prio: Prio,
+) -> Result<Outcome, AllocError>
     ensures outcome { IfOk result (λ outcome. outcome ≡ spawn_outcome threads prio.0 (row_at parts.old.items user.0)) }
     ensures parts { OnOk result (parts.new.items ≡ with_row parts.old.items user.0 (λ part. (users.spawn part threads prio.0).part)) }
     ensures places { HasPlace (row_at parts.old.items user.0) }

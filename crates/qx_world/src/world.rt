@@ -16,8 +16,8 @@ use crate::work::{PerformFault, Work, WorkRef};
 use qx_machine::{Held, OwnItem, Queued, Sent, State};
 use qx_procs::{Room, places};
 use qx_types::{
-    Bytes, Config, Item, Limits, Manager, NoMemory, Outcome, Prio, Proc, Request, Step, Thread, User,
-    Worker,
+    Bytes, Config, Item, Limits, Manager, NoMemory, Outcome, Prio, Proc, Request, Step, Thread,
+    User, Worker,
 };
 use std::alloc::{AllocError, Global};
 use std::marker::Model;

@@ -223,31 +223,6 @@ fn take_pieces(alloc: Global, pieces: &mut Vec<Vec<u8>>, size: usize) -> Result<
     Ok(())
 }
 
-/// Steps that take no memory.
-fn sure_steps() -> [Step; 3] {
-    let ann = first_thread(User(1));
-    [
-        Step::TakeReply { thread: ann },
-        Step::SetPrio {
-            thread: ann,
-            prio: Prio(20),
-        },
-        receive(),
-    ]
-}
-
-/// Steps that take memory, where the worker holds an open.
-fn unsure_steps(alloc: Global) -> Result<[Step; 5], Fail> {
-    let ann = first_thread(User(1));
-    Ok([
-        spawn(User(2)),
-        call(ann, open(alloc, "/ann")?),
-        call(ann, Request::Fstat { coid: Coid(3) }),
-        call(ann, Request::Close { coid: Coid(3) }),
-        perform(7),
-    ])
-}
-
 /// A reply of ann waits to be taken, and an open of bob to be received. There is room for the three steps that take no
 /// memory, and for one more.
 fn before_sure_steps(alloc: Global) -> Result<Traced, Fail> {
@@ -271,33 +246,54 @@ fn before_sure_steps(alloc: Global) -> Result<Traced, Fail> {
     Ok(traced)
 }
 
+/// Takes a reply, sets a priority and receives a message, and tells whether all three were stored.
+fn takes_sure_steps(traced: &mut Traced) -> bool {
+    let ann = first_thread(User(1));
+    let replied = traced.step(Step::TakeReply { thread: ann }).is_ok();
+    let ranked = traced
+        .step(Step::SetPrio {
+            thread: ann,
+            prio: Prio(20),
+        })
+        .is_ok();
+    let received = traced.step(receive()).is_ok();
+    replied && ranked && received
+}
+
+/// With all memory taken, whether a byte is refused while the steps that take no memory are stored.
+fn takes_without_memory(alloc: Global, traced: &mut Traced) -> Result<bool, AllocError> {
+    let pieces = exhausted(alloc)?;
+    let taken = takes_sure_steps(traced);
+    let byte: Result<Vec<u8>, AllocError> = Vec::with_capacity(alloc, 1);
+    drop(pieces);
+    Ok(taken && byte.is_err())
+}
+
+/// With all memory taken, the step as it comes back.
+fn refused_without_memory(
+    alloc: Global,
+    traced: &mut Traced,
+    step: Step,
+) -> Result<Option<Step>, AllocError> {
+    let pieces = exhausted(alloc)?;
+    let returned = refused(traced, step);
+    drop(pieces);
+    Ok(returned)
+}
+
 #[test]
 fn steps_are_taken_while_all_memory_is_refused(rt: HostRuntime) -> Result<(), Fail> {
-    let alloc = rt.alloc();
-    let mut traced = before_sure_steps(alloc)?;
-    let mut untroubled = before_sure_steps(alloc)?;
-    for step in sure_steps() {
-        untroubled.step(step)?;
-    }
-    let (sure, unsure) = (sure_steps(), unsure_steps(alloc)?);
-    let mut returned = Vec::with_capacity(alloc, unsure.len())?;
-    let pieces = exhausted(alloc)?;
-    let byte: Result<Vec<u8>, AllocError> = Vec::with_capacity(alloc, 1);
-    for step in sure {
-        traced.step(step)?;
-    }
-    for step in unsure {
-        returned.push(refused(&mut traced, step))?;
-    }
-    drop(pieces);
-    assert!(rt; byte.is_err());
-    assert_same(&rt, &traced, &untroubled)?;
-    for (step, wanted) in returned.into_iter().zip(unsure_steps(alloc)?) {
-        let Some(step) = step else {
-            return Err(Fail::new("nothing was refused"));
-        };
-        assert_eq!(rt; step, wanted);
-        assert_eq!(rt; traced.step(step)?, untroubled.step(wanted)?);
-    }
+    let mut traced = before_sure_steps(rt.alloc())?;
+    let mut untroubled = before_sure_steps(rt.alloc())?;
+    assert!(rt; takes_without_memory(rt.alloc(), &mut traced)?);
+    assert!(rt; takes_sure_steps(&mut untroubled));
     assert_same(&rt, &traced, &untroubled)
+}
+
+#[test]
+fn a_spawn_comes_back_while_all_memory_is_refused(rt: HostRuntime) -> Result<(), Fail> {
+    let mut traced = before_sure_steps(rt.alloc())?;
+    let returned = refused_without_memory(rt.alloc(), &mut traced, spawn(User(2)))?;
+    assert!(rt; returned == Some(spawn(User(2))));
+    assert_same(&rt, &traced, &before_sure_steps(rt.alloc())?)
 }
