@@ -36,27 +36,42 @@ fn main(rt: HostRuntime) -> anyhow::Result<()> {
 fn compare(alloc: Global, count: u32) -> anyhow::Result<Tally> {
     let mut plain = Plain::new(alloc, three_users(alloc)?);
     let mut world = World::new(alloc, three_users(alloc)?)?;
-    let mut dice = Dice::new(1);
     let mut tally = Tally::new(alloc);
+    take_steps(alloc, &mut world, &mut plain, &mut tally, count)?;
+    Ok(tally)
+}
+
+fn take_steps(
+    alloc: Global,
+    world: &mut World,
+    plain: &mut Plain,
+    tally: &mut Tally,
+    count: u32,
+) -> anyhow::Result<()> {
+    let mut dice = Dice::new(1);
     for number in 0..count {
-        let step = next_step(alloc, &mut dice, &plain, number % ROUND < BUSY)?;
-        if number % 4 == 0 {
-            try_stale(&mut world, &plain, &step)?;
-        }
-        let outcome = take(&mut world, &plain, &step)?;
-        let wanted = plain.step(&step)?;
-        if outcome != wanted {
-            bail!("step {number}, {step:?}: {outcome:?}, and not {wanted:?}");
-        }
-        if !reads_agree(&world, &plain) {
-            bail!("step {number}, {step:?}: the reads differ");
-        }
+        let step = next_step(alloc, &mut dice, plain, number % ROUND < BUSY)?;
+        let outcome = take_both(world, plain, &step)?;
         tally.count(&outcome, plain.waiting(Manager::Ram))?;
     }
-    if !no_others(&world, &plain) {
+    if !no_others(world, plain) {
         bail!("a thread is there that was not started");
     }
-    Ok(tally)
+    Ok(())
+}
+
+/// Takes a step in both, and compares outcomes and reads.
+fn take_both(world: &mut World, plain: &mut Plain, step: &Step) -> anyhow::Result<Outcome> {
+    try_stale(world, plain, step)?;
+    let outcome = take(world, plain, step)?;
+    let wanted = plain.step(step)?;
+    if outcome != wanted {
+        bail!("{step:?}: {outcome:?}, and not {wanted:?}");
+    }
+    if !reads_agree(world, plain) {
+        bail!("{step:?}: the reads differ");
+    }
+    Ok(outcome)
 }
 
 /// Three users and two workers.
