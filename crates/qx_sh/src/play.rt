@@ -136,7 +136,8 @@ fn serve_waiting(traced: &mut Traced, moment: u64) -> Result<(), NoMemory>
     ensures config { traced.new.config ≡ traced.old.config }
     ensures steps { OnOk result (traced.new.steps ≡ all_served traced.old.config moment traced.old.steps) }
 {
-    let waiting = traced.world().waiting(Manager::Ram) + traced.world().waiting(Manager::Pipe);
+    let world = traced.world();
+    let waiting = world.waiting(Manager::Ram) as u128 + world.waiting(Manager::Pipe) as u128;
     'rounds: for _ in 0..waiting {
         let Some(manager) = next_manager(traced.world()) else {
             return Ok(());
