@@ -12,12 +12,12 @@ use qx_machine::State;
 use qx_types::{Bytes, Config, Manager, Outcome, Proc, Step, Thread, User, Worker};
 use qx_world::{PerformFault, Work, WorkRef, World};
 use std::alloc::Global;
-use std::env;
-use std::io;
+use std::{env, io};
 use tally::Tally;
 
 /// Steps from one busy time to the next, and how many of them are busy.
 const ROUND: u32 = 192;
+
 const BUSY: u32 = 80;
 
 fn main(rt: HostRuntime) -> anyhow::Result<()> {

@@ -10,6 +10,7 @@ use std::alloc::{AllocError, Global};
 use std::env;
 
 const WORKER: Worker = Worker(1);
+
 const PRIO: Prio = Prio(10);
 
 /// The users' names, of one letter each.
