@@ -1,5 +1,5 @@
 -- How the lines and the nodes stand together, as a node is made, put into a line or taken out of one.
-use Rattle.std.proofs.Common.{◌↔◌, ◌≡◌, ◌≢◌, ◌⊎◌, inl, inr, ℕ, ◌<◌, true, false, Bool, nat_eq, List, [], ◌∷◌, Contains, Option, Some, None, option_map, map, drop, slice_get, unwrap_or, is_some, IfSome, refl, sym, ◌∙◌, ap, arith}
+use Rattle.std.proofs.Common.{◌↔◌, ◌≡◌, ◌≢◌, inl, inr, ℕ, true, false, nat_eq, List, [], ◌∷◌, Contains, Option, Some, None, option_map, map, drop, slice_get, unwrap_or, is_some, IfSome, refl, sym, ◌∙◌, ap, arith}
 use Rattle.std.specs.FinMap as maps
 use Rattle.std.specs.List.{IsDistinct, AllByRecursion}
 use Rattle.std.proofs.lemmas.Bool.{cases_Bool}
@@ -16,10 +16,10 @@ use Rattle.qx_machine.specs.Machine.{rank}
 use Rattle.qx_machine.specs.Lines.{into}
 use Rattle.qx_world.specs.declared.nodes.ThreadNodes.{ThreadNodes}
 use Rattle.qx_world.specs.declared.nodes.UserNodes.{UserNodes}
-use Rattle.qx_world.specs.Channel.{PutIn, TakenOut, Tied, entries, entry_at, is_same_thread, nobodys, sender, stands}
+use Rattle.qx_world.specs.Channel.{PutIn, TakenOut, Tied, entries, entry_at, nobodys, sender, stands}
 use Rattle.qx_world.specs.Nodes.{nodes_at, with_nodes_at}
 use Rattle.qx_world.proofs.NodesLemmas.{nodes_at-other, same_or_not}
-use Rattle.qx_world.proofs.EntryLemmas.{contains_into, contains_rest, entry-insert_same, entry-insert_other, into-map, is_same_thread-same, is_same_thread-differs, map-agree, map-drop, stands-entry, stands-find}
+use Rattle.qx_world.proofs.EntryLemmas.{contains_into, contains_rest, entry-insert_same, entry-insert_other, into-map, map-agree, map-drop, stands-entry, stands-find}
 
 -- a free node stands in no list
 nowhere : {node : ℕ} (t : Table Queued) → IsFree t node → (list : ℕ) → IsIn t list node → ⊥

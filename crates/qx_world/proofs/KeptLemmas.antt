@@ -1,6 +1,5 @@
 -- How rows, lines and nodes stand together as a thread changes, calls or is received, and as a process starts.
-use Rattle.std.proofs.Common.{zero, suc, add-one, slice_get, ◌≡◌, ◌≢◌, ◌⊎◌, inl, inr, ℕ, ◌+◌, ◌<◌, ◌≤◌, ◌==◌, ◌∷◌, ◌++◌, [], ◌&&◌, ◌||◌, Bool, true, false, List, Option, Some, None, option_map, get_or, slice_set, replicate, drop, length, is_some, nat_lt, nat_le, refl, sym, ◌∙◌, ap, arith}
-use Rattle.std.proofs.lemmas.Bool.{cases_Bool, cases_eq, cases_lt}
+use Rattle.std.proofs.Common.{zero, suc, add-one, slice_get, ◌≡◌, ◌≢◌, inl, inr, ℕ, ◌+◌, ◌∷◌, [], Bool, true, false, List, Option, Some, None, option_map, slice_set, drop, length, is_some, refl, sym, ◌∙◌, ap}
 use Rattle.std.proofs.lemmas.List.{length-set, length-replicate}
 use Rattle.qx_types.specs.Configuration.{Configuration}
 use Rattle.qx_types.specs.declared.names.Manager.{Manager}
@@ -16,12 +15,12 @@ use Rattle.qx_machine.specs.declared.rows.State.TheVariants as state
 use Rattle.qx_machine.specs.declared.rows.ThreadRow.{ThreadRow}
 use Rattle.qx_machine.specs.Lines.{into}
 use Rattle.qx_machine.specs.Machine.{World, boot_parts, is_same_manager, line_of, rank, receive_owner}
-use Rattle.qx_machine.specs.Processes.{Process, sending, sending_thread, taking, taking_thread}
+use Rattle.qx_machine.specs.Processes.{sending, sending_thread, taking, taking_thread}
 use Rattle.qx_machine.specs.Rows.{row_at, with_row}
 use Rattle.qx_machine.specs.Users.{Part, boot_part, take, thread_of, with_process}
 use Rattle.qx_world.specs.Channel.{Channel, channel_line, is_same_thread, message_of, sender, sender_of, stands, with_channel_line}
 use Rattle.qx_world.specs.Kept.{Kept, is_at, queued_in, standing, row_of}
-use Rattle.qx_world.specs.Nodes.{no_nodes, no_processes, nodes_at}
+use Rattle.qx_world.specs.Nodes.{no_nodes, no_processes}
 use Rattle.qx_world.specs.Reads.{thread_in}
 use Rattle.qx_world.specs.Workers.{after_holding, with_line}
 use Rattle.qx_world.proofs.EntryLemmas.{is_same_thread-differs, is_same_thread-self, or_false, or_true, stands-into}

@@ -1,5 +1,5 @@
 -- The nodes of threads, as a thread gets its own.
-use Rattle.std.proofs.Common.{◌-◌, ◌≡◌, ◌≢◌, ◌⊎◌, inl, inr, ℕ, ◌+◌, ◌<◌, ◌≤◌, ◌||◌, Bool, true, false, List, [], Option, Some, None, get_or, slice_set, replicate, length, is_some, refl, sym, ◌∙◌, ap, arith}
+use Rattle.std.proofs.Common.{◌-◌, ◌≡◌, ◌≢◌, ◌⊎◌, inl, inr, ℕ, ◌+◌, ◌≤◌, ◌||◌, true, false, List, Option, Some, None, get_or, slice_set, replicate, length, is_some, refl, sym, ◌∙◌, ap, arith}
 use Rattle.std.proofs.lemmas.Bool.{cases_Bool, cases_eq, cases_lt}
 use Rattle.std.proofs.lemmas.List.{get_or-set_same, get_or-set_other, get_or-replicate, length-replicate}
 use Rattle.std.proofs.lemmas.Grind.{common_steps}
@@ -8,7 +8,6 @@ use Rattle.qx_types.specs.declared.names.Proc.{Proc}
 use Rattle.qx_types.specs.declared.names.Thread.{Thread}
 use Rattle.qx_machine.specs.Rows.{row_at}
 use Rattle.qx_procs.proofs.RowLemmas.{row_at-get_or}
-use Rattle.qx_world.specs.declared.nodes.ProcessNodes.{ProcessNodes}
 use Rattle.qx_world.specs.declared.nodes.ThreadNodes.{ThreadNodes}
 use Rattle.qx_world.specs.declared.nodes.UserNodes.{UserNodes}
 use Rattle.qx_world.specs.Channel.{is_same_thread, is_thread_of}

@@ -1,6 +1,6 @@
 -- How rows, lines and nodes stand together as a process starts.
-use Rattle.std.proofs.Common.{◌-◌, ◌≡◌, ◌≢◌, ◌⊎◌, inl, inr, ℕ, zero, suc, ◌+◌, ◌<◌, ◌≤◌, ◌==◌, ◌∷◌, ◌++◌, [], ◌&&◌, ◌||◌, Bool, true, false, List, Option, Some, None, option_map, get_or, slice_set, replicate, drop, length, is_some, nat_lt, nat_le, refl, sym, ◌∙◌, ap, arith, add-one}
-use Rattle.std.proofs.lemmas.Bool.{cases_Bool, cases_eq, cases_lt, cond_both}
+use Rattle.std.proofs.Common.{◌-◌, ◌≡◌, ◌≢◌, inl, inr, ℕ, zero, suc, ◌<◌, ◌≤◌, ◌∷◌, ◌++◌, [], ◌&&◌, ◌||◌, Bool, false, List, Option, Some, None, option_map, get_or, replicate, length, is_some, nat_le, refl, sym, ◌∙◌, ap, arith}
+use Rattle.std.proofs.lemmas.Bool.{cases_Bool, cases_eq, cases_lt}
 use Rattle.std.proofs.lemmas.Bool.Decides.{eqb_tells, nat_tests}
 use Rattle.std.proofs.lemmas.Grind.{common_steps}
 use Rattle.std.proofs.lemmas.List.{get_or-set_same, get_or-set_other, get_or-replicate, length-replicate}
@@ -9,14 +9,12 @@ use Rattle.std.proofs.Math.Seq.{get_or-append_seam, get_or-append_right}
 use Rattle.qx_types.specs.declared.errno.Errno.TheVariants.{EAGAIN, EINVAL}
 use Rattle.qx_types.specs.declared.names.Manager.{Manager}
 use Rattle.qx_types.specs.declared.names.Manager.TheVariants.{Ram, Pipe}
-use Rattle.qx_types.specs.declared.names.Proc.{Proc}
 use Rattle.qx_types.specs.declared.names.Thread.{Thread}
-use Rattle.qx_types.specs.declared.outcome.Outcome.{Outcome}
 use Rattle.qx_types.specs.declared.outcome.Outcome.TheVariants.{Refused, Spawned}
 use Rattle.qx_machine.specs.declared.rows.ThreadRow.{ThreadRow}
-use Rattle.qx_machine.specs.Processes.{Process, new_process, new_thread}
+use Rattle.qx_machine.specs.Processes.{new_process, new_thread}
 use Rattle.qx_machine.specs.Rows.{row_at, lowest_from, put_row, taken_places, with_row}
-use Rattle.qx_machine.specs.Users.{ClientStep, Part, spawn, thread_of}
+use Rattle.qx_machine.specs.Users.{Part, spawn, thread_of}
 use Rattle.qx_machine.proofs.Places.{lowest_from_free}
 use Rattle.qx_procs.proofs.RowLemmas.{row_at-get_or}
 use Rattle.qx_world.specs.Calls.{HasPlace, spawn_outcome}
@@ -26,8 +24,8 @@ use Rattle.qx_world.specs.Nodes.{nodes_at}
 use Rattle.qx_world.specs.Reads.{thread_in}
 use Rattle.qx_world.proofs.EntryLemmas.{or_false}
 use Rattle.qx_world.proofs.NodesLemmas.{none_of}
-use Rattle.qx_world.proofs.KeptLemmas.{Kept-same, length-with_row}
-use Rattle.qx_world.proofs.StandingLemmas.{SamePart, row_at-past, row_at-set_other, row_at-with_other, row_at-with_same}
+use Rattle.qx_world.proofs.KeptLemmas.{length-with_row}
+use Rattle.qx_world.proofs.StandingLemmas.{SamePart, row_at-past, row_at-with_other, row_at-with_same}
 
 taken_places-within : {A : Type 0} (places : List (Option A)) → taken_places places ≤ length places
 taken_places-within [] = omega arith

@@ -1,5 +1,5 @@
 -- Where threads stand, as rows of a user change.
-use Rattle.std.proofs.Common.{◌≡◌, ◌≢◌, ◌⊎◌, inl, inr, ℕ, ◌+◌, ◌<◌, ◌≤◌, ◌∷◌, ◌++◌, [], Bool, true, false, List, Option, Some, None, option_map, unwrap_or, get_or, slice_get, slice_set, replicate, length, is_some, nat_lt, nat_le, ◌&&◌, refl, sym, ◌∙◌, ap, arith}
+use Rattle.std.proofs.Common.{◌≡◌, ◌≢◌, inl, inr, ℕ, ◌<◌, ◌≤◌, List, Option, Some, None, option_map, get_or, slice_set, length, nat_le, ◌&&◌, refl, sym, ◌∙◌, ap, arith}
 use Rattle.std.proofs.lemmas.Bool.{cases_eq, cases_lt, cond_both}
 use Rattle.std.proofs.lemmas.List.{get_or-set_same, get_or-set_other, length-set}
 use Rattle.std.proofs.lemmas.Grind.{common_steps}
@@ -19,8 +19,8 @@ use Rattle.qx_machine.specs.declared.rows.State.{State}
 use Rattle.qx_machine.specs.declared.rows.State.TheVariants.{Ready, Queued, Taken, Answered}
 use Rattle.qx_machine.specs.declared.rows.ThreadRow.{ThreadRow}
 use Rattle.qx_machine.specs.Processes.{Process, answered_thread, ranked_thread, ready_thread}
-use Rattle.qx_machine.specs.Rows.{row_at, lowest_from, put_row, with_row}
-use Rattle.qx_machine.specs.Users.{ClientStep, Part, block_over, block_row, performed_ram, performed_at, performed_state, performed_thread, performed, opened, closed, told, failed, prio_set, reply_of, reply_from, take, thread_at, thread_of, with_process}
+use Rattle.qx_machine.specs.Rows.{row_at, lowest_from, with_row}
+use Rattle.qx_machine.specs.Users.{ClientStep, Part, block_over, block_row, performed_ram, performed_at, performed_state, performed_thread, performed, opened, closed, told, failed, prio_set, reply_of, reply_from, thread_at, thread_of}
 use Rattle.qx_procs.proofs.RowLemmas.{row_at-get_or}
 use Rattle.qx_world.specs.Kept.{queued_in, standing, row_of}
 use Rattle.qx_world.specs.Reads.{served_part, thread_in}

@@ -1,5 +1,5 @@
 -- What the machine's steps come to, by the rows of the user.
-use Rattle.std.proofs.Common.{◌≡◌, ℕ, ◌&&◌, nat_le, List, [], Option, Some, None, Ok, Err, slice_set, refl}
+use Rattle.std.proofs.Common.{◌≡◌, ℕ, ◌&&◌, nat_le, [], Option, Some, None, Ok, Err, slice_set, refl}
 use Rattle.std.proofs.lemmas.Bool.{cond_both}
 use Rattle.qx_types.specs.declared.names.Prio.{Prio}
 use Rattle.qx_types.specs.declared.names.Thread.{Thread}

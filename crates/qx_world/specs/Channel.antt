@@ -1,11 +1,11 @@
 -- The lines of the managers over one table of nodes, and the nodes that are kept for threads.
-use Rattle.std.specs.Prelude.{nat_le, ◌↔◌, Contains, drop, option_map, ◌≡◌, ℕ, ◌+◌, ◌<◌, ◌==◌, ◌&&◌, ◌⊎◌, ◌||◌, Bool, true, false, List, [], ◌∷◌, Option, Some, None, map, length, unwrap_or, get_or, slice_set, is_some, IsTrue}
+use Rattle.std.specs.Prelude.{nat_le, ◌↔◌, Contains, drop, option_map, ◌≡◌, ℕ, ◌==◌, ◌&&◌, ◌⊎◌, ◌||◌, Bool, false, List, [], ◌∷◌, Some, map, unwrap_or}
 use Rattle.std.specs.FinMap as maps
 use Rattle.qx_types.specs.declared.names.Manager.{Manager}
 use Rattle.qx_types.specs.declared.names.Manager.TheVariants.{Ram, Pipe}
 use Rattle.qx_types.specs.declared.names.Proc.{Proc}
 use Rattle.qx_types.specs.declared.names.Thread.{Thread}
-use Rattle.qx_lists.specs.Table.{Table, ContainsNode, IsIn, nodes_of}
+use Rattle.qx_lists.specs.Table.{Table, ContainsNode, IsIn}
 use Rattle.qx_lines.specs.declared.Line.{Line}
 use Rattle.qx_lines.specs.Line.{IsLineOf, IsOwn, nodes_in}
 use Rattle.qx_machine.specs.declared.rows.OwnItem.{OwnItem}
@@ -13,7 +13,6 @@ use Rattle.qx_machine.specs.declared.rows.OwnItem.TheVariants as item
 use Rattle.qx_machine.specs.declared.rows.Queued.{Queued}
 use Rattle.qx_machine.specs.Lines.{into}
 use Rattle.qx_machine.specs.Machine.{rank, queued}
-use Rattle.qx_machine.specs.Rows.{row_at}
 use Rattle.qx_world.specs.declared.nodes.ThreadNodes.{ThreadNodes}
 use Rattle.qx_world.specs.declared.nodes.UserNodes.{UserNodes}
 use Rattle.qx_world.specs.Nodes.{nodes_at}

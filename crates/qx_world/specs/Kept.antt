@@ -1,5 +1,5 @@
 -- How the rows of threads, the lines and the threads' nodes stand together.
-use Rattle.std.specs.Prelude.{◌≡◌, ℕ, Bool, false, List, Option, Some, None, length, is_some}
+use Rattle.std.specs.Prelude.{◌≡◌, Bool, false, List, Option, Some, None, length, is_some}
 use Rattle.qx_types.specs.declared.names.Manager.{Manager}
 use Rattle.qx_types.specs.declared.names.Thread.{Thread}
 use Rattle.qx_machine.specs.declared.rows.State.{State}

@@ -1,5 +1,5 @@
 -- The nodes that are kept for threads.
-use Rattle.std.specs.Prelude.{ℕ, ◌+◌, List, [], Option, Some, None, get_or, slice_set, replicate}
+use Rattle.std.specs.Prelude.{ℕ, ◌+◌, List, Option, Some, None, get_or, slice_set, replicate}
 use Rattle.qx_types.specs.declared.names.Thread.{Thread}
 use Rattle.qx_machine.specs.Rows.{row_at}
 use Rattle.qx_world.specs.declared.nodes.ThreadNodes.{ThreadNodes}

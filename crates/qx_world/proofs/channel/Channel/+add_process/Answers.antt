@@ -1,4 +1,4 @@
-use Rattle.std.proofs.Common.{◌≡◌, None, ◌∙◌, refl, arith}
+use Rattle.std.proofs.Common.{◌≡◌, None, ◌∙◌, refl}
 use Rattle.qx_world.specs.Nodes.{nodes_at}
 use Rattle.qx_world.proofs.NodesLemmas.{none_of, not_earlier}
 use Rattle.qx_world.proofs.channel.Channel.+add_process.Goals as goal

@@ -1,4 +1,4 @@
-use Rattle.std.proofs.Common.{◌≡◌, None, rules, refl, ap, ◌∙◌}
+use Rattle.std.proofs.Common.{◌≡◌, None, refl, ap, ◌∙◌}
 use Rattle.qx_world.specs.Channel.{sender}
 use Rattle.qx_world.specs.Nodes.{nodes_at}
 use Rattle.qx_world.proofs.ChannelLemmas.{Tied-add, entries-add}

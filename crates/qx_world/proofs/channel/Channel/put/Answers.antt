@@ -1,7 +1,6 @@
-use Rattle.std.proofs.Common.{◌≡◌, Some, false, sym, refl, ap, ◌∙◌, rules}
+use Rattle.std.proofs.Common.{◌≡◌, refl, rules}
 use Rattle.qx_lists.specs.Table.{IsFree}
-use Rattle.qx_world.specs.Channel.{sender, stands}
-use Rattle.qx_world.specs.Nodes.{nodes_at}
+use Rattle.qx_world.specs.Channel.{sender}
 use Rattle.qx_world.proofs.ChannelLemmas.{IsFree-own, Tied-put, Tied-swap, entries-put}
 use Rattle.qx_world.proofs.channel.Channel.put.Goals as goal
 

@@ -1,4 +1,4 @@
-use Rattle.std.proofs.Common.{arith, sym, ◌∙◌, ap, ◌++◌, ◌∷◌, []}
+use Rattle.std.proofs.Common.{◌∙◌, ap, ◌++◌, ◌∷◌, []}
 use Rattle.std.proofs.lemmas.List.{replicate_more}
 use Rattle.qx_world.specs.Nodes.{no_processes}
 use Rattle.qx_world.proofs.nodes.Nodes.new.Goals as goal

@@ -1,4 +1,4 @@
-use Rattle.std.proofs.Common.{◌≡◌, ◌∷◌, true, false, List, drop, ◌∙◌, ap, sym, refl, rules, is_some}
+use Rattle.std.proofs.Common.{◌≡◌, ◌∷◌, true, false, drop, ◌∙◌, ap, sym, refl, rules, is_some}
 use Rattle.qx_types.specs.declared.outcome.Outcome.TheVariants.{Took}
 use Rattle.qx_machine.specs.Machine.{is_worker, line_of}
 use Rattle.qx_machine.specs.Rows.{row_at}

@@ -1,5 +1,5 @@
-use Rattle.std.proofs.Common.{◌≡◌, true, false, ◌∙◌, ap, rules, is_some}
-use Rattle.qx_machine.specs.Machine.{is_worker, line_of}
+use Rattle.std.proofs.Common.{◌≡◌, true, false, ap, rules, is_some}
+use Rattle.qx_machine.specs.Machine.{is_worker}
 use Rattle.qx_machine.specs.Rows.{row_at}
 use Rattle.qx_world.proofs.KeptLemmas.{line_of-channel, owner-first}
 use Rattle.qx_world.proofs.world.World.receive_owner.Goals as goal

@@ -1,7 +1,4 @@
-use Rattle.std.proofs.Common.{◌≡◌, ◌<◌, length, ap, sym, ◌∙◌, rules}
-use Rattle.qx_types.specs.declared.outcome.Outcome.TheVariants.{Spawned}
-use Rattle.qx_machine.specs.Rows.{row_at}
-use Rattle.qx_world.specs.Calls.{spawn_outcome}
+use Rattle.std.proofs.Common.{ap, sym, ◌∙◌}
 use Rattle.qx_world.specs.Kept.{Kept}
 use Rattle.qx_world.proofs.KeptLemmas.{Kept-room, Kept-same}
 use Rattle.qx_world.proofs.SpawnLemmas.{Kept-started, fresh, refused_stands, row_within, started}
