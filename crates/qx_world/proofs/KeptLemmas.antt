@@ -18,13 +18,13 @@ use Rattle.qx_machine.specs.Machine.{World, boot_parts, is_same_manager, line_of
 use Rattle.qx_machine.specs.Processes.{sending, sending_thread, taking, taking_thread}
 use Rattle.qx_machine.specs.Rows.{row_at, with_row}
 use Rattle.qx_machine.specs.Users.{Part, boot_part, take, thread_of, with_process}
-use Rattle.qx_world.specs.Channel.{Channel, channel_line, is_same_thread, message_of, sender, sender_of, stands, with_channel_line}
+use Rattle.qx_chan.specs.Channel.{Channel, channel_line, is_same_thread, message_of, sender, sender_of, stands, with_channel_line}
 use Rattle.qx_world.specs.Kept.{Kept, is_at, queued_in, standing, row_of}
-use Rattle.qx_world.specs.Nodes.{no_nodes, no_processes}
+use Rattle.qx_chan.specs.Nodes.{no_nodes, no_processes}
 use Rattle.qx_world.specs.Reads.{thread_in}
 use Rattle.qx_world.specs.Workers.{after_holding, with_line}
-use Rattle.qx_world.proofs.EntryLemmas.{is_same_thread-differs, is_same_thread-self, or_false, or_true, stands-into}
-use Rattle.qx_world.proofs.NodesLemmas.{nodes_at-none, same_or_not}
+use Rattle.qx_chan.proofs.EntryLemmas.{is_same_thread-differs, is_same_thread-self, or_false, or_true, stands-into}
+use Rattle.qx_chan.proofs.NodesLemmas.{nodes_at-none, same_or_not}
 use Rattle.qx_world.proofs.StandingLemmas.{SamePart, row_of-at, row_of-other, row_of-same}
 
 pub length-with_row : {A : Type 0} (xs : List (Option A)) (n : ℕ) (f : A → A) → length (with_row xs n f) ≡ length xs

@@ -1,9 +1,6 @@
 mod BootLemmas
-mod ChannelLemmas
-mod EntryLemmas
 mod KeptLemmas
 mod LoanLemmas
-mod NodesLemmas
 mod SpawnLemmas
 mod StandingLemmas
 mod TraceLemmas

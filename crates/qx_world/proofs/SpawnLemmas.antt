@@ -18,12 +18,12 @@ use Rattle.qx_machine.specs.Users.{Part, spawn, thread_of}
 use Rattle.qx_machine.proofs.Places.{lowest_from_free}
 use Rattle.qx_procs.proofs.RowLemmas.{row_at-get_or}
 use Rattle.qx_world.specs.Calls.{HasPlace, spawn_outcome}
-use Rattle.qx_world.specs.Channel.{Channel, channel_line, is_thread_of, stands}
+use Rattle.qx_chan.specs.Channel.{Channel, channel_line, is_thread_of, stands}
 use Rattle.qx_world.specs.Kept.{Kept, is_at, standing, row_of}
-use Rattle.qx_world.specs.Nodes.{nodes_at}
+use Rattle.qx_chan.specs.Nodes.{nodes_at}
 use Rattle.qx_world.specs.Reads.{thread_in}
-use Rattle.qx_world.proofs.EntryLemmas.{or_false}
-use Rattle.qx_world.proofs.NodesLemmas.{none_of}
+use Rattle.qx_chan.proofs.EntryLemmas.{or_false}
+use Rattle.qx_chan.proofs.NodesLemmas.{none_of}
 use Rattle.qx_world.proofs.KeptLemmas.{length-with_row}
 use Rattle.qx_world.proofs.StandingLemmas.{SamePart, row_at-past, row_at-with_other, row_at-with_same}
 

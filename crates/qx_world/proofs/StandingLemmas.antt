@@ -24,7 +24,7 @@ use Rattle.qx_machine.specs.Users.{ClientStep, Part, block_over, block_row, perf
 use Rattle.qx_procs.proofs.RowLemmas.{row_at-get_or}
 use Rattle.qx_world.specs.Kept.{queued_in, standing, row_of}
 use Rattle.qx_world.specs.Reads.{served_part, thread_in}
-use Rattle.qx_world.proofs.EntryLemmas.{same_names}
+use Rattle.qx_chan.proofs.EntryLemmas.{same_names}
 
 past : {A : Type 0} (xs : List A) (i : ℕ) (d : A) → length xs ≤ i → get_or xs i d ≡ d
 past xs i d beyond = grind (arith, common_steps)

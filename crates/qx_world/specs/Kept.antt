@@ -8,8 +8,8 @@ use Rattle.qx_machine.specs.declared.rows.ThreadRow.{ThreadRow}
 use Rattle.qx_machine.specs.Machine.{is_same_manager}
 use Rattle.qx_machine.specs.Rows.{row_at}
 use Rattle.qx_machine.specs.Users.{Part}
-use Rattle.qx_world.specs.Channel.{Channel, channel_line, stands}
-use Rattle.qx_world.specs.Nodes.{nodes_at}
+use Rattle.qx_chan.specs.Channel.{Channel, channel_line, stands}
+use Rattle.qx_chan.specs.Nodes.{nodes_at}
 use Rattle.qx_world.specs.Reads.{thread_in}
 
 -- the manager in whose line the thread's message stands

@@ -1,9 +1,7 @@
 pub mod Calls
-pub mod Channel
 pub mod Held
 pub mod Lending
 pub mod Kept
-pub mod Nodes
 pub mod Reads
 pub mod Trace
 pub mod Workers

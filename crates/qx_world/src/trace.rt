@@ -312,6 +312,3 @@ fn transcript_of(alloc: Global, entries: &[Entry], user: User) -> Result<Vec<See
     }
     Ok(transcript)
 }
-
-#[cfg(test)]
-mod tests;

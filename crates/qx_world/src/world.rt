@@ -9,7 +9,7 @@ ghost use Rattle.qx_procs.specs.Reads.{is_thread_blocked};
 ghost use Rattle.qx_world.specs.Reads.{CanSend, thread_in, is_thread_answered};
 ghost use Rattle.qx_world.specs.Workers.{after_serving};
 
-use crate::channel::Channel;
+use qx_chan::Channel;
 use crate::part::Part;
 use crate::parts::{self, Parts};
 use crate::work::{PerformFault, Work, WorkRef};

@@ -2,7 +2,7 @@ use Rattle.std.proofs.Common.{◌≡◌, ◌∷◌, true, false, drop, ◌∙◌
 use Rattle.qx_types.specs.declared.outcome.Outcome.TheVariants.{Took}
 use Rattle.qx_machine.specs.Machine.{is_worker, line_of}
 use Rattle.qx_machine.specs.Rows.{row_at}
-use Rattle.qx_world.specs.Channel.{channel_line}
+use Rattle.qx_chan.specs.Channel.{channel_line}
 use Rattle.qx_world.proofs.KeptLemmas.{Kept-taken, held-view, line_of-channel, line_of-first}
 use Rattle.qx_world.proofs.WorkerLemmas.{receive-took}
 use Rattle.qx_world.proofs.world.World.receive.Goals as goal

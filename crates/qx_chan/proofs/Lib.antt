@@ -1,0 +1,3 @@
+pub mod ChannelLemmas
+pub mod EntryLemmas
+pub mod NodesLemmas

@@ -1,0 +1,6 @@
+use Rattle.std.proofs.Common.{ap}
+use Rattle.qx_chan.proofs.ChannelLemmas.{Tied-room}
+use Rattle.qx_chan.proofs.channel.Channel.reserve.Goals as goal
+
+pub invariant_of-self-2 : goal.invariant_of-self-2
+invariant_of-self-2 c = Tied-room c.self.inside.table _ _ _ _ (ap (λ t. t.lists) c.in_ok-reserve.ensures.ok) (ap (λ t. t.values) c.in_ok-reserve.ensures.ok) c.self.invariant

@@ -1,0 +1,228 @@
+//! The managers' lines over one table of nodes, in which the nodes of all users' threads stand.
+
+ghost use Rattle.std.specs.Prelude.{◌≡◌, ℕ, ◌+◌, ◌-◌, ◌*◌, ◌<◌, ◌≤◌, ◌||◌, false, length, drop, slice_get, max, IfOk, OnOk, OnErr, IfSome, IsTrue, None, [], is_some};
+ghost use Rattle.std.specs.FinMap as maps;
+ghost use Rattle.qx_lists.specs.Table.{ContainsNode, IsFree, IsIn, with_value};
+ghost use Rattle.qx_lines.specs.Line.{IsLineOf};
+ghost use Rattle.qx_machine.specs.Lines.{into};
+ghost use Rattle.qx_machine.specs.Machine as machine;
+ghost use Rattle.qx_chan.specs.Channel.{PutIn, TakenOut, channel_line, entries, entry_at, is_same_thread, is_thread_of, message_of, sender, stands, with_channel_line};
+ghost use Rattle.qx_chan.specs.Nodes.{no_nodes, nodes_at};
+
+use crate::nodes::{Nodes, ThreadNodes};
+use crate::waiting::Waiting;
+use qx_lines::Line;
+use qx_lists::Table;
+use qx_machine::{OwnItem, Queued};
+use qx_types::{Manager, Prio, Proc, Thread};
+use std::alloc::{AllocError, Global};
+use std::marker::Model;
+
+/// The managers' lines over one table of nodes, in which the nodes of all users' threads stand.
+#[derive(Drop)]
+pub struct Channel {
+    table: Table<Waiting>,
+    ram: Line,
+    pipe: Line,
+    nodes: Nodes,
+}
+
+impl Model for Channel {
+    ghost use Rattle.qx_chan.specs.Channel as words;
+
+    ghost Value = { words.Channel };
+
+    ghost view = { λ c. record { ram = words.entries c.table c.ram; pipe = words.entries c.table c.pipe; nodes = c.nodes; room = c.table.room } };
+
+    ghost invariant = { λ c. words.Tied c.table c.ram c.pipe c.nodes };
+}
+
+impl Channel {
+    /// Empty lines, and no nodes of the users from 1 to this many.
+    pub fn new(alloc: Global, users: usize) -> Result<Self, AllocError>
+        requires { users < 256 }
+        ensures { IfOk result (λ channel. channel ≡ record { ram = []; pipe = []; nodes = no_nodes users; room = 0 }) }
+    {
+        let mut table = Table::new(alloc);
+        let ram = Line::new(&mut table)?;
+        let pipe = Line::new(&mut table)?;
+        let nodes = Nodes::new(alloc, users)?;
+        Ok(Channel {
+            table,
+            ram,
+            pipe,
+            nodes,
+        })
+    }
+
+    /// Puts a thread's message, which stands in no line, into a line.
+    pub fn put(&mut self, manager: Manager, thread: Thread, prio: Prio)
+        requires own { IsTrue (is_some (nodes_at self.old.nodes thread)) }
+        requires not_in_ram { stands self.old.ram thread ≡ false }
+        requires not_in_pipe { stands self.old.pipe thread ≡ false }
+        requires lowest { 1 ≤ prio.0 }
+        requires highest { prio.0 ≤ 63 }
+        ensures { self.new ≡ with_channel_line self.old manager (into machine.rank (channel_line self.old manager) (message_of thread prio.0)) }
+    {
+        let Some(own) = self.nodes.at(thread) else {
+            unreachable!();
+        };
+        let waiting = Waiting::new(queued_message(thread, prio));
+        match manager {
+            Manager::Ram => put_in(&mut self.table, &mut self.ram, own.message, waiting),
+            Manager::Pipe => put_in(&mut self.table, &mut self.pipe, own.message, waiting),
+        }
+    }
+
+    /// Takes the first item of a line.
+    pub fn take(&mut self, manager: Manager) -> Option<Queued>
+        ensures first { result ≡ slice_get (channel_line self.old manager) 0 }
+        ensures rest { self.new ≡ with_channel_line self.old manager (drop 1 (channel_line self.old manager)) }
+        ensures gone { IfSome result (λ first. stands (drop 1 (channel_line self.old manager)) (sender first) ≡ false) }
+    {
+        self.table.know();
+        match manager {
+            Manager::Ram => take_out(&mut self.table, &mut self.ram),
+            Manager::Pipe => take_out(&mut self.table, &mut self.pipe),
+        }
+    }
+
+    /// The first item of a line.
+    pub fn first(&self, manager: Manager) -> Option<Queued>
+        ensures { result ≡ slice_get (channel_line self.now manager) 0 }
+    {
+        self.table.know();
+        match manager {
+            Manager::Ram => first_of(&self.table, &self.ram),
+            Manager::Pipe => first_of(&self.table, &self.pipe),
+        }
+    }
+
+    /// How many items stand in a line.
+    pub fn len(&self, manager: Manager) -> usize
+        ensures { result ≡ length (channel_line self.now manager) }
+    {
+        match manager {
+            Manager::Ram => self.ram.len(),
+            Manager::Pipe => self.pipe.len(),
+        }
+    }
+
+    /// Makes room for the nodes of so many threads.
+    pub fn reserve(&mut self, threads: u8) -> Result<(), AllocError>
+        ensures ok { OnOk result (self.new ≡ record self.old { room = max self.old.room (2 * threads) }) }
+        ensures err { OnErr result (self.new ≡ self.old) }
+    {
+        self.table.reserve(2 * threads as usize)?;
+        Ok(())
+    }
+
+    /// Makes the nodes of a thread that has none, for which there is room.
+    pub fn add(&mut self, thread: Thread, prio: Prio)
+        requires fresh { nodes_at self.old.nodes thread ≡ None }
+        requires user { thread.proc.user.0 < length self.old.nodes }
+        requires process { thread.proc.num < 17 }
+        requires thread { thread.tid < 5 }
+        requires lowest { 1 ≤ prio.0 }
+        requires highest { prio.0 ≤ 63 }
+        requires room { 2 ≤ self.old.room }
+        ensures ram { self.new.ram ≡ self.old.ram }
+        ensures pipe { self.new.pipe ≡ self.old.pipe }
+        ensures room { self.new.room ≡ self.old.room - 2 }
+        ensures users { length self.new.nodes ≡ length self.old.nodes }
+        ensures own { (other : Thread) → is_some (nodes_at self.new.nodes other) ≡ is_some (nodes_at self.old.nodes other) || is_same_thread thread other }
+    {
+        self.table.know();
+        let message = new_node(&mut self.table, Waiting::new(queued_message(thread, prio)));
+        self.table.know();
+        let unblock = new_node(&mut self.table, Waiting::new(queued_message(thread, prio)));
+        self.nodes.set(thread, ThreadNodes { message, unblock });
+    }
+
+    /// Makes the nodes of a process' threads, for which there is room, and none of which has any.
+    pub fn add_process(&mut self, proc: Proc, threads: u8, prio: Prio)
+        requires fresh { (thread : ℕ) → nodes_at self.old.nodes (record { proc = proc; tid = thread }) ≡ None }
+        requires user { proc.user.0 < length self.old.nodes }
+        requires process { proc.num < 17 }
+        requires threads { threads ≤ 4 }
+        requires lowest { 1 ≤ prio.0 }
+        requires highest { prio.0 ≤ 63 }
+        requires room { 2 * threads ≤ self.old.room }
+        ensures ram { self.new.ram ≡ self.old.ram }
+        ensures pipe { self.new.pipe ≡ self.old.pipe }
+        ensures room { self.new.room + 2 * threads ≡ self.old.room }
+        ensures users { length self.new.nodes ≡ length self.old.nodes }
+        ensures own { (other : Thread) → is_some (nodes_at self.new.nodes other) ≡ is_some (nodes_at self.old.nodes other) || is_thread_of proc threads other }
+    {
+        if threads == 0 {
+            return;
+        }
+        self.add_process(proc, threads - 1, prio);
+        self.add(Thread { proc, tid: threads }, prio);
+    }
+}
+
+/// A thread's message, as it stands in a line.
+fn queued_message(thread: Thread, prio: Prio) -> Queued
+    ensures { result ≡ message_of thread prio.0 }
+{
+    Queued {
+        user: thread.proc.user,
+        item: OwnItem::Message {
+            process: thread.proc.num,
+            thread: thread.tid,
+        },
+        prio,
+    }
+}
+
+/// Makes a node, for which there is room.
+fn new_node(table: &mut Table<Waiting>, waiting: Waiting) -> usize
+    requires { 0 < table.old.room }
+    ensures made { table.new ≡ record table.old { values = maps.insert table.old.values result waiting; room = table.old.room - 1 } }
+    ensures was_new { maps.get table.old.values result ≡ None }
+{
+    match table.new_node(waiting) {
+        Ok(node) => node,
+        Err(_) => unreachable!(),
+    }
+}
+
+/// A node stands for another item from now on.
+fn set_entry(table: &mut Table<Waiting>, node: usize, waiting: Waiting)
+    requires { ContainsNode table.old node }
+    ensures { table.new ≡ with_value table.old node waiting }
+{
+    *table.value_mut(node) = waiting;
+}
+
+/// Puts a free node, which stands for an item from now on, into a line.
+fn put_in(table: &mut Table<Waiting>, line: &mut Line, node: usize, waiting: Waiting)
+    requires line { IsLineOf machine.rank table.old line.old }
+    requires free { IsFree table.old node }
+    ensures { PutIn table.old table.new line.old line.new node waiting }
+{
+    set_entry(table, node, waiting);
+    line.put(table, node);
+}
+
+/// Takes the first node out of a line, and tells what it stands for.
+fn take_out(table: &mut Table<Waiting>, line: &mut Line) -> Option<Queued>
+    requires line { IsLineOf machine.rank table.old line.old }
+    requires there { (list node : ℕ) → IsIn table.old list node → ContainsNode table.old node }
+    ensures out { TakenOut table.old table.new line.old line.new }
+    ensures first { result ≡ slice_get (entries table.old line.old) 0 }
+{
+    let node = line.take(table)?;
+    Some(table.value(node).queued())
+}
+
+/// What the first node of a line stands for.
+fn first_of(table: &Table<Waiting>, line: &Line) -> Option<Queued>
+    requires line { IsLineOf machine.rank table.now line.now }
+    requires there { (list node : ℕ) → IsIn table.now list node → ContainsNode table.now node }
+    ensures { result ≡ slice_get (entries table.now line.now) 0 }
+{
+    let node = line.first(table)?;
+    Some(table.value(node).queued())
+}

@@ -1,0 +1,9 @@
+//! Tests of a traced world through its public calls.
+#![tactic(auto)]
+
+#[cfg(test)]
+mod memory;
+#[cfg(test)]
+mod paths;
+#[cfg(test)]
+mod steps;
