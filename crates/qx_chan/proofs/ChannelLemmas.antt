@@ -7,7 +7,7 @@ use Rattle.std.proofs.lemmas.Bool.Decides.{eqb_tells, nat_tests}
 use Rattle.qx_types.specs.declared.names.Thread.{Thread}
 use Rattle.qx_lists.specs.Table.{Table, ContainsNode, IsFree, IsIn, nodes_of, with_value}
 use Rattle.qx_lists.proofs.ListLemmas.{contains_cases, contains_first, contains_later, nowhere_from, stands_nowhere}
-use Rattle.qx_lists.proofs.MapLemmas.{get-insert_same, get-insert_other}
+use Rattle.qx_lists.proofs.MapLemmas.{get-insert_same, get-insert_other, get-remove_other}
 use Rattle.qx_lines.specs.declared.Line.{Line}
 use Rattle.qx_lines.specs.Line.{IsLineOf, IsOwn, SameElsewhere, nodes_in, rank_at}
 use Rattle.qx_lines.proofs.LineFacts.{IsLineOf-same, IsLineOf-elsewhere, apart_from_new, nodes_in-elsewhere}
@@ -22,13 +22,13 @@ use Rattle.qx_chan.proofs.NodesLemmas.{nodes_at-other, same_or_not}
 use Rattle.qx_chan.proofs.EntryLemmas.{contains_into, contains_rest, entry-insert_same, entry-insert_other, into-map, map-agree, map-drop, stands-entry, stands-find}
 
 -- a free node stands in no list
-nowhere : {node : ℕ} (t : Table Queued) → IsFree t node → (list : ℕ) → IsIn t list node → ⊥
+pub nowhere : {node : ℕ} (t : Table Queued) → IsFree t node → (list : ℕ) → IsIn t list node → ⊥
 nowhere {node = node} t free = stands_nowhere t.lists node free.in_no_list
 
-absent_is : {A : Type 0} (o : Option A) → is_some o ≡ true → o ≡ None → ⊥
+pub absent_is : {A : Type 0} (o : Option A) → is_some o ≡ true → o ≡ None → ⊥
 absent_is o there none = let clash : false ≡ true = ap is_some (sym none) ∙ there in cc
 
-some_same : {A : Type 0} (x y : A) (o : Option A) → o ≡ Some x → o ≡ Some y → x ≡ y
+pub some_same : {A : Type 0} (x y : A) (o : Option A) → o ≡ Some x → o ≡ Some y → x ≡ y
 some_same x y o one other = let same : Some x ≡ Some y = sym one ∙ other in cc
 
 pub rank_at-entry : (t : Table Queued) (node : ℕ) → rank_at rank t node ≡ rank (entry_at t node)
@@ -66,32 +66,46 @@ IsFree-own t one other nodes thread kept tied is not_one not_other =
       ]);
     }
 
-module _ (old new : Table Queued) (node : ℕ) (entry : Queued) where
+-- the values of all other nodes stay
+abbrev pub SameBut : Table Queued → Table Queued → ℕ → Type 0
+SameBut old new node = (other : ℕ) → other ≢ node → maps.get new.values other ≡ maps.get old.values other
+
+pub inserted : (old new : Table Queued) (node : ℕ) (entry : Queued) → new.values ≡ maps.insert old.values node entry → SameBut old new node
+inserted old new node entry values other differs = rw values (get-insert_other old.values node entry other differs)
+
+pub removed : (old new : Table Queued) (node : ℕ) → new.values ≡ maps.remove old.values node → SameBut old new node
+removed old new node values other differs = rw values (get-remove_other old.values node other differs)
+
+module _ (old new : Table Queued) (node : ℕ) (same : SameBut old new node) where
   -- what another node stands for stays
-  entry-other : (other : ℕ) → new.values ≡ maps.insert old.values node entry → other ≢ node → entry_at new other ≡ entry_at old other
-  entry-other other values differs = rw values (entry-insert_other old.values node entry other differs)
+  pub entry-other : (other : ℕ) → other ≢ node → entry_at new other ≡ entry_at old other
+  entry-other other differs = ap (λ o. unwrap_or o nobodys) (same other differs)
 
-  entry-same : new.values ≡ maps.insert old.values node entry → entry_at new node ≡ entry
-  entry-same values = rw values (entry-insert_same old.values node entry)
+  pub contains-other : (other : ℕ) → other ≢ node → ContainsNode old other → ContainsNode new other
+  contains-other other differs there = ap is_some (same other differs) ∙ there
 
-  contains-insert : (other : ℕ) → new.values ≡ maps.insert old.values node entry → ContainsNode old other → ContainsNode new other
-  contains-insert other values there = rw values (elim (eqb_tells other node) [
-    | inl same ↦ rw same.1 (ap is_some (get-insert_same old.values node entry))
-    | inr differs ↦ ap is_some (get-insert_other old.values node entry other differs.1) ∙ there
-  ])
-
-  contains-self : new.values ≡ maps.insert old.values node entry → ContainsNode new node
-  contains-self values = rw values (ap is_some (get-insert_same old.values node entry))
-
-  -- a line keeps its items as a node that isn't in it gets a value
-  entries-kept : (line : Line) → new.values ≡ maps.insert old.values node entry → maps.get new.lists line.list ≡ maps.get old.lists line.list → (Contains (nodes_in old line) node → ⊥) → entries new line ≡ entries old line
-  entries-kept line values lists absent =
+  -- a line keeps its items as a node that isn't in it changes
+  pub entries-kept : (line : Line) → maps.get new.lists line.list ≡ maps.get old.lists line.list → (Contains (nodes_in old line) node → ⊥) → entries new line ≡ entries old line
+  entries-kept line lists absent =
       let nodes : nodes_in new line ≡ nodes_in old line = ap (λ o. unwrap_or o []) lists in
-      rw nodes (map-agree (entry_at new) (entry_at old) (nodes_in old line) (λ other at. entry-other other values (λ same. absent (rw same at at))))
+      rw nodes (map-agree (entry_at new) (entry_at old) (nodes_in old line) (λ other at. entry-other other (λ same. absent (rw same at at))))
 
-  line-kept : (line : Line) → IsLineOf rank old line → new.values ≡ maps.insert old.values node entry → maps.get new.lists line.list ≡ maps.get old.lists line.list → (Contains (nodes_in old line) node → ⊥) → IsLineOf rank new line
-  line-kept line stands values lists absent =
-      IsLineOf-same rank old new line stands (λ list own. rw own lists) (λ other at. rank_at-entry new other ∙ ap rank (entry-other other values (λ same. absent (rw same at at))) ∙ sym (rank_at-entry old other))
+  pub line-kept : (line : Line) → IsLineOf rank old line → maps.get new.lists line.list ≡ maps.get old.lists line.list → (Contains (nodes_in old line) node → ⊥) → IsLineOf rank new line
+  line-kept line stands lists absent =
+      IsLineOf-same rank old new line stands (λ list own. rw own lists) (λ other at. rank_at-entry new other ∙ ap rank (entry-other other (λ same. absent (rw same at at))) ∙ sym (rank_at-entry old other))
+
+module _ (old new : Table Queued) (node : ℕ) (entry : Queued) (values : new.values ≡ maps.insert old.values node entry) where
+  entry-same : entry_at new node ≡ entry
+  entry-same = rw values (entry-insert_same old.values node entry)
+
+  pub contains-self : ContainsNode new node
+  contains-self = rw values (ap is_some (get-insert_same old.values node entry))
+
+  pub contains-insert : (other : ℕ) → ContainsNode old other → ContainsNode new other
+  contains-insert other there = elim (eqb_tells other node) [
+    | inl same ↦ rw same.1 contains-self
+    | inr differs ↦ contains-other old new node (inserted old new _ _ values) other differs.1 there
+  ]
 
 module _ (old new : Table Queued) (before after other : Line) (nodes : List UserNodes) where
   other_lists : Tied old before other nodes → ((list : ℕ) → (IsOwn before list → ⊥) → maps.get new.lists list ≡ maps.get old.lists list) → maps.get new.lists other.list ≡ maps.get old.lists other.list
@@ -100,11 +114,11 @@ module _ (old new : Table Queued) (before after other : Line) (nodes : List User
   pub Tied-put : (thread : Thread) (kept : ThreadNodes) (entry : Queued) → Tied old before other nodes → nodes_at nodes thread ≡ Some kept → IsFree old kept.message → sender entry ≡ thread → PutIn old new before after kept.message entry → Tied new after other nodes
   Tied-put thread kept entry tied is free names put = record {
     one_line = put.line;
-    other_line = line-kept old new kept.message entry other tied.other_line put.values (other_lists tied put.lists) (nowhere old free other.list);
+    other_line = line-kept old new kept.message (inserted old new _ _ put.values) other tied.other_line (other_lists tied put.lists) (nowhere old free other.list);
     apart = λ list of_after of_other. tied.apart list ((put.own list).0 of_after) of_other;
     own = λ any has has_is.
         let own = tied.own any has has_is in (
-          contains-insert old new kept.message entry has.message put.values own.0,
+          contains-insert old new kept.message entry put.values has.message own.0,
           elim (eqb_tells has.message kept.message) [
             | inl same ↦
                 let here : entry_at new has.message ≡ entry = rw same.1 (entry-same old new kept.message entry put.values) in
@@ -112,7 +126,7 @@ module _ (old new : Table Queued) (before after other : Line) (nodes : List User
                 let any_is : sender (entry_at old has.message) ≡ any = own.1 in
                 let thread_is : sender (entry_at old has.message) ≡ thread = rw same.1 kept_own.1 in
                 ap sender here ∙ names ∙ sym thread_is ∙ any_is
-            | inr differs ↦ ap sender (entry-other old new kept.message entry has.message put.values differs.1) ∙ own.1
+            | inr differs ↦ ap sender (entry-other old new kept.message (inserted old new _ _ put.values) has.message differs.1) ∙ own.1
           ],
         );
     listed = λ list node at. elim (eqb_tells list before.list) [
@@ -122,7 +136,7 @@ module _ (old new : Table Queued) (before after other : Line) (nodes : List User
           elim (put.among node here) [
             | inl earlier ↦
                 let was = tied.listed before.list node earlier in
-                (inl of_after, rw (entry-other old new kept.message entry node put.values (λ same_node. nowhere old free before.list (rw same_node at earlier))) was.1)
+                (inl of_after, rw (entry-other old new kept.message (inserted old new _ _ put.values) node (λ same_node. nowhere old free before.list (rw same_node at earlier))) was.1)
             | inr same_node ↦
                 (inl of_after, rw (same_node, entry-same old new kept.message entry put.values, names, is) refl)
           ]
@@ -131,13 +145,13 @@ module _ (old new : Table Queued) (before after other : Line) (nodes : List User
           let earlier : IsIn old list node = rw nodes_same at at in
           let was = tied.listed list node earlier in (
             elim was.0 [ inl of_before ↦ absurd (differs.1 of_before) | inr of_other ↦ inr of_other ],
-            rw (entry-other old new kept.message entry node put.values (λ same_node. nowhere old free list (rw same_node at earlier))) was.1,
+            rw (entry-other old new kept.message (inserted old new _ _ put.values) node (λ same_node. nowhere old free list (rw same_node at earlier))) was.1,
           )
     ];
   }
 
   pub entries-put : (kept : ThreadNodes) (entry : Queued) → Tied old before other nodes → IsFree old kept.message → PutIn old new before after kept.message entry → entries new other ≡ entries old other
-  entries-put kept entry tied free put = entries-kept old new kept.message entry other put.values (other_lists tied put.lists) (nowhere old free other.list)
+  entries-put kept entry tied free put = entries-kept old new kept.message (inserted old new _ _ put.values) other (other_lists tied put.lists) (nowhere old free other.list)
 
   pub entries-taken : Tied old before other nodes → TakenOut old new before after → entries new other ≡ entries old other
   entries-taken tied taken =
@@ -174,7 +188,7 @@ PutIn-of old mid new before after node entry is free line nodes elsewhere own =
     let mid_values : mid.values ≡ maps.insert old.values node entry = ap (λ t. t.values) is in
     let mid_lists : (list : ℕ) → maps.get mid.lists list ≡ maps.get old.lists list = λ list. ap (λ t. maps.get t.lists list) is in
     let mid_nodes : nodes_in mid before ≡ nodes_in old before = ap (λ o. unwrap_or o []) (mid_lists before.list) in
-    let kept : map (entry_at mid) (nodes_in old before) ≡ entries old before = map-agree (entry_at mid) (entry_at old) (nodes_in old before) (λ other at. entry-other old mid node entry other mid_values (λ same. nowhere old free before.list (rw same at at))) in
+    let kept : map (entry_at mid) (nodes_in old before) ≡ entries old before = map-agree (entry_at mid) (entry_at old) (nodes_in old before) (λ other at. entry-other old mid node (inserted old mid _ _ mid_values) other (λ same. nowhere old free before.list (rw same at at))) in
     let placed : entries new after ≡ map (entry_at mid) (into (rank_at rank mid) (nodes_in old before) node) = rw (nodes, elsewhere.values, mid_nodes) refl in
     let read : into rank (map (entry_at mid) (nodes_in old before)) (entry_at mid node) ≡ into rank (entries old before) entry = rw (kept, entry-same old mid node entry mid_values) refl in
     record {
@@ -192,7 +206,7 @@ PutIn-of old mid new before after node entry is free line nodes elsewhere own =
 -- a free node that got a value
 module _ (old new : Table Queued) (node : ℕ) (entry : Queued) (line : Line) (is : new ≡ with_value old node entry) (free : IsFree old node) where
   pub IsLineOf-value : IsLineOf rank old line → IsLineOf rank new line
-  IsLineOf-value stands = line-kept old new node entry line stands (ap (λ t. t.values) is) (ap (λ t. maps.get t.lists line.list) is) (nowhere old free line.list)
+  IsLineOf-value stands = line-kept old new node (inserted old new _ _ (ap (λ t. t.values) is)) line stands (ap (λ t. maps.get t.lists line.list) is) (nowhere old free line.list)
 
 pub IsFree-value : (old new : Table Queued) (node : ℕ) (entry : Queued) → new ≡ with_value old node entry → IsFree old node → IsFree new node
 IsFree-value old new node entry is free = record {
@@ -254,22 +268,22 @@ module _ (t new : Table Queued) (node : ℕ) (entry : Queued) (room : ℕ) (is :
   new_list list = ap (λ table. maps.get table.lists list) is
 
   pub entries-node : (line : Line) → entries new line ≡ entries t line
-  entries-node line = entries-kept t new node entry line new_values (new_list line.list) (not_listed line.list)
+  entries-node line = entries-kept t new node (inserted t new _ _ new_values) line (new_list line.list) (not_listed line.list)
 
   pub Tied-node : (one other : Line) (nodes : List UserNodes) → Tied t one other nodes → Tied new one other nodes
   Tied-node one other nodes tied = record {
-    one_line = line-kept t new node entry one tied.one_line new_values (new_list one.list) (not_listed one.list);
-    other_line = line-kept t new node entry other tied.other_line new_values (new_list other.list) (not_listed other.list);
+    one_line = line-kept t new node (inserted t new _ _ new_values) one tied.one_line (new_list one.list) (not_listed one.list);
+    other_line = line-kept t new node (inserted t new _ _ new_values) other tied.other_line (new_list other.list) (not_listed other.list);
     apart = tied.apart;
     own = λ thread kept has.
         let own = tied.own thread kept has in (
-          contains-insert t new node entry kept.message new_values own.0,
-          ap sender (entry-other t new node entry kept.message new_values (λ same. absent_is (maps.get t.values node) (rw (← same) own.0) absent)) ∙ own.1,
+          contains-insert t new node entry new_values kept.message own.0,
+          ap sender (entry-other t new node (inserted t new _ _ new_values) kept.message (λ same. absent_is (maps.get t.values node) (rw (← same) own.0) absent)) ∙ own.1,
         );
     listed = λ list other at.
         let earlier : IsIn t list other = rw (ap (λ o. unwrap_or o []) (new_list list)) at at in
         let was = tied.listed list other earlier in
-        (was.0, rw (entry-other t new node entry other new_values (λ same. not_listed list (rw same at earlier))) was.1);
+        (was.0, rw (entry-other t new node (inserted t new _ _ new_values) other (λ same. not_listed list (rw same at earlier))) was.1);
   }
 
 -- a thread that had no nodes gets its own
@@ -345,8 +359,8 @@ Tied-add old mid new one other nodes thread message unblock first second room le
     let in_mid : ContainsNode mid message = contains-self old mid message first mid_values in
     let differs : message ≢ unblock = λ same. absent_is (maps.get mid.values unblock) (rw (← same) in_mid) absent_new in
     Tied-own new one other nodes thread (record { message = message; unblock = unblock }) tied_new fresh there
-    (contains-insert mid new unblock second message new_values in_mid)
-    (ap sender (entry-other mid new unblock second message new_values differs ∙ entry-same old mid message first mid_values) ∙ names)
+    (contains-insert mid new unblock second new_values message in_mid)
+    (ap sender (entry-other mid new unblock (inserted mid new _ _ new_values) message differs ∙ entry-same old mid message first mid_values) ∙ names)
 
 -- lines keep their items as two nodes are made
 pub entries-add : (old mid new : Table Queued) (message unblock : ℕ) (first second : Queued) (room less : ℕ) (line : Line) → mid ≡ record old { values = maps.insert old.values message first; room = room } → maps.get old.values message ≡ None → ((list node : ℕ) → IsIn old list node → ContainsNode old node) → new ≡ record mid { values = maps.insert mid.values unblock second; room = less } → maps.get mid.values unblock ≡ None → ((list node : ℕ) → IsIn mid list node → ContainsNode mid node) → entries new line ≡ entries old line

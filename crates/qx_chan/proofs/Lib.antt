@@ -1,3 +1,4 @@
 pub mod ChannelLemmas
 pub mod EntryLemmas
 pub mod NodesLemmas
+pub mod SpareLemmas

@@ -1,21 +1,21 @@
 -- The lines of the managers over one table of nodes, and the nodes that are kept for threads.
-use Rattle.std.specs.Prelude.{nat_le, ◌↔◌, Contains, drop, option_map, ◌≡◌, ℕ, ◌==◌, ◌&&◌, ◌⊎◌, ◌||◌, Bool, false, List, [], ◌∷◌, Some, map, unwrap_or}
+use Rattle.std.specs.Prelude.{nat_le, ◌↔◌, Contains, drop, option_map, ◌≡◌, ◌≢◌, ℕ, ◌==◌, ◌&&◌, ◌⊎◌, ◌||◌, Bool, false, List, [], ◌∷◌, Some, map, unwrap_or}
 use Rattle.std.specs.FinMap as maps
 use Rattle.qx_types.specs.declared.names.Manager.{Manager}
 use Rattle.qx_types.specs.declared.names.Manager.TheVariants.{Ram, Pipe}
 use Rattle.qx_types.specs.declared.names.Proc.{Proc}
 use Rattle.qx_types.specs.declared.names.Thread.{Thread}
-use Rattle.qx_lists.specs.Table.{Table, ContainsNode, IsIn}
+use Rattle.qx_lists.specs.Table.{Table, ContainsNode, IsFree, IsIn}
 use Rattle.qx_lines.specs.declared.Line.{Line}
 use Rattle.qx_lines.specs.Line.{IsLineOf, IsOwn, nodes_in}
 use Rattle.qx_machine.specs.declared.rows.OwnItem.{OwnItem}
 use Rattle.qx_machine.specs.declared.rows.OwnItem.TheVariants as item
 use Rattle.qx_machine.specs.declared.rows.Queued.{Queued}
 use Rattle.qx_machine.specs.Lines.{into}
-use Rattle.qx_machine.specs.Machine.{rank, queued}
+use Rattle.qx_machine.specs.Machine.{rank, queued, is_same_manager}
 use Rattle.qx_chan.specs.declared.nodes.ThreadNodes.{ThreadNodes}
 use Rattle.qx_chan.specs.declared.nodes.UserNodes.{UserNodes}
-use Rattle.qx_chan.specs.Nodes.{nodes_at}
+use Rattle.qx_chan.specs.Nodes.{disconnect_at, nodes_at}
 
 abbrev pub nobodys : Queued
 nobodys = queued 0 (item.Message 0 0) 0
@@ -38,6 +38,10 @@ sender entry = sender_of entry.user.0 entry.item
 abbrev pub is_same_thread : Thread → Thread → Bool
 is_same_thread one other = (one.proc.user.0 == other.proc.user.0) && (one.proc.num == other.proc.num) && (one.tid == other.tid)
 
+-- the same process at the same manager
+abbrev pub is_same_server : Proc → Manager → Proc → Manager → Bool
+is_same_server proc manager other at = (proc.user.0 == other.user.0) && (proc.num == other.num) && is_same_manager manager at
+
 -- one of the first threads of a process
 abbrev pub is_thread_of : Proc → ℕ → Thread → Bool
 is_thread_of proc threads other = (proc.user.0 == other.proc.user.0) && (proc.num == other.proc.num) && nat_le 1 other.tid && nat_le other.tid threads
@@ -54,6 +58,12 @@ pub record Tied (table : Table Queued) (one other : Line) (nodes : List UserNode
   pub apart : (list : ℕ) → IsOwn one list → IsOwn other list → ⊥
   pub own : (thread : Thread) (kept : ThreadNodes) → nodes_at nodes thread ≡ Some kept → ContainsNode table kept.message × (sender (entry_at table kept.message) ≡ thread)
   pub listed : (list node : ℕ) → IsIn table list node → (IsOwn one list ⊎ IsOwn other list) × (option_map (λ kept. kept.message) (nodes_at nodes (sender (entry_at table node))) ≡ Some node)
+
+-- the disconnect nodes of server connections stand in no list, and none is another's or a thread's message node
+pub record Spare (table : Table Queued) (nodes : List UserNodes) : Type 0 where
+  pub free : (proc : Proc) (manager : Manager) (node : ℕ) → disconnect_at nodes proc manager ≡ Some node → IsFree table node
+  pub unlike : (thread : Thread) (kept : ThreadNodes) (proc : Proc) (manager : Manager) (node : ℕ) → nodes_at nodes thread ≡ Some kept → disconnect_at nodes proc manager ≡ Some node → kept.message ≢ node
+  pub once : (proc other : Proc) (manager at : Manager) (node : ℕ) → disconnect_at nodes proc manager ≡ Some node → disconnect_at nodes other at ≡ Some node → (other ≡ proc) × (at ≡ manager)
 
 -- a thread's message as it stands in a line
 abbrev pub message_of : Thread → ℕ → Queued

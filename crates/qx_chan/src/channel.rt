@@ -1,13 +1,13 @@
-//! The managers' lines over one table of nodes, in which the nodes of all users' threads stand.
+//! The managers' lines over one table of nodes, in which the nodes of all users' threads and server connections stand.
 
-ghost use Rattle.std.specs.Prelude.{◌≡◌, ℕ, ◌+◌, ◌-◌, ◌*◌, ◌<◌, ◌≤◌, ◌||◌, false, length, drop, slice_get, max, IfOk, OnOk, OnErr, IfSome, IsTrue, None, [], is_some};
+ghost use Rattle.std.specs.Prelude.{◌≡◌, ℕ, ◌+◌, ◌-◌, ◌*◌, ◌<◌, ◌≤◌, ◌||◌, ◌&&◌, not, if◌then◌else◌, false, length, drop, slice_get, max, IfOk, OnOk, OnErr, IfSome, IsTrue, None, [], is_some};
 ghost use Rattle.std.specs.FinMap as maps;
 ghost use Rattle.qx_lists.specs.Table.{ContainsNode, IsFree, IsIn, with_value};
 ghost use Rattle.qx_lines.specs.Line.{IsLineOf};
 ghost use Rattle.qx_machine.specs.Lines.{into};
 ghost use Rattle.qx_machine.specs.Machine as machine;
-ghost use Rattle.qx_chan.specs.Channel.{PutIn, TakenOut, channel_line, entries, entry_at, is_same_thread, is_thread_of, message_of, sender, stands, with_channel_line};
-ghost use Rattle.qx_chan.specs.Nodes.{no_nodes, nodes_at};
+ghost use Rattle.qx_chan.specs.Channel.{PutIn, TakenOut, channel_line, entries, entry_at, is_same_server, is_same_thread, is_thread_of, message_of, sender, stands, with_channel_line};
+ghost use Rattle.qx_chan.specs.Nodes.{HasThread, disconnect_at, no_nodes, nodes_at};
 
 use crate::nodes::{Nodes, ThreadNodes};
 use crate::waiting::Waiting;
@@ -18,7 +18,7 @@ use qx_types::{Manager, Prio, Proc, Thread};
 use std::alloc::{AllocError, Global};
 use std::marker::Model;
 
-/// The managers' lines over one table of nodes, in which the nodes of all users' threads stand.
+/// The managers' lines over one table of nodes, in which the nodes of all users' threads and server connections stand.
 #[derive(Drop)]
 pub struct Channel {
     table: Table<Waiting>,
@@ -34,7 +34,7 @@ impl Model for Channel {
 
     ghost view = { λ c. record { ram = words.entries c.table c.ram; pipe = words.entries c.table c.pipe; nodes = c.nodes; room = c.table.room } };
 
-    ghost invariant = { λ c. words.Tied c.table c.ram c.pipe c.nodes };
+    ghost invariant = { λ c. words.Tied c.table c.ram c.pipe c.nodes × words.Spare c.table c.nodes };
 }
 
 impl Channel {
@@ -131,6 +131,7 @@ impl Channel {
         ensures room { self.new.room ≡ self.old.room - 2 }
         ensures users { length self.new.nodes ≡ length self.old.nodes }
         ensures own { (other : Thread) → is_some (nodes_at self.new.nodes other) ≡ is_some (nodes_at self.old.nodes other) || is_same_thread thread other }
+        ensures servers { (other : Proc) (at : Manager) → disconnect_at self.new.nodes other at ≡ disconnect_at self.old.nodes other at }
     {
         self.table.know();
         let message = new_node(&mut self.table, Waiting::new(queued_message(thread, prio)));
@@ -153,12 +154,50 @@ impl Channel {
         ensures room { self.new.room + 2 * threads ≡ self.old.room }
         ensures users { length self.new.nodes ≡ length self.old.nodes }
         ensures own { (other : Thread) → is_some (nodes_at self.new.nodes other) ≡ is_some (nodes_at self.old.nodes other) || is_thread_of proc threads other }
+        ensures servers { (other : Proc) (at : Manager) → disconnect_at self.new.nodes other at ≡ disconnect_at self.old.nodes other at }
     {
         if threads == 0 {
             return;
         }
         self.add_process(proc, threads - 1, prio);
         self.add(Thread { proc, tid: threads }, prio);
+    }
+
+    /// A process has a disconnect node at a manager from now on: the one that it had, or a new one.
+    pub fn add_server(&mut self, proc: Proc, manager: Manager) -> Result<(), AllocError>
+        requires { HasThread self.old.nodes proc }
+        ensures ram { OnOk result (self.new.ram ≡ self.old.ram) }
+        ensures pipe { OnOk result (self.new.pipe ≡ self.old.pipe) }
+        ensures room { OnOk result (self.new.room ≡ (if is_some (disconnect_at self.old.nodes proc manager) then self.old.room else self.old.room - 1)) }
+        ensures users { OnOk result (length self.new.nodes ≡ length self.old.nodes) }
+        ensures threads { OnOk result ((thread : Thread) → nodes_at self.new.nodes thread ≡ nodes_at self.old.nodes thread) }
+        ensures servers { OnOk result ((other : Proc) (at : Manager) → is_some (disconnect_at self.new.nodes other at) ≡ is_some (disconnect_at self.old.nodes other at) || is_same_server proc manager other at) }
+        ensures err { OnErr result (self.new ≡ self.old) }
+    {
+        if self.nodes.disconnect(proc, manager).is_some() {
+            return Ok(());
+        }
+        self.table.reserve(1)?;
+        self.table.know();
+        let idle = Thread { proc, tid: 0 };
+        let node = new_node(&mut self.table, Waiting::new(queued_message(idle, Prio(63))));
+        self.nodes.set_disconnect(proc, manager, Some(node));
+        Ok(())
+    }
+
+    /// A process has no disconnect node at a manager from now on, and room is kept for the one that it had.
+    pub fn remove_server(&mut self, proc: Proc, manager: Manager)
+        ensures ram { self.new.ram ≡ self.old.ram }
+        ensures pipe { self.new.pipe ≡ self.old.pipe }
+        ensures room { self.new.room ≡ (if is_some (disconnect_at self.old.nodes proc manager) then self.old.room + 1 else self.old.room) }
+        ensures users { length self.new.nodes ≡ length self.old.nodes }
+        ensures threads { (thread : Thread) → nodes_at self.new.nodes thread ≡ nodes_at self.old.nodes thread }
+        ensures servers { (other : Proc) (at : Manager) → is_some (disconnect_at self.new.nodes other at) ≡ is_some (disconnect_at self.old.nodes other at) && not (is_same_server proc manager other at) }
+    {
+        if let Some(node) = self.nodes.disconnect(proc, manager) {
+            self.table.free_node(node);
+            self.nodes.set_disconnect(proc, manager, None);
+        }
     }
 }
 

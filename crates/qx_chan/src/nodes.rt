@@ -1,10 +1,10 @@
-//! The nodes of all threads, by user, process and thread: made with the thread, so that a message takes none.
+//! The nodes of all threads and of all server connections: made with them, so that a message and a pulse take none.
 
 ghost use Rattle.std.specs.Prelude.{◌≡◌, ◌<◌, ◌+◌, length, IfOk, None, Some, replicate, slice_set, get_or};
 ghost use Rattle.qx_machine.specs.Rows.{row_at};
-ghost use Rattle.qx_chan.specs.Nodes.{no_nodes, no_process, no_processes, nodes_at, with_nodes_at};
+ghost use Rattle.qx_chan.specs.Nodes.{disconnect_at, no_nodes, no_process, nodes_at, server_node, with_disconnect_at, with_nodes_at, with_process, with_server, with_thread};
 
-use qx_types::{Thread, User};
+use qx_types::{Manager, Proc, Thread};
 use std::alloc::{AllocError, Global};
 use std::marker::Model;
 
@@ -15,19 +15,53 @@ pub struct ThreadNodes {
     pub unblock: usize,
 }
 
-/// The nodes of a process, by thread.
+/// The disconnect nodes of a process, by the manager of its server connection.
+#[derive(Clone, Copy, Debug, PartialEq, Eq)]
+pub struct ServerNodes {
+    pub ram: Option<usize>,
+    pub pipe: Option<usize>,
+}
+
+/// The nodes of a process: those of its threads, by number, and those of its server connections.
 #[derive(Clone, Copy, Debug, PartialEq, Eq)]
 pub struct ProcessNodes {
     threads: [Option<ThreadNodes>; 5],
+    servers: ServerNodes,
 }
 
 impl ProcessNodes {
+    const NONE: ProcessNodes = ProcessNodes {
+        threads: [None; 5],
+        servers: ServerNodes {
+            ram: None,
+            pipe: None,
+        },
+    };
+
     fn set(&mut self, thread: u8, own: ThreadNodes)
         requires { thread < 5 }
-        ensures set { self.new.threads ≡ slice_set self.old.threads thread (Some own) }
+        ensures set { self.new ≡ with_thread self.old thread own }
         ensures there { row_at self.new.threads thread ≡ Some own }
     {
         self.threads[thread as usize] = Some(own);
+    }
+
+    fn disconnect(&self, manager: Manager) -> Option<usize>
+        ensures { result ≡ server_node self.now.servers manager }
+    {
+        match manager {
+            Manager::Ram => self.servers.ram,
+            Manager::Pipe => self.servers.pipe,
+        }
+    }
+
+    fn set_disconnect(&mut self, manager: Manager, node: Option<usize>)
+        ensures { self.new ≡ with_server self.old manager node }
+    {
+        match manager {
+            Manager::Ram => self.servers.ram = node,
+            Manager::Pipe => self.servers.pipe = node,
+        }
     }
 }
 
@@ -39,20 +73,29 @@ pub struct UserNodes {
 
 impl UserNodes {
     const NONE: UserNodes = UserNodes {
-        processes: [ProcessNodes { threads: [None; 5] }; 17],
+        processes: [ProcessNodes::NONE; 17],
     };
 
     fn set(&mut self, process: u8, thread: u8, own: ThreadNodes)
         requires process { process < 17 }
         requires thread { thread < 5 }
-        ensures set { self.new.processes ≡ slice_set self.old.processes process (record { threads = slice_set (get_or self.old.processes process no_process).threads thread (Some own) }) }
+        ensures set { self.new ≡ with_process self.old process (with_thread (get_or self.old.processes process no_process) thread own) }
         ensures there { row_at (get_or self.new.processes process no_process).threads thread ≡ Some own }
     {
         self.processes[process as usize].set(thread, own);
     }
+
+    fn set_disconnect(&mut self, process: u8, manager: Manager, node: Option<usize>)
+        ensures { self.new ≡ with_process self.old process (with_server (get_or self.old.processes process no_process) manager node) }
+    {
+        let place = process as usize;
+        if place < self.processes.len() {
+            self.processes[place].set_disconnect(manager, node);
+        }
+    }
 }
 
-/// The nodes of all threads, by user, process and thread.
+/// The nodes of all threads and of all server connections, by user and process.
 #[derive(Drop)]
 pub struct Nodes {
     users: Vec<UserNodes>,
@@ -98,5 +141,23 @@ impl Nodes {
         ensures there { nodes_at self.new thread ≡ Some own }
     {
         self.users[thread.proc.user.0 as usize].set(thread.proc.num, thread.tid, own);
+    }
+
+    /// The disconnect node of a process' server connection at a manager.
+    pub fn disconnect(&self, proc: Proc, manager: Manager) -> Option<usize>
+        ensures { result ≡ disconnect_at self.now proc manager }
+    {
+        let of_user = self.users.get(proc.user.0 as usize)?;
+        of_user.processes.get(proc.num as usize)?.disconnect(manager)
+    }
+
+    /// A process gets another disconnect node at a manager, or none.
+    pub fn set_disconnect(&mut self, proc: Proc, manager: Manager, node: Option<usize>)
+        ensures { self.new ≡ with_disconnect_at self.old proc manager node }
+    {
+        let place = proc.user.0 as usize;
+        if place < self.users.len() {
+            self.users[place].set_disconnect(proc.num, manager, node);
+        }
     }
 }

@@ -1,16 +1,17 @@
 ghost use Rattle.std.specs.Prelude.{◌≡◌, ◌≤◌, ◌<◌, length, IsTrue, IfSome, OnSome, MatchOption};
+ghost use Rattle.std.specs.List.{list_any};
 ghost use Rattle.std.specs.Option.{option_copied};
 ghost use Rattle.qx_machine.specs.Processes.{taking, ready, ranked, sending};
 ghost use Rattle.qx_machine.specs.Rows.{row_at, lowest_from};
 ghost use Rattle.qx_machine.specs.Users.{answering, failing, opening, closing};
 ghost use Rattle.qx_procs.specs.declared.room.TheConstants.{REPLY_BYTES};
 ghost use Rattle.qx_procs.specs.Reads.{is_thread_blocked, thread_answer, CanCall, IsPriority};
-ghost use Rattle.qx_procs.specs.Servers.{new_client, with_rows, with_settled_rows, with_rows_by, with_side, without_side, attached, detached, server_at};
+ghost use Rattle.qx_procs.specs.Servers.{new_client, with_rows, with_settled_rows, with_rows_by, with_side, without_side, attached, connects, detached, server_at};
 
 use crate::connections::{self, Connections};
 use crate::places;
 use crate::room::Room;
-use crate::servers::{ServerConnection, Servers, Sides};
+use crate::servers::{ServerConnection, Servers, Sides, has_connection};
 use crate::threads::{self, Threads};
 use qx_machine::{Connection, Message, Sent, ThreadRow};
 use qx_types::{Answer, Coid, Errno, Limits, Manager, Prio};
@@ -67,6 +68,13 @@ impl Process {
         ensures within { OnSome result (coid.0 < 67) }
     {
         places::row(self.connections.as_slice(), coid.0 as usize)
+    }
+
+    /// Whether it has a connection at a manager.
+    pub fn connects(&self, manager: Manager) -> bool
+        ensures { result ≡ list_any (connects manager) self.now.process.connections }
+    {
+        has_connection(manager, self.connections.as_slice())
     }
 
     /// The lowest free number of a connection.

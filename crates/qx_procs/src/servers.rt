@@ -78,7 +78,7 @@ fn is_attached(
 }
 
 /// Whether a process has a connection at a manager.
-fn has_connection(manager: Manager, connections: &[Option<Connection>]) -> bool
+pub fn has_connection(manager: Manager, connections: &[Option<Connection>]) -> bool
     ensures { result ≡ list_any (servers.connects manager) connections.now }
 {
     connections.iter().any(|place| connects(manager, place))

@@ -4,6 +4,7 @@
 mod judge;
 mod part;
 mod parts;
+mod servers;
 mod status;
 pub mod trace;
 pub mod work;

@@ -6,6 +6,7 @@ ghost use Rattle.qx_machine.specs.Rows.{row_at, lowest_from};
 ghost use Rattle.qx_machine.specs.Users as users;
 ghost use Rattle.qx_world.specs.Held.{is_open, opens_item, opens_thread};
 ghost use Rattle.qx_procs.specs.Reads.{is_thread_blocked, IsPriority};
+ghost use Rattle.qx_world.specs.Kept.{connects_at};
 ghost use Rattle.qx_world.specs.Reads.{CanSend, performed_over, served_part};
 
 use crate::judge;
@@ -64,6 +65,16 @@ impl Part {
         ensures priority { IfSome result (λ row. IsPriority row.now.prio.0) }
     {
         self.processes.thread(thread.proc.num, thread.tid)
+    }
+
+    /// Whether a process has a connection at a manager.
+    pub fn connects(&self, process: u8, manager: Manager) -> bool
+        ensures { result ≡ connects_at manager (row_at self.now.processes process) }
+    {
+        match self.processes.process(process) {
+            Some(row) => row.connects(manager),
+            None => false,
+        }
     }
 
     /// Starts a process.

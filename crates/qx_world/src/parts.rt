@@ -8,12 +8,13 @@ ghost use Rattle.qx_machine.specs.Users as users;
 ghost use Rattle.qx_procs.specs.Reads.{IsPriority};
 ghost use Rattle.qx_world.specs.Calls.{spawn_outcome, reply_outcome, prio_outcome, HasPlace};
 ghost use Rattle.qx_world.specs.Held.{opens_part};
+ghost use Rattle.qx_world.specs.Kept.{connects_at, process_of};
 ghost use Rattle.qx_world.specs.Reads.{CanSend, thread_in, served_part};
 
 use crate::part::Part;
 use qx_machine::{OwnItem, Sent, ThreadRow};
 use qx_procs::{Room, places};
-use qx_types::{Outcome, Prio, Thread, User};
+use qx_types::{Manager, Outcome, Prio, Proc, Thread, User};
 use std::alloc::AllocError;
 
 pub type Parts = Vec<Option<Part>>;
@@ -26,6 +27,16 @@ pub fn thread_row(parts: &Parts, thread: Thread) -> Option<&ThreadRow>
     match places::row(parts.as_slice(), thread.proc.user.0 as usize) {
         Some(part) => part.thread(thread),
         None => None,
+    }
+}
+
+/// Whether a process has a connection at a manager.
+pub fn connects(parts: &Parts, proc: Proc, manager: Manager) -> bool
+    ensures { result ≡ connects_at manager (process_of parts.now.items proc) }
+{
+    match places::row(parts.as_slice(), proc.user.0 as usize) {
+        Some(part) => part.connects(proc.num, manager),
+        None => false,
     }
 }
 

@@ -3,7 +3,8 @@ ghost use Rattle.std.specs.Option.{option_copied};
 ghost use Rattle.qx_machine.specs.Machine as machine;
 ghost use Rattle.qx_machine.specs.Rows.{row_at};
 ghost use Rattle.qx_world.specs.Calls.{judged_call, after_sending};
-ghost use Rattle.qx_world.specs.Kept.{row_of, standing};
+ghost use Rattle.qx_chan.specs.Channel.{sender_of};
+ghost use Rattle.qx_world.specs.Kept.{CanOpen, process_of, row_of, standing};
 ghost use Rattle.qx_world.specs.Held.{held_work, holds_open, opens_hand, work_now, IsStale};
 ghost use Rattle.qx_procs.specs.Reads.{is_thread_blocked};
 ghost use Rattle.qx_world.specs.Reads.{CanSend, thread_in, is_thread_answered};
@@ -12,6 +13,7 @@ ghost use Rattle.qx_world.specs.Workers.{after_serving};
 use qx_chan::Channel;
 use crate::part::Part;
 use crate::parts::{self, Parts};
+use crate::servers;
 use crate::work::{PerformFault, Work, WorkRef};
 use qx_machine::{Held, OwnItem, Queued, Sent, State};
 use qx_procs::{Room, places};
@@ -34,13 +36,13 @@ pub struct World {
 
 impl Model for World {
     ghost use Rattle.qx_machine.specs.Machine as machine;
-    ghost use Rattle.qx_world.specs.Kept.{Kept};
+    ghost use Rattle.qx_world.specs.Kept.{Kept, KeptServers};
 
     ghost Value = { machine.World };
 
     ghost view = { λ w. record { config = w.config; parts = w.parts.items; ram = w.channel.ram; pipe = w.channel.pipe; hands = w.hands.items } };
 
-    ghost invariant = { λ w. Kept w.parts.items w.channel };
+    ghost invariant = { λ w. Kept w.parts.items w.channel × KeptServers w.parts.items w.channel.nodes };
 }
 
 impl World {
@@ -133,6 +135,7 @@ impl World {
     fn send(&mut self, thread: Thread, sent: Sent) -> Result<(), NoMemory>
         requires ready { standing (row_of self.old.parts thread) ≡ Some None }
         requires sendable { CanSend (thread_in thread (row_at self.old.parts thread.proc.user.0)) sent }
+        requires free { CanOpen (process_of self.old.parts thread.proc) sent.coid.0 sent.message }
         ensures ok { OnOk result (self.new ≡ after_sending self.old thread sent) }
         ensures err { OnErr result (self.new ≡ self.old) }
     {
@@ -141,6 +144,7 @@ impl World {
         };
         let prio = row.prio;
         let room = Room::new(self.alloc)?;
+        servers::attach(&mut self.channel, thread, sent)?;
         self.channel.put(sent.manager, thread, prio);
         parts::send_in(&mut self.parts, thread, sent, room);
         Ok(())
@@ -208,6 +212,7 @@ impl World {
         ensures sure { IsFalse (opens_hand self.old (Some held)) → IsOk result }
     {
         parts::serve_in(&mut self.parts, held.user, held.item)?;
+        servers::settle(&mut self.channel, &self.parts, item_process(held));
         places::free(&mut self.hands, worker.0 as usize);
         Ok(())
     }
@@ -388,6 +393,17 @@ fn name_bytes(name: Option<&Bytes>) -> &[u8]
     match name {
         Some(name) => name.as_slice(),
         None => &[],
+    }
+}
+
+/// The process of an item that a worker holds.
+fn item_process(held: Held) -> Proc
+    ensures { result ≡ (sender_of held.user.0 held.item).proc }
+{
+    let OwnItem::Message { process, .. } = held.item;
+    Proc {
+        user: held.user,
+        num: process,
     }
 }
 
