@@ -19,7 +19,7 @@ use Rattle.qx_chan.specs.declared.nodes.UserNodes.{UserNodes}
 use Rattle.qx_chan.specs.Channel.{PutIn, TakenOut, Tied, entries, entry_at, nobodys, sender, stands}
 use Rattle.qx_chan.specs.Nodes.{nodes_at, with_nodes_at}
 use Rattle.qx_chan.proofs.NodesLemmas.{nodes_at-other, same_or_not}
-use Rattle.qx_chan.proofs.EntryLemmas.{contains_into, contains_rest, entry-insert_same, entry-insert_other, into-map, map-agree, map-drop, stands-entry, stands-find}
+use Rattle.qx_chan.proofs.EntryLemmas.{contains_into, contains_rest, entry-insert_same, into-map, map-agree, map-drop, stands-entry, stands-find}
 
 -- a free node stands in no list
 pub nowhere : {node : ℕ} (t : Table Queued) → IsFree t node → (list : ℕ) → IsIn t list node → ⊥

@@ -53,6 +53,9 @@ proc_of user process = record { user = record { 0 = user }; num = process }
 same_proc_of : (u v p q : ℕ) → u ≡ v → p ≡ q → proc_of u p ≡ proc_of v q
 same_proc_of u v p q user process = rw (user, process) refl
 
+pub same_process_names : (one other : Proc) → one.user.0 ≡ other.user.0 → one.num ≡ other.num → one ≡ other
+same_process_names one other user process = same_proc_of _ _ _ _ user process
+
 pub same_proc : (one other : Proc) → (one ≡ other) ⊎ (one ≢ other)
 same_proc one other = elim (cases_eq one.user.0 other.user.0) [
   | inr apart ↦ inr (λ same. apart (ap (λ p. p.user.0) same))

@@ -1,23 +1,22 @@
 -- The disconnect nodes of server connections, as they are made and given back, and as other nodes are made and move.
-use Rattle.std.proofs.Common.{◌≡◌, ◌≢◌, inl, inr, ◌⊎◌, ℕ, ◌+◌, List, [], Contains, Option, Some, None, option_map, is_some, drop, unwrap_or, refl, sym, ◌∙◌, ap}
+use Rattle.std.proofs.Common.{◌≡◌, ◌≢◌, inl, inr, ◌⊎◌, ℕ, List, [], Contains, Option, Some, None, option_map, drop, unwrap_or, refl, sym, ◌∙◌, ap}
 use Rattle.std.specs.FinMap as maps
 use Rattle.std.proofs.lemmas.Bool.Decides.{eqb_tells}
 use Rattle.qx_types.specs.declared.names.Manager.{Manager}
 use Rattle.qx_types.specs.declared.names.Proc.{Proc}
 use Rattle.qx_types.specs.declared.names.Thread.{Thread}
-use Rattle.qx_lists.specs.Table.{Table, ContainsNode, IsFree, IsIn, nodes_of}
+use Rattle.qx_lists.specs.Table.{Table, ContainsNode, IsFree, IsIn}
 use Rattle.qx_lists.proofs.ListLemmas.{nowhere_from}
 use Rattle.qx_lines.specs.declared.Line.{Line}
 use Rattle.qx_lines.specs.Line.{IsOwn, nodes_in}
 use Rattle.qx_machine.specs.declared.rows.Queued.{Queued}
-use Rattle.qx_machine.specs.Machine.{rank}
 use Rattle.qx_chan.specs.declared.nodes.ThreadNodes.{ThreadNodes}
 use Rattle.qx_chan.specs.declared.nodes.UserNodes.{UserNodes}
 use Rattle.qx_chan.specs.Channel.{PutIn, Spare, TakenOut, Tied, entries, entry_at, sender}
 use Rattle.qx_chan.specs.Nodes.{disconnect_at, nodes_at, with_disconnect_at, with_nodes_at}
-use Rattle.qx_chan.proofs.ChannelLemmas.{Tied-node, absent_is, contains-insert, contains-other, contains-self, entries-kept, entries-node, entry-other, line-kept, nowhere, removed, some_same}
+use Rattle.qx_chan.proofs.ChannelLemmas.{Tied-node, absent_is, contains-insert, contains-other, contains-self, entries-kept, entry-other, line-kept, nowhere, removed, some_same}
 use Rattle.qx_chan.proofs.EntryLemmas.{contains_rest}
-use Rattle.qx_chan.proofs.NodesLemmas.{disconnect_at-none, disconnect_at-other, disconnect_at-with_nodes, nodes_at-other, nodes_at-with_disconnect, same_or_not, server_or_not}
+use Rattle.qx_chan.proofs.NodesLemmas.{disconnect_at-other, disconnect_at-with_nodes, nodes_at-other, nodes_at-with_disconnect, same_or_not, server_or_not}
 
 none_some : {A : Type 0} (x : A) (o : Option A) → o ≡ None → o ≡ Some x → ⊥
 none_some x o none some = let clash : None ≡ Some x = sym none ∙ some in cc

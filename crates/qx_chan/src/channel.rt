@@ -180,7 +180,10 @@ impl Channel {
         self.table.reserve(1)?;
         self.table.know();
         let idle = Thread { proc, tid: 0 };
-        let node = new_node(&mut self.table, Waiting::new(queued_message(idle, Prio(63))));
+        let node = new_node(
+            &mut self.table,
+            Waiting::new(queued_message(idle, Prio(63))),
+        );
         self.nodes.set_disconnect(proc, manager, Some(node));
         Ok(())
     }

@@ -148,7 +148,10 @@ impl Nodes {
         ensures { result ≡ disconnect_at self.now proc manager }
     {
         let of_user = self.users.get(proc.user.0 as usize)?;
-        of_user.processes.get(proc.num as usize)?.disconnect(manager)
+        of_user
+            .processes
+            .get(proc.num as usize)?
+            .disconnect(manager)
     }
 
     /// A process gets another disconnect node at a manager, or none.

@@ -38,7 +38,7 @@ Kept-same parts channel user h same kept = record {
   queued = λ thread manager. kept.queued thread manager ∙ sym (ap (is_at manager) (row_of-same parts user h same thread));
 }
 
-nodes-with_line : (channel : Channel) (manager : Manager) (line : List Queued) → (with_channel_line channel manager line).nodes ≡ channel.nodes
+pub nodes-with_line : (channel : Channel) (manager : Manager) (line : List Queued) → (with_channel_line channel manager line).nodes ≡ channel.nodes
 nodes-with_line channel Ram line = refl
 nodes-with_line channel Pipe line = refl
 

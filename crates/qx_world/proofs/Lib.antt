@@ -1,6 +1,7 @@
 mod BootLemmas
 mod KeptLemmas
 mod LoanLemmas
+mod ServerLemmas
 mod SpawnLemmas
 mod StandingLemmas
 mod TraceLemmas

@@ -32,7 +32,7 @@ taken_places-within [] = omega arith
 taken_places-within (None ∷ places) = omega arith
 taken_places-within (Some row ∷ places) = let rest = taken_places-within places in omega (arith, rest)
 
-lowest-within : {A : Type 0} (places : List (Option A)) → 0 < length places → lowest_from 1 places ≤ length places
+pub lowest-within : {A : Type 0} (places : List (Option A)) → 0 < length places → lowest_from 1 places ≤ length places
 lowest-within [] some = absurd (omega (arith, some))
 lowest-within (place ∷ places) some = let rest = taken_places-within places in omega (arith, rest)
 

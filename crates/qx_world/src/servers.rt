@@ -39,8 +39,18 @@ pub fn settle(channel: &mut Channel, parts: &Parts, proc: Proc)
     ensures threads { (other : Thread) → nodes_at channel.new.nodes other ≡ nodes_at channel.old.nodes other }
     ensures servers { (other : Proc) (at : Manager) → is_some (disconnect_at channel.new.nodes other at) ≡ is_some (disconnect_at channel.old.nodes other at) && (not (is_same_process proc other) || connects_at at (process_of parts.now.items proc)) }
 {
-    settle_at(channel, proc, Manager::Ram, parts::connects(parts, proc, Manager::Ram));
-    settle_at(channel, proc, Manager::Pipe, parts::connects(parts, proc, Manager::Pipe));
+    settle_at(
+        channel,
+        proc,
+        Manager::Ram,
+        parts::connects(parts, proc, Manager::Ram),
+    );
+    settle_at(
+        channel,
+        proc,
+        Manager::Pipe,
+        parts::connects(parts, proc, Manager::Pipe),
+    );
 }
 
 /// A process keeps its disconnect node at a manager if it has a connection there.

@@ -10,11 +10,11 @@ ghost use Rattle.qx_procs.specs.Reads.{is_thread_blocked};
 ghost use Rattle.qx_world.specs.Reads.{CanSend, thread_in, is_thread_answered};
 ghost use Rattle.qx_world.specs.Workers.{after_serving};
 
-use qx_chan::Channel;
 use crate::part::Part;
 use crate::parts::{self, Parts};
 use crate::servers;
 use crate::work::{PerformFault, Work, WorkRef};
+use qx_chan::Channel;
 use qx_machine::{Held, OwnItem, Queued, Sent, State};
 use qx_procs::{Room, places};
 use qx_types::{

@@ -14,8 +14,7 @@ invariant_of-self-2 c =
     let spare : Spare c.reserve.new.self c.self.inside.nodes = Spare-room c.self.inside.table _ _ lists values c.self.invariant.1 in
     let there : HasThread c.self.inside.nodes c.args.proc = rw (← c.self.view_is) at c.requires in
     let gets = disconnect_at-started c.self.inside.nodes c.args.proc c.args.manager (Some c.new_node-node.result) there in
-    rw c.set_disconnect.ensures
-    (
+    rw c.set_disconnect.ensures (
       Tied-made c.reserve.new.self _ _ _ _ c.new_node-node.ensures.made c.new_node-node.ensures.was_new c.know.ensures.there _ _ _ c.args.proc c.args.manager tied spare gets,
       Spare-made c.reserve.new.self _ _ _ _ c.new_node-node.ensures.made c.new_node-node.ensures.was_new c.know.ensures.there _ _ _ c.args.proc c.args.manager tied spare gets,
     )

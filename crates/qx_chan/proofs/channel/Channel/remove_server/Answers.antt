@@ -9,8 +9,7 @@ free_node-requires c = c.self.invariant.1.free c.args.proc c.args.manager c.in-S
 pub invariant_of-self : goal.invariant_of-self
 invariant_of-self c =
     let gone = disconnect_at-had c.self.inside.nodes c.args.proc c.args.manager None c.in-Some.node (search rules) in
-    rw c.set_disconnect.ensures
-    (
+    rw c.set_disconnect.ensures (
       Tied-freed c.self.inside.table _ _ _ _ c.args.proc c.args.manager c.in-Some.node _ c.free_node.ensures.freed c.self.invariant.1 (search rules) c.self.invariant.0,
       Spare-freed c.self.inside.table _ c.self.inside.ram c.self.inside.pipe _ c.args.proc c.args.manager c.in-Some.node _ c.free_node.ensures.freed c.self.invariant.1 (search rules) gone,
     )

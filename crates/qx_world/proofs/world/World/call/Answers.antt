@@ -1,6 +1,10 @@
 use Rattle.std.proofs.Common.{rules}
+use Rattle.qx_world.proofs.ServerLemmas.{judged-free}
 use Rattle.qx_world.proofs.WorldLemmas.{call-sent, call-refused}
 use Rattle.qx_world.proofs.world.World.call.Goals as goal
+
+pub send-requires-clause-free : goal.send-requires-clause-free
+send-requires-clause-free c = judged-free c.args.self.now c.args.thread c.args.request.now c.in-Ok.sent (search rules)
 
 pub returns-in_ok-send-in-Ok-clause-outcome : goal.returns-in_ok-send-in-Ok-clause-outcome
 returns-in_ok-send-in-Ok-clause-outcome c = rw (call-sent c.args.self.now c.args.thread c.args.request.now c.in-Ok.sent (search rules))

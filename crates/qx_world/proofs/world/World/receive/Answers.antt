@@ -3,12 +3,13 @@ use Rattle.qx_types.specs.declared.outcome.Outcome.TheVariants.{Took}
 use Rattle.qx_machine.specs.Machine.{is_worker, line_of}
 use Rattle.qx_machine.specs.Rows.{row_at}
 use Rattle.qx_chan.specs.Channel.{channel_line}
-use Rattle.qx_world.proofs.KeptLemmas.{Kept-taken, held-view, line_of-channel, line_of-first}
+use Rattle.qx_world.proofs.KeptLemmas.{Kept-taken, held-view, line_of-channel, line_of-first, nodes-with_line}
+use Rattle.qx_world.proofs.ServerLemmas.{KeptServers-same, taken_connections}
 use Rattle.qx_world.proofs.WorkerLemmas.{receive-took}
 use Rattle.qx_world.proofs.world.World.receive.Goals as goal
 
 pub invariant_of-self-2 : goal.invariant_of-self-2
-invariant_of-self-2 c = rw (c.take_in.ensures, c.take.ensures.rest) (Kept-taken _ _ _ _ _ (line_of-first _ _ c.in-Some.ensures.first) c.in-Some.ensures.gone c.self.invariant)
+invariant_of-self-2 c = rw (c.take_in.ensures, c.take.ensures.rest) (Kept-taken _ _ _ _ _ (line_of-first _ _ c.in-Some.ensures.first) c.in-Some.ensures.gone c.self.invariant.0, rw (nodes-with_line c.self.inside.channel c.args.manager (drop 1 (channel_line c.self.inside.channel c.args.manager))) (KeptServers-same _ _ _ _ (λ part is. taken_connections part c.in-Some.first.item) c.self.invariant.1))
 
 pub returns-clause-outcome : goal.returns-clause-outcome
 returns-clause-outcome c =
