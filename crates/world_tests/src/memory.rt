@@ -207,7 +207,7 @@ const PIECES: usize = 1 << 16;
 
 /// Takes all memory, in ever smaller pieces, until not one byte is given. Nothing is written to it. Under the checks of
 /// `rt try` small pieces never come to an end, and this is an error.
-fn exhausted(alloc: Global) -> Result<Vec<Vec<u8>>, AllocError> {
+pub fn exhausted(alloc: Global) -> Result<Vec<Vec<u8>>, AllocError> {
     let mut pieces = Vec::with_capacity(alloc, PIECES)?;
     let mut size = 1 << 46;
     for _ in 0..36 {

@@ -1,9 +1,7 @@
 //! The steps that the tests take.
 
-use qx_types::{
-    Bytes, Config, Manager, OFlags, Prio, Proc, Request, Step, Thread, User, Worker,
-};
 use qx_machine::Seen;
+use qx_types::{Bytes, Config, Manager, OFlags, Prio, Proc, Request, Step, Thread, User, Worker};
 use std::alloc::Global;
 use std::process::Abort;
 use std::test::Fail;
