@@ -1,4 +1,4 @@
-ghost use Rattle.std.specs.Prelude.{None, Some, ◌≡◌, ◌==◌, IfOk, if◌then◌else◌, length, map};
+ghost use Rattle.std.specs.Prelude.{None, Some, ◌≡◌, ◌==◌, IfOk, IsOk, IsTrue, if◌then◌else◌, length, map};
 ghost use Rattle.qx_sh.specs.Script.{after_line, after_user, after_words, after_workers, is_new_user, is_skipped, said, script_of, unread, with_command};
 
 use crate::command::Command;
@@ -42,10 +42,11 @@ impl Reading {
         }
     }
 
-    /// Reads one more line, and says whether it is a good one.
+    /// Reads one more line, and says whether it is a good one. An empty line and a comment want no memory.
     #[tactic(auto, unfolding(crate::specs::Script::after_line))]
     pub fn read(&mut self, alloc: Global, line: &[u8]) -> Result<bool, NoMemory>
         ensures read { IfOk result (λ good. (if good then Some self.new else None) ≡ after_line self.old line.now) }
+        ensures skipped { IsTrue (is_skipped line.now) → IsOk result }
     {
         if is_skipped(line) {
             return Ok(true);

@@ -1,4 +1,4 @@
-ghost use Rattle.std.specs.Prelude.{[], ◌≡◌, ◌+◌, ◌^◌, ◌<◌, ◌≤◌, IfOk, IfSome, IsErrOf, OnErr, OnOk, drop, length};
+ghost use Rattle.std.specs.Prelude.{[], ◌≡◌, ◌+◌, ◌^◌, ◌<◌, ◌≤◌, IfOk, IfSome, IsErrOf, IsOk, OnErr, OnOk, drop, length};
 ghost use Rattle.std.specs.Io.{StartsWith};
 ghost use Rattle.std.specs.Io.KnownBytes.{Appends, Consumes, IsAtEnd};
 ghost use Rattle.qx_sh.specs.Written.{AppendsFront};
@@ -64,10 +64,11 @@ fn read_more<R: Read>(reader: &mut R, text: &mut Vec<u8>, limit: usize) -> Resul
     }
 }
 
-/// Writes all bytes, or a front of them.
+/// Writes all bytes, or a front of them. Where there are none it does not fail.
 pub fn write_out<W: Write>(writer: &mut W, bytes: &[u8]) -> Result<(), WriteFailed>
     ensures whole { OnOk result (Appends (W.contents writer.old) (W.contents writer.new) bytes.now) }
     ensures front { OnErr result (AppendsFront (W.contents writer.old) (W.contents writer.new) bytes.now) }
+    ensures nothing { bytes.now ≡ [] → IsOk result }
 {
     let mut written = 0;
     'writes: while written < bytes.len() {
