@@ -231,8 +231,7 @@ fn take_pieces(alloc: Global, pieces: &mut Vec<Vec<u8>>, size: usize) -> Result<
     Ok(())
 }
 
-/// A reply of ann waits to be taken, and an open of bob to be received. There is room for the three steps that take no
-/// memory, and for one more.
+/// A reply of ann waits to be taken, and an open of bob to be received. There is room for three more steps.
 fn before_sure_steps(alloc: Global) -> Result<Traced, Fail> {
     let (ann, bob) = (first_thread(User(1)), first_thread(User(2)));
     let mut traced = filled(
@@ -250,7 +249,7 @@ fn before_sure_steps(alloc: Global) -> Result<Traced, Fail> {
             call(bob, open(alloc, "/bob")?),
         ],
     )?;
-    traced.reserve(4)?;
+    traced.reserve(3)?;
     Ok(traced)
 }
 

@@ -1,7 +1,6 @@
-use Rattle.std.proofs.Common.{◌≡◌, true, ap, ◌∙◌}
+use Rattle.std.proofs.Common.{ap, ◌∙◌}
 use Rattle.std.specs.Prelude.{is_some}
 use Rattle.qx_types.specs.declared.names.Thread.{Thread}
-use Rattle.qx_chan.specs.Nodes.{nodes_at}
 use Rattle.world_tests.proofs.nodes.take_and_give_back.Goals as goal
 
 pub returns : goal.returns

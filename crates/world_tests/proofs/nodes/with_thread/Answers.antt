@@ -1,4 +1,4 @@
-use Rattle.std.proofs.Common.{true, ◌||◌, ap, ◌∙◌}
+use Rattle.std.proofs.Common.{◌||◌, ap, ◌∙◌}
 use Rattle.std.specs.Prelude.{is_some}
 use Rattle.qx_chan.specs.Nodes.{nodes_at}
 use Rattle.qx_chan.proofs.EntryLemmas.{is_same_thread-self, or_true}
