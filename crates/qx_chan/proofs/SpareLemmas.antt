@@ -1,5 +1,5 @@
--- The disconnect nodes of server connections, as they are made and given back, and as other nodes are made and move.
-use Rattle.std.proofs.Common.{◌≡◌, ◌≢◌, inl, inr, ◌⊎◌, ℕ, List, [], Contains, Option, Some, None, option_map, drop, unwrap_or, refl, sym, ◌∙◌, ap}
+-- The nodes that stand in no line, as they are made and given back, and as other nodes are made and move.
+use Rattle.std.proofs.Common.{◌≡◌, ◌≢◌, ◌⊎◌, inl, inr, ℕ, List, [], Contains, Option, Some, None, option_map, drop, unwrap_or, refl, sym, ◌∙◌, ap}
 use Rattle.std.specs.FinMap as maps
 use Rattle.std.proofs.lemmas.Bool.Decides.{eqb_tells}
 use Rattle.qx_types.specs.declared.names.Manager.{Manager}
@@ -13,7 +13,7 @@ use Rattle.qx_machine.specs.declared.rows.Queued.{Queued}
 use Rattle.qx_chan.specs.declared.nodes.ThreadNodes.{ThreadNodes}
 use Rattle.qx_chan.specs.declared.nodes.UserNodes.{UserNodes}
 use Rattle.qx_chan.specs.Channel.{PutIn, Spare, TakenOut, Tied, entries, entry_at, sender}
-use Rattle.qx_chan.specs.Nodes.{disconnect_at, nodes_at, with_disconnect_at, with_nodes_at}
+use Rattle.qx_chan.specs.Nodes.{Idle, Unblock, Disconnect, disconnect_at, idle_at, nodes_at, with_disconnect_at, with_nodes_at}
 use Rattle.qx_chan.proofs.ChannelLemmas.{Tied-node, absent_is, contains-insert, contains-other, contains-self, entries-kept, entry-other, line-kept, nowhere, removed, some_same}
 use Rattle.qx_chan.proofs.EntryLemmas.{contains_rest}
 use Rattle.qx_chan.proofs.NodesLemmas.{disconnect_at-other, disconnect_at-with_nodes, nodes_at-other, nodes_at-with_disconnect, same_or_not, server_or_not}
@@ -25,59 +25,59 @@ none_some x o none some = let clash : None ≡ Some x = sym none ∙ some in cc
 free-kept : (old new : Table Queued) (node : ℕ) → IsFree old node → ContainsNode new node → ((list : ℕ) → IsIn new list node → IsIn old list node) → IsFree new node
 free-kept old new node free there lists = record { there = there; in_no_list = nowhere_from new.lists node (λ list at. nowhere old free list (lists list at)) }
 
--- the same nodes in another room
-pub Spare-room : (old new : Table Queued) (nodes : List UserNodes) → new.lists ≡ old.lists → new.values ≡ old.values → Spare old nodes → Spare new nodes
-Spare-room old new nodes lists values spare = record {
-  free = λ proc manager node has. let was = spare.free proc manager node has in free-kept old new node was (rw values was.there) (λ list at. rw lists at at);
+-- the same nodes, each free still
+still_free : (old new : Table Queued) (nodes : List UserNodes) → ((owner : Idle) (node : ℕ) → idle_at nodes owner ≡ Some node → IsFree old node → IsFree new node) → Spare old nodes → Spare new nodes
+still_free old new nodes still spare = record {
+  free = λ owner node has. still owner node has (spare.free owner node has);
   unlike = spare.unlike;
   once = spare.once;
 }
 
+-- the same nodes in another room
+pub Spare-room : (old new : Table Queued) (nodes : List UserNodes) → new.lists ≡ old.lists → new.values ≡ old.values → Spare old nodes → Spare new nodes
+Spare-room old new nodes lists values spare = still_free old new nodes (λ owner node has was. free-kept old new node was (rw values was.there) (λ list at. rw lists at at)) spare
+
 module _ (old new : Table Queued) (before after : Line) (nodes : List UserNodes) where
   -- a thread's message node is put into a line
   pub Spare-put : (thread : Thread) (kept : ThreadNodes) (entry : Queued) → nodes_at nodes thread ≡ Some kept → PutIn old new before after kept.message entry → Spare old nodes → Spare new nodes
-  Spare-put thread kept entry is put spare = record {
-    free = λ proc manager node has.
-        let was = spare.free proc manager node has in
-        free-kept old new node was (contains-insert old new kept.message entry put.values node was.there) (λ list at. elim (eqb_tells list before.list) [
-          | inr differs ↦ rw (ap (λ o. unwrap_or o []) (put.lists list differs.1)) at at
-          | inl same ↦
-              let of_after : IsOwn after list = (put.own list).1 same.1 in
-              let here : Contains (nodes_in new after) node = rw of_after at at in
-              elim (put.among node here) [
-                | inl earlier ↦ rw (← same.1) at earlier
-                | inr message ↦ absurd (spare.unlike thread kept proc manager node is has (sym message))
-              ]
-        ]);
-    unlike = spare.unlike;
-    once = spare.once;
-  }
+  Spare-put thread kept entry is put spare = still_free old new nodes
+      (λ owner node has was. free-kept old new node was (contains-insert old new kept.message entry put.values node was.there) (λ list at. elim (eqb_tells list before.list) [
+        | inr differs ↦ rw (ap (λ o. unwrap_or o []) (put.lists list differs.1)) at at
+        | inl same ↦
+            let of_after : IsOwn after list = (put.own list).1 same.1 in
+            let here : Contains (nodes_in new after) node = rw of_after at at in
+            elim (put.among node here) [
+              | inl earlier ↦ rw (← same.1) at earlier
+              | inr message ↦ absurd (spare.unlike thread kept owner node is has (sym message))
+            ]
+      ]))
+      spare
 
   -- the first node of a line leaves it
   pub Spare-taken : TakenOut old new before after → Spare old nodes → Spare new nodes
-  Spare-taken taken spare = record {
-    free = λ proc manager node has.
-        let was = spare.free proc manager node has in
-        free-kept old new node was (rw taken.values was.there) (λ list at. elim (eqb_tells list before.list) [
-          | inr differs ↦ rw (ap (λ o. unwrap_or o []) (taken.lists list differs.1)) at at
-          | inl same ↦
-              let of_after : IsOwn after list = (taken.own list).1 same.1 in
-              let here : Contains (nodes_in new after) node = rw of_after at at in
-              let rest : Contains (drop 1 (nodes_in old before)) node = rw taken.nodes at here in
-              let earlier : IsIn old before.list node = contains_rest (nodes_in old before) node rest in
-              rw (← same.1) at earlier
-        ]);
-    unlike = spare.unlike;
-    once = spare.once;
-  }
+  Spare-taken taken spare = still_free old new nodes
+      (λ owner node has was. free-kept old new node was (rw taken.values was.there) (λ list at. elim (eqb_tells list before.list) [
+        | inr differs ↦ rw (ap (λ o. unwrap_or o []) (taken.lists list differs.1)) at at
+        | inl same ↦
+            let of_after : IsOwn after list = (taken.own list).1 same.1 in
+            let here : Contains (nodes_in new after) node = rw of_after at at in
+            let rest : Contains (drop 1 (nodes_in old before)) node = rw taken.nodes at here in
+            let earlier : IsIn old before.list node = contains_rest (nodes_in old before) node rest in
+            rw (← same.1) at earlier
+      ]))
+      spare
 
--- no process has a disconnect node at first
-pub Spare-new : (t : Table Queued) (nodes : List UserNodes) → ((proc : Proc) (manager : Manager) → disconnect_at nodes proc manager ≡ None) → Spare t nodes
-Spare-new t nodes none = record {
-  free = λ proc manager node has. absurd (none_some node _ (none proc manager) has);
-  unlike = λ thread kept proc manager node is has. absurd (none_some node _ (none proc manager) has);
-  once = λ proc other manager at node has other_has. absurd (none_some node _ (none proc manager) has);
+-- nobody has a node at first
+pub Spare-new : (t : Table Queued) (nodes : List UserNodes) → ((thread : Thread) → nodes_at nodes thread ≡ None) → ((proc : Proc) (manager : Manager) → disconnect_at nodes proc manager ≡ None) → Spare t nodes
+Spare-new t nodes no_thread no_server = record {
+  free = λ owner node has. absurd (none_some node _ (none owner) has);
+  unlike = λ thread kept owner node is has. absurd (none_some node _ (none owner) has);
+  once = λ owner other node has other_has. absurd (none_some node _ (none owner) has);
 }
+  where
+    none : (owner : Idle) → idle_at nodes owner ≡ None
+    none (Unblock thread) = ap (option_map (λ own. own.unblock)) (no_thread thread)
+    none (Disconnect proc manager) = no_server proc manager
 
 -- lines and threads' nodes stand together as before, whatever disconnect nodes there are
 Tied-servers : (t : Table Queued) (one other : Line) (nodes : List UserNodes) (proc : Proc) (manager : Manager) (node : Option ℕ) → Tied t one other nodes → Tied t one other (with_disconnect_at nodes proc manager node)
@@ -112,74 +112,104 @@ module _ (t new : Table Queued) (node : ℕ) (entry : Queued) (room : ℕ) (is :
   }
 
   pub Spare-node : (nodes : List UserNodes) → Spare t nodes → Spare new nodes
-  Spare-node nodes spare = record {
-    free = λ proc manager other has. free-node other (spare.free proc manager other has);
-    unlike = spare.unlike;
-    once = spare.once;
-  }
+  Spare-node nodes spare = still_free t new nodes (λ owner other has was. free-node other was) spare
+
+  -- whose the nodes are now: the new one is one owner's, and the others have what they had
+  module _ (one other_line : Line) (nodes after : List UserNodes) (tied : Tied t one other_line nodes) (spare : Spare t nodes) (maker : Idle) (now : (owner : Idle) (x : ℕ) → idle_at after owner ≡ Some x → ((owner ≡ maker) × (x ≡ node)) ⊎ (idle_at nodes owner ≡ Some x)) where
+    made_free : (owner : Idle) (x : ℕ) → idle_at after owner ≡ Some x → IsFree new x
+    made_free owner x has = elim (now owner x has) [
+      | inl made ↦ rw made.1 free-made
+      | inr had ↦ free-node x (spare.free owner x had)
+    ]
+
+    made_once : (owner other : Idle) (x : ℕ) → idle_at after owner ≡ Some x → idle_at after other ≡ Some x → other ≡ owner
+    made_once owner other x has other_has = elim (now owner x has) [
+      | inl made ↦ elim (now other x other_has) [
+        | inl again ↦ again.0 ∙ sym made.0
+        | inr had ↦ absurd (was_there x (spare.free other x had).there made.1)
+      ]
+      | inr had ↦ elim (now other x other_has) [
+        | inl made ↦ absurd (was_there x (spare.free owner x had).there made.1)
+        | inr also ↦ spare.once owner other x had also
+      ]
+    ]
+
+    made_unlike : (thread : Thread) (kept : ThreadNodes) (owner : Idle) (x : ℕ) → nodes_at nodes thread ≡ Some kept → idle_at after owner ≡ Some x → kept.message ≢ x
+    made_unlike thread kept owner x kept_is has = elim (now owner x has) [
+      | inl made ↦ rw made.1 (was_there kept.message (tied.own thread kept kept_is).0)
+      | inr had ↦ spare.unlike thread kept owner x kept_is had
+    ]
 
   module _ (one other_line : Line) (nodes : List UserNodes) (proc : Proc) (manager : Manager) (tied : Tied t one other_line nodes) (spare : Spare t nodes) (gets : disconnect_at (with_disconnect_at nodes proc manager (Some node)) proc manager ≡ Some node) where
-    -- the node that a server connection has now: the new one, or one that it had
-    now : (other : Proc) (at : Manager) (x : ℕ) → disconnect_at (with_disconnect_at nodes proc manager (Some node)) other at ≡ Some x → (((other ≡ proc) × (at ≡ manager)) × (x ≡ node)) ⊎ (disconnect_at nodes other at ≡ Some x)
-    now other at x has = elim (server_or_not proc other manager at) [
+    abbrev with_server : List UserNodes
+    with_server = with_disconnect_at nodes proc manager (Some node)
+
+    now_server : (owner : Idle) (x : ℕ) → idle_at with_server owner ≡ Some x → ((owner ≡ Disconnect proc manager) × (x ≡ node)) ⊎ (idle_at nodes owner ≡ Some x)
+    now_server (Unblock thread) x has = inr (ap (option_map (λ own. own.unblock)) (sym (nodes_at-with_disconnect nodes proc manager (Some node) thread)) ∙ has)
+    now_server (Disconnect other at) x has = elim (server_or_not proc other manager at) [
       | inl same ↦
-          let here : disconnect_at (with_disconnect_at nodes proc manager (Some node)) proc manager ≡ Some x = rw (same.0, same.1) at has in
-          inl (same, some_same x node _ here gets)
+          let here : disconnect_at with_server proc manager ≡ Some x = rw (same.0, same.1) at has in
+          inl (rw (same.0, same.1) refl, some_same x node _ here gets)
       | inr differs ↦ inr (sym (disconnect_at-other nodes proc manager (Some node) other at differs) ∙ has)
     ]
 
     -- a server connection gets its disconnect node
     pub Spare-made : Spare new (with_disconnect_at nodes proc manager (Some node))
     Spare-made = record {
-      free = λ other at x has. elim (now other at x has) [
-        | inl made ↦ rw made.1 free-made
-        | inr had ↦ free-node x (spare.free other at x had)
-      ];
-      unlike = λ thread kept other at x kept_is has.
-          let kept_was : nodes_at nodes thread ≡ Some kept = sym (nodes_at-with_disconnect nodes proc manager (Some node) thread) ∙ kept_is in
-          elim (now other at x has) [
-            | inl made ↦ rw made.1 (was_there kept.message (tied.own thread kept kept_was).0)
-            | inr had ↦ spare.unlike thread kept other at x kept_was had
-          ];
-      once = λ first second at over x first_has second_has. elim (now first at x first_has) [
-        | inl made ↦ elim (now second over x second_has) [
-          | inl again ↦ (again.0.0 ∙ sym made.0.0, again.0.1 ∙ sym made.0.1)
-          | inr had ↦ absurd (was_there x (spare.free second over x had).there made.1)
-        ]
-        | inr had ↦ elim (now second over x second_has) [
-          | inl made ↦ absurd (was_there x (spare.free first at x had).there made.1)
-          | inr also ↦ spare.once first second at over x had also
-        ]
-      ];
+      free = made_free one other_line nodes with_server tied spare (Disconnect proc manager) now_server;
+      unlike = λ thread kept owner x kept_is has. made_unlike one other_line nodes with_server tied spare (Disconnect proc manager) now_server thread kept owner x (sym (nodes_at-with_disconnect nodes proc manager (Some node) thread) ∙ kept_is) has;
+      once = made_once one other_line nodes with_server tied spare (Disconnect proc manager) now_server;
     }
 
     pub Tied-made : Tied new one other_line (with_disconnect_at nodes proc manager (Some node))
     Tied-made = Tied-servers new one other_line nodes proc manager (Some node) (Tied-node t new node entry room is absent there one other_line nodes tied)
 
 -- a thread gets two new nodes
-pub Spare-add : (old mid new : Table Queued) (nodes : List UserNodes) (thread : Thread) (message unblock : ℕ) (first second : Queued) (room less : ℕ) → Spare old nodes → mid ≡ record old { values = maps.insert old.values message first; room = room } → maps.get old.values message ≡ None → ((list node : ℕ) → IsIn old list node → ContainsNode old node) → new ≡ record mid { values = maps.insert mid.values unblock second; room = less } → maps.get mid.values unblock ≡ None → ((list node : ℕ) → IsIn mid list node → ContainsNode mid node) → nodes_at (with_nodes_at nodes thread (record { message = message; unblock = unblock })) thread ≡ Some (record { message = message; unblock = unblock }) → Spare new (with_nodes_at nodes thread (record { message = message; unblock = unblock }))
-Spare-add old mid new nodes thread message unblock first second room less spare made_mid absent_mid there_old made_new absent_new there_mid gets = record {
-  free = λ proc manager node has. now.free proc manager node (sym (same proc manager) ∙ has);
-  unlike = λ other kept proc manager node kept_is has.
-      let had : disconnect_at nodes proc manager ≡ Some node = sym (same proc manager) ∙ has in
-      elim (same_or_not other thread) [
-        | inr differs ↦ spare.unlike other kept proc manager node (sym (nodes_at-other nodes thread other own differs) ∙ kept_is) had
-        | inl is ↦
-            let here : nodes_at (with_nodes_at nodes thread own) thread ≡ Some kept = rw is at kept_is in
-            let kept_own : kept ≡ own = some_same kept own _ here gets in
-            rw kept_own (λ equal. was_there old mid message first room made_mid absent_mid there_old node (spare.free proc manager node had).there (sym equal))
-      ];
-  once = λ proc other manager at node has other_has. spare.once proc other manager at node (sym (same proc manager) ∙ has) (sym (same other at) ∙ other_has);
+pub Spare-add : (old mid new : Table Queued) (one other_line : Line) (nodes : List UserNodes) (thread : Thread) (message unblock : ℕ) (first second : Queued) (room less : ℕ) → Tied old one other_line nodes → Spare old nodes → mid ≡ record old { values = maps.insert old.values message first; room = room } → maps.get old.values message ≡ None → ((list node : ℕ) → IsIn old list node → ContainsNode old node) → new ≡ record mid { values = maps.insert mid.values unblock second; room = less } → maps.get mid.values unblock ≡ None → ((list node : ℕ) → IsIn mid list node → ContainsNode mid node) → nodes_at (with_nodes_at nodes thread (record { message = message; unblock = unblock })) thread ≡ Some (record { message = message; unblock = unblock }) → Spare new (with_nodes_at nodes thread (record { message = message; unblock = unblock }))
+Spare-add old mid new one other_line nodes thread message unblock first second room less tied spare made_mid absent_mid there_old made_new absent_new there_mid gets = record {
+  free = made_free mid new unblock second less made_new absent_new there_mid one other_line nodes after tied_mid spare_mid (Unblock thread) now;
+  unlike = λ other kept owner x kept_is has. elim (same_or_not other thread) [
+    | inr differs ↦ made_unlike mid new unblock second less made_new absent_new there_mid one other_line nodes after tied_mid spare_mid (Unblock thread) now other kept owner x (sym (nodes_at-other nodes thread other own differs) ∙ kept_is) has
+    | inl same ↦
+        let here : nodes_at after thread ≡ Some kept = rw same at kept_is in
+        let kept_own : kept ≡ own = some_same kept own _ here gets in
+        rw kept_own (elim (now owner x has) [
+          | inl made ↦ rw made.1 (was_there mid new unblock second less made_new absent_new there_mid message (contains-self old mid message first (ap (λ t. t.values) made_mid)))
+          | inr had ↦ λ equal. was_there old mid message first room made_mid absent_mid there_old x (spare.free owner x had).there (sym equal)
+        ])
+  ];
+  once = made_once mid new unblock second less made_new absent_new there_mid one other_line nodes after tied_mid spare_mid (Unblock thread) now;
 }
   where
     own : ThreadNodes
     own = record { message = message; unblock = unblock }
 
-    same : (proc : Proc) (manager : Manager) → disconnect_at (with_nodes_at nodes thread own) proc manager ≡ disconnect_at nodes proc manager
-    same proc manager = disconnect_at-with_nodes nodes thread own proc manager
+    after : List UserNodes
+    after = with_nodes_at nodes thread own
 
-    now : Spare new nodes
-    now = Spare-node mid new unblock second less made_new absent_new there_mid nodes (Spare-node old mid message first room made_mid absent_mid there_old nodes spare)
+    spare_mid : Spare mid nodes
+    spare_mid = Spare-node old mid message first room made_mid absent_mid there_old nodes spare
+
+    tied_mid : Tied mid one other_line nodes
+    tied_mid = Tied-node old mid message first room made_mid absent_mid there_old one other_line nodes tied
+
+    now : (owner : Idle) (x : ℕ) → idle_at after owner ≡ Some x → ((owner ≡ Unblock thread) × (x ≡ unblock)) ⊎ (idle_at nodes owner ≡ Some x)
+    now (Disconnect proc manager) x has = inr (sym (disconnect_at-with_nodes nodes thread own proc manager) ∙ has)
+    now (Unblock other) x has = elim (same_or_not other thread) [
+      | inr differs ↦ inr (ap (option_map (λ nodes. nodes.unblock)) (sym (nodes_at-other nodes thread other own differs)) ∙ has)
+      | inl same ↦
+          let here : option_map (λ nodes. nodes.unblock) (nodes_at after thread) ≡ Some x = rw same at has in
+          let given : option_map (λ nodes. nodes.unblock) (nodes_at after thread) ≡ Some unblock = ap (option_map (λ nodes. nodes.unblock)) gets in
+          inl (ap Unblock same, some_same x unblock _ here given)
+    ]
+
+abbrev of_proc : Idle → Proc
+of_proc (Unblock thread) = thread.proc
+of_proc (Disconnect proc manager) = proc
+
+abbrev of_manager : Manager → Idle → Manager
+of_manager manager (Unblock thread) = manager
+of_manager manager (Disconnect proc at) = at
 
 -- a server connection gives its disconnect node back
 module _ (old new : Table Queued) (one other_line : Line) (nodes : List UserNodes) (proc : Proc) (manager : Manager) (node room : ℕ) (is : new ≡ record old { values = maps.remove old.values node; room = room }) (spare : Spare old nodes) (had : disconnect_at nodes proc manager ≡ Some node) where
@@ -190,7 +220,7 @@ module _ (old new : Table Queued) (one other_line : Line) (nodes : List UserNode
   same_list list = ap (λ t. maps.get t.lists list) is
 
   in_none : (list : ℕ) → IsIn old list node → ⊥
-  in_none list = nowhere old (spare.free proc manager node had) list
+  in_none list = nowhere old (spare.free (Disconnect proc manager) node had) list
 
   earlier : (list other : ℕ) → IsIn new list other → IsIn old list other
   earlier list other at = rw (ap (λ o. unwrap_or o []) (same_list list)) at at
@@ -205,7 +235,7 @@ module _ (old new : Table Queued) (one other_line : Line) (nodes : List UserNode
     apart = tied.apart;
     own = λ thread kept kept_is.
         let own = tied.own thread kept kept_is in
-        let unlike = spare.unlike thread kept proc manager node kept_is had in
+        let unlike = spare.unlike thread kept (Disconnect proc manager) node kept_is had in
         (contains-other old new node same_but kept.message unlike own.0, ap sender (entry-other old new node same_but kept.message unlike) ∙ own.1);
     listed = λ list other at.
         let was = tied.listed list other (earlier list other at) in
@@ -214,16 +244,17 @@ module _ (old new : Table Queued) (one other_line : Line) (nodes : List UserNode
 
   pub Spare-freed : disconnect_at (with_disconnect_at nodes proc manager None) proc manager ≡ None → Spare new (with_disconnect_at nodes proc manager None)
   Spare-freed gone = record {
-    free = λ other at x has.
-        let was = before other at x has in
-        let free = spare.free other at x was.1 in
-        free-kept old new x free (contains-other old new node same_but x (λ same. let once = spare.once proc other manager at node had (rw same at was.1) in was.0 once.0 once.1) free.there) (λ list in_list. earlier list x in_list);
-    unlike = λ thread kept other at x kept_is has. spare.unlike thread kept other at x (sym (nodes_at-with_disconnect nodes proc manager None thread) ∙ kept_is) (before other at x has).1;
-    once = λ first second at over x first_has second_has. spare.once first second at over x (before first at x first_has).1 (before second over x second_has).1;
+    free = λ owner x has.
+        let was = before owner x has in
+        let free = spare.free owner x was.1 in
+        free-kept old new x free (contains-other old new node same_but x (λ same. was.0 (spare.once (Disconnect proc manager) owner node had (rw same at was.1))) free.there) (λ list in_list. earlier list x in_list);
+    unlike = λ thread kept owner x kept_is has. spare.unlike thread kept owner x (sym (nodes_at-with_disconnect nodes proc manager None thread) ∙ kept_is) (before owner x has).1;
+    once = λ owner other x has other_has. spare.once owner other x (before owner x has).1 (before other x other_has).1;
   }
     where
-      before : (other : Proc) (at : Manager) (x : ℕ) → disconnect_at (with_disconnect_at nodes proc manager None) other at ≡ Some x → (other ≡ proc → at ≢ manager) × (disconnect_at nodes other at ≡ Some x)
-      before other at x has = elim (server_or_not proc other manager at) [
+      before : (owner : Idle) (x : ℕ) → idle_at (with_disconnect_at nodes proc manager None) owner ≡ Some x → (owner ≢ Disconnect proc manager) × (idle_at nodes owner ≡ Some x)
+      before (Unblock thread) x has = (λ same. cc, ap (option_map (λ own. own.unblock)) (sym (nodes_at-with_disconnect nodes proc manager None thread)) ∙ has)
+      before (Disconnect other at) x has = elim (server_or_not proc other manager at) [
         | inl same ↦ absurd (none_some x _ gone (rw (same.0, same.1) at has))
-        | inr differs ↦ (differs, sym (disconnect_at-other nodes proc manager None other at differs) ∙ has)
+        | inr differs ↦ (λ same. differs (ap of_proc same) (ap (of_manager manager) same), sym (disconnect_at-other nodes proc manager None other at differs) ∙ has)
       ]

@@ -15,7 +15,7 @@ use Rattle.qx_machine.specs.Lines.{into}
 use Rattle.qx_machine.specs.Machine.{rank, queued, is_same_manager}
 use Rattle.qx_chan.specs.declared.nodes.ThreadNodes.{ThreadNodes}
 use Rattle.qx_chan.specs.declared.nodes.UserNodes.{UserNodes}
-use Rattle.qx_chan.specs.Nodes.{disconnect_at, nodes_at}
+use Rattle.qx_chan.specs.Nodes.{Idle, idle_at, nodes_at}
 
 abbrev pub nobodys : Queued
 nobodys = queued 0 (item.Message 0 0) 0
@@ -59,11 +59,11 @@ pub record Tied (table : Table Queued) (one other : Line) (nodes : List UserNode
   pub own : (thread : Thread) (kept : ThreadNodes) → nodes_at nodes thread ≡ Some kept → ContainsNode table kept.message × (sender (entry_at table kept.message) ≡ thread)
   pub listed : (list node : ℕ) → IsIn table list node → (IsOwn one list ⊎ IsOwn other list) × (option_map (λ kept. kept.message) (nodes_at nodes (sender (entry_at table node))) ≡ Some node)
 
--- the disconnect nodes of server connections stand in no list, and none is another's or a thread's message node
+-- the unblock nodes of threads and the disconnect nodes of server connections stand in no list, and none is another's or a thread's message node
 pub record Spare (table : Table Queued) (nodes : List UserNodes) : Type 0 where
-  pub free : (proc : Proc) (manager : Manager) (node : ℕ) → disconnect_at nodes proc manager ≡ Some node → IsFree table node
-  pub unlike : (thread : Thread) (kept : ThreadNodes) (proc : Proc) (manager : Manager) (node : ℕ) → nodes_at nodes thread ≡ Some kept → disconnect_at nodes proc manager ≡ Some node → kept.message ≢ node
-  pub once : (proc other : Proc) (manager at : Manager) (node : ℕ) → disconnect_at nodes proc manager ≡ Some node → disconnect_at nodes other at ≡ Some node → (other ≡ proc) × (at ≡ manager)
+  pub free : (owner : Idle) (node : ℕ) → idle_at nodes owner ≡ Some node → IsFree table node
+  pub unlike : (thread : Thread) (kept : ThreadNodes) (owner : Idle) (node : ℕ) → nodes_at nodes thread ≡ Some kept → idle_at nodes owner ≡ Some node → kept.message ≢ node
+  pub once : (owner other : Idle) (node : ℕ) → idle_at nodes owner ≡ Some node → idle_at nodes other ≡ Some node → other ≡ owner
 
 -- a thread's message as it stands in a line
 abbrev pub message_of : Thread → ℕ → Queued

@@ -1,5 +1,5 @@
 -- The nodes that are kept for threads and for server connections.
-use Rattle.std.specs.Prelude.{ℕ, ◌+◌, IsTrue, is_some, List, Option, Some, None, get_or, slice_set, replicate}
+use Rattle.std.specs.Prelude.{ℕ, ◌+◌, IsTrue, is_some, List, Option, Some, None, get_or, option_map, slice_set, replicate}
 use Rattle.qx_types.specs.declared.names.Manager.{Manager}
 use Rattle.qx_types.specs.declared.names.Manager.TheVariants.{Ram, Pipe}
 use Rattle.qx_types.specs.declared.names.Proc.{Proc}
@@ -51,6 +51,15 @@ server_node servers Pipe = servers.pipe
 -- the disconnect node of a process' server connection at a manager
 abbrev pub disconnect_at : List UserNodes → Proc → Manager → Option ℕ
 disconnect_at nodes proc manager = server_node (process_at nodes proc).servers manager
+
+-- whose a node is that stands in no line until a pulse is sent
+pub data Idle : Type 0 where
+  Unblock : (thread : Thread) → Idle
+  Disconnect : (proc : Proc) (manager : Manager) → Idle
+
+abbrev pub idle_at : List UserNodes → Idle → Option ℕ
+idle_at nodes (Unblock thread) = option_map (λ own. own.unblock) (nodes_at nodes thread)
+idle_at nodes (Disconnect proc manager) = disconnect_at nodes proc manager
 
 abbrev pub with_server_node : ServerNodes → Manager → Option ℕ → ServerNodes
 with_server_node servers Ram node = record { ram = node; pipe = servers.pipe }

@@ -1,6 +1,6 @@
 //! The managers' lines over one table of nodes, in which the nodes of all users' threads and server connections stand.
 
-ghost use Rattle.std.specs.Prelude.{◌≡◌, ℕ, ◌+◌, ◌-◌, ◌*◌, ◌<◌, ◌≤◌, ◌||◌, ◌&&◌, not, if◌then◌else◌, false, length, drop, slice_get, max, IfOk, OnOk, OnErr, IfSome, IsTrue, None, [], is_some};
+ghost use Rattle.std.specs.Prelude.{◌≡◌, ℕ, ◌+◌, ◌-◌, ◌*◌, ◌<◌, ◌≤◌, ◌||◌, ◌&&◌, not, if◌then◌else◌, false, length, drop, slice_get, max, IfOk, IsOk, OnOk, OnErr, IfSome, IsTrue, None, [], is_some};
 ghost use Rattle.std.specs.FinMap as maps;
 ghost use Rattle.qx_lists.specs.Table.{ContainsNode, IsFree, IsIn, with_value};
 ghost use Rattle.qx_lines.specs.Line.{IsLineOf};
@@ -111,6 +111,7 @@ impl Channel {
     /// Makes room for the nodes of so many threads.
     pub fn reserve(&mut self, threads: u8) -> Result<(), AllocError>
         ensures ok { OnOk result (self.new ≡ record self.old { room = max self.old.room (2 * threads) }) }
+        ensures had_room { 2 * threads ≤ self.old.room → IsOk result }
         ensures err { OnErr result (self.new ≡ self.old) }
     {
         self.table.reserve(2 * threads as usize)?;
@@ -172,6 +173,7 @@ impl Channel {
         ensures users { OnOk result (length self.new.nodes ≡ length self.old.nodes) }
         ensures threads { OnOk result ((thread : Thread) → nodes_at self.new.nodes thread ≡ nodes_at self.old.nodes thread) }
         ensures servers { OnOk result ((other : Proc) (at : Manager) → is_some (disconnect_at self.new.nodes other at) ≡ is_some (disconnect_at self.old.nodes other at) || is_same_server proc manager other at) }
+        ensures had_room { 1 ≤ self.old.room → IsOk result }
         ensures err { OnErr result (self.new ≡ self.old) }
     {
         if self.nodes.disconnect(proc, manager).is_some() {

@@ -11,7 +11,7 @@ invariant_of-self c =
     let fresh : nodes_at c.self.inside.nodes c.args.thread ≡ None = rw (← c.self.view_is) at c.requires.fresh in
     let names : sender c.new.result ≡ c.args.thread = rw (c.new.ensures, c.queued_message.ensures) refl in
     let gets = rw c.set.ensures.set at c.set.ensures.there in
-    rw c.set.ensures.set (Tied-add c.self.inside.table c.new_node-message.new.table _ _ _ _ c.args.thread _ _ _ _ _ _ c.self.invariant.0 c.new_node-message.ensures.made c.new_node-message.ensures.was_new c.know.ensures.there c.new_node-unblock.ensures.made c.new_node-unblock.ensures.was_new c.know-2.ensures.there fresh gets names, Spare-add c.self.inside.table c.new_node-message.new.table _ _ c.args.thread _ _ _ _ _ _ c.self.invariant.1 c.new_node-message.ensures.made c.new_node-message.ensures.was_new c.know.ensures.there c.new_node-unblock.ensures.made c.new_node-unblock.ensures.was_new c.know-2.ensures.there gets)
+    rw c.set.ensures.set (Tied-add c.self.inside.table c.new_node-message.new.table _ _ _ _ c.args.thread _ _ _ _ _ _ c.self.invariant.0 c.new_node-message.ensures.made c.new_node-message.ensures.was_new c.know.ensures.there c.new_node-unblock.ensures.made c.new_node-unblock.ensures.was_new c.know-2.ensures.there fresh gets names, Spare-add c.self.inside.table c.new_node-message.new.table _ _ _ _ c.args.thread _ _ _ _ _ _ c.self.invariant.0 c.self.invariant.1 c.new_node-message.ensures.made c.new_node-message.ensures.was_new c.know.ensures.there c.new_node-unblock.ensures.made c.new_node-unblock.ensures.was_new c.know-2.ensures.there gets)
 
 pub returns-clause-ram : goal.returns-clause-ram
 returns-clause-ram c = entries-add c.self.inside.table c.new_node-message.new.table _ _ _ _ _ _ _ c.self.inside.ram c.new_node-message.ensures.made c.new_node-message.ensures.was_new c.know.ensures.there c.new_node-unblock.ensures.made c.new_node-unblock.ensures.was_new c.know-2.ensures.there ∙ ap (λ v. v.ram) c.self.view_is

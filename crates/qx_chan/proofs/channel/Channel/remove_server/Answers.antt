@@ -1,10 +1,11 @@
 use Rattle.std.proofs.Common.{None, rules, ap, ◌∙◌}
+use Rattle.qx_chan.specs.Nodes.{Disconnect}
 use Rattle.qx_chan.proofs.NodesLemmas.{disconnect_at-had, is_some-without_disconnect, nodes_at-with_disconnect}
 use Rattle.qx_chan.proofs.SpareLemmas.{Spare-freed, Tied-freed, entries-freed}
 use Rattle.qx_chan.proofs.channel.Channel.remove_server.Goals as goal
 
 pub free_node-requires : goal.free_node-requires
-free_node-requires c = c.self.invariant.1.free c.args.proc c.args.manager c.in-Some.node (search rules)
+free_node-requires c = c.self.invariant.1.free (Disconnect c.args.proc c.args.manager) c.in-Some.node (search rules)
 
 pub invariant_of-self : goal.invariant_of-self
 invariant_of-self c =
