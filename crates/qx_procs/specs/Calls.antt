@@ -17,6 +17,10 @@ spawn_outcome processes threads prio =
     then (if nat_le (lowest_from 1 processes) 16 then Spawned (lowest_from 1 processes) else Refused EAGAIN)
     else Refused EINVAL
 
+-- a process is started, for which alone memory is wanted
+abbrev pub can_spawn : {A : Type 0} → List (Option A) → ℕ → ℕ → Bool
+can_spawn processes threads prio = is_spawn threads prio && nat_le (lowest_from 1 processes) 16
+
 abbrev pub spawned : {A : Type 0} → A → List (Option A) → ℕ → ℕ → List (Option A)
 spawned new processes threads prio =
     if is_spawn threads prio

@@ -1,12 +1,12 @@
 //! The processes of a user, from 1: a place for each number.
 
-ghost use Rattle.std.specs.Prelude.{◌≡◌, ◌∷◌, ◌≤◌, ◌<◌, [], None, length, IsTrue, IfSome, MatchOption, IfOk, OnOk, OnErr, if◌then◌else◌};
+ghost use Rattle.std.specs.Prelude.{◌≡◌, ◌∷◌, ◌≤◌, ◌<◌, [], None, length, IsTrue, IsFalse, IsOk, IfSome, MatchOption, IfOk, OnOk, OnErr, if◌then◌else◌};
 ghost use Rattle.std.specs.Option.{option_copied};
 ghost use Rattle.qx_machine.specs.Processes.{new_process, sending, taking, ready, ranked};
 ghost use Rattle.qx_machine.specs.Rows.{row_at, with_row};
 ghost use Rattle.qx_machine.specs.Users.{answering, failing, opening, closing, thread_of};
 ghost use Rattle.qx_procs.specs.declared.room.TheConstants.{REPLY_BYTES};
-ghost use Rattle.qx_procs.specs.Calls.{spawn_outcome, spawned, prio_outcome, with_prio};
+ghost use Rattle.qx_procs.specs.Calls.{can_spawn, spawn_outcome, spawned, prio_outcome, with_prio};
 ghost use Rattle.qx_procs.specs.Reads.{is_thread_blocked, thread_answer, CanCall, IsPriority};
 ghost use Rattle.qx_procs.specs.Servers.{machine_row, machine_rows, new_client, with_rows, with_settled_rows, with_rows_by, with_side, without_side, can_attach_side, attached, detached, attach_answer, side_answer, conn_row, side_row, server_row};
 ghost use Rattle.qx_procs.specs.Servers as servers;
@@ -70,12 +70,13 @@ impl Processes {
     }
 
     /// Starts a process of 1 to 4 ready threads of a priority from 1 to 63, under the lowest free number. EINVAL for other
-    /// numbers, then EAGAIN where there are 16 processes.
+    /// numbers, then EAGAIN where there are 16 processes. A spawn that is refused wants no memory.
     pub fn spawn(&mut self, threads: u8, prio: Prio) -> Result<Outcome, AllocError>
         ensures outcome { IfOk result (λ outcome. outcome ≡ spawn_outcome (machine_rows self.old) threads prio.0) }
         ensures rows { OnOk result (machine_rows self.new ≡ spawned (new_process threads prio.0) (machine_rows self.old) threads prio.0) }
         ensures clients { OnOk result (self.new ≡ spawned (new_client threads prio.0) self.old threads prio.0) }
         ensures place { 0 < length self.old }
+        ensures sure { IsFalse (can_spawn (machine_rows self.old) threads prio.0) → IsOk result }
         ensures err { OnErr result (self.new ≡ self.old) }
     {
         let number = places::lowest_free(self.rows.as_slice(), 1);

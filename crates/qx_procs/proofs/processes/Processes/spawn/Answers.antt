@@ -13,3 +13,6 @@ returns-clause-outcome c = rw (machine_rows-lowest 1 c.args.self.now) (search ru
 
 pub returns-clause-rows : goal.returns-clause-rows
 returns-clause-rows c = rows-spawned c.put.new.places.items c.args.self.now c.args.threads c.args.prio.0 (search rules)
+
+pub returns-in_err-put-clause-sure : goal.returns-in_err-put-clause-sure
+returns-in_err-put-clause-sure c = rw (machine_rows-lowest 1 c.args.self.now) (search rules)
