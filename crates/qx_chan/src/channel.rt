@@ -181,10 +181,11 @@ impl Channel {
         }
         self.table.reserve(1)?;
         self.table.know();
-        let idle = Thread { proc, tid: 0 };
+        // Threads are numbered from 1: until it is put into a line, the node stands for no message that is sent.
+        let nobody = Thread { proc, tid: 0 };
         let node = new_node(
             &mut self.table,
-            Waiting::new(queued_message(idle, Prio(63))),
+            Waiting::new(queued_message(nobody, Prio(63))),
         );
         self.nodes.set_disconnect(proc, manager, Some(node));
         Ok(())
