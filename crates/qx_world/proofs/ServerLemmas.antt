@@ -122,6 +122,17 @@ refused_connections part threads prio refused = elim (cases_Bool (nat_le 1 threa
   | inr bad ↦ rw bad (λ p m. refl)
 ]
 
+-- the other processes stay, where a change of a user's rows is one of a process' row
+process_of-other : (parts : List (Option Part)) (proc : Proc) (h : Part → Part) → ((part : Part) (p : ℕ) → p ≢ proc.num → row_at (h part).processes p ≡ row_at part.processes p) → (other : Proc) → other ≢ proc → process_of (with_row parts proc.user.0 h) other ≡ process_of parts other
+process_of-other parts proc h stays other differs = elim (cases_eq other.user.0 proc.user.0) [
+  | inr apart ↦ ap (process_in other.num) (row_at-with_other parts proc.user.0 other.user.0 h apart)
+  | inl same ↦ rw (same, row_at-with_same parts proc.user.0 h) (by_part (row_at parts proc.user.0) (λ equal. differs (same_process_names other proc same equal)))
+]
+  where
+    by_part : (o : Option Part) → other.num ≢ proc.num → process_in other.num (option_map h o) ≡ process_in other.num o
+    by_part None apart = refl
+    by_part (Some part) apart = stays part other.num apart
+
 -- one process of a user may lose connections, and the others stay
 record Loses (new old : List (Option Process)) (process : ℕ) : Type 0 where
   others : (p : ℕ) → p ≢ process → row_at new p ≡ row_at old p
@@ -234,20 +245,10 @@ module _ (parts : List (Option Part)) (nodes new : List UserNodes) (user process
       by_part None is = is
       by_part (Some part) is = (performed_loses part process thread).fewer at is
 
-  others_stay : (other : Proc) → other ≢ its_process → process_of (with_row parts user served_in) other ≡ process_of parts other
-  others_stay other differs = elim (cases_eq other.user.0 user) [
-    | inr apart ↦ ap (process_in other.num) (row_at-with_other parts user other.user.0 served_in apart)
-    | inl same ↦ rw (same, row_at-with_same parts user served_in) (by_part (row_at parts user) (λ equal. differs (same_process_names other its_process same equal)))
-  ]
-    where
-      by_part : (o : Option Part) → other.num ≢ process → process_in other.num (option_map served_in o) ≡ process_in other.num o
-      by_part None apart = refl
-      by_part (Some part) apart = (performed_loses part process thread).others other.num apart
-
   settled_servers : ((other : Proc) (at : Manager) → is_some (disconnect_at new other at) ≡ (is_some (disconnect_at nodes other at) && (not (is_same_process its_process other) || connects_at at (process_of (with_row parts user served_in) its_process)))) → KeptServers parts nodes → KeptServers (with_row parts user served_in) new
   settled_servers settled kept = λ other at. settled other at ∙ rw (kept other at) (elim (same_proc other its_process) [
     | inl same ↦ rw (same, is_same_process-self its_process) (kept_if (connects_at at (process_of parts its_process)) (connects_at at (process_of (with_row parts user served_in) its_process)) (now_at at))
-    | inr differs ↦ rw (is_same_process-differs its_process other differs, others_stay other differs) (kept_all (connects_at at (process_of parts other)) (connects_at at (process_of (with_row parts user served_in) its_process)))
+    | inr differs ↦ rw (is_same_process-differs its_process other differs, process_of-other parts its_process served_in (λ part p apart. (performed_loses part process thread).others p apart) other differs) (kept_all (connects_at at (process_of parts other)) (connects_at at (process_of (with_row parts user served_in) its_process)))
   ])
 
 -- an item is done, and the process' disconnect nodes are settled
@@ -296,16 +297,6 @@ module _ (parts : List (Option Part)) (thread : Thread) (sent : Sent) where
       by_part None = refl
       by_part (Some part) = row_at-with_same part.processes thread.proc.num (sending thread.tid sent)
 
-  not_sent : (other : Proc) → other ≢ thread.proc → process_of (with_row parts thread.proc.user.0 sends) other ≡ process_of parts other
-  not_sent other differs = elim (cases_eq other.user.0 thread.proc.user.0) [
-    | inr apart ↦ ap (process_in other.num) (row_at-with_other parts thread.proc.user.0 other.user.0 sends apart)
-    | inl same ↦ rw (same, row_at-with_same parts thread.proc.user.0 sends) (by_part (row_at parts thread.proc.user.0) (λ equal. differs (same_process_names other thread.proc same equal)))
-  ]
-    where
-      by_part : (o : Option Part) → other.num ≢ thread.proc.num → process_in other.num (option_map sends o) ≡ process_in other.num o
-      by_part None apart = refl
-      by_part (Some part) apart = row_at-with_other part.processes thread.proc.num other.num (sending thread.tid sent) apart
-
   -- the process is there
   sender_there : standing (row_of parts thread) ≡ Some None → (x : Process) × (process_of parts thread.proc ≡ Some x)
   sender_there ready = by_part (row_at parts thread.proc.user.0) ready
@@ -328,7 +319,7 @@ module _ (parts : List (Option Part)) (thread : Thread) (sent : Sent) where
   KeptServers-sent nodes new ready free attached kept = λ other at. attached other at ∙ rw (kept other at) (elim (same_proc other thread.proc) [
     | inr differs ↦
         let apart : is_same_server thread.proc sent.manager other at ≡ false = is_same_server-differs thread.proc other sent.manager at (λ same. absurd (differs same)) in
-        rw (apart, not_sent other differs) (unless_open (is_open sent.message) (connects_at at (process_of parts other)))
+        rw (apart, process_of-other parts thread.proc sends (λ part p other_one. row_at-with_other part.processes thread.proc.num p (sending thread.tid sent) other_one) other differs) (unless_open (is_open sent.message) (connects_at at (process_of parts other)))
     | inl same ↦
         let there = sender_there ready in
         let is_free : CanOpen (Some there.0) sent.coid.0 sent.message = rw there.1 at free in
