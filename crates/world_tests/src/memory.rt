@@ -148,6 +148,11 @@ fn is_taken_at_last(rt: &impl Abort, alloc: Global, place: usize) -> Result<(), 
 }
 
 #[test]
+fn the_first_spawn_is_taken_at_last(rt: HostRuntime) -> Result<(), Fail> {
+    is_taken_at_last(&rt, rt.alloc(), 0)
+}
+
+#[test]
 fn a_spawn_is_taken_at_last(rt: HostRuntime) -> Result<(), Fail> {
     is_taken_at_last(&rt, rt.alloc(), 1)
 }
