@@ -9,7 +9,7 @@ use std::io;
 use std::io::Write;
 
 /// The names of the scripts, in the order in which they are run.
-const SCRIPTS: [&str; 26] = [
+const SCRIPTS: [&str; 27] = [
     "empty",
     "first_path",
     "bad_line",
@@ -22,6 +22,7 @@ const SCRIPTS: [&str; 26] = [
     "seventeen_users",
     "processes",
     "connections",
+    "connections_of_two",
     "blocks",
     "thread_numbers",
     "priority_numbers",
