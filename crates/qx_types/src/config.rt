@@ -1,6 +1,7 @@
 ghost use Rattle.std.specs.Prelude.{◌≡◌, ◌↔◌, ◌≢◌, ◌≤◌, All, AllPairs, IsTrue, IsSome, IfSome, length};
 ghost use Rattle.std.specs.List.{list_all};
 ghost use Rattle.std.specs.Option.{option_copied};
+ghost use Rattle.qx_types.specs.declared.limits.TheConstants.Limits.{USERS, WORKERS};
 ghost use Rattle.qx_types.specs.Configuration.{is_letter_or_digit, is_user_name, name_of, IsConfiguration};
 
 use crate::bytes::Bytes;
@@ -24,8 +25,9 @@ impl Model for Config {
     ghost view = { λ c. record { users = c.names.items; workers = c.workers } };
 
     ghost use Rattle.std.specs.Prelude.{◌≤◌, vec_len};
+    ghost use Rattle.qx_types.specs.declared.limits.TheConstants.Limits.{USERS, WORKERS};
 
-    ghost invariant = { λ c. (vec_len c.names ≤ 16) × (c.workers ≤ 8) };
+    ghost invariant = { λ c. (vec_len c.names ≤ USERS) × (c.workers ≤ WORKERS) };
 }
 
 // Written out and not derived, so that its contract says outright that the copy is equal.
@@ -56,10 +58,24 @@ impl Config {
         }
     }
 
+    /// Whether the bytes are a user's name: 1 to 16 lower-case ASCII letters and digits, a letter first.
+    pub fn is_user_name(bytes: &[u8]) -> bool
+        ensures { result ≡ is_user_name bytes.now }
+    {
+        match bytes.split_first() {
+            None => false,
+            Some((first, rest)) => {
+                first.is_ascii_lowercase()
+                    && are_letters_or_digits(rest)
+                    && rest.len() < Limits::NAME
+            }
+        }
+    }
+
     /// How many workers there are.
     pub fn workers(&self) -> u8
         ensures workers { result ≡ self.now.workers }
-        ensures few { result ≤ 8 }
+        ensures few { result ≤ WORKERS }
     {
         self.workers
     }
@@ -74,7 +90,7 @@ impl Config {
     /// How many users there are.
     pub fn user_count(&self) -> usize
         ensures count { result ≡ length self.now.users }
-        ensures few { result ≤ 16 }
+        ensures few { result ≤ USERS }
     {
         self.names.len()
     }
@@ -92,19 +108,10 @@ impl Config {
 fn are_names(names: &[Bytes]) -> bool
     ensures { IsTrue result ↔ (All (λ name. IsTrue (is_user_name name)) names.now × AllPairs (λ one other. one ≢ other) names.now) }
 {
-    names.iter().all(|name| is_name(name.as_slice())) && are_different(names)
-}
-
-/// Whether the bytes are a user's name.
-fn is_name(bytes: &[u8]) -> bool
-    ensures { result ≡ is_user_name bytes.now }
-{
-    match bytes.split_first() {
-        None => false,
-        Some((first, rest)) => {
-            first.is_ascii_lowercase() && are_letters_or_digits(rest) && rest.len() < Limits::NAME
-        }
-    }
+    names
+        .iter()
+        .all(|name| Config::is_user_name(name.as_slice()))
+        && are_different(names)
 }
 
 /// Whether there are only lower-case letters and digits.
