@@ -3,6 +3,7 @@ pub mod Orders
 pub mod Performs
 pub mod Places
 pub mod Receives
+pub mod Refusals
 pub mod Runs
 pub mod Steps
 pub mod Views

@@ -1,13 +1,14 @@
 -- What a worker's performing does to the view of the item's user, and to the views of others.
 use Rattle.std.proofs.Common.{◌≡◌, ℕ, Bool, true, false, refl, sym, ap, subst, ◌∙◌}
-use Rattle.std.specs.Prelude.{◌==◌, Option, Some, None, if◌then◌else◌, option_map, slice_set}
+use Rattle.std.specs.Prelude.{◌==◌, Option, Some, None, if◌then◌else◌, option_map, map, slice_set}
 use Rattle.std.proofs.lemmas.Bool.{eqb-true, false≢true}
 use Rattle.qx_types.specs.declared.outcome.Outcome.TheVariants.{WrongState, Handled}
 use Rattle.qx_machine.specs.declared.rows.Held.{Held}
 use Rattle.qx_machine.specs.Machine.{World, boot, own_held, own_hand, own_line, unchanged, with_empty_hand, served, performed_part, perform_hand, view}
 use Rattle.qx_machine.specs.Rows.{row_at}
 use Rattle.qx_machine.specs.Runs.{is_owner}
-use Rattle.qx_machine.specs.Users.{Part, serve}
+use Rattle.qx_machine.specs.Parts.{Part}
+use Rattle.qx_machine.specs.Users.{serve}
 use Rattle.qx_machine.proofs.Changes.{own_held-view, own_hand-emptied, own_hand-emptied_other}
 use Rattle.qx_machine.proofs.Views.{IsReached, viewed, row_at-view, row_at-hands, acted_self, acted_other, reached_acted}
 
@@ -16,8 +17,7 @@ unfolding view
 emptied_own w user worker = λ i. record {
   config = w.config;
   parts = slice_set (boot w.config).parts user (row_at w.parts user);
-  ram = own_line user w.ram;
-  pipe = own_line user w.pipe;
+  lines = map (own_line user) w.lines;
   hands = own_hand-emptied user worker w.hands i;
 }
 
@@ -26,13 +26,12 @@ unfolding view
 emptied_other w user worker held holds differ = λ i. record {
   config = w.config;
   parts = slice_set (boot w.config).parts user (row_at w.parts user);
-  ram = own_line user w.ram;
-  pipe = own_line user w.pipe;
+  lines = map (own_line user) w.lines;
   hands = own_hand-emptied_other user worker held w.hands holds differ i;
 }
 
 reached_emptied : (w : World) (worker : ℕ) → IsReached w → IsReached (with_empty_hand w worker)
-reached_emptied w worker h = record { ram = h.ram; pipe = h.pipe; parts = h.parts }
+reached_emptied w worker h = record { lines = h.lines; parts = h.parts }
 
 served_self : (w : World) (held : Held) (moment : ℕ) (row : Option Part) → IsReached w → performed_part (view held.user.0 w) held moment row ≡ view held.user.0 (performed_part w held moment row)
 unfolding view

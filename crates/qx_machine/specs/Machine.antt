@@ -1,10 +1,13 @@
 -- The machine: the rows of all users, the lines and the workers, and what each step does to them.
-use Rattle.std.specs.Prelude.{ℕ, ◌+◌, ◌==◌, ◌&&◌, Bool, true, false, List, [], ◌∷◌, Option, Some, None, nat_le, if◌then◌else◌, slice_set, filter, map, option_map, replicate}
+use Rattle.std.specs.Prelude.{ℕ, ◌+◌, ◌==◌, ◌&&◌, Bool, List, [], ◌∷◌, Option, Some, None, nat_le, if◌then◌else◌, slice_set, filter, map, option_map, replicate}
 use Rattle.qx_types.specs.Configuration.{Configuration}
+use Rattle.qx_types.specs.Managers.{manager_number}
+use Rattle.qx_types.specs.declared.names.TheConstants.Manager.{COUNT}
+use Rattle.qx_types.specs.declared.names.Actor.{Actor}
+use Rattle.qx_types.specs.declared.names.Actor.TheVariants.{OfUser, OfProc, OfThread}
 use Rattle.qx_types.specs.declared.names.Item.{Item}
 use Rattle.qx_types.specs.declared.names.Item.TheVariants as public
 use Rattle.qx_types.specs.declared.names.Manager.{Manager}
-use Rattle.qx_types.specs.declared.names.Manager.TheVariants.{Ram, Pipe}
 use Rattle.qx_types.specs.declared.outcome.Outcome.{Outcome}
 use Rattle.qx_types.specs.declared.outcome.Outcome.TheVariants.{WrongState, Took, Idle, Busy, Handled, Nothing}
 use Rattle.qx_types.specs.declared.step.Step.{Step}
@@ -13,16 +16,18 @@ use Rattle.qx_machine.specs.declared.rows.Held.{Held}
 use Rattle.qx_machine.specs.declared.rows.OwnItem.{OwnItem}
 use Rattle.qx_machine.specs.declared.rows.OwnItem.TheVariants.{Message}
 use Rattle.qx_machine.specs.declared.rows.Queued.{Queued}
-use Rattle.qx_machine.specs.Lines.{into}
+use Rattle.qx_machine.specs.Clients.{ClientStep}
+use Rattle.qx_machine.specs.Lines.{into, line_at, with_line}
+use Rattle.qx_machine.specs.Parts.{Part, Change, Put, Remove}
+use Rattle.qx_machine.specs.Performing.{Served}
 use Rattle.qx_machine.specs.Rows.{row_at}
-use Rattle.qx_machine.specs.Users.{Part, Change, Put, Remove, ClientStep, Served, boot_part, client, take, serve, settle}
+use Rattle.qx_machine.specs.Users.{boot_part, client, take, serve, settle}
 
--- the rows of all users, the two managers' lines and what each worker holds; users and workers are numbered from 1
+-- the rows of all users, the lines under their managers' numbers and what each worker holds; users and workers are numbered from 1
 pub record World : Type 0 where
   pub config : Configuration
   pub parts : List (Option Part)
-  pub ram : List Queued
-  pub pipe : List Queued
+  pub lines : List (List Queued)
   pub hands : List (Option Held)
 
 -- what a step gives
@@ -40,16 +45,9 @@ unfoldable pub boot : Configuration → World
 boot config = record {
   config = config;
   parts = None ∷ boot_parts config 1 config.users;
-  ram = [];
-  pipe = [];
+  lines = replicate COUNT [];
   hands = None ∷ replicate config.workers None;
 }
-
-abbrev pub is_same_manager : Manager → Manager → Bool
-is_same_manager Ram Ram = true
-is_same_manager Ram Pipe = false
-is_same_manager Pipe Ram = false
-is_same_manager Pipe Pipe = true
 
 abbrev pub is_same_item : OwnItem → OwnItem → Bool
 is_same_item (Message process thread) (Message other_process other_thread) = (process == other_process) && (thread == other_thread)
@@ -67,14 +65,20 @@ without user item [] = []
 without user item (first ∷ line) =
     if (first.user.0 == user) && is_same_item first.item item then line else first ∷ without user item line
 
--- a manager's line after a change that a user's step makes
-abbrev pub line_changed : ℕ → Manager → List Queued → Change → List Queued
-line_changed user manager line (Put changed item prio) = if is_same_manager changed manager then into rank line (queued user item prio) else line
-line_changed user manager line (Remove changed item) = if is_same_manager changed manager then without user item line else line
+-- whose line a change is of
+abbrev pub changed_manager : Change → Manager
+changed_manager (Put manager item prio) = manager
+changed_manager (Remove manager item) = manager
 
-abbrev pub line_after : ℕ → Manager → List Queued → List Change → List Queued
-line_after user manager line [] = line
-line_after user manager line (change ∷ changes) = line_after user manager (line_changed user manager line change) changes
+-- that line after the change, which a user's step makes
+abbrev pub line_changed : ℕ → Change → List Queued → List Queued
+line_changed user (Put manager item prio) line = into rank line (queued user item prio)
+line_changed user (Remove manager item) line = without user item line
+
+abbrev pub lines_after : ℕ → List (List Queued) → List Change → List (List Queued)
+lines_after user lines [] = lines
+lines_after user lines (change ∷ changes) =
+    lines_after user (with_line lines (manager_number (changed_manager change)) (line_changed user change)) changes
 
 -- the items of one user in workers' hands
 abbrev pub own_held : ℕ → List (Option Held) → List OwnItem
@@ -84,12 +88,9 @@ own_held user (Some held ∷ hands) = if held.user.0 == user then held.item ∷ 
 
 -- the end of a step of one user: its rows, settled, and its changes of the lines
 abbrev pub acted : ℕ → Part → Part → List Change → World → World
-acted user before after changes w = record {
-  config = w.config;
+acted user before after changes w = record w {
   parts = slice_set w.parts user (Some (settle before (own_held user w.hands) after));
-  ram = line_after user Ram w.ram changes;
-  pipe = line_after user Pipe w.pipe changes;
-  hands = w.hands;
+  lines = lines_after user w.lines changes;
 }
 
 abbrev pub unchanged : World → Outcome → After
@@ -107,23 +108,12 @@ abbrev pub is_worker : Configuration → ℕ → Bool
 is_worker config worker = nat_le 1 worker && nat_le worker config.workers
 
 abbrev pub line_of : World → Manager → List Queued
-line_of w Ram = w.ram
-line_of w Pipe = w.pipe
+line_of w manager = line_at w.lines (manager_number manager)
 
 -- the world with a manager's line replaced and an item in a worker's hand
 abbrev pub with_taken : World → ℕ → Queued → List Queued → Manager → World
-with_taken w worker first rest Ram = record {
-  config = w.config;
-  parts = w.parts;
-  ram = rest;
-  pipe = w.pipe;
-  hands = slice_set w.hands worker (Some (record { user = first.user; item = first.item }));
-}
-with_taken w worker first rest Pipe = record {
-  config = w.config;
-  parts = w.parts;
-  ram = w.ram;
-  pipe = rest;
+with_taken w worker first rest manager = record w {
+  lines = slice_set w.lines (manager_number manager) rest;
   hands = slice_set w.hands worker (Some (record { user = first.user; item = first.item }));
 }
 
@@ -153,7 +143,7 @@ receive w worker manager =
     if is_worker w.config worker then receive_hand w worker manager (row_at w.hands worker) else unchanged w WrongState
 
 abbrev pub with_empty_hand : World → ℕ → World
-with_empty_hand w worker = record { config = w.config; parts = w.parts; ram = w.ram; pipe = w.pipe; hands = slice_set w.hands worker None }
+with_empty_hand w worker = record w { hands = slice_set w.hands worker None }
 
 abbrev pub served : World → ℕ → Part → Served → World
 served w user part given = acted user part given.part given.changes w
@@ -173,14 +163,33 @@ abbrev pub perform : World → ℕ → ℕ → After
 perform w worker moment =
     if is_worker w.config worker then perform_hand w worker moment (row_at w.hands worker) else unchanged w WrongState
 
+-- who takes a client's step
+abbrev pub actor_of : Step → Option Actor
+actor_of (Spawn user threads prio) = Some (OfUser user)
+actor_of (Call thread request) = Some (OfThread thread)
+actor_of (TakeReply thread) = Some (OfThread thread)
+actor_of (SetPrio thread prio) = Some (OfThread thread)
+actor_of (Receive worker manager) = None
+actor_of (Perform worker moment) = None
+
+abbrev pub user_of : Actor → ℕ
+user_of (OfUser user) = user.0
+user_of (OfProc proc) = proc.user.0
+user_of (OfThread thread) = thread.proc.user.0
+
+-- a worker's step
+abbrev pub server_step : World → Step → After
+server_step w (Receive worker manager) = receive w worker.0 manager
+server_step w (Perform worker moment) = perform w worker.0 moment
+server_step w _ = unchanged w WrongState
+
+abbrev pub step_of : World → Step → Option Actor → After
+step_of w e (Some actor) = client_step w (user_of actor) e (row_at w.parts (user_of actor))
+step_of w e None = server_step w e
+
 -- one step of the system
 unfoldable pub step : World → Step → After
-step w (Spawn user threads prio) = client_step w user.0 (Spawn user threads prio) (row_at w.parts user.0)
-step w (Call thread request) = client_step w thread.proc.user.0 (Call thread request) (row_at w.parts thread.proc.user.0)
-step w (TakeReply thread) = client_step w thread.proc.user.0 (TakeReply thread) (row_at w.parts thread.proc.user.0)
-step w (SetPrio thread prio) = client_step w thread.proc.user.0 (SetPrio thread prio) (row_at w.parts thread.proc.user.0)
-step w (Receive worker manager) = receive w worker.0 manager
-step w (Perform worker moment) = perform w worker.0 moment
+step w e = step_of w e (actor_of e)
 
 abbrev pub first_user : List Queued → Option ℕ
 first_user [] = None
@@ -190,16 +199,20 @@ abbrev pub receive_owner : List Queued → Option Held → Option ℕ
 receive_owner line None = first_user line
 receive_owner line (Some held) = None
 
+abbrev pub server_owner : World → Step → Option ℕ
+server_owner w (Receive worker manager) =
+    if is_worker w.config worker.0 then receive_owner (line_of w manager) (row_at w.hands worker.0) else None
+server_owner w (Perform worker moment) =
+    if is_worker w.config worker.0 then option_map (λ held. held.user.0) (row_at w.hands worker.0) else None
+server_owner w _ = None
+
+abbrev pub owner_of : World → Step → Option Actor → Option ℕ
+owner_of w e (Some actor) = Some (user_of actor)
+owner_of w e None = server_owner w e
+
 -- the user by or for whom a step is taken: the client's; that of the item that a worker takes or does; else nobody
 unfoldable pub owner : World → Step → Option ℕ
-owner w (Spawn user threads prio) = Some user.0
-owner w (Call thread request) = Some thread.proc.user.0
-owner w (TakeReply thread) = Some thread.proc.user.0
-owner w (SetPrio thread prio) = Some thread.proc.user.0
-owner w (Receive worker manager) =
-    if is_worker w.config worker.0 then receive_owner (line_of w manager) (row_at w.hands worker.0) else None
-owner w (Perform worker moment) =
-    if is_worker w.config worker.0 then option_map (λ held. held.user.0) (row_at w.hands worker.0) else None
+owner w e = owner_of w e (actor_of e)
 
 abbrev pub own_line : ℕ → List Queued → List Queued
 own_line user line = filter (λ item. item.user.0 == user) line
@@ -210,10 +223,8 @@ own_hand user (Some held) = if held.user.0 == user then Some held else None
 
 -- what is one user's: the rows, the items in the lines and in workers' hands; all other users are as at boot
 unfoldable pub view : ℕ → World → World
-view user w = record {
-  config = w.config;
+view user w = record w {
   parts = slice_set (boot w.config).parts user (row_at w.parts user);
-  ram = own_line user w.ram;
-  pipe = own_line user w.pipe;
+  lines = map (own_line user) w.lines;
   hands = map (own_hand user) w.hands;
 }
