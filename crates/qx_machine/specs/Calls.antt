@@ -17,8 +17,8 @@ use Rattle.qx_machine.specs.declared.rows.Sent.{Sent}
 use Rattle.qx_machine.specs.declared.rows.State.{State}
 use Rattle.qx_machine.specs.declared.rows.State.TheVariants.{Ready}
 use Rattle.qx_machine.specs.declared.rows.Target.{Target}
+use Rattle.qx_machine.specs.declared.rows.ThreadRow.{ThreadRow}
 use Rattle.qx_machine.specs.Judgements.{◌>>=◌, found, need}
-use Rattle.qx_machine.specs.Parts.{Place}
 use Rattle.qx_machine.specs.Processes.{Process}
 use Rattle.qx_machine.specs.Rows.{row_at, lowest_from}
 
@@ -69,10 +69,10 @@ is_ready Ready = true
 is_ready _ = false
 
 -- what a thread's call sends; only a ready thread calls, and 2^64 - 1 times at most
-abbrev pub sent_of : List ℕ → List (Option Process) → Place → Request → Result Sent Outcome
-sent_of own_path processes place request = do
-  ready ← need (is_ready place.row.state) WrongState
+abbrev pub sent_of : List ℕ → List (Option Process) → Process → ThreadRow → Request → Result Sent Outcome
+sent_of own_path processes process row request = do
+  ready ← need (is_ready row.state) WrongState
   valid ← need (in_ranges request) (Refused EINVAL)
-  countable ← need (nat_lt place.row.calls CALLS) (Refused EAGAIN)
-  target ← target_at own_path processes place.process (address request)
-  Ok (record { manager = target.manager; over = target.over; prio = place.row.prio; message = message_of request })
+  countable ← need (nat_lt row.calls CALLS) (Refused EAGAIN)
+  target ← target_at own_path processes process (address request)
+  Ok (record { manager = target.manager; over = target.over; prio = row.prio; message = message_of request })

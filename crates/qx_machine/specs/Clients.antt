@@ -13,13 +13,14 @@ use Rattle.qx_types.specs.declared.step.Step.{Step}
 use Rattle.qx_types.specs.declared.step.Step.TheVariants.{Spawn, Call, TakeReply, SetPrio}
 use Rattle.qx_machine.specs.declared.rows.OwnItem.{OwnItem}
 use Rattle.qx_machine.specs.declared.rows.OwnItem.TheVariants as item
+use Rattle.qx_machine.specs.declared.rows.Sent as sent
 use Rattle.qx_machine.specs.declared.rows.State.{State}
 use Rattle.qx_machine.specs.declared.rows.State.TheVariants.{Answered}
 use Rattle.qx_machine.specs.Calls.{sent_of}
 use Rattle.qx_machine.specs.Judgements.{◌>>=◌, found, need}
-use Rattle.qx_machine.specs.Parts.{Part, Change, Put, place_of, with_process, with_thread_of}
+use Rattle.qx_machine.specs.Parts.{Part, Change, Put, thread_at, with_process, with_thread_of}
 use Rattle.qx_machine.specs.Processes.{Process, new_process, with_queued, ranked_thread, ready_thread}
-use Rattle.qx_machine.specs.Rows.{lowest_from, put_row}
+use Rattle.qx_machine.specs.Rows.{lowest_from, put_row, row_at}
 
 -- what a client's step gives
 pub record ClientStep : Type 0 where
@@ -47,11 +48,17 @@ spawn part threads prio = do
 abbrev pub own_path : Configuration → ℕ → List ℕ
 own_path config user = 47 ∷ unwrap_or (name_of config user) []
 
+-- what a call of a thread sends
+abbrev pub sent_by : List ℕ → Part → Thread → Request → Result sent.Sent Outcome
+sent_by path part thread request = do
+  process ← found (row_at part.processes thread.proc.num) WrongState
+  row ← found (row_at process.threads thread.tid) WrongState
+  sent_of path part.processes process row request
+
 -- the message goes into its manager's line with its thread's priority (System Architecture: the channel's line of messages)
 abbrev pub call : List ℕ → Part → Thread → Request → Result ClientStep Outcome
 call path part thread request = do
-  place ← place_of part thread.proc.num thread.tid
-  sent ← sent_of path part.processes place request
+  sent ← sent_by path part thread request
   Ok (record {
     outcome = Sent;
     part = with_process thread.proc.num (with_queued thread.tid sent) part;
@@ -69,14 +76,14 @@ answer_in _ = None
 -- a thread that has its answer gives it and is ready again
 abbrev pub take_reply : Part → Thread → Result ClientStep Outcome
 take_reply part thread = do
-  place ← place_of part thread.proc.num thread.tid
-  given ← found (answer_in place.row.state) WrongState
+  row ← found (thread_at part thread.proc.num thread.tid) WrongState
+  given ← found (answer_in row.state) WrongState
   Ok (record { outcome = outcome_of given; part = with_thread_of thread ready_thread part; changes = [] })
 
 -- a thread gets another priority
 abbrev pub set_prio : Part → Thread → ℕ → Result ClientStep Outcome
 set_prio part thread prio = do
-  place ← place_of part thread.proc.num thread.tid
+  row ← found (thread_at part thread.proc.num thread.tid) WrongState
   valid ← need (is_prio prio) (Refused EINVAL)
   Ok (record { outcome = Done; part = with_thread_of thread (ranked_thread prio) part; changes = [] })
 

@@ -1,14 +1,11 @@
 -- All rows of one user, and what a step changes in the lines.
-use Rattle.std.specs.Prelude.{ℕ, List, Option, Ok, Result}
+use Rattle.std.specs.Prelude.{ℕ, List, Option, Some, None}
 use Rattle.qx_types.specs.declared.names.Manager.{Manager}
 use Rattle.qx_types.specs.declared.names.Thread.{Thread}
-use Rattle.qx_types.specs.declared.outcome.Outcome.{Outcome}
-use Rattle.qx_types.specs.declared.outcome.Outcome.TheVariants.{WrongState}
 use Rattle.qx_machine.specs.declared.rows.Attribute.{Attribute}
 use Rattle.qx_machine.specs.declared.rows.Block.{Block}
 use Rattle.qx_machine.specs.declared.rows.OwnItem.{OwnItem}
 use Rattle.qx_machine.specs.declared.rows.ThreadRow.{ThreadRow}
-use Rattle.qx_machine.specs.Judgements.{◌>>=◌, found}
 use Rattle.qx_machine.specs.Processes.{Process, with_thread}
 use Rattle.qx_machine.specs.Rows.{row_at, with_row}
 
@@ -23,16 +20,13 @@ pub data Change : Type 0 where
   Put : (manager : Manager) (item : OwnItem) (prio : ℕ) → Change
   Remove : (manager : Manager) (item : OwnItem) → Change
 
--- a thread, in its process
-pub record Place : Type 0 where
-  pub process : Process
-  pub row : ThreadRow
+abbrev pub thread_of : ℕ → Option Process → Option ThreadRow
+thread_of thread None = None
+thread_of thread (Some process) = row_at process.threads thread
 
-abbrev pub place_of : Part → ℕ → ℕ → Result Place Outcome
-place_of part process thread = do
-  in_process ← found (row_at part.processes process) WrongState
-  row ← found (row_at in_process.threads thread) WrongState
-  Ok (record { process = in_process; row = row })
+-- a thread's row, by the number of its process and its own
+abbrev pub thread_at : Part → ℕ → ℕ → Option ThreadRow
+thread_at part process thread = thread_of thread (row_at part.processes process)
 
 -- one of the processes changes
 abbrev pub with_process : ℕ → (Process → Process) → Part → Part

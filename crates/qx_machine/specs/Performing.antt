@@ -9,9 +9,10 @@ use Rattle.qx_types.specs.declared.names.Manager.TheVariants.{Ram}
 use Rattle.qx_types.specs.declared.outcome.Answer.TheVariants.{Reply, Failed}
 use Rattle.qx_types.specs.declared.outcome.Outcome.{Outcome}
 use Rattle.qx_types.specs.declared.outcome.Outcome.TheVariants.{WrongState}
-use Rattle.qx_machine.specs.declared.rows.Block.{Block}
+use Rattle.qx_machine.specs.declared.rows.Connection.{Connection}
 use Rattle.qx_machine.specs.declared.rows.Message.{Message}
 use Rattle.qx_machine.specs.declared.rows.Message.TheVariants.{Open, Close, Fstat}
+use Rattle.qx_machine.specs.declared.rows.Opened.{Opened}
 use Rattle.qx_machine.specs.declared.rows.Over.{Over}
 use Rattle.qx_machine.specs.declared.rows.Over.TheVariants.{New, Existing}
 use Rattle.qx_machine.specs.declared.rows.Sent.{Sent}
@@ -19,7 +20,7 @@ use Rattle.qx_machine.specs.declared.rows.State.{State}
 use Rattle.qx_machine.specs.declared.rows.State.TheVariants.{Taken}
 use Rattle.qx_machine.specs.Attributes.{root_inode, stat_bytes}
 use Rattle.qx_machine.specs.Judgements.{◌>>=◌, found, need}
-use Rattle.qx_machine.specs.Parts.{Part, Change, place_of, with_process}
+use Rattle.qx_machine.specs.Parts.{Part, Change, thread_at, with_process}
 use Rattle.qx_machine.specs.Processes.{Process, answered_thread, detached, given_back, let_go, with_block, with_thread}
 use Rattle.qx_machine.specs.Rows.{row_at, lowest_from, put_row}
 use Rattle.qx_machine.specs.Servers.{is_numbered}
@@ -35,12 +36,6 @@ pub record Deed : Type 0 where
   pub bytes : List ℕ
   pub part : Part
 
--- what a connection has open at the message's manager
-pub record Opened : Type 0 where
-  pub coid : ℕ
-  pub number : ℕ
-  pub block : Block
-
 abbrev pub existing_coid : Over → Option ℕ
 existing_coid (Existing coid) = Some coid.0
 existing_coid _ = None
@@ -49,43 +44,47 @@ abbrev pub new_coid : Over → Option ℕ
 new_coid (New coid) = Some coid.0
 new_coid _ = None
 
--- the connection is there still, at this manager, with a block (C Library Reference: EBADF)
-abbrev pub opened_by : Part → Process → Sent → Result Opened Errno
+abbrev pub connection_of : ℕ → Option Process → Option Connection
+connection_of coid None = None
+connection_of coid (Some process) = row_at process.connections coid
+
+-- what a message's connection has open: the connection is there still, at this manager, with a block (C Library Reference: EBADF)
+abbrev pub opened_by : Part → ℕ → Sent → Result Opened Errno
 opened_by part process sent = do
   coid ← found (existing_coid sent.over) EINVAL
-  connection ← found (row_at process.connections coid) EBADF
+  connection ← found (connection_of coid (row_at part.processes process)) EBADF
   here ← need (is_numbered (manager_number sent.manager) connection.manager) EBADF
   number ← found connection.block EBADF
   block ← found (row_at part.blocks number) EBADF
-  Ok (record { coid = coid; number = number; block = block })
+  Ok (record { coid = record { 0 = coid }; number = number; block = block })
 
 -- what the RAM manager does with a message of a process: an open makes an open control block for its connection, whose number is
 -- the status (C Library Reference: open, ENFILE); a close takes connection and block away (close); an fstat tells the status of
 -- what is open (fstat)
-abbrev pub deed_of : Part → ℕ → Process → Sent → Message → Result Deed Errno
-deed_of part number process sent (Open flags mode) = do
+abbrev pub deed_of : Part → ℕ → Sent → Message → Result Deed Errno
+deed_of part process sent (Open flags mode) = do
   coid ← found (new_coid sent.over) EINVAL
   free ← need (nat_le (lowest_from 1 part.blocks) BLOCKS) ENFILE
   Ok (record {
     status = coid;
     bytes = [];
-    part = with_process number (with_block coid (lowest_from 1 part.blocks)) (record part { blocks = put_row part.blocks (lowest_from 1 part.blocks) (record { inode = root_inode }) });
+    part = with_process process (with_block coid (lowest_from 1 part.blocks)) (record part { blocks = put_row part.blocks (lowest_from 1 part.blocks) (record { inode = root_inode }) });
   })
-deed_of part number process sent Close = do
+deed_of part process sent Close = do
   opened ← opened_by part process sent
   Ok (record {
     status = 0;
     bytes = [];
-    part = with_process number (detached opened.coid) (record part { blocks = slice_set part.blocks opened.number None });
+    part = with_process process (detached opened.coid.0) (record part { blocks = slice_set part.blocks opened.number None });
   })
-deed_of part number process sent Fstat = do
+deed_of part process sent Fstat = do
   opened ← opened_by part process sent
   Ok (record { status = 0; bytes = stat_bytes opened.block.inode part.root; part = part })
 
 -- no other manager has functions yet (Writing a Resource Manager: ENOSYS where there is no function)
-abbrev pub deed_at : Part → ℕ → Process → Sent → Manager → Result Deed Errno
-deed_at part number process sent Ram = deed_of part number process sent sent.message
-deed_at part number process sent _ = Err ENOSYS
+abbrev pub deed_at : Part → ℕ → Sent → Manager → Result Deed Errno
+deed_at part process sent Ram = deed_of part process sent sent.message
+deed_at part process sent _ = Err ENOSYS
 
 -- the rows once the message is answered (C Library Reference: MsgReply, MsgError)
 abbrev pub answered : Part → ℕ → ℕ → Sent → Result Deed Errno → Part
@@ -101,9 +100,9 @@ taken_in _ = None
 -- only a message that was received and not answered is performed
 abbrev pub performed : Part → ℕ → ℕ → Result Part Outcome
 performed part process thread = do
-  place ← place_of part process thread
-  sent ← found (taken_in place.row.state) WrongState
-  Ok (answered part process thread sent (deed_at part process place.process sent sent.manager))
+  row ← found (thread_at part process thread) WrongState
+  sent ← found (taken_in row.state) WrongState
+  Ok (answered part process thread sent (deed_at part process sent sent.manager))
 
 -- else nothing is done
 abbrev pub or_kept : Part → Result Part Outcome → Part

@@ -76,6 +76,14 @@ pub struct Block {
     pub inode: u32,
 }
 
+/// What a message's connection has open: the connection, and its open control block with its number.
+#[derive(Clone, Copy, Debug, PartialEq, Eq)]
+pub struct Opened {
+    pub coid: Coid,
+    pub number: u16,
+    pub block: Block,
+}
+
 /// What an inode is.
 #[derive(Clone, Copy, Debug, PartialEq, Eq)]
 pub enum Kind {
