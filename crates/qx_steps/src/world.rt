@@ -1,30 +1,34 @@
-ghost use Rattle.std.specs.Prelude.{◌≡◌, ◌<◌, ◌^◌, ◌+◌, IfOk, OnOk, OnErr, length, None, [], ◌∷◌, replicate, unwrap_or, MatchOption, IfNone, IsTrue, IsFalse, IsOk, Err, Some, ◌≢◌, IsErrOf, ◌↔◌, option_map, is_some, if◌then◌else◌, slice_set};
+//! The rows of all users, the managers' lines and what each worker holds, with one call for each step.
+
+ghost use Rattle.std.specs.Prelude.{◌≡◌, ◌<◌, ◌∷◌, ◌↔◌, ◌≢◌, [], None, Some, Err, IfOk, IsOk, IsTrue, IsFalse, OnOk, OnErr, IsErrOf, length, is_some, option_map, replicate, slice_set, unwrap_or, if◌then◌else◌};
 ghost use Rattle.std.specs.Option.{option_copied};
+ghost use Rattle.qx_machine.specs.Clients as clients;
+ghost use Rattle.qx_machine.specs.Laws.{is_refusal};
 ghost use Rattle.qx_machine.specs.Machine as machine;
 ghost use Rattle.qx_machine.specs.Rows.{row_at};
-ghost use Rattle.qx_world.specs.Calls.{judged_call, after_sending};
 ghost use Rattle.qx_chan.specs.Channel.{sender_of};
-ghost use Rattle.qx_world.specs.Kept.{CanOpen, process_of, row_of, standing};
-ghost use Rattle.qx_world.specs.Held.{held_work, holds_open, opens_hand, work_now, IsStale};
 ghost use Rattle.qx_procs.specs.Reads.{is_thread_blocked};
-ghost use Rattle.qx_world.specs.Reads.{CanSend, thread_in, is_thread_answered};
-ghost use Rattle.qx_world.specs.Workers.{after_serving};
+ghost use Rattle.qx_parts.specs.Reads.{CanSend, process_of, thread_row};
+ghost use Rattle.qx_steps.specs.Calls.{after_sending, sent_in, spawn_number_in};
+ghost use Rattle.qx_steps.specs.Held.{held_work, holds_wanting, wants_memory_in, work_now, IsStale};
+ghost use Rattle.qx_steps.specs.Kept.{IsFree};
+ghost use Rattle.qx_steps.specs.Reads.{is_thread_answered};
+ghost use Rattle.qx_steps.specs.Workers.{after_serving};
 
-use crate::part::Part;
-use crate::parts::{self, Parts};
 use crate::servers;
 use crate::work::{PerformFault, Work, WorkRef};
 use qx_chan::Channel;
 use qx_machine::{Held, OwnItem, Queued, Sent, State};
+use qx_parts::{Part, Parts};
 use qx_procs::{Room, places};
 use qx_types::{
-    Bytes, Config, Item, Limits, Manager, NoMemory, Outcome, Prio, Proc, Request, Step, Thread,
-    User, Worker,
+    Bytes, Config, Item, Manager, NoMemory, Outcome, Prio, Proc, Request, Step, Thread, User,
+    Worker,
 };
 use std::alloc::{AllocError, Global};
 use std::marker::Model;
 
-/// The rows of all users, the two managers' lines and what each worker holds.
+/// The rows of all users, the managers' lines and what each worker holds.
 #[derive(Drop)]
 pub struct World {
     alloc: Global,
@@ -36,13 +40,13 @@ pub struct World {
 
 impl Model for World {
     ghost use Rattle.qx_machine.specs.Machine as machine;
-    ghost use Rattle.qx_world.specs.Kept.{Kept, KeptServers};
+    ghost use Rattle.qx_steps.specs.Kept.{Kept};
 
     ghost Value = { machine.World };
 
-    ghost view = { λ w. record { config = w.config; parts = w.parts.items; ram = w.channel.ram; pipe = w.channel.pipe; hands = w.hands.items } };
+    ghost view = { λ w. record { config = w.config; parts = w.parts; lines = w.channel.lines; hands = w.hands.items } };
 
-    ghost invariant = { λ w. Kept w.parts.items w.channel × KeptServers w.parts.items w.channel.nodes };
+    ghost invariant = { λ w. Kept w.parts w.channel };
 }
 
 impl World {
@@ -64,49 +68,78 @@ impl World {
     }
 
     /// Starts a process of 1 to 4 ready threads of a priority from 1 to 63 (System Architecture: processes and threads).
-    /// EINVAL for other numbers; EAGAIN where the user has 16 processes; `WrongState` for a user who is not configured.
-    #[tactic(auto, using(crate::proofs::WorldLemmas::client_steps))]
+    /// EINVAL for other numbers; EAGAIN where the user has 16 processes; `WrongState` for a user who is not configured. A
+    /// spawn that is refused wants no memory.
     pub fn spawn(&mut self, user: User, threads: u8, prio: Prio) -> Result<Outcome, AllocError>
         ensures outcome { IfOk result (λ outcome. outcome ≡ (machine.step self.old (Step.Spawn user threads prio)).outcome) }
         ensures world { OnOk result (self.new ≡ (machine.step self.old (Step.Spawn user threads prio)).world) }
+        ensures sure { IsTrue (is_refusal (machine.step self.old (Step.Spawn user threads prio)).outcome) → IsOk result }
         ensures err { OnErr result (self.new ≡ self.old) }
     {
-        self.channel.reserve(threads.min(Limits::THREADS))?;
-        let outcome = parts::spawn_in(&mut self.parts, user, threads, prio)?;
-        if let Outcome::Spawned(number) = &outcome {
-            let proc = Proc { user, num: *number };
-            self.channel.add_process(proc, threads, prio);
+        match self.spawn_number(user, threads, prio) {
+            Ok(number) => {
+                self.start(Proc { user, num: number }, threads, prio)?;
+                Ok(Outcome::Spawned(number))
+            }
+            Err(outcome) => Ok(outcome),
         }
-        Ok(outcome)
+    }
+
+    /// The number of a process that would start now, or how the spawn is refused.
+    fn spawn_number(&self, user: User, threads: u8, prio: Prio) -> Result<u8, Outcome>
+        ensures { result ≡ spawn_number_in threads prio.0 (row_at self.now.parts user.0) }
+    {
+        match self.parts.part(user) {
+            Some(part) => part.spawn_number(threads, prio),
+            None => Err(Outcome::WrongState),
+        }
+    }
+
+    /// Starts a process under the number that it is to have: the room for its threads' nodes, its rows, then the nodes.
+    fn start(&mut self, proc: Proc, threads: u8, prio: Prio) -> Result<(), AllocError>
+        requires { spawn_number_in threads prio.0 (row_at self.old.parts proc.user.0) ≡ Ok proc.num }
+        ensures ok { OnOk result (self.new ≡ after_start self.old proc.user threads prio) }
+        ensures err { OnErr result (self.new ≡ self.old) }
+    {
+        self.channel.reserve(threads)?;
+        self.parts.spawn(proc.user, threads, prio)?;
+        self.channel.add_process(proc, threads, prio);
+        Ok(())
     }
 
     /// A thread takes its answer and is ready (C Library Reference: what `MsgSend` returns). `WrongState` where the thread
     /// is not there or has none.
-    #[tactic(auto, using(crate::proofs::WorldLemmas::client_steps))]
     pub fn take_reply(&mut self, thread: Thread) -> Outcome
         ensures outcome { result ≡ (machine.step self.old (Step.TakeReply thread)).outcome }
         ensures world { self.new ≡ (machine.step self.old (Step.TakeReply thread)).world }
     {
-        parts::take_reply_in(&mut self.parts, thread)
+        let Some(part) = self.parts.part_mut(thread.proc.user) else {
+            return Outcome::WrongState;
+        };
+        part.take_reply(thread)
     }
 
     /// A thread gets another priority, from 1 to 63; a message that it sent keeps the one that it was sent with (C Library
     /// Reference: `SchedSet`). `WrongState` where the thread is not there, then EINVAL for another number.
-    #[tactic(auto, using(crate::proofs::WorldLemmas::client_steps))]
     pub fn set_prio(&mut self, thread: Thread, prio: Prio) -> Outcome
         ensures outcome { result ≡ (machine.step self.old (Step.SetPrio thread prio)).outcome }
         ensures world { self.new ≡ (machine.step self.old (Step.SetPrio thread prio)).world }
     {
-        parts::set_prio_in(&mut self.parts, thread, prio)
+        let Some(part) = self.parts.part_mut(thread.proc.user) else {
+            return Outcome::WrongState;
+        };
+        part.set_prio(thread, prio)
     }
 
     /// A client's request goes as a message into its manager's line, and the thread is blocked (C Library Reference:
     /// `MsgSend`). `WrongState` where the thread is not there or not ready; then EINVAL for fields out of their ranges,
     /// EAGAIN where the thread's calls are used up, ENOENT for a path other than the user's own root, EMFILE where no
-    /// connection is free, EBADF where there is no such connection.
+    /// connection is free, EAGAIN where the user has all its server connections at the manager, EBADF where there is no
+    /// such connection. A call that is refused wants no memory.
     pub fn call(&mut self, thread: Thread, request: &Request) -> Result<Outcome, NoMemory>
         ensures outcome { IfOk result (λ outcome. outcome ≡ (machine.step self.old (Step.Call thread request.now)).outcome) }
         ensures world { OnOk result (self.new ≡ (machine.step self.old (Step.Call thread request.now)).world) }
+        ensures sure { IsTrue (is_refusal (machine.step self.old (Step.Call thread request.now)).outcome) → IsOk result }
         ensures err { OnErr result (self.new ≡ self.old) }
     {
         match self.judge(thread, request) {
@@ -120,11 +153,10 @@ impl World {
 
     /// What a call sends, or the outcome of one that sends nothing.
     fn judge(&self, thread: Thread, request: &Request) -> Result<Sent, Outcome>
-        ensures judged { result ≡ judged_call self.now thread request.now }
-        ensures sendable { IfOk result (λ sent. CanSend (thread_in thread (row_at self.now.parts thread.proc.user.0)) sent) }
+        ensures { result ≡ sent_in self.now thread request.now }
     {
         let user = thread.proc.user;
-        match places::row(self.parts.as_slice(), user.0 as usize) {
+        match self.parts.part(user) {
             Some(part) => part.judge(name_bytes(self.config.name(user)), thread, request),
             None => Err(Outcome::WrongState),
         }
@@ -133,20 +165,14 @@ impl World {
     /// A message goes into its manager's line, and its thread is blocked.
     #[tactic(auto, unfolding(qx_machine::specs::Users::settle))]
     fn send(&mut self, thread: Thread, sent: Sent) -> Result<(), NoMemory>
-        requires ready { standing (row_of self.old.parts thread) ≡ Some None }
-        requires sendable { CanSend (thread_in thread (row_at self.old.parts thread.proc.user.0)) sent }
-        requires free { CanOpen (process_of self.old.parts thread.proc) sent.coid.0 sent.message }
+        requires { IsSendable self.old thread sent }
         ensures ok { OnOk result (self.new ≡ after_sending self.old thread sent) }
         ensures err { OnErr result (self.new ≡ self.old) }
     {
-        let Some(row) = parts::thread_row(&self.parts, thread) else {
-            unreachable!();
-        };
-        let prio = row.prio;
         let room = Room::new(self.alloc)?;
-        servers::attach(&mut self.channel, thread, sent)?;
-        self.channel.put(sent.manager, thread, prio);
-        parts::send_in(&mut self.parts, thread, sent, room);
+        servers::attach(&mut self.channel, thread.proc, sent)?;
+        self.channel.put(sent.manager, thread, sent.prio);
+        self.parts.send(thread, sent, room);
         Ok(())
     }
 
@@ -181,7 +207,7 @@ impl World {
             return Outcome::Idle;
         };
         hold_in(&mut self.hands, worker, first);
-        parts::take_in(&mut self.parts, first.user, first.item);
+        self.parts.take(first.user, first.item);
         Outcome::Took(shown_item(first.user, first.item))
     }
 
@@ -192,7 +218,7 @@ impl World {
         ensures outcome { IfOk result (λ outcome. outcome ≡ (machine.step self.old (Step.Perform worker moment)).outcome) }
         ensures world { OnOk result (self.new ≡ (machine.step self.old (Step.Perform worker moment)).world) }
         ensures err { OnErr result (self.new ≡ self.old) }
-        ensures sure { IsFalse (holds_open self.old worker.0) → IsOk result }
+        ensures sure { IsFalse (holds_wanting self.old worker.0) → IsOk result }
     {
         if !self.is_worker(worker) {
             return Ok(Outcome::WrongState);
@@ -209,10 +235,10 @@ impl World {
     fn serve(&mut self, worker: Worker, held: Held) -> Result<(), NoMemory>
         ensures ok { OnOk result (self.new ≡ after_serving self.old worker.0 held) }
         ensures err { OnErr result (self.new ≡ self.old) }
-        ensures sure { IsFalse (opens_hand self.old (Some held)) → IsOk result }
+        ensures sure { IsFalse (wants_memory_in self.old held) → IsOk result }
     {
-        parts::serve_in(&mut self.parts, held.user, held.item)?;
-        servers::settle(&mut self.channel, &self.parts, item_process(held));
+        self.parts.serve(held.user, held.item)?;
+        servers::settle(&mut self.channel, &self.parts, sender(held).proc);
         places::free(&mut self.hands, worker.0 as usize);
         Ok(())
     }
@@ -229,7 +255,7 @@ impl World {
         ensures world { OnOk result (self.new ≡ (machine.step self.old (Step.Perform worker moment)).world) }
         ensures err { OnErr result (self.new ≡ self.old) }
         ensures stale { IsErrOf result PerformFault.Stale ↔ IsStale (held_work self.old worker.0) work.now }
-        ensures sure { IsFalse (holds_open self.old worker.0) → result ≢ Err PerformFault.NoMemory }
+        ensures sure { IsFalse (holds_wanting self.old worker.0) → result ≢ Err PerformFault.NoMemory }
     {
         if self.is_stale(worker, work) {
             return Err(PerformFault::Stale);
@@ -256,15 +282,10 @@ impl World {
             return None;
         }
         let held = self.hand(worker)?;
-        let OwnItem::Message { process, thread } = held.item;
-        let proc = Proc {
-            user: held.user,
-            num: process,
-        };
-        let row = parts::thread_row(&self.parts, Thread { proc, tid: thread })?;
+        let row = self.parts.thread(sender(held))?;
         match &row.state {
             State::Taken(sent) => Some(WorkRef::Message(&sent.message)),
-            State::Ready | State::Queued(_) | State::Answered(_) => None,
+            _ => None,
         }
     }
 
@@ -277,13 +298,10 @@ impl World {
 
     /// Whether a thread has an answer that it has not yet taken. False for a thread that is not there.
     pub fn answered(&self, thread: Thread) -> bool
-        ensures { result ≡ is_thread_answered (thread_in thread (row_at self.now.parts thread.proc.user.0)) }
+        ensures { result ≡ is_thread_answered (thread_row self.now.parts thread) }
     {
-        match parts::thread_row(&self.parts, thread) {
-            Some(row) => match row.state {
-                State::Answered(_) => true,
-                State::Ready | State::Queued(_) | State::Taken(_) => false,
-            },
+        match self.parts.thread(thread) {
+            Some(row) => matches!(row.state, State::Answered(_)),
             None => false,
         }
     }
@@ -291,13 +309,10 @@ impl World {
     /// Whether a thread waits for an answer: its message stands in a line, or was received. False for a thread that is
     /// not there.
     pub fn blocked(&self, thread: Thread) -> bool
-        ensures { result ≡ is_thread_blocked (thread_in thread (row_at self.now.parts thread.proc.user.0)) }
+        ensures { result ≡ is_thread_blocked (thread_row self.now.parts thread) }
     {
-        match parts::thread_row(&self.parts, thread) {
-            Some(row) => match row.state {
-                State::Queued(_) | State::Taken(_) => true,
-                State::Ready | State::Answered(_) => false,
-            },
+        match self.parts.thread(thread) {
+            Some(row) => matches!(row.state, State::Queued(_) | State::Taken(_)),
             None => false,
         }
     }
@@ -355,11 +370,11 @@ impl World {
 /// Each user's rows at boot.
 #[tactic(auto, using(crate::proofs::BootLemmas::boot_parts_steps))]
 fn boot_parts(alloc: Global, config: &Config) -> Result<Parts, AllocError>
-    ensures { IfOk result (λ parts. parts.items ≡ None ∷ machine.boot_parts config.now 1 config.now.users) }
+    ensures { IfOk result (λ parts. parts ≡ None ∷ machine.boot_parts config.now 1 config.now.users) }
 {
-    let mut parts = places::empty(alloc)?;
+    let mut parts = Parts::new(alloc)?;
     for number in 0..config.user_count() {
-        parts.push(Some(Part::boot(alloc, User(number as u8 + 1))?))?;
+        parts.push(Part::boot(alloc, User(number as u8 + 1))?)?;
     }
     Ok(parts)
 }
@@ -396,15 +411,16 @@ fn name_bytes(name: Option<&Bytes>) -> &[u8]
     }
 }
 
-/// The process of an item that a worker holds.
-fn item_process(held: Held) -> Proc
-    ensures { result ≡ (sender_of held.user.0 held.item).proc }
+/// The thread whose message a worker holds.
+fn sender(held: Held) -> Thread
+    ensures { result ≡ sender_of held.user.0 held.item }
 {
-    let OwnItem::Message { process, .. } = held.item;
-    Proc {
+    let OwnItem::Message { process, thread } = held.item;
+    let proc = Proc {
         user: held.user,
         num: process,
-    }
+    };
+    Thread { proc, tid: thread }
 }
 
 /// An item as it is shown.

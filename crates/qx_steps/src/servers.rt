@@ -1,0 +1,37 @@
+//! The disconnect nodes of server connections, which come and go with what a process has attached.
+
+ghost use Rattle.std.specs.Prelude.{◌≡◌, OnOk, OnErr};
+ghost use Rattle.qx_chan.specs.Channel.{HasThread};
+ghost use Rattle.qx_steps.specs.Kept.{process_of_item, with_attached, with_settled};
+
+use qx_chan::Channel;
+use qx_machine::{Held, Over, OwnItem, Sent};
+use qx_parts::Parts;
+use qx_procs::Process;
+use qx_types::{Manager, Proc};
+use std::alloc::AllocError;
+
+/// A process has a disconnect node at the manager of a message from now on that attaches something for itself.
+pub fn attach(channel: &mut Channel, proc: Proc, sent: Sent) -> Result<(), AllocError>
+    requires { HasThread channel.old proc }
+    ensures ok { OnOk result (channel.new ≡ with_attached channel.old proc sent.manager sent.over) }
+    ensures err { OnErr result (channel.new ≡ channel.old) }
+{
+    match sent.over {
+        Over::Existing(_) => Ok(()),
+        Over::New(_) | Over::Side => channel.add_server(proc, sent.manager),
+    }
+}
+
+/// A process keeps the disconnect nodes of the managers where something of it is attached, and no other.
+pub fn settle(channel: &mut Channel, parts: &Parts, proc: Proc)
+    ensures { channel.new ≡ settled channel.old proc (process_of parts.now proc) managers }
+{
+    for number in 0..Manager::COUNT {
+        if let Some(manager) = Manager::of_number(number) {
+            if !is_attached(parts, proc, manager) {
+                channel.remove_server(proc, manager);
+            }
+        }
+    }
+}
