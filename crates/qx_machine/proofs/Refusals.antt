@@ -16,7 +16,8 @@ use Rattle.qx_machine.specs.declared.rows.OwnItem.{OwnItem}
 use Rattle.qx_machine.specs.declared.rows.Queued.{Queued}
 use Rattle.qx_machine.specs.Judgements.{◌>>=◌}
 use Rattle.qx_machine.specs.Laws.{is_refusal}
-use Rattle.qx_machine.specs.Machine.{World, acted, client_step, is_worker, line_of, own_held, perform_hand, receive_hand, receive_line, server_step, step, step_of, actor_of, unchanged, user_of}
+use Rattle.qx_machine.specs.Machine.{World, acted, client_step, is_worker, line_of, own_held, perform_hand, receive_hand, receive_line, server_step, step, step_of, unchanged}
+use Rattle.qx_types.specs.Step.{actor_of, user_of}
 use Rattle.qx_machine.specs.Rows.{row_at}
 use Rattle.qx_machine.specs.Clients.{ClientStep, client_given, or_unchanged, outcome_of}
 use Rattle.qx_machine.specs.Parts.{Part}

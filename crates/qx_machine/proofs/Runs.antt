@@ -7,7 +7,8 @@ use Rattle.qx_types.specs.Configuration.{Configuration}
 use Rattle.qx_types.specs.declared.step.Step.{Step}
 use Rattle.qx_machine.specs.declared.rows.Entry.{Entry}
 use Rattle.qx_machine.specs.Laws.{IsInOrder, own_entries}
-use Rattle.qx_machine.specs.Machine.{World, boot, boot_parts, rank, step, owner, actor_of, own_hand, view}
+use Rattle.qx_machine.specs.Machine.{World, boot, boot_parts, rank, step, owner, own_hand, view}
+use Rattle.qx_types.specs.Step.{actor_of}
 use Rattle.qx_types.specs.declared.names.TheConstants.Manager.{COUNT}
 use Rattle.qx_machine.specs.Runs.{world_after, entries_from, run, seen_by, received, is_owner, erase_from, erase}
 use Rattle.qx_machine.proofs.Orders.{in_order_none}

@@ -9,7 +9,8 @@ use Rattle.qx_types.specs.declared.step.Step.{Step}
 use Rattle.qx_types.specs.declared.step.Step.TheVariants.{Receive, Perform}
 use Rattle.qx_machine.specs.declared.rows.Held.{Held}
 use Rattle.qx_machine.specs.declared.rows.Queued.{Queued}
-use Rattle.qx_machine.specs.Machine.{World, own_hand, own_line, unchanged, is_worker, line_of, receive_line, receive_hand, perform_hand, server_step, step_of, step, first_user, receive_owner, server_owner, owner_of, owner, actor_of, user_of, view}
+use Rattle.qx_machine.specs.Machine.{World, own_hand, own_line, unchanged, is_worker, line_of, receive_line, receive_hand, perform_hand, server_step, step_of, step, first_user, receive_owner, server_owner, owner_of, owner, view}
+use Rattle.qx_types.specs.Step.{actor_of, user_of}
 use Rattle.qx_machine.specs.Rows.{row_at}
 use Rattle.qx_machine.specs.Runs.{is_owner}
 use Rattle.qx_machine.proofs.Views.{IsReached, viewed, row_at-hands, line_of-view, reached_client, client_own, client_other}

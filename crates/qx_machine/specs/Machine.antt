@@ -2,16 +2,16 @@
 use Rattle.std.specs.Prelude.{ℕ, ◌+◌, ◌==◌, ◌&&◌, Bool, List, [], ◌∷◌, Option, Some, None, nat_le, if◌then◌else◌, slice_set, filter, map, option_map, replicate}
 use Rattle.qx_types.specs.Configuration.{Configuration}
 use Rattle.qx_types.specs.Managers.{manager_number}
+use Rattle.qx_types.specs.Step.{actor_of, user_of}
 use Rattle.qx_types.specs.declared.names.TheConstants.Manager.{COUNT}
 use Rattle.qx_types.specs.declared.names.Actor.{Actor}
-use Rattle.qx_types.specs.declared.names.Actor.TheVariants.{OfUser, OfProc, OfThread}
 use Rattle.qx_types.specs.declared.names.Item.{Item}
 use Rattle.qx_types.specs.declared.names.Item.TheVariants as public
 use Rattle.qx_types.specs.declared.names.Manager.{Manager}
 use Rattle.qx_types.specs.declared.outcome.Outcome.{Outcome}
 use Rattle.qx_types.specs.declared.outcome.Outcome.TheVariants.{WrongState, Took, Idle, Busy, Handled, Nothing}
 use Rattle.qx_types.specs.declared.step.Step.{Step}
-use Rattle.qx_types.specs.declared.step.Step.TheVariants.{Spawn, Call, TakeReply, SetPrio, Receive, Perform}
+use Rattle.qx_types.specs.declared.step.Step.TheVariants.{Receive, Perform}
 use Rattle.qx_machine.specs.declared.rows.Held.{Held}
 use Rattle.qx_machine.specs.declared.rows.OwnItem.{OwnItem}
 use Rattle.qx_machine.specs.declared.rows.OwnItem.TheVariants.{Message}
@@ -162,20 +162,6 @@ perform_hand w worker moment (Some held) =
 abbrev pub perform : World → ℕ → ℕ → After
 perform w worker moment =
     if is_worker w.config worker then perform_hand w worker moment (row_at w.hands worker) else unchanged w WrongState
-
--- who takes a client's step
-abbrev pub actor_of : Step → Option Actor
-actor_of (Spawn user threads prio) = Some (OfUser user)
-actor_of (Call thread request) = Some (OfThread thread)
-actor_of (TakeReply thread) = Some (OfThread thread)
-actor_of (SetPrio thread prio) = Some (OfThread thread)
-actor_of (Receive worker manager) = None
-actor_of (Perform worker moment) = None
-
-abbrev pub user_of : Actor → ℕ
-user_of (OfUser user) = user.0
-user_of (OfProc proc) = proc.user.0
-user_of (OfThread thread) = thread.proc.user.0
 
 -- a worker's step
 abbrev pub server_step : World → Step → After

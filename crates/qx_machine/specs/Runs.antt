@@ -1,12 +1,13 @@
 -- Runs of the machine from boot, what a user receives in one, and the run without what is not the user's.
 use Rattle.std.specs.Prelude.{ℕ, ◌==◌, Bool, false, List, [], ◌∷◌, ◌++◌, Option, Some, None, if◌then◌else◌}
 use Rattle.qx_types.specs.Configuration.{Configuration}
+use Rattle.qx_types.specs.Step.{actor_of, user_of}
 use Rattle.qx_types.specs.declared.names.Actor.{Actor}
 use Rattle.qx_types.specs.declared.outcome.Outcome.{Outcome}
 use Rattle.qx_types.specs.declared.step.Step.{Step}
 use Rattle.qx_machine.specs.declared.rows.Entry.{Entry}
 use Rattle.qx_machine.specs.declared.rows.Seen.{Seen}
-use Rattle.qx_machine.specs.Machine.{World, actor_of, boot, step, owner, user_of}
+use Rattle.qx_machine.specs.Machine.{World, boot, step, owner}
 
 -- the last world of the steps, and each step with its outcome
 pub record Run : Type 0 where

@@ -1,5 +1,6 @@
 ghost use Rattle.std.specs.Prelude.{◌≡◌, ◌<◌, slice_get};
 ghost use Rattle.qx_types.specs.Managers.{manager_number, managers};
+ghost use Rattle.qx_types.specs.Step.{user_of};
 ghost use Rattle.qx_types.specs.declared.names.TheConstants.Manager.{COUNT};
 
 /// A user's number, from 1 in the order of the configuration.
@@ -76,6 +77,19 @@ pub enum Actor {
     OfUser(User),
     OfProc(Proc),
     OfThread(Thread),
+}
+
+impl Actor {
+    /// Whose actor it is.
+    pub fn user(self) -> User
+        ensures { result.0 ≡ user_of self }
+    {
+        match self {
+            Actor::OfUser(user) => user,
+            Actor::OfProc(proc) => proc.user,
+            Actor::OfThread(thread) => thread.proc.user,
+        }
+    }
 }
 
 /// What a line holds and a worker takes (System Architecture: messages and pulses; that both stand in one line is this
