@@ -1,52 +1,41 @@
--- A call in two parts: what it sends, and the world once that is sent.
-use Rattle.std.specs.Prelude.{ℕ, ◌<◌, length, List, [], ◌∷◌, Option, Some, None, Result, Err}
+-- A spawn and a call in two parts: how it is judged, and the world once it is done.
+use Rattle.std.specs.Prelude.{ℕ, List, [], ◌∷◌, Option, Some, None, Result, Ok, Err}
+use Rattle.qx_types.specs.declared.names.Prio.{Prio}
+use Rattle.qx_types.specs.declared.names.Proc.{Proc}
 use Rattle.qx_types.specs.declared.names.Thread.{Thread}
 use Rattle.qx_types.specs.declared.outcome.Outcome.{Outcome}
 use Rattle.qx_types.specs.declared.outcome.Outcome.TheVariants.{WrongState}
 use Rattle.qx_types.specs.declared.step.Request.{Request}
 use Rattle.qx_machine.specs.declared.rows.OwnItem.TheVariants as item
 use Rattle.qx_machine.specs.declared.rows.Sent.{Sent}
-use Rattle.qx_machine.specs.Machine.{World, acted}
-use Rattle.qx_machine.specs.Processes.{sending}
-use Rattle.qx_machine.specs.Rows.{row_at}
-use Rattle.qx_machine.specs.Users.{Part, Put, judged, own_path, prio_of, prio_set, reply_of, spawn, thread_at, with_process}
+use Rattle.qx_machine.specs.Clients.{or_unchanged, own_path, sent_by, spawn, spawn_number}
+use Rattle.qx_machine.specs.Machine.{World, rank, queued}
+use Rattle.qx_machine.specs.Lines.{into, with_line}
+use Rattle.qx_machine.specs.Parts.{Part, with_process}
+use Rattle.qx_machine.specs.Processes.{with_queued}
+use Rattle.qx_machine.specs.Rows.{row_at, with_row}
+use Rattle.qx_types.specs.Managers.{manager_number}
 
-abbrev pub judged_part : List ℕ → Thread → Request → Option Part → Result Sent Outcome
-judged_part path thread request None = Err WrongState
-judged_part path thread request (Some part) = judged path part thread request
+-- the number of a process of a user that would start now
+abbrev pub spawn_number_in : ℕ → ℕ → Option Part → Result ℕ Outcome
+spawn_number_in threads prio None = Err WrongState
+spawn_number_in threads prio (Some part) = spawn_number part.processes threads prio
+
+-- the world once it is started
+abbrev pub after_start : World → ℕ → ℕ → ℕ → World
+after_start w user threads prio = record w { parts = with_row w.parts user (λ part. (or_unchanged part (spawn part threads prio)).part) }
+
+abbrev pub sent_from : List ℕ → Thread → Request → Option Part → Result Sent Outcome
+sent_from path thread request None = Err WrongState
+sent_from path thread request (Some part) = sent_by path part thread request
 
 -- what a call sends, or the outcome of one that sends nothing
-abbrev pub judged_call : World → Thread → Request → Result Sent Outcome
-judged_call w thread request = judged_part (own_path w.config thread.proc.user.0) thread request (row_at w.parts thread.proc.user.0)
-
-abbrev pub sent_from : World → Thread → Sent → Option Part → World
-sent_from w thread sent None = w
-sent_from w thread sent (Some part) =
-    acted thread.proc.user.0 part (with_process part thread.proc.num (sending thread.tid sent))
-    (Put sent.manager (item.Message thread.proc.num thread.tid) (prio_of (thread_at part thread.proc.num thread.tid)) ∷ []) w
+abbrev pub sent_in : World → Thread → Request → Result Sent Outcome
+sent_in w thread request = sent_from (own_path w.config thread.proc.user.0) thread request (row_at w.parts thread.proc.user.0)
 
 -- the world once a thread's message is sent
 abbrev pub after_sending : World → Thread → Sent → World
-after_sending w thread sent = sent_from w thread sent (row_at w.parts thread.proc.user.0)
-
--- the outcomes of a client's steps, by the rows of its user
-abbrev pub spawn_outcome : ℕ → ℕ → Option Part → Outcome
-spawn_outcome threads prio None = WrongState
-spawn_outcome threads prio (Some part) = (spawn part threads prio).outcome
-
-abbrev pub reply_outcome : Thread → Option Part → Outcome
-reply_outcome thread None = WrongState
-reply_outcome thread (Some part) = (reply_of part thread (thread_at part thread.proc.num thread.tid)).outcome
-
-abbrev pub prio_outcome : Thread → ℕ → Option Part → Outcome
-prio_outcome thread prio None = WrongState
-prio_outcome thread prio (Some part) = (prio_set part thread prio (thread_at part thread.proc.num thread.tid)).outcome
-
--- the table of a user's processes has a place for each number below the next one
-abbrev pub HasPlace : Option Part → Type 0
-HasPlace None = Unit {0}
-HasPlace (Some part) = 0 < length part.processes
-
--- the world with other rows of its users
-abbrev pub with_parts : World → List (Option Part) → World
-with_parts w parts = record { config = w.config; parts = parts; ram = w.ram; pipe = w.pipe; hands = w.hands }
+after_sending w thread sent = record w {
+  parts = with_row w.parts thread.proc.user.0 (with_process thread.proc.num (with_queued thread.tid sent));
+  lines = with_line w.lines (manager_number sent.manager) (λ line. into rank line (queued thread.proc.user.0 (item.Message thread.proc.num thread.tid) sent.prio.0));
+}

@@ -5,12 +5,13 @@ ghost use Rattle.std.specs.Option.{option_copied};
 ghost use Rattle.qx_machine.specs.Clients as clients;
 ghost use Rattle.qx_machine.specs.Laws.{is_refusal};
 ghost use Rattle.qx_machine.specs.Machine as machine;
+ghost use Rattle.qx_machine.specs.Processes as processes;
 ghost use Rattle.qx_machine.specs.Rows.{row_at};
 ghost use Rattle.qx_chan.specs.Channel.{sender_of};
-ghost use Rattle.qx_procs.specs.Reads.{is_thread_blocked};
+ghost use Rattle.qx_procs.specs.Reads.{is_thread_blocked, IsPriority};
 ghost use Rattle.qx_parts.specs.Reads.{CanSend, process_of, thread_row};
-ghost use Rattle.qx_steps.specs.Calls.{after_sending, sent_in, spawn_number_in};
-ghost use Rattle.qx_steps.specs.Held.{held_work, holds_wanting, wants_memory_in, work_now, IsStale};
+ghost use Rattle.qx_steps.specs.Calls.{after_sending, after_start, sent_in, spawn_number_in};
+ghost use Rattle.qx_steps.specs.Held.{hand_wants_memory, held_work, holds_wanting, work_now, IsStale};
 ghost use Rattle.qx_steps.specs.Kept.{IsFree};
 ghost use Rattle.qx_steps.specs.Reads.{is_thread_answered};
 ghost use Rattle.qx_steps.specs.Workers.{after_serving};
@@ -98,7 +99,7 @@ impl World {
     /// Starts a process under the number that it is to have: the room for its threads' nodes, its rows, then the nodes.
     fn start(&mut self, proc: Proc, threads: u8, prio: Prio) -> Result<(), AllocError>
         requires { spawn_number_in threads prio.0 (row_at self.old.parts proc.user.0) ≡ Ok proc.num }
-        ensures ok { OnOk result (self.new ≡ after_start self.old proc.user threads prio) }
+        ensures ok { OnOk result (self.new ≡ after_start self.old proc.user.0 threads prio.0) }
         ensures err { OnErr result (self.new ≡ self.old) }
     {
         self.channel.reserve(threads)?;
@@ -165,7 +166,10 @@ impl World {
     /// A message goes into its manager's line, and its thread is blocked.
     #[tactic(auto, unfolding(qx_machine::specs::Users::settle))]
     fn send(&mut self, thread: Thread, sent: Sent) -> Result<(), NoMemory>
-        requires { IsSendable self.old thread sent }
+        requires sendable { CanSend (thread_row self.old.parts thread) sent.over }
+        requires ready { IsReady (thread_row self.old.parts thread) }
+        requires free { (process : processes.Process) → process_of self.old.parts thread.proc ≡ Some process → IsFree thread.tid sent.over process }
+        requires priority { IsPriority sent.prio.0 }
         ensures ok { OnOk result (self.new ≡ after_sending self.old thread sent) }
         ensures err { OnErr result (self.new ≡ self.old) }
     {
@@ -235,7 +239,7 @@ impl World {
     fn serve(&mut self, worker: Worker, held: Held) -> Result<(), NoMemory>
         ensures ok { OnOk result (self.new ≡ after_serving self.old worker.0 held) }
         ensures err { OnErr result (self.new ≡ self.old) }
-        ensures sure { IsFalse (wants_memory_in self.old held) → IsOk result }
+        ensures sure { IsFalse (hand_wants_memory self.old (Some held)) → IsOk result }
     {
         self.parts.serve(held.user, held.item)?;
         servers::settle(&mut self.channel, &self.parts, sender(held).proc);
@@ -337,12 +341,20 @@ impl World {
     pub fn owner(&self, step: &Step) -> Option<User>
         ensures { option_map (λ user. user.0) result ≡ machine.owner self.now step.now }
     {
+        match step.actor() {
+            Some(actor) => Some(actor.user()),
+            None => self.server_owner(step),
+        }
+    }
+
+    /// The user for whom a worker would take a step.
+    fn server_owner(&self, step: &Step) -> Option<User>
+        ensures { option_map (λ user. user.0) result ≡ machine.server_owner self.now step.now }
+    {
         match step {
-            Step::Spawn { user, .. } => Some(*user),
-            Step::Call { thread, .. } | Step::TakeReply { thread } | Step::SetPrio { thread, .. } =>
-                Some(thread.proc.user),
             Step::Receive { worker, manager } => self.receive_owner(*worker, *manager),
             Step::Perform { worker, .. } => self.perform_owner(*worker),
+            _ => None,
         }
     }
 
