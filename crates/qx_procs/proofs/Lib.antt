@@ -1,3 +1,1 @@
-pub mod MachineRows
 pub mod RowLemmas
-pub mod ServerLemmas
