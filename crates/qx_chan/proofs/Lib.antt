@@ -1,4 +1,0 @@
-pub mod ChannelLemmas
-pub mod EntryLemmas
-pub mod NodesLemmas
-pub mod SpareLemmas
