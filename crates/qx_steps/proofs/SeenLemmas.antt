@@ -3,6 +3,7 @@
 use Rattle.std.proofs.Common.{◌≡◌, ◌≢◌, inl, inr, ℕ, List, Option, Some, None, length, is_some, false, true, refl, sym, ◌∙◌, ap}
 use Rattle.std.specs.Prelude.{option_map}
 use Rattle.std.proofs.lemmas.Bool.{cases_Bool, cases_eq}
+use Rattle.qx_types.specs.Managers.{manager_number}
 use Rattle.qx_types.specs.declared.names.Proc.{Proc}
 use Rattle.qx_types.specs.declared.names.Thread.{Thread}
 use Rattle.qx_machine.specs.declared.rows.State.{State}
@@ -55,7 +56,7 @@ Kept-same parts user h channel same kept = record {
   managers = kept.managers;
   threads = λ t. kept.threads t ∙ sym (read-with_row (λ o. is_some (thread_of t.tid (process_in t.proc.num o))) parts user t.proc.user.0 h (λ part is. (same part is).threads t.proc.num t.tid));
   lines = λ t k. kept.lines t k ∙ sym (read-with_row (λ o. stands_at k (thread_of t.tid (process_in t.proc.num o))) parts user t.proc.user.0 h (λ part is. (same part is).lines t.proc.num t.tid k));
-  servers = λ p k. kept.servers p k ∙ sym (read-with_row (λ o. attached_at k (process_in p.num o)) parts user p.user.0 h (λ part is. (same part is).servers p.num k));
+  servers = λ p m. kept.servers p m ∙ sym (read-with_row (λ o. attached_at (manager_number m) (process_in p.num o)) parts user p.user.0 h (λ part is. (same part is).servers p.num (manager_number m)));
 }
 
 -- a thread that takes its answer

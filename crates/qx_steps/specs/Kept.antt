@@ -39,7 +39,7 @@ pub record Kept (parts : List (Option Part)) (channel : Channel) : Type 0 where
   pub managers : length channel.lines ≡ COUNT
   pub threads : (thread : Thread) → has_thread channel thread ≡ is_some (thread_row parts thread)
   pub lines : (thread : Thread) (number : ℕ) → stands (line_at channel.lines number) thread ≡ stands_at number (thread_row parts thread)
-  pub servers : (proc : Proc) (number : ℕ) → has_server channel proc number ≡ attached_at number (process_of parts proc)
+  pub servers : (proc : Proc) (manager : Manager) → has_server channel proc (manager_number manager) ≡ attached_at (manager_number manager) (process_of parts proc)
 
 -- what a message is to go over can be attached
 abbrev pub IsFree : ℕ → Over → Process → Type 0
@@ -47,10 +47,14 @@ IsFree thread (New coid) process = row_at process.connections coid.0 ≡ None
 IsFree thread (Existing coid) process = Unit {0}
 IsFree thread Side process = (row_at process.sides thread ≡ None) × (thread < length process.sides)
 
+-- a call attaches what its message goes over
+abbrev pub attaches : Over → Bool
+attaches (Existing coid) = false
+attaches _ = true
+
 -- a process has the disconnect node of what a message goes over
 abbrev pub with_attached : Channel → Proc → Manager → Over → Channel
-with_attached channel proc manager (Existing coid) = channel
-with_attached channel proc manager _ = with_server channel proc (manager_number manager)
+with_attached channel proc manager over = if attaches over then with_server channel proc (manager_number manager) else channel
 
 -- a process keeps its disconnect node at a manager if something of it is attached there
 abbrev pub settled_at : Proc → Option Process → Manager → Channel → Channel
