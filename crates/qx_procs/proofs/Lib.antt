@@ -1,1 +1,3 @@
+pub mod LendLemmas
 pub mod RowLemmas
+pub mod ServerLemmas

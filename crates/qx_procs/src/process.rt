@@ -1,4 +1,4 @@
-ghost use Rattle.std.specs.Prelude.{◌≡◌, ◌≤◌, length, IsTrue, IfSome, OnSome, Some, None};
+ghost use Rattle.std.specs.Prelude.{◌≡◌, ◌≤◌, length, is_some, IsTrue, IfSome, OnSome, Some, None};
 ghost use Rattle.std.specs.Option.{option_copied, option_copied_mut};
 ghost use Rattle.std.specs.Borrow.{sem};
 ghost use Rattle.qx_types.specs.Managers.{manager_number};
@@ -6,6 +6,7 @@ ghost use Rattle.qx_types.specs.declared.limits.TheConstants.Limits.{FIRST_CONNE
 ghost use Rattle.qx_machine.specs.Processes as machine;
 ghost use Rattle.qx_machine.specs.Processes.{answered_thread, with_thread};
 ghost use Rattle.qx_machine.specs.Rows.{row_at, lowest_from};
+ghost use Rattle.qx_machine.specs.Servers.{is_attached};
 ghost use Rattle.qx_procs.specs.declared.room.TheConstants.{REPLY_BYTES};
 ghost use Rattle.qx_procs.specs.Reads.{is_thread_blocked, CanCall, HasNumber, IsPriority};
 
@@ -16,7 +17,7 @@ use crate::servers::{self, Servers, Sides};
 use crate::thread::ThreadCell;
 use crate::threads::{self, Threads};
 use qx_machine::{Connection, Over, Sent, ServerConnection, ThreadRow};
-use qx_types::{Coid, Errno, Limits, Manager, Prio};
+use qx_types::{Answer, Coid, Errno, Limits, Manager, Prio};
 use std::marker::Model;
 
 /// A process: its threads from 1 and its connections from 3, the side connections of its threads, and its server
@@ -99,12 +100,14 @@ impl Process {
     /// The server connection at a manager; none where nothing is attached there.
     pub fn server(&self, manager: Manager) -> Option<ServerConnection>
         ensures server { result ≡ row_at self.now.servers (manager_number manager) }
+        ensures attached { is_some result ≡ is_attached (manager_number manager) self.now.connections self.now.sides }
     {
         places::row(&self.servers, manager.number()).copied()
     }
 
     /// A new connection, for which the server connection at its manager is used or made (C Library Reference:
     /// `ConnectAttach`).
+    #[tactic(auto, using(crate::proofs::ServerLemmas::servers_from_again))]
     pub fn attach(&mut self, coid: Coid, manager: Manager)
         requires within { coid.0 ≤ LAST_CONNECTION }
         ensures process { self.new ≡ machine.attached coid.0 manager self.old }
@@ -119,6 +122,7 @@ impl Process {
 
     /// A connection goes, and the server connection at its manager with the last that is attached there (C Library
     /// Reference: `ConnectDetach`).
+    #[tactic(auto, using(crate::proofs::ServerLemmas::servers_from_again))]
     pub fn detach(&mut self, coid: Coid)
         ensures process { self.new ≡ machine.detached coid.0 self.old }
     {
@@ -142,6 +146,7 @@ impl Process {
     }
 
     /// A thread has a side connection at a manager, or none.
+    #[tactic(auto, using(crate::proofs::ServerLemmas::servers_from_again))]
     fn set_side(&mut self, thread: u8, side: Option<Manager>)
         ensures process { self.new ≡ machine.with_side thread side self.old }
     {

@@ -1,6 +1,6 @@
 //! The processes of a user, from 1: a place for each number.
 
-ghost use Rattle.std.specs.Prelude.{◌≡◌, ◌∷◌, ◌<◌, [], None, length, IsErr, IsOk, IfSome, IfOk, OnOk, OnErr};
+ghost use Rattle.std.specs.Prelude.{◌≡◌, ◌∷◌, ◌<◌, [], None, length, count_by, IsErr, IsOk, IfSome, IfOk, OnOk, OnErr};
 ghost use Rattle.std.specs.Option.{option_copied, option_copied_mut};
 ghost use Rattle.std.specs.Borrow.{sem};
 ghost use Rattle.qx_types.specs.Managers.{manager_number};
@@ -122,6 +122,7 @@ impl Processes {
 
     /// A thread gets another priority, from 1 to 63 (C Library Reference: `SchedSet`). `WrongState` where it is not there,
     /// then EINVAL for another number.
+    #[tactic(auto, using(crate::proofs::LendLemmas::put_thread_same))]
     pub fn set_prio(&mut self, process: u8, thread: u8, prio: Prio) -> Outcome
         ensures outcome { result ≡ done_or (with_prio self.old process thread prio.0) }
         ensures rows { self.new ≡ after_or self.old (with_prio self.old process thread prio.0) }
@@ -187,6 +188,7 @@ impl Processes {
 
     /// A connection goes, and the server connection at its manager with the last that is attached there (C Library
     /// Reference: `ConnectDetach`).
+    #[tactic(auto, using(crate::proofs::LendLemmas::row_lends))]
     pub fn detach(&mut self, process: u8, coid: Coid)
         ensures rows { self.new ≡ with_row self.old process (detached coid.0) }
     {
@@ -218,6 +220,7 @@ impl Processes {
     }
 
     /// A side connection goes, and the server connection at its manager with the last that is attached there.
+    #[tactic(auto, using(crate::proofs::LendLemmas::row_lends))]
     pub fn detach_side(&mut self, process: u8, thread: u8)
         ensures rows { self.new ≡ with_row self.old process (with_side thread None) }
     {

@@ -1,6 +1,7 @@
 //! The server connections of a process, under the numbers of their managers, and the side connections of its threads.
 
 ghost use Rattle.std.specs.Prelude.{◌≡◌};
+ghost use Rattle.std.specs.List.{list_any};
 ghost use Rattle.qx_machine.specs.Servers as machine;
 
 use qx_machine::{Connection, ServerConnection};
@@ -38,8 +39,21 @@ fn server_while(is_attached: bool, server: Option<ServerConnection>) -> Option<S
 fn is_attached(number: usize, connections: &[Option<Connection>], sides: &Sides) -> bool
     ensures attached { result ≡ machine.is_attached number connections.now sides.now }
 {
+    has_connection(number, connections) || has_side(number, sides)
+}
+
+/// Whether a process has a connection at the manager of a number.
+fn has_connection(number: usize, connections: &[Option<Connection>]) -> bool
+    ensures connection { result ≡ list_any (machine.connects number) connections.now }
+{
     connections.iter().any(|place| connects(number, place))
-        || sides.iter().any(|place| sides_with(number, place))
+}
+
+/// Whether a thread of a process has a side connection at the manager of a number.
+fn has_side(number: usize, sides: &[Option<Manager>]) -> bool
+    ensures side { result ≡ list_any (machine.sides_with number) sides.now }
+{
+    sides.iter().any(|place| sides_with(number, place))
 }
 
 /// Whether a connection is there, at the manager.
