@@ -10,6 +10,7 @@ use Rattle.qx_types.specs.declared.outcome.Outcome.{Outcome}
 use Rattle.qx_types.specs.declared.outcome.Outcome.TheVariants.{Refused, WrongState}
 use Rattle.qx_types.specs.declared.step.Request.{Request}
 use Rattle.qx_types.specs.declared.step.Request.TheVariants as request
+use Rattle.qx_machine.specs.declared.rows.Connection.{Connection}
 use Rattle.qx_machine.specs.declared.rows.Message.{Message}
 use Rattle.qx_machine.specs.declared.rows.Message.TheVariants.{Open, Close, Fstat}
 use Rattle.qx_machine.specs.declared.rows.Over.TheVariants.{New, Existing}
@@ -52,17 +53,21 @@ abbrev pub can_serve : List (Option Process) → Process → Manager → Bool
 can_serve processes process manager =
     is_some (row_at process.servers (manager_number manager)) || nat_lt (count_by (has_server (manager_number manager)) processes) SERVERS
 
+-- over a connection that is there, to its manager (C Library Reference: EBADF)
+abbrev pub target_over : ℕ → Option Connection → Result Target Outcome
+target_over coid there = do
+  connection ← found there (Refused EBADF)
+  Ok (record { manager = connection.manager; over = Existing (record { 0 = coid }) })
+
 -- to which manager a message goes and over what; the one path is that of the user's own root (C Library Reference: ENOENT, EMFILE
--- and EAGAIN; EBADF)
+-- and EAGAIN)
 abbrev pub target_at : List ℕ → List (Option Process) → Process → Address → Result Target Outcome
 target_at own_path processes process (Opens path) = do
   known ← need (bytes_eq path own_path) (Refused ENOENT)
   free ← need (nat_le (lowest_from FIRST_CONNECTION process.connections) LAST_CONNECTION) (Refused EMFILE)
   served ← need (can_serve processes process Ram) (Refused EAGAIN)
   Ok (record { manager = Ram; over = New (record { 0 = lowest_from FIRST_CONNECTION process.connections }) })
-target_at own_path processes process (Uses coid) = do
-  connection ← found (row_at process.connections coid) (Refused EBADF)
-  Ok (record { manager = connection.manager; over = Existing (record { 0 = coid }) })
+target_at own_path processes process (Uses coid) = target_over coid (row_at process.connections coid)
 
 abbrev pub is_ready : State → Bool
 is_ready Ready = true

@@ -58,11 +58,9 @@ opened_by part process sent = do
   block ← found (row_at part.blocks number) EBADF
   Ok (record { coid = record { 0 = coid }; number = number; block = block })
 
--- what the RAM manager does with a message of a process: an open makes an open control block for its connection, whose number is
--- the status (C Library Reference: open, ENFILE); a close takes connection and block away (close); an fstat tells the status of
--- what is open (fstat)
-abbrev pub deed_of : Part → ℕ → Sent → Message → Result Deed Errno
-deed_of part process sent (Open flags mode) = do
+-- an open makes an open control block for its connection, whose number is the status (C Library Reference: open, ENFILE)
+abbrev pub open_deed : Part → ℕ → Sent → Result Deed Errno
+open_deed part process sent = do
   coid ← found (new_coid sent.over) EINVAL
   free ← need (nat_le (lowest_from 1 part.blocks) BLOCKS) ENFILE
   Ok (record {
@@ -70,16 +68,28 @@ deed_of part process sent (Open flags mode) = do
     bytes = [];
     part = with_process process (with_block coid (lowest_from 1 part.blocks)) (record part { blocks = put_row part.blocks (lowest_from 1 part.blocks) (record { inode = root_inode }) });
   })
-deed_of part process sent Close = do
+
+-- a close takes the connection and its block away (C Library Reference: close)
+abbrev pub close_deed : Part → ℕ → Sent → Result Deed Errno
+close_deed part process sent = do
   opened ← opened_by part process sent
   Ok (record {
     status = 0;
     bytes = [];
     part = with_process process (detached opened.coid.0) (record part { blocks = slice_set part.blocks opened.number None });
   })
-deed_of part process sent Fstat = do
+
+-- an fstat tells the status of what is open (C Library Reference: fstat)
+abbrev pub fstat_deed : Part → ℕ → Sent → Result Deed Errno
+fstat_deed part process sent = do
   opened ← opened_by part process sent
   Ok (record { status = 0; bytes = stat_bytes opened.block.inode part.root; part = part })
+
+-- what the RAM manager does with a message of a process
+abbrev pub deed_of : Part → ℕ → Sent → Message → Result Deed Errno
+deed_of part process sent (Open flags mode) = open_deed part process sent
+deed_of part process sent Close = close_deed part process sent
+deed_of part process sent Fstat = fstat_deed part process sent
 
 -- no other manager has functions yet (Writing a Resource Manager: ENOSYS where there is no function)
 abbrev pub deed_at : Part → ℕ → Sent → Manager → Result Deed Errno

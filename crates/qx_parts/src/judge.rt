@@ -1,10 +1,11 @@
 //! How a call of a thread is judged, by the rows of its user.
 
-ghost use Rattle.std.specs.Prelude.{◌≡◌, ◌∷◌, ℕ, List, Option};
+ghost use Rattle.std.specs.Prelude.{◌≡◌, ◌∷◌, IfOk};
 ghost use Rattle.std.specs.Str.{bytes_eq};
 ghost use Rattle.qx_machine.specs.Calls as calls;
-ghost use Rattle.qx_machine.specs.Processes as machine;
-ghost use Rattle.qx_machine.specs.Calls.{address, in_ranges, message_of, target_at};
+ghost use Rattle.qx_machine.specs.Rows.{row_at};
+ghost use Rattle.qx_procs.specs.Reads.{IsPriority};
+ghost use Rattle.qx_machine.specs.Calls.{address, in_ranges, message_of, target_at, target_over};
 
 use qx_machine::{Message, Over, Sent, State, Target, ThreadRow};
 use qx_procs::{Process, Processes};
@@ -18,7 +19,9 @@ pub fn sent_of(
     name: &[u8],
     request: &Request,
 ) -> Result<Sent, Outcome>
-    ensures { result ≡ calls.sent_of (47 ∷ name.now) processes.now process.now row.now request.now }
+    requires { IsPriority row.now.prio.0 }
+    ensures priority { IfOk result (λ sent. IsPriority sent.prio.0) }
+    ensures sent { result ≡ calls.sent_of (47 ∷ name.now) processes.now process.now row.now request.now }
 {
     let State::Ready = &row.state else {
         return Err(Outcome::WrongState);
@@ -80,7 +83,7 @@ fn new_target(
 
 /// The manager of a connection that is there.
 fn used_target(process: &Process, coid: Coid) -> Result<Target, Outcome>
-    ensures { (path : List ℕ) (processes : List (Option machine.Process)) → result ≡ target_at path processes process.now (calls.Uses coid.0) }
+    ensures { result ≡ target_over coid.0 (row_at process.now.connections coid.0) }
 {
     let Some(connection) = process.conn_of(coid) else {
         return Err(Outcome::Refused(Errno::EBADF));

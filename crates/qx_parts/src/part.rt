@@ -1,20 +1,18 @@
 //! All rows of one user.
 
-ghost use Rattle.std.specs.Prelude.{◌≡◌, ℕ, ◌∷◌, ◌<◌, IsTrue, IsFalse, IsOk, IfOk, OnOk, OnErr, [], length};
+ghost use Rattle.std.specs.Prelude.{◌≡◌, ◌∷◌, ◌<◌, IsTrue, IsFalse, IsOk, IfOk, OnOk, OnErr, [], length};
 ghost use Rattle.std.specs.Option.{option_copied, option_copied_mut};
 ghost use Rattle.std.specs.Borrow.{sem};
 ghost use Rattle.qx_types.specs.Configuration.{Configuration};
-ghost use Rattle.qx_types.specs.declared.flags.OFlags.{OFlags};
-ghost use Rattle.qx_machine.specs.declared.rows.Message.TheVariants as message;
 ghost use Rattle.qx_machine.specs.Clients as clients;
 ghost use Rattle.qx_machine.specs.Clients.{or_unchanged};
 ghost use Rattle.qx_machine.specs.Parts.{thread_at, with_process};
-ghost use Rattle.qx_machine.specs.Performing.{answered, deed_at, deed_of};
+ghost use Rattle.qx_machine.specs.Performing.{answered, close_deed, deed_at, fstat_deed, open_deed};
 ghost use Rattle.qx_machine.specs.Performing as performing;
 ghost use Rattle.qx_machine.specs.Processes.{with_queued};
 ghost use Rattle.qx_machine.specs.Rows.{row_at};
 ghost use Rattle.qx_machine.specs.Users as users;
-ghost use Rattle.qx_procs.specs.Reads.{is_thread_blocked};
+ghost use Rattle.qx_procs.specs.Reads.{is_thread_blocked, IsPriority};
 ghost use Rattle.qx_parts.specs.Deeds.{deed_with, served_part, taken_of, wants_memory, wants_memory_item};
 ghost use Rattle.qx_parts.specs.Reads.{CanSend};
 
@@ -120,7 +118,8 @@ impl Part {
 
     /// What a call of a thread sends, or the outcome of one that sends nothing; the name is the user's.
     pub fn judge(&self, name: &[u8], thread: Thread, request: &Request) -> Result<Sent, Outcome>
-        ensures { result ≡ clients.sent_by (47 ∷ name.now) self.now thread request.now }
+        ensures priority { IfOk result (λ sent. IsPriority sent.prio.0) }
+        ensures sent { result ≡ clients.sent_by (47 ∷ name.now) self.now thread request.now }
     {
         let Some(process) = self.processes.process(thread.proc.num) else {
             return Err(Outcome::WrongState);
@@ -142,6 +141,7 @@ impl Part {
     }
 
     /// A thread takes its answer.
+    #[tactic(auto, using(crate::proofs::LentRows::thread_lends))]
     pub fn take_reply(&mut self, thread: Thread) -> Outcome
         ensures outcome { result ≡ (or_unchanged self.old (clients.take_reply self.old thread)).outcome }
         ensures part { self.new ≡ (or_unchanged self.old (clients.take_reply self.old thread)).part }
@@ -165,7 +165,7 @@ impl Part {
     }
 
     /// An item of the user goes from a line into a worker's hand.
-    #[tactic(auto, unfolding(qx_machine::specs::Users::take))]
+    #[tactic(auto, using(crate::proofs::LentRows::thread_lends), unfolding(qx_machine::specs::Users::take))]
     pub fn take(&mut self, item: OwnItem)
         ensures { self.new ≡ users.take self.old item }
     {
@@ -218,8 +218,9 @@ impl Part {
     }
 
     /// Opens the root over a new connection (C Library Reference: `open`).
+    #[tactic(auto, using(crate::proofs::LentRows::row_lends))]
     fn open(&mut self, process: u8, sent: Sent) -> Result<Result<Reply, Errno>, AllocError>
-        ensures done { IfOk result (λ given. (flags : OFlags) (mode : ℕ) → deed_with self.new given ≡ deed_of self.old process sent (message.Open flags mode)) }
+        ensures done { IfOk result (λ given. deed_with self.new given ≡ open_deed self.old process sent) }
         ensures kept { IfOk result (λ given. OnErr given (self.new ≡ self.old)) }
         ensures err { OnErr result (self.new ≡ self.old) }
     {
@@ -234,12 +235,12 @@ impl Part {
         if let Some(row) = self.process_mut(process) {
             row.set_block(coid, number as u16);
         }
-        Ok(Ok(reply(coid.0 as u64)))
+        Ok(Ok(empty_reply(coid.0 as u64)))
     }
 
     /// Takes a connection and its block away (C Library Reference: `close`).
     fn close(&mut self, process: u8, sent: Sent) -> Result<Reply, Errno>
-        ensures done { deed_with self.new result ≡ deed_of self.old process sent message.Close }
+        ensures done { deed_with self.new result ≡ close_deed self.old process sent }
         ensures kept { OnErr result (self.new ≡ self.old) }
     {
         let opened = self.opened_by(process, sent)?;
@@ -247,12 +248,12 @@ impl Part {
         if let Some(row) = self.process_mut(process) {
             row.detach(opened.coid);
         }
-        Ok(reply(0))
+        Ok(empty_reply(0))
     }
 
     /// Tells the status of what is open (C Library Reference: `fstat`).
     fn fstat(&self, process: u8, sent: Sent) -> Result<Reply, Errno>
-        ensures { deed_with self.now result ≡ deed_of self.now process sent message.Fstat }
+        ensures { deed_with self.now result ≡ fstat_deed self.now process sent }
     {
         let opened = self.opened_by(process, sent)?;
         Ok(Reply {
@@ -303,7 +304,7 @@ impl Part {
 }
 
 /// A reply of no bytes.
-fn reply(status: u64) -> Reply
+fn empty_reply(status: u64) -> Reply
     ensures status { result.status ≡ status }
     ensures bytes { result.bytes.items ≡ [] }
 {

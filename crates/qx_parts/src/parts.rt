@@ -91,12 +91,7 @@ impl Parts {
 
     /// Starts a process of a user.
     #[tactic(auto, using(crate::proofs::LentRows::row_lends))]
-    pub fn spawn(
-        &mut self,
-        user: User,
-        threads: u8,
-        prio: Prio,
-    ) -> Result<(), AllocError>
+    pub fn spawn(&mut self, user: User, threads: u8, prio: Prio) -> Result<(), AllocError>
         ensures parts { OnOk result (self.new ≡ with_row self.old user.0 (λ part. (or_unchanged part (clients.spawn part threads prio.0)).part)) }
         ensures places { HasPlace (row_at self.old user.0) }
         ensures err { OnErr result (self.new ≡ self.old) }
