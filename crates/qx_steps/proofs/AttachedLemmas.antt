@@ -21,7 +21,7 @@ pub is_listed : (manager : Manager) → list_any (is_numbered (manager_number ma
 is_listed Ram = refl
 is_listed Pipe = refl
 
-or_true : (b : Bool) → (b || true) ≡ true
+pub or_true : (b : Bool) → (b || true) ≡ true
 or_true true = refl
 or_true false = refl
 
