@@ -1,12 +1,11 @@
 -- How the lines and the nodes stand in the table, as a node is made, put into a line, taken out of one or given back.
-use Rattle.std.proofs.Common.{◌≡◌, ◌≢◌, ◌⊎◌, ◌+◌, ◌++◌, inl, inr, ℕ, zero, suc, true, false, nat_eq, List, [], ◌∷◌, Contains, Option, Some, None, option_map, map, drop, length, replicate, slice_get, slice_set, unwrap_or, is_some, IfSome, refl, sym, ◌∙◌, ap, arith}
+use Rattle.std.proofs.Common.{◌≡◌, ◌≢◌, ◌⊎◌, ◌++◌, inl, inr, ℕ, zero, suc, true, false, nat_eq, List, [], ◌∷◌, Contains, Option, Some, None, option_map, map, drop, length, replicate, slice_get, slice_set, unwrap_or, is_some, IfSome, refl, sym, ◌∙◌, ap, arith}
 use Rattle.std.specs.FinMap as maps
 use Rattle.std.specs.Ordering.{nat_cmp}
 use Rattle.std.specs.List.{IsDistinct, AllByRecursion}
 use Rattle.std.proofs.lemmas.Bool.{cases_Bool}
 use Rattle.std.proofs.lemmas.Bool.Decides.{eqb_tells, nat_tests}
-use Rattle.std.proofs.lemmas.List.{map-set}
-use Rattle.std.proofs.lemmas.Option.{same_Some, slice_get-map, slice_get_within}
+use Rattle.std.proofs.lemmas.Option.{same_Some, slice_get-map}
 use Rattle.qx_types.specs.declared.names.Thread.{Thread}
 use Rattle.qx_lists.specs.Table.{Table, ContainsNode, IsFree, IsIn, nodes_of}
 use Rattle.qx_lists.proofs.ListLemmas.{contains_cases, contains_first, contains_later, nowhere_from}

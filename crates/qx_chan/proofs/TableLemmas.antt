@@ -1,12 +1,12 @@
 -- What nodes stand for and which lines there are, as one node of the table changes.
-use Rattle.std.proofs.Common.{◌≡◌, ◌≢◌, inl, inr, ℕ, true, false, List, [], Contains, Option, Some, None, option_map, map, unwrap_or, is_some, refl, sym, ◌∙◌, ap}
+use Rattle.std.proofs.Common.{◌≡◌, ◌≢◌, inl, inr, ℕ, true, false, [], Contains, Option, Some, None, option_map, map, unwrap_or, is_some, refl, sym, ◌∙◌, ap}
 use Rattle.std.specs.FinMap as maps
 use Rattle.std.proofs.lemmas.Bool.Decides.{eqb_tells}
 use Rattle.qx_lists.specs.Table.{Table, ContainsNode, IsFree, IsIn, with_value}
 use Rattle.qx_lists.proofs.ListLemmas.{stands_nowhere}
 use Rattle.qx_lists.proofs.MapLemmas.{get-insert_same, get-insert_other, get-remove_other}
 use Rattle.qx_lines.specs.declared.Line.{Line}
-use Rattle.qx_lines.specs.Line.{IsLineOf, IsOwn, SameElsewhere, nodes_in, rank_at}
+use Rattle.qx_lines.specs.Line.{IsLineOf, SameElsewhere, nodes_in, rank_at}
 use Rattle.qx_lines.proofs.LineFacts.{IsLineOf-same}
 use Rattle.qx_machine.specs.declared.rows.Queued.{Queued}
 use Rattle.qx_machine.specs.Machine.{rank}

@@ -1,4 +1,4 @@
-use Rattle.std.proofs.Common.{◌≡◌, ◌≢◌, ◌-◌, Some, is_some, false, max, ap, arith, refl, rules, ◌∙◌}
+use Rattle.std.proofs.Common.{◌≡◌, ◌≢◌, ◌-◌, is_some, false, true, sym, max, ap, arith, refl, rules, ◌∙◌}
 use Rattle.qx_lines.specs.declared.Line.{Line}
 use Rattle.qx_chan.specs.Kept.{Kept, entries}
 use Rattle.qx_chan.specs.Nodes.{Disconnect, disconnect_at, no_process, node_of, process_at}
@@ -7,6 +7,15 @@ use Rattle.qx_chan.proofs.KeptLemmas.{Kept-made, Kept-room, entries-made, shown-
 use Rattle.qx_chan.proofs.NodesLemmas.{length-with_disconnect, node_of-with_disconnect, none_of}
 use Rattle.qx_chan.proofs.PresenceLemmas.{same_channel, server-had, servers-made, servers-nodes, started, threads-with_disconnect}
 use Rattle.qx_chan.proofs.channel.Channel.add_server.Goals as goal
+
+pub invariant_of-self : goal.invariant_of-self
+invariant_of-self c = rw c.in_err-reserve.ensures.err c.self.invariant
+
+pub returns-in_err-reserve-clause-had_node : goal.returns-in_err-reserve-clause-had_node
+returns-in_err-reserve-clause-had_node c = λ had.
+    let lacked : is_some (disconnect_at c.self.inside.nodes c.args.proc (manager_number c.args.manager)) ≡ false = search rules in
+    let clash : false ≡ true = sym (servers-nodes c.self.inside.nodes c.args.proc (manager_number c.args.manager) ∙ lacked) ∙ rw (← c.self.view_is) at had in
+    absurd (cc)
 
 pub invariant_of-self-2 : goal.invariant_of-self-2
 invariant_of-self-2 c =
