@@ -6,10 +6,13 @@ ghost use Rattle.qx_machine.specs.Rows.{put_row, with_row};
 
 use arrayvec::ArrayVec;
 use qx_machine::Connection;
-use qx_types::Coid;
+use qx_types::{Coid, Limits};
+
+/// A place for each number up to the last.
+const PLACES: usize = Limits::LAST_CONNECTION + 1;
 
 /// Places 0 to 2 are no connection's.
-pub type Connections = ArrayVec<Option<Connection>, 67>;
+pub type Connections = ArrayVec<Option<Connection>, PLACES>;
 
 /// No connections.
 pub fn no_connections() -> Connections

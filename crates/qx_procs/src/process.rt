@@ -15,7 +15,7 @@ use crate::places;
 use crate::room::Room;
 use crate::servers::{self, Servers, Sides};
 use crate::thread::ThreadCell;
-use crate::threads::{self, Threads};
+use crate::threads::{self, PLACES, Threads};
 use qx_machine::{Connection, Over, Sent, ServerConnection, ThreadRow};
 use qx_types::{Answer, Coid, Errno, Limits, Manager, Prio};
 use std::marker::Model;
@@ -54,7 +54,7 @@ impl Process {
         Process {
             threads: threads::new_threads(threads, prio),
             connections: connections::no_connections(),
-            sides: [None; 5],
+            sides: [None; PLACES],
             servers: [None; Manager::COUNT],
         }
     }
@@ -132,28 +132,20 @@ impl Process {
 
     /// A side connection of a thread, for which the server connection at its manager is used or made (C Library Reference:
     /// `_NTO_SIDE_CHANNEL`).
+    #[tactic(auto, using(crate::proofs::ServerLemmas::servers_from_again))]
     pub fn attach_side(&mut self, thread: u8, manager: Manager)
         ensures process { self.new ≡ machine.with_side thread (Some manager) self.old }
     {
-        self.set_side(thread, Some(manager));
+        servers::set_side(&mut self.sides, thread, Some(manager));
+        servers::settle(&mut self.servers, self.connections.as_slice(), &self.sides);
     }
 
     /// A side connection goes, and the server connection at its manager with the last that is attached there.
+    #[tactic(auto, using(crate::proofs::ServerLemmas::servers_from_again))]
     pub fn detach_side(&mut self, thread: u8)
         ensures process { self.new ≡ machine.with_side thread None self.old }
     {
-        self.set_side(thread, None);
-    }
-
-    /// A thread has a side connection at a manager, or none.
-    #[tactic(auto, using(crate::proofs::ServerLemmas::servers_from_again))]
-    fn set_side(&mut self, thread: u8, side: Option<Manager>)
-        ensures process { self.new ≡ machine.with_side thread side self.old }
-    {
-        let place = thread as usize;
-        if place < self.sides.len() {
-            self.sides[place] = side;
-        }
+        servers::set_side(&mut self.sides, thread, None);
         servers::settle(&mut self.servers, self.connections.as_slice(), &self.sides);
     }
 

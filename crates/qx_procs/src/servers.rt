@@ -1,17 +1,28 @@
 //! The server connections of a process, under the numbers of their managers, and the side connections of its threads.
 
-ghost use Rattle.std.specs.Prelude.{◌≡◌};
+ghost use Rattle.std.specs.Prelude.{◌≡◌, slice_set};
 ghost use Rattle.std.specs.List.{list_any};
 ghost use Rattle.qx_machine.specs.Servers as machine;
 
+use crate::threads::PLACES;
 use qx_machine::{Connection, ServerConnection};
 use qx_types::Manager;
 
 /// The server connection at each manager.
 pub type Servers = [Option<ServerConnection>; Manager::COUNT];
 
-/// At which manager each thread has a side connection; place 0 is no thread's.
-pub type Sides = [Option<Manager>; 5];
+/// At which manager each thread has a side connection.
+pub type Sides = [Option<Manager>; PLACES];
+
+/// A thread has a side connection at a manager, or none.
+pub fn set_side(sides: &mut Sides, thread: u8, side: Option<Manager>)
+    ensures side { sides.new ≡ slice_set sides.old thread side }
+{
+    let place = thread as usize;
+    if place < sides.len() {
+        sides[place] = side;
+    }
+}
 
 /// A server connection comes with the first that is attached to its manager, and goes with the last.
 pub fn settle(servers: &mut Servers, connections: &[Option<Connection>], sides: &Sides)

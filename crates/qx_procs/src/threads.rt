@@ -11,10 +11,13 @@ use crate::places;
 use crate::thread::ThreadCell;
 use arrayvec::ArrayVec;
 use qx_machine::ThreadRow;
-use qx_types::Prio;
+use qx_types::{Limits, Prio};
+
+/// A place for each number up to the last.
+pub const PLACES: usize = Limits::THREADS as usize + 1;
 
 /// Place 0 is no thread's.
-pub type Threads = ArrayVec<Option<ThreadCell>, 5>;
+pub type Threads = ArrayVec<Option<ThreadCell>, PLACES>;
 
 /// So many ready threads.
 pub fn new_threads(count: u8, prio: Prio) -> Threads
