@@ -34,7 +34,8 @@ use Rattle.qx_chan.proofs.EntryLemmas.{is_same_thread-differs, is_same_thread-se
 use Rattle.qx_chan.proofs.SetLemmas.{has-server, has-removed}
 use Rattle.qx_steps.proofs.AttachedLemmas.{attached-connected, is_listed, or_false, threads-connected}
 use Rattle.qx_steps.proofs.ProcessLemmas.{proc_cases, process_of-other, process_of-same, thread_cases}
-use Rattle.qx_steps.proofs.RowReads.{length-with_row, read-with_row, row_at-with_other, row_at-with_same}
+use Rattle.qx_steps.specs.Reads.{IsReady}
+use Rattle.qx_steps.proofs.RowReads.{length-with_row, option_cases, row_at-with_other, row_at-with_same}
 
 -- lines under their numbers
 
@@ -91,8 +92,8 @@ module _ (c : Channel) (proc : Proc) (manager : Manager) (over : Over) where
 
   has-attached-self : (at : ℕ) → has_server (with_attached c proc manager over) proc at ≡ (has_server c proc at || (attaches over && is_numbered at manager))
   has-attached-self at = elim (cases_Bool (attaches over)) [
-    | inl yes ↦ rw yes (has-server c.servers proc (manager_number manager) proc at ∙ ap (λ b. has_server c proc at || b) (same_server-self proc (manager_number manager) at))
-    | inr no ↦ rw no (sym (or_false (has_server c proc at)))
+    | inl does ↦ rw does (has-server c.servers proc (manager_number manager) proc at ∙ ap (λ b. has_server c proc at || b) (same_server-self proc (manager_number manager) at))
+    | inr not ↦ rw not (sym (or_false (has_server c proc at)))
   ]
 
 -- a process whose thread was ready, and whose message goes out
@@ -108,7 +109,7 @@ pub record Sends (parts : List (Option Part)) (thread : Thread) (sent : Sent) : 
 abbrev sent_in : Thread → Sent → Part → Part
 sent_in thread sent part = with_process thread.proc.num (with_queued thread.tid sent) part
 
-abbrev channel_sent : Channel → Thread → Sent → Channel
+abbrev pub channel_sent : Channel → Thread → Sent → Channel
 channel_sent channel thread sent =
     with_channel_line (with_attached channel thread.proc sent.manager sent.over) (manager_number sent.manager) (λ line. into rank line (message_of thread sent.prio.0))
 
@@ -116,10 +117,10 @@ queued-threads : (thread : ℕ) (sent : Sent) (x : Process) → (with_queued thr
 queued-threads thread sent x = threads-connected thread sent.manager sent.over (with_thread thread (queued_thread sent) x)
 
 module _ (parts : List (Option Part)) (channel : Channel) (thread : Thread) (sent : Sent) (sends : Sends parts thread sent) (kept : Kept parts channel) where
-  new : List (Option Part)
+  abbrev new : List (Option Part)
   new = with_row parts thread.proc.user.0 (sent_in thread sent)
 
-  number : ℕ
+  abbrev number : ℕ
   number = manager_number sent.manager
 
   here : process_of new thread.proc ≡ Some (with_queued thread.tid sent sends.process)
@@ -169,7 +170,7 @@ module _ (parts : List (Option Part)) (channel : Channel) (thread : Thread) (sen
         | inr differs ↦ rw (row_other other differs) (kept.lines other at)
       ]
 
-  pub Kept-sent : Kept new (channel_sent channel thread sent)
+  pub Kept-sent : Kept (with_row parts thread.proc.user.0 (with_process thread.proc.num (with_queued thread.tid sent))) (channel_sent channel thread sent)
   Kept-sent = record {
     users = attached-fields channel thread.proc sent.manager sent.over (λ d. d.users) refl ∙ kept.users ∙ sym (length-with_row parts thread.proc.user.0 (sent_in thread sent));
     managers = length-set _ number _ ∙ ap length lines_of ∙ kept.managers;
@@ -185,3 +186,35 @@ module _ (parts : List (Option Part)) (channel : Channel) (thread : Thread) (sen
           ∙ sym (attached-connected thread.tid sent.manager sent.over (with_thread thread.tid (queued_thread sent) sends.process) (manager_number manager) (free-kept thread.tid sent.over sends.process (queued_thread sent) sends.free)))
     ];
   }
+
+-- a thread whose call may go out is there, ready, with what its message goes over free
+pub sends_from : (parts : List (Option Part)) (thread : Thread) (sent : Sent) → IsReady (thread_row parts thread) → ((process : Process) → process_of parts thread.proc ≡ Some process → IsFree thread.tid sent.over process) → Sends parts thread sent
+sends_from parts thread sent ready free = elim (option_cases (process_of parts thread.proc)) [
+  | inl none ↦ absurd (rw none at ready)
+  | inr process ↦ elim (option_cases (row_at process.0.threads thread.tid)) [
+    | inl none ↦ absurd (rw (process.1, none) at ready)
+    | inr row ↦ record { process = process.0; there = process.1; row = row.0; in_process = row.1; ready = rw (process.1, row.1) at ready; free = free process.0 process.1 }
+  ]
+]
+
+-- its process has a thread with nodes
+pub has-sender : (parts : List (Option Part)) (channel : Channel) (thread : Thread) → IsReady (thread_row parts thread) → Kept parts channel → has_thread channel thread ≡ true
+has-sender parts channel thread ready kept = kept.threads thread ∙ elim (option_cases (thread_row parts thread)) [
+  | inl none ↦ absurd (rw none at ready)
+  | inr row ↦ rw row.1 refl
+]
+
+-- and stands in no line
+pub waits-nowhere : (parts : List (Option Part)) (channel : Channel) (thread : Thread) → IsReady (thread_row parts thread) → Kept parts channel → (number : ℕ) → stands (line_at channel.lines number) thread ≡ false
+waits-nowhere parts channel thread ready kept number = kept.lines thread number ∙ elim (option_cases (thread_row parts thread)) [
+  | inl none ↦ rw none refl
+  | inr row ↦
+      let is : row.0.state ≡ state.Ready = rw row.1 at ready in
+      rw (row.1, is) refl
+]
+
+pub lines-attached : (channel : Channel) (proc : Proc) (manager : Manager) (over : Over) → (with_attached channel proc manager over).lines ≡ channel.lines
+lines-attached channel proc manager over = attached-fields channel proc manager over (λ d. d.lines) refl
+
+pub threads-attached : (channel : Channel) (proc : Proc) (manager : Manager) (over : Over) (thread : Thread) → has_thread (with_attached channel proc manager over) thread ≡ has_thread channel thread
+threads-attached channel proc manager over thread = attached-fields channel proc manager over (λ d. has_thread d thread) refl

@@ -10,5 +10,15 @@ mod ReceiveLemmas
 mod RowReads
 -- changes that lines and nodes are not told of
 mod SeenLemmas
+-- a call that goes out
+mod SentLemmas
 -- a worker does what it holds
 mod ServeLemmas
+-- the rows of one more user at boot
+mod BootLemmas
+-- a process starts, and boot
+mod StartLemmas
+-- a receive and a perform, case by case
+mod WorkerLemmas
+-- a client's step, by the rows of its user
+mod WorldLemmas

@@ -1,5 +1,5 @@
 -- Rows, lines and nodes stand together still as a line's first message is received.
-use Rattle.std.proofs.Common.{◌≡◌, ◌≢◌, inl, inr, ℕ, ◌∷◌, [], ◌||◌, Bool, true, false, List, Option, Some, None, drop, length, is_some, slice_get, refl, sym, ◌∙◌, ap}
+use Rattle.std.proofs.Common.{◌≡◌, ◌≢◌, inl, inr, ℕ, zero, suc, ◌<◌, ◌∷◌, [], ◌||◌, Bool, true, false, List, Option, Some, None, drop, length, is_some, slice_get, refl, sym, ◌∙◌, ap}
 use Rattle.std.specs.Prelude.{◌==◌, option_map}
 use Rattle.std.proofs.lemmas.Bool.{cases_eq, eqb-true}
 use Rattle.std.proofs.lemmas.List.{length-set}
@@ -11,9 +11,9 @@ use Rattle.qx_machine.specs.declared.rows.OwnItem.{OwnItem}
 use Rattle.qx_machine.specs.declared.rows.OwnItem.TheVariants as item
 use Rattle.qx_machine.specs.declared.rows.Queued.{Queued}
 use Rattle.qx_machine.specs.declared.rows.State.{State}
-use Rattle.qx_machine.specs.declared.rows.State.TheVariants.{Ready, Queued, Taken, Answered}
+use Rattle.qx_machine.specs.declared.rows.State.TheVariants as state
 use Rattle.qx_machine.specs.declared.rows.ThreadRow.{ThreadRow}
-use Rattle.qx_machine.specs.Lines.{line_at}
+use Rattle.qx_machine.specs.Lines.{line_at, with_line}
 use Rattle.qx_machine.specs.Parts.{Part, thread_of}
 use Rattle.qx_machine.specs.Processes.{Process, taken_state, taken_thread, with_thread}
 use Rattle.qx_machine.specs.Rows.{row_at, with_row}
@@ -30,6 +30,16 @@ pub first_of-line : (line : List Queued) (first : Queued) → Some first ≡ sli
 first_of-line [] first is = cc
 first_of-line (other ∷ line) first is = let same : first ≡ other = cc in rw same refl
 
+-- no line loses an item where it is empty
+pub empty_line : {A : Type 0} (lines : List (List A)) (number : ℕ) → line_at lines number ≡ [] → with_line lines number (drop 1) ≡ lines
+empty_line [] number is = refl
+empty_line (line ∷ lines) zero is = rw is refl
+empty_line (line ∷ lines) (suc number) is = ap (λ rest. line ∷ rest) (empty_line lines number is)
+
+pub none_first : (line : List Queued) → None ≡ slice_get line 0 → line ≡ []
+none_first [] is = refl
+none_first (first ∷ line) is = let clash : None ≡ Some first = is in absurd (cc)
+
 -- the processes of a user once an item was received
 take_processes : (part : Part) (user : ℕ) (own : OwnItem) → (take part own).processes ≡ with_row part.processes (sender_of user own).proc.num (with_thread (sender_of user own).tid taken_thread)
 unfolding take
@@ -43,21 +53,21 @@ gone_from : (row : Option ThreadRow) (number at : ℕ) → stands_at number row 
 gone_from None number at is = refl
 gone_from (Some row) number at is = by_state row.state is
   where
-    by_state : (state : State) → is_queued_at number state ≡ true → is_queued_at at (taken_state state) ≡ false
-    by_state Ready is = refl
-    by_state (Queued sent) is = refl
-    by_state (Taken sent) is = refl
-    by_state (Answered answer) is = refl
+    by_state : (s : State) → is_queued_at number s ≡ true → is_queued_at at (taken_state s) ≡ false
+    by_state state.Ready is = refl
+    by_state (state.Queued sent) is = refl
+    by_state (state.Taken sent) is = refl
+    by_state (state.Answered answer) is = refl
 
 stands_once : (row : Option ThreadRow) (number at : ℕ) → at ≢ number → stands_at number row ≡ true → stands_at at row ≡ false
 stands_once None number at differs is = refl
 stands_once (Some row) number at differs is = by_state row.state is
   where
-    by_state : (state : State) → is_queued_at number state ≡ true → is_queued_at at state ≡ false
-    by_state Ready is = refl
-    by_state (Queued sent) is = eqb-differs (manager_number sent.manager) at (λ same. differs (sym same ∙ eqb-true (manager_number sent.manager) number is))
-    by_state (Taken sent) is = refl
-    by_state (Answered answer) is = refl
+    by_state : (s : State) → is_queued_at number s ≡ true → is_queued_at at s ≡ false
+    by_state state.Ready is = refl
+    by_state (state.Queued sent) is = eqb-differs (manager_number sent.manager) at (λ same. differs (sym same ∙ eqb-true (manager_number sent.manager) number is))
+    by_state (state.Taken sent) is = refl
+    by_state (state.Answered answer) is = refl
 
 is_there : (row : Option ThreadRow) → is_some (option_map taken_thread row) ≡ is_some row
 is_there None = refl
@@ -65,16 +75,16 @@ is_there (Some row) = refl
 
 module _ (parts : List (Option Part)) (channel : Channel) (manager : Manager) (first : Queued) (rest : List Queued)
     (line : line_at channel.lines (manager_number manager) ≡ first ∷ rest) (gone : stands rest (sender first) ≡ false) (kept : Kept parts channel) where
-  thread : Thread
+  abbrev thread : Thread
   thread = sender first
 
-  number : ℕ
+  abbrev number : ℕ
   number = manager_number manager
 
-  h : Part → Part
+  abbrev h : Part → Part
   h part = take part first.item
 
-  new : List (Option Part)
+  abbrev new : List (Option Part)
   new = with_row parts thread.proc.user.0 h
 
   changes : (part : Part) → (h part).processes ≡ with_row part.processes thread.proc.num (with_thread thread.tid taken_thread)

@@ -1,5 +1,5 @@
 -- Rows, lines and nodes stand together still as a worker does what it holds.
-use Rattle.std.proofs.Common.{◌≡◌, ◌≢◌, inl, inr, ℕ, zero, suc, ◌<◌, ◌∷◌, [], ◌++◌, ◌||◌, ◌&&◌, not, take, Bool, true, false, List, Option, Some, None, Result, Ok, Err, slice_get, length, is_some, refl, sym, ◌∙◌, ap}
+use Rattle.std.proofs.Common.{◌≡◌, ◌≢◌, inl, inr, ◌⊎◌, ℕ, zero, suc, ◌<◌, ◌∷◌, [], ◌++◌, ◌||◌, ◌&&◌, not, take, Bool, true, false, List, Option, Some, None, Result, Ok, Err, slice_get, length, is_some, refl, sym, ◌∙◌, ap}
 use Rattle.std.specs.Prelude.{nat_le, option_map}
 use Rattle.std.specs.FinSet as set
 use Rattle.std.specs.List.{list_any}
@@ -35,7 +35,7 @@ use Rattle.qx_steps.proofs.AttachedLemmas.{attached-with_block, fewer-detached, 
 use Rattle.qx_steps.proofs.KeptLemmas.{same_server-differs, same_server-self}
 use Rattle.qx_steps.proofs.ProcessLemmas.{proc_cases, process_of-other}
 use Rattle.qx_steps.proofs.ReceiveLemmas.{sender-user}
-use Rattle.qx_steps.proofs.RowReads.{length-with_row, option_cases, read-with_row, row_at-with_other, row_at-with_same}
+use Rattle.qx_steps.proofs.RowReads.{length-with_row, option_cases, read-with_row, result_cases, row_at-with_other, row_at-with_same}
 
 and_true : (b : Bool) → (b && true) ≡ b
 and_true true = refl
@@ -77,7 +77,7 @@ fewer_with rows process f threads lines attached = record {
 
 -- what a message does to the processes, but for the answer
 
-deed_part : Part → Result Deed Errno → Part
+abbrev deed_part : Part → Result Deed Errno → Part
 deed_part part (Ok deed) = deed.part
 deed_part part (Err error) = part
 
@@ -90,10 +90,6 @@ open_fewer part process sent = elim (option_cases (new_coid sent.over)) [
         (λ x k is. sym (attached-with_block coid.0 (lowest_from 1 part.blocks) x k) ∙ is))
   ]
 ]
-
-result_cases : {A E : Type 0} (r : Result A E) → ((x : A) × (r ≡ Ok x)) ⊎ ((e : E) × (r ≡ Err e))
-result_cases (Ok x) = inl (x, refl)
-result_cases (Err e) = inr (e, refl)
 
 close_fewer : (part : Part) (process : ℕ) (sent : Sent) → Fewer (deed_part part (close_deed part process sent)).processes part.processes process
 close_fewer part process sent = elim (result_cases (opened_by part process sent)) [
@@ -200,13 +196,13 @@ module _ (proc : Proc) (process : Option Process) where
       unless false a b = refl
 
 module _ (parts : List (Option Part)) (channel : Channel) (user : ℕ) (own : OwnItem) (kept : Kept parts channel) where
-  proc : Proc
+  abbrev proc : Proc
   proc = (sender_of user own).proc
 
-  h : Part → Part
+  abbrev h : Part → Part
   h part = served_part part own
 
-  new : List (Option Part)
+  abbrev new : List (Option Part)
   new = with_row parts proc.user.0 h
 
   elsewhere : (other : Proc) → other ≢ proc → process_of new other ≡ process_of parts other
@@ -222,10 +218,10 @@ module _ (parts : List (Option Part)) (channel : Channel) (user : ℕ) (own : Ow
   kept_if : (had has : Bool) → (has ≡ true → had ≡ true) → (had && (has || false)) ≡ has
   kept_if true true less = refl
   kept_if true false less = refl
-  kept_if false true less = sym (less refl)
+  kept_if false true less = less refl
   kept_if false false less = refl
 
-  channel_after : Channel
+  abbrev channel_after : Channel
   channel_after = settled proc (process_of new proc) managers channel
 
   served_at : Kept new channel_after

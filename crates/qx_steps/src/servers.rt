@@ -1,17 +1,18 @@
 //! The disconnect nodes of server connections, which come and go with what a process has attached.
 
 ghost use Rattle.std.specs.Prelude.{◌≡◌, OnOk, OnErr};
+ghost use Rattle.qx_types.specs.Managers.{manager_number, managers};
 ghost use Rattle.qx_chan.specs.Channel.{HasThread};
-ghost use Rattle.qx_steps.specs.Kept.{process_of_item, with_attached, with_settled};
+ghost use Rattle.qx_parts.specs.Reads.{process_of};
+ghost use Rattle.qx_steps.specs.Kept.{attached_at, settled, with_attached};
 
 use qx_chan::Channel;
-use qx_machine::{Held, Over, OwnItem, Sent};
+use qx_machine::{Over, Sent};
 use qx_parts::Parts;
-use qx_procs::Process;
 use qx_types::{Manager, Proc};
 use std::alloc::AllocError;
 
-/// A process has a disconnect node at the manager of a message from now on that attaches something for itself.
+/// A process has a disconnect node at the manager of a message from now on, if its call attaches what it goes over.
 pub fn attach(channel: &mut Channel, proc: Proc, sent: Sent) -> Result<(), AllocError>
     requires { HasThread channel.old proc }
     ensures ok { OnOk result (channel.new ≡ with_attached channel.old proc sent.manager sent.over) }
@@ -25,7 +26,7 @@ pub fn attach(channel: &mut Channel, proc: Proc, sent: Sent) -> Result<(), Alloc
 
 /// A process keeps the disconnect nodes of the managers where something of it is attached, and no other.
 pub fn settle(channel: &mut Channel, parts: &Parts, proc: Proc)
-    ensures { channel.new ≡ settled channel.old proc (process_of parts.now proc) managers }
+    ensures { channel.new ≡ settled proc (process_of parts.now proc) managers channel.old }
 {
     for number in 0..Manager::COUNT {
         if let Some(manager) = Manager::of_number(number) {
@@ -33,5 +34,15 @@ pub fn settle(channel: &mut Channel, parts: &Parts, proc: Proc)
                 channel.remove_server(proc, manager);
             }
         }
+    }
+}
+
+/// Whether something of a process is attached to a manager.
+fn is_attached(parts: &Parts, proc: Proc, manager: Manager) -> bool
+    ensures { result ≡ attached_at (manager_number manager) (process_of parts.now proc) }
+{
+    match parts.process(proc) {
+        Some(process) => process.server(manager).is_some(),
+        None => false,
     }
 }

@@ -29,7 +29,7 @@ pub enum PerformFault {
 
 impl From<NoMemory> for PerformFault {
     ghost use Rattle.std.specs.Prelude.{◌≡◌};
-    ghost use Rattle.qx_world.specs.declared.work.PerformFault.TheVariants as fault;
+    ghost use Rattle.qx_steps.specs.declared.work.PerformFault.TheVariants as fault;
 
     ghost from_gives = { λ _ given. given ≡ fault.NoMemory };
 

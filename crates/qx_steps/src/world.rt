@@ -13,7 +13,7 @@ ghost use Rattle.qx_parts.specs.Reads.{CanSend, process_of, thread_row};
 ghost use Rattle.qx_steps.specs.Calls.{after_sending, after_start, sent_in, spawn_number_in};
 ghost use Rattle.qx_steps.specs.Held.{hand_wants_memory, held_work, holds_wanting, work_now, IsStale};
 ghost use Rattle.qx_steps.specs.Kept.{IsFree};
-ghost use Rattle.qx_steps.specs.Reads.{is_thread_answered};
+ghost use Rattle.qx_steps.specs.Reads.{is_thread_answered, IsReady};
 ghost use Rattle.qx_steps.specs.Workers.{after_serving};
 
 use crate::servers;
@@ -154,7 +154,8 @@ impl World {
 
     /// What a call sends, or the outcome of one that sends nothing.
     fn judge(&self, thread: Thread, request: &Request) -> Result<Sent, Outcome>
-        ensures { result ≡ sent_in self.now thread request.now }
+        ensures priority { IfOk result (λ sent. IsPriority sent.prio.0) }
+        ensures sent { result ≡ sent_in self.now thread request.now }
     {
         let user = thread.proc.user;
         match self.parts.part(user) {
