@@ -6,7 +6,7 @@ use Rattle.std.proofs.lemmas.Bool.{cases_Bool}
 use Rattle.std.proofs.lemmas.Bool.Decides.{eqb_tells, nat_tests}
 use Rattle.qx_types.specs.declared.names.Thread.{Thread}
 use Rattle.qx_lists.proofs.ListLemmas.{contains_cases, contains_first, contains_later}
-use Rattle.qx_lists.proofs.MapLemmas.{get-insert_same, get-insert_other}
+use Rattle.qx_lists.proofs.MapLemmas.{get-insert_same}
 use Rattle.qx_machine.specs.declared.rows.Queued.{Queued}
 use Rattle.qx_machine.specs.Lines.{into}
 use Rattle.qx_chan.specs.Channel.{is_same_thread, sender, stands}
@@ -49,12 +49,8 @@ pub map-drop : {A B : Type 0} (f : A → B) (xs : List A) → map f (drop 1 xs) 
 map-drop f [] = refl
 map-drop f (x ∷ xs) = refl
 
-module _ (values : maps.FinMap nat_cmp Queued) (node : ℕ) (entry : Queued) where
-  pub entry-insert_same : unwrap_or (maps.get (maps.insert values node entry) node) nobodys ≡ entry
-  entry-insert_same = ap (λ o. unwrap_or o nobodys) (get-insert_same values node entry)
-
-  pub entry-insert_other : (other : ℕ) → other ≢ node → unwrap_or (maps.get (maps.insert values node entry) other) nobodys ≡ unwrap_or (maps.get values other) nobodys
-  entry-insert_other other differs = ap (λ o. unwrap_or o nobodys) (get-insert_other values node entry other differs)
+pub entry-insert_same : (values : maps.FinMap nat_cmp Queued) (node : ℕ) (entry : Queued) → unwrap_or (maps.get (maps.insert values node entry) node) nobodys ≡ entry
+entry-insert_same values node entry = ap (λ o. unwrap_or o nobodys) (get-insert_same values node entry)
 
 abbrev thread_of : ℕ → ℕ → ℕ → Thread
 thread_of user process thread = record { proc = record { user = record { 0 = user }; num = process }; tid = thread }

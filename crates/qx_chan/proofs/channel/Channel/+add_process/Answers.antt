@@ -1,5 +1,4 @@
 use Rattle.std.proofs.Common.{◌-◌, refl, arith}
-
 use Rattle.qx_chan.proofs.PresenceLemmas.{has-process, not_earlier, room-process, users-process}
 use Rattle.qx_chan.proofs.channel.Channel.+add_process.Goals as goal
 
