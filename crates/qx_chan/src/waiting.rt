@@ -28,14 +28,14 @@ impl Waiting {
     pub fn new(queued: Queued) -> Self
         requires lowest { 1 ≤ queued.prio.0 }
         requires highest { queued.prio.0 ≤ PRIORITY }
-        ensures { result ≡ queued }
+        ensures entry { result ≡ queued }
     {
         Waiting { queued }
     }
 
     /// The item with its priority.
     pub fn queued(&self) -> Queued
-        ensures { result ≡ self.now }
+        ensures entry { result ≡ self.now }
     {
         self.queued
     }
