@@ -83,12 +83,6 @@ pub shown-kept : (old new : Table Queued) (lines : List Line) → ((line : Line)
 shown-kept old new [] same = refl
 shown-kept old new (line ∷ lines) same = rw (same line, shown-kept old new lines same) refl
 
--- nodes that are told otherwise
-pub Kept-owners : (t : Table Queued) (lines : List Line) (node_of again : Owner → Option ℕ) → ((owner : Owner) → again owner ≡ node_of owner) → Kept t lines node_of → Kept t lines again
-Kept-owners t lines node_of again same kept =
-    let all : again ≡ node_of = λ i owner. same owner i in
-    rw all kept
-
 -- the same nodes in another room
 pub Kept-room : (old new : Table Queued) (lines : List Line) (node_of : Owner → Option ℕ) → new.lists ≡ old.lists → new.values ≡ old.values → Kept old lines node_of → Kept new lines node_of
 Kept-room old new lines node_of same_lists values kept = record {
@@ -195,8 +189,8 @@ module _ (old new : Table Queued) (lines : List Line) (number : ℕ) (before aft
   shown-taken =
       let rest : entries new after ≡ drop 1 (entries old before) = rw (taken.nodes, taken.values) (map-drop (entry_at old) (nodes_in old before)) in
       shown-set old new lines number after (λ other line differs at.
-          let nodes : nodes_in new line ≡ nodes_in old line = ap (λ o. unwrap_or o []) (taken.lists line.list (not_own old new lines number before after node_of kept is taken.own taken.lists other line differs at)) in
-          rw (nodes, taken.values) refl)
+      let nodes : nodes_in new line ≡ nodes_in old line = ap (λ o. unwrap_or o []) (taken.lists line.list (not_own old new lines number before after node_of kept is taken.own taken.lists other line differs at)) in
+      rw (nodes, taken.values) refl)
       ∙ ap (slice_set (map (entries old) lines) number) (rest ∙ ap (drop 1) (sym (line_at-shown old lines number before is)))
 
 -- an owner that had no node gets a new one
@@ -402,5 +396,5 @@ pub gone-if : (t : Table Queued) (lines : List Line) (node_of : Owner → Option
 gone-if t lines node_of line None kept distinct is = tt
 gone-if t lines node_of line (Some first) kept distinct is =
     gone_from (entry_at t) (λ thread. node_of (Message thread)) (nodes_in t line) first distinct (λ node at.
-        let of = (kept.listed line.list node at).1 in
-        ap (λ thread. node_of (Message thread)) (kept.names (Message of.0) node of.1) ∙ of.1) (sym is)
+    let of = (kept.listed line.list node at).1 in
+    ap (λ thread. node_of (Message thread)) (kept.names (Message of.0) node of.1) ∙ of.1) (sym is)

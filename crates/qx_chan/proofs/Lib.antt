@@ -1,4 +1,4 @@
--- Lists of entries: which threads stand in them, as items come and go.
+-- Lists of entries: which threads stand in them, as items come and go; the lines under their numbers.
 pub mod EntryLemmas
 -- What nodes stand for and which lines there are, as one node of the table changes.
 pub mod TableLemmas

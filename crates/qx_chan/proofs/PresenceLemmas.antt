@@ -78,9 +78,9 @@ module _ {A K : Type 0} (key : Proc → ℕ → K) (column : ProcessNodes → Li
   pub keys_in-at : (nodes : List UserNodes) → list_any P (keys_in key column nodes) ≡ is_some (get_or (column (process_at nodes proc)) number None)
   keys_in-at nodes =
       told_at of_user P proc.user.0 no_processes
-          (λ user x apart. told_none (of_process user) P (λ process own. off_process user process own (λ same. apart (ap (λ p. p.user.0) same))) 0 x.processes)
-          (in_user no_processes ∙ ap (λ own. is_some (get_or (column own) number None)) (default_of (PROCESSES + 1) proc.num no_process) ∙ ap is_some nothing)
-          0 proc.user.0 nodes (from_zero proc.user.0)
+      (λ user x apart. told_none (of_process user) P (λ process own. off_process user process own (λ same. apart (ap (λ p. p.user.0) same))) 0 x.processes)
+      (in_user no_processes ∙ ap (λ own. is_some (get_or (column own) number None)) (default_of (PROCESSES + 1) proc.num no_process) ∙ ap is_some nothing)
+      0 proc.user.0 nodes (from_zero proc.user.0)
       ∙ in_user (get_or nodes proc.user.0 no_processes)
 
 -- a thread is in the set exactly if it has nodes
@@ -89,9 +89,9 @@ unfolding threads_of
 threads-nodes nodes thread =
     set.contains-from_list thread_total _ thread
     ∙ keys_in-at (λ proc tid. record { proc = proc; tid = tid }) (λ own. own.threads) (eq_by_cmp thread_cmp thread) thread.proc thread.tid
-        ((eq_by_cmp_equiv thread_total).refl thread)
-        (λ other at apart. other_key thread_total thread_exact thread (record { proc = other; tid = at }) (λ same. apart (sym (ap (λ t. t.proc) same)) (sym (ap (λ t. t.tid) same))))
-        (default_of (THREADS + 1) thread.tid None) nodes
+    ((eq_by_cmp_equiv thread_total).refl thread)
+    (λ other at apart. other_key thread_total thread_exact thread (record { proc = other; tid = at }) (λ same. apart (sym (ap (λ t. t.proc) same)) (sym (ap (λ t. t.tid) same))))
+    (default_of (THREADS + 1) thread.tid None) nodes
     ∙ ap is_some (sym (unwrap_or-slice_get (process_at nodes thread.proc).threads thread.tid None))
 
 -- a server connection is in the set exactly if it has a disconnect node
@@ -100,9 +100,9 @@ unfolding servers_of
 servers-nodes nodes proc number =
     set.contains-from_list server_total _ (proc, number)
     ∙ keys_in-at (λ other at. (other, at)) (λ own. own.servers) (eq_by_cmp server_cmp (proc, number)) proc number
-        ((eq_by_cmp_equiv server_total).refl (proc, number))
-        (λ other at apart. other_key server_total server_exact (proc, number) (other, at) (λ same. apart (sym (ap (λ s. s.0) same)) (sym (ap (λ s. s.1) same))))
-        (default_of COUNT number None) nodes
+    ((eq_by_cmp_equiv server_total).refl (proc, number))
+    (λ other at apart. other_key server_total server_exact (proc, number) (other, at) (λ same. apart (sym (ap (λ s. s.0) same)) (sym (ap (λ s. s.1) same))))
+    (default_of COUNT number None) nodes
     ∙ ap is_some (sym (unwrap_or-slice_get (process_at nodes proc).servers number None))
 
 -- two sets of threads, or of server connections, told by their members

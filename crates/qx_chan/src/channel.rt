@@ -47,8 +47,8 @@ impl Model for Channel {
 impl Channel {
     /// Empty lines, and no nodes of the users from 1 to this many.
     pub fn new(alloc: Global, users: usize) -> Result<Self, AllocError>
-        requires { users < 256 }
-        ensures { IfOk result (λ channel. channel ≡ no_channel users) }
+        requires few { users < 256 }
+        ensures empty { IfOk result (λ channel. channel ≡ no_channel users) }
     {
         let mut table = Table::new(alloc);
         let mut lines = Vec::new(alloc);
@@ -70,7 +70,7 @@ impl Channel {
         requires idle { (number : ℕ) → stands (channel_line self.old number) thread ≡ false }
         requires lowest { 1 ≤ prio.0 }
         requires highest { prio.0 ≤ PRIORITY }
-        ensures { self.new ≡ with_channel_line self.old (manager_number manager) (λ line. into machine.rank line (message_of thread prio.0)) }
+        ensures put { self.new ≡ with_channel_line self.old (manager_number manager) (λ line. into machine.rank line (message_of thread prio.0)) }
     {
         let Some(own) = self.nodes.at(thread) else {
             unreachable!();
@@ -96,7 +96,7 @@ impl Channel {
 
     /// The first item of a line.
     pub fn first(&self, manager: Manager) -> Option<Queued>
-        ensures { result ≡ slice_get (channel_line self.now (manager_number manager)) 0 }
+        ensures first { result ≡ slice_get (channel_line self.now (manager_number manager)) 0 }
     {
         self.table.know();
         first_of(&self.table, &self.lines[manager.number()])
@@ -104,7 +104,7 @@ impl Channel {
 
     /// How many items stand in a line.
     pub fn len(&self, manager: Manager) -> usize
-        ensures { result ≡ length (channel_line self.now (manager_number manager)) }
+        ensures count { result ≡ length (channel_line self.now (manager_number manager)) }
     {
         self.lines[manager.number()].len()
     }
@@ -128,7 +128,7 @@ impl Channel {
         requires lowest { 1 ≤ prio.0 }
         requires highest { prio.0 ≤ PRIORITY }
         requires room { 2 ≤ self.old.room }
-        ensures { self.new ≡ with_thread self.old thread }
+        ensures added { self.new ≡ with_thread self.old thread }
     {
         self.table.know();
         let message = new_node(&mut self.table, Waiting::new(queued_message(thread, prio)));
@@ -146,7 +146,7 @@ impl Channel {
         requires lowest { 1 ≤ prio.0 }
         requires highest { prio.0 ≤ PRIORITY }
         requires room { 2 * threads ≤ self.old.room }
-        ensures { self.new ≡ with_process self.old proc threads }
+        ensures added { self.new ≡ with_process self.old proc threads }
     {
         if threads == 0 {
             return;
@@ -157,7 +157,7 @@ impl Channel {
 
     /// A process has a disconnect node at a manager from now on: the one that it had, or a new one.
     pub fn add_server(&mut self, proc: Proc, manager: Manager) -> Result<(), AllocError>
-        requires { HasThread self.old proc }
+        requires started { HasThread self.old proc }
         ensures ok { OnOk result (self.new ≡ with_server self.old proc (manager_number manager)) }
         ensures had_node { IsTrue (has_server self.old proc (manager_number manager)) → IsOk result }
         ensures had_room { 1 ≤ self.old.room → IsOk result }
@@ -180,7 +180,7 @@ impl Channel {
 
     /// A process has no disconnect node at a manager from now on, and room is kept for the one that it had.
     pub fn remove_server(&mut self, proc: Proc, manager: Manager)
-        ensures { self.new ≡ without_server self.old proc (manager_number manager) }
+        ensures removed { self.new ≡ without_server self.old proc (manager_number manager) }
     {
         if let Some(node) = self.nodes.disconnect(proc, manager) {
             self.table.free_node(node);
@@ -191,7 +191,7 @@ impl Channel {
 
 /// A thread's message, as it stands in a line.
 fn queued_message(thread: Thread, prio: Prio) -> Queued
-    ensures { result ≡ message_of thread prio.0 }
+    ensures message { result ≡ message_of thread prio.0 }
 {
     Queued {
         user: thread.proc.user,
@@ -205,7 +205,7 @@ fn queued_message(thread: Thread, prio: Prio) -> Queued
 
 /// Makes a node, for which there is room.
 fn new_node(table: &mut Table<Waiting>, waiting: Waiting) -> usize
-    requires { 0 < table.old.room }
+    requires room { 0 < table.old.room }
     ensures made { table.new ≡ record table.old { values = maps.insert table.old.values result waiting; room = table.old.room - 1 } }
     ensures was_new { maps.get table.old.values result ≡ None }
 {
@@ -217,8 +217,8 @@ fn new_node(table: &mut Table<Waiting>, waiting: Waiting) -> usize
 
 /// A node stands for another item from now on.
 fn set_entry(table: &mut Table<Waiting>, node: usize, waiting: Waiting)
-    requires { ContainsNode table.old node }
-    ensures { table.new ≡ with_value table.old node waiting }
+    requires there { ContainsNode table.old node }
+    ensures set { table.new ≡ with_value table.old node waiting }
 {
     *table.value_mut(node) = waiting;
 }
@@ -227,7 +227,7 @@ fn set_entry(table: &mut Table<Waiting>, node: usize, waiting: Waiting)
 fn put_in(table: &mut Table<Waiting>, line: &mut Line, node: usize, waiting: Waiting)
     requires line { IsLineOf machine.rank table.old line.old }
     requires free { IsFree table.old node }
-    ensures { PutIn table.old table.new line.old line.new node waiting }
+    ensures put { PutIn table.old table.new line.old line.new node waiting }
 {
     set_entry(table, node, waiting);
     line.put(table, node);
@@ -248,7 +248,7 @@ fn take_out(table: &mut Table<Waiting>, line: &mut Line) -> Option<Queued>
 fn first_of(table: &Table<Waiting>, line: &Line) -> Option<Queued>
     requires line { IsLineOf machine.rank table.now line.now }
     requires there { (list node : ℕ) → IsIn table.now list node → ContainsNode table.now node }
-    ensures { result ≡ slice_get (entries table.now line.now) 0 }
+    ensures first { result ≡ slice_get (entries table.now line.now) 0 }
 {
     let node = line.first(table)?;
     Some(table.value(node).queued())

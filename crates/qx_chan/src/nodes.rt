@@ -31,7 +31,7 @@ impl ProcessNodes {
     };
 
     fn set(&mut self, thread: u8, own: ThreadNodes)
-        requires { thread ≤ THREADS }
+        requires thread { thread ≤ THREADS }
         ensures set { self.new ≡ threads_with self.old thread own }
         ensures there { row_at self.new.threads thread ≡ Some own }
     {
@@ -39,7 +39,7 @@ impl ProcessNodes {
     }
 
     fn disconnect(&self, manager: Manager) -> Option<usize>
-        ensures { result ≡ row_at self.now.servers (manager_number manager) }
+        ensures node { result ≡ row_at self.now.servers (manager_number manager) }
     {
         self.servers[manager.number()]
     }
@@ -101,8 +101,8 @@ impl Model for Nodes {
 impl Nodes {
     /// No nodes for users from 1 to this many.
     pub fn new(alloc: Global, users: usize) -> Result<Self, AllocError>
-        requires { users < 256 }
-        ensures { IfOk result (λ nodes. nodes ≡ no_nodes users) }
+        requires few { users < 256 }
+        ensures none { IfOk result (λ nodes. nodes ≡ no_nodes users) }
     {
         let mut places = Vec::new(alloc);
         for _ in 0..users + 1 {
@@ -113,7 +113,7 @@ impl Nodes {
 
     /// A thread's nodes.
     pub fn at(&self, thread: Thread) -> Option<ThreadNodes>
-        ensures { result ≡ nodes_at self.now thread }
+        ensures own { result ≡ nodes_at self.now thread }
     {
         let of_user = self.users.get(thread.proc.user.0 as usize)?;
         let of_process = of_user.processes.get(thread.proc.num as usize)?;
@@ -133,7 +133,7 @@ impl Nodes {
 
     /// The disconnect node of a process' server connection at a manager.
     pub fn disconnect(&self, proc: Proc, manager: Manager) -> Option<usize>
-        ensures { result ≡ disconnect_at self.now proc (manager_number manager) }
+        ensures node { result ≡ disconnect_at self.now proc (manager_number manager) }
     {
         let of_user = self.users.get(proc.user.0 as usize)?;
         of_user

@@ -10,15 +10,19 @@ invariant_of-self c =
     let fresh : nodes_at c.self.inside.nodes c.args.thread ≡ None = nodes-absent _ _ (rw (← c.self.view_is) at c.requires.fresh) in
     let gets = rw c.set.ensures.set at c.set.ensures.there in
     let first = Kept-made c.self.inside.table _ _ _ _ c.new_node-message.ensures.made c.new_node-message.ensures.was_new c.know.ensures.there c.self.inside.lines.items _ (half c.self.inside.nodes c.args.thread (record { message = c.new_node-message.result; unblock = c.new_node-unblock.result })) (Message c.args.thread)
-        (ap (option_map (λ own. own.message)) fresh) (ap (option_map (λ own. own.message)) gets) (half-first c.self.inside.nodes c.args.thread _) (rw (c.new.ensures, c.queued_message.ensures) refl) c.self.invariant.1 in
-    (c.self.invariant.0, rw c.set.ensures.set (Kept-made c.new_node-message.new.table _ _ _ _ c.new_node-unblock.ensures.made c.new_node-unblock.ensures.was_new c.know-2.ensures.there c.self.inside.lines.items _ _ (Unblock c.args.thread)
-        (ap (option_map (λ own. own.unblock)) fresh) (ap (option_map (λ own. own.unblock)) gets) (half-second c.self.inside.nodes c.args.thread _) (rw (c.new-2.ensures, c.queued_message-2.ensures) refl) first))
+    (ap (option_map (λ own. own.message)) fresh) (ap (option_map (λ own. own.message)) gets) (half-first c.self.inside.nodes c.args.thread _) (rw (c.new.ensures.entry, c.queued_message.ensures.message) refl) c.self.invariant.1 in (
+      c.self.invariant.0,
+      rw c.set.ensures.set (Kept-made c.new_node-message.new.table _ _ _ _ c.new_node-unblock.ensures.made c.new_node-unblock.ensures.was_new c.know-2.ensures.there c.self.inside.lines.items _ _ (Unblock c.args.thread)
+          (ap (option_map (λ own. own.unblock)) fresh) (ap (option_map (λ own. own.unblock)) gets) (half-second c.self.inside.nodes c.args.thread _) (rw (c.new-2.ensures.entry, c.queued_message-2.ensures.message) refl) first),
+    )
 
 pub returns : goal.returns
 returns c =
     let gets = rw c.set.ensures.set at c.set.ensures.there in
     let first : c.new_node-message.new.table.room ≡ c.self.inside.table.room - 1 = ap (λ t. t.room) c.new_node-message.ensures.made in
     let second : c.new_node-unblock.new.table.room ≡ c.new_node-message.new.table.room - 1 = ap (λ t. t.room) c.new_node-unblock.ensures.made in
-    rw (← c.self.view_is, c.set.ensures.set) (same_channel
-        (shown-kept c.self.inside.table c.new_node-unblock.new.table c.self.inside.lines.items (λ line. entries-made c.new_node-message.new.table _ _ _ _ c.new_node-unblock.ensures.made c.new_node-unblock.ensures.was_new c.know-2.ensures.there line ∙ entries-made c.self.inside.table _ _ _ _ c.new_node-message.ensures.made c.new_node-message.ensures.was_new c.know.ensures.there line))
-        (threads-with_nodes _ _ _ gets) (servers-with_nodes _ _ _) (length-with_nodes _ _ _) (omega (arith, first, second)))
+    rw (← c.self.view_is, c.set.ensures.set) (record {
+      added = same_channel
+          (shown-kept c.self.inside.table c.new_node-unblock.new.table c.self.inside.lines.items (λ line. entries-made c.new_node-message.new.table _ _ _ _ c.new_node-unblock.ensures.made c.new_node-unblock.ensures.was_new c.know-2.ensures.there line ∙ entries-made c.self.inside.table _ _ _ _ c.new_node-message.ensures.made c.new_node-message.ensures.was_new c.know.ensures.there line))
+          (threads-with_nodes _ _ _ gets) (servers-with_nodes _ _ _) (length-with_nodes _ _ _) (omega (arith, first, second));
+    })

@@ -20,17 +20,19 @@ returns-in_err-reserve-clause-had_node c = λ had.
 pub invariant_of-self-2 : goal.invariant_of-self-2
 invariant_of-self-2 c =
     let kept : Kept c.reserve.new.self c.self.inside.lines.items (node_of c.self.inside.nodes) = Kept-room c.self.inside.table _ _ _ (ap (λ t. t.lists) c.in_ok-reserve.ensures.ok) (ap (λ t. t.values) c.in_ok-reserve.ensures.ok) c.self.invariant.1 in
-    let there : process_at c.self.inside.nodes c.args.proc ≢ no_process = started _ _ (rw (← c.self.view_is) at c.requires) in
-    let gets = rw c.set_disconnect.ensures.set at c.set_disconnect.ensures.there there in
-    (c.self.invariant.0, rw c.set_disconnect.ensures.set (Kept-made c.reserve.new.self _ _ _ _ c.new_node-node.ensures.made c.new_node-node.ensures.was_new c.know.ensures.there c.self.inside.lines.items _ _ (Disconnect c.args.proc (manager_number c.args.manager))
-        (none_of _ (search rules)) gets (node_of-with_disconnect c.self.inside.nodes c.args.proc (manager_number c.args.manager) _) (rw (c.new.ensures, c.queued_message.ensures) refl) kept))
+    let there : process_at c.self.inside.nodes c.args.proc ≢ no_process = started _ _ (rw (← c.self.view_is) at c.requires.started) in
+    let gets = rw c.set_disconnect.ensures.set at c.set_disconnect.ensures.there there in (
+      c.self.invariant.0,
+      rw c.set_disconnect.ensures.set (Kept-made c.reserve.new.self _ _ _ _ c.new_node-node.ensures.made c.new_node-node.ensures.was_new c.know.ensures.there c.self.inside.lines.items _ _ (Disconnect c.args.proc (manager_number c.args.manager))
+          (none_of _ (search rules)) gets (node_of-with_disconnect c.self.inside.nodes c.args.proc (manager_number c.args.manager) _) (rw (c.new.ensures.entry, c.queued_message.ensures.message) refl) kept),
+    )
 
 pub returns-then-is_some-clause-ok : goal.returns-then-is_some-clause-ok
 returns-then-is_some-clause-ok c = rw (← c.self.view_is) (server-had _ c.self.inside.nodes _ c.args.proc (manager_number c.args.manager) (search rules))
 
 pub returns-clause-ok : goal.returns-clause-ok
 returns-clause-ok c =
-    let there : process_at c.self.inside.nodes c.args.proc ≢ no_process = started _ _ (rw (← c.self.view_is) at c.requires) in
+    let there : process_at c.self.inside.nodes c.args.proc ≢ no_process = started _ _ (rw (← c.self.view_is) at c.requires.started) in
     let gets = rw c.set_disconnect.ensures.set at c.set_disconnect.ensures.there there in
     let lacked : is_some (disconnect_at c.self.inside.nodes c.args.proc (manager_number c.args.manager)) ≡ false = search rules in
     let absent = servers-nodes c.self.inside.nodes c.args.proc (manager_number c.args.manager) ∙ lacked in

@@ -10,4 +10,4 @@ use Rattle.qx_chan.proofs.channel.Channel.len.Goals as goal
 pub returns : goal.returns
 returns c =
     let is : slice_get c.self.inside.lines.items c.number.result ≡ Some c.index.result.now = slice_get_read c.self.inside.lines.items COUNT c.number.result c.index.result.now (sym c.self.invariant.0) c.number.ensures.few c.index.ensures in
-    rw (← c.self.view_is, ← c.number.ensures.number, line_at-shown c.self.inside.table _ c.number.result _ is) (c.len.ensures ∙ (c.self.invariant.1.line c.number.result c.index.result.now is).counted ∙ sym (length-map (nodes_in c.self.inside.table c.index.result.now) (entry_at c.self.inside.table)))
+    rw (← c.self.view_is, ← c.number.ensures.number, line_at-shown c.self.inside.table _ c.number.result _ is) (record { count = c.len.ensures ∙ (c.self.invariant.1.line c.number.result c.index.result.now is).counted ∙ sym (length-map (nodes_in c.self.inside.table c.index.result.now) (entry_at c.self.inside.table)) })

@@ -23,9 +23,9 @@ managers-preserved c = (
 )
 
 pub invariant_of-result : goal.invariant_of-result
-invariant_of-result c = (omega (arith, c.managers.invariant.0, c.managers-test.false, c.managers.auto.counter-end), rw c.in_ok-nodes.ensures c.managers.invariant.2)
+invariant_of-result c = (omega (arith, c.managers.invariant.0, c.managers-test.false, c.managers.auto.counter-end), rw c.in_ok-nodes.ensures.none c.managers.invariant.2)
 
 pub returns : goal.returns
 returns c =
     let all : length c.managers.lines.items ≡ COUNT = omega (arith, c.managers.invariant.0, c.managers-test.false, c.managers.auto.counter-end) in
-    rw c.in_ok-nodes.ensures (same_channel (shown-none c.managers.table c.managers.lines.items _ c.managers.invariant.2 (node_of-none c.args.users) ∙ ap (λ n. replicate n []) all) (threads-none c.args.users) (servers-none c.args.users) (length-replicate (c.args.users + 1) no_processes) c.managers.invariant.1)
+    rw c.in_ok-nodes.ensures.none (record { empty = same_channel (shown-none c.managers.table c.managers.lines.items _ c.managers.invariant.2 (node_of-none c.args.users) ∙ ap (λ n. replicate n []) all) (threads-none c.args.users) (servers-none c.args.users) (length-replicate (c.args.users + 1) no_processes) c.managers.invariant.1 })

@@ -23,7 +23,7 @@ returns-in-Some c =
     let free : IsFree c.self.inside.table c.in-Some.node = IsFree-pulse c.self.inside.table _ _ (Disconnect c.args.proc (manager_number c.args.manager)) c.in-Some.node c.self.invariant.1 had (λ thread same. cc) in
     let gone = rw c.set_disconnect.ensures.set at c.set_disconnect.ensures.there (started-server c.self.inside.nodes c.args.proc _ _ had) in
     let there = servers-nodes c.self.inside.nodes c.args.proc (manager_number c.args.manager) ∙ ap is_some had in
-    rw (← c.self.view_is, c.set_disconnect.ensures.set, there) (same_channel (shown-kept c.self.inside.table c.free_node.new.self c.self.inside.lines.items (entries-freed c.self.inside.table _ c.in-Some.node _ c.free_node.ensures.freed free)) (threads-with_disconnect c.self.inside.nodes c.args.proc (manager_number c.args.manager) None) (servers-freed c.self.inside.nodes c.args.proc (manager_number c.args.manager) None refl gone) (length-with_disconnect c.self.inside.nodes c.args.proc (manager_number c.args.manager) None) (ap (λ t. t.room) c.free_node.ensures.freed))
+    rw (← c.self.view_is, c.set_disconnect.ensures.set, there) (record { removed = same_channel (shown-kept c.self.inside.table c.free_node.new.self c.self.inside.lines.items (entries-freed c.self.inside.table _ c.in-Some.node _ c.free_node.ensures.freed free)) (threads-with_disconnect c.self.inside.nodes c.args.proc (manager_number c.args.manager) None) (servers-freed c.self.inside.nodes c.args.proc (manager_number c.args.manager) None refl gone) (length-with_disconnect c.self.inside.nodes c.args.proc (manager_number c.args.manager) None) (ap (λ t. t.room) c.free_node.ensures.freed) })
 
 pub returns-in_default : goal.returns-in_default
-returns-in_default c = rw (← c.self.view_is) (server-lacked _ c.self.inside.nodes _ c.args.proc (manager_number c.args.manager) (search rules))
+returns-in_default c = rw (← c.self.view_is) (record { removed = server-lacked _ c.self.inside.nodes _ c.args.proc (manager_number c.args.manager) (search rules) })
