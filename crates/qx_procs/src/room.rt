@@ -1,4 +1,4 @@
-ghost use Rattle.std.specs.Prelude.{◌≡◌, ◌≤◌, length};
+ghost use Rattle.std.specs.Prelude.{◌≡◌, ◌≤◌, length, IfOk};
 ghost use Rattle.qx_procs.specs.declared.room.TheConstants.{REPLY_BYTES};
 
 use qx_types::Bytes;
@@ -21,14 +21,16 @@ impl Model for Room {
 
     ghost Value = { ℕ };
 
-    ghost view = { λ _. REPLY_BYTES };
+    ghost view = { λ r. vec_capacity r.bytes };
 
     ghost invariant = { λ r. (vec_len r.bytes ≡ 0) × (vec_capacity r.bytes ≡ REPLY_BYTES) };
 }
 
 impl Room {
-    /// Room for the bytes of one reply.
-    pub fn new(alloc: Global) -> Result<Self, AllocError> {
+    /// Room for the bytes of one reply, and no more.
+    pub fn new(alloc: Global) -> Result<Self, AllocError>
+        ensures exact { IfOk result (λ room. room ≡ REPLY_BYTES) }
+    {
         Ok(Room {
             bytes: Vec::with_capacity(alloc, REPLY_BYTES)?,
         })
