@@ -1,12 +1,14 @@
+//! Calls of a table, one after another; and that three lists of a table go as three vectors.
+
 ghost use Rattle.std.specs.Prelude.{◌≡◌, ◌≢◌, ℕ, IfOk, IfSome};
 ghost use Rattle.qx_lists.specs.Table.{ContainsList, IsIn};
 
-use super::*;
+use qx_lists::Table;
 use std::process::Abort;
 use std::test::Fail;
 
 // Calls in a row, which need no answer under the facts for callers.
-#[tactic(auto, using(crate::proofs::TableFacts::table_facts))]
+#[tactic(auto, using(qx_lists::proofs::TableFacts::table_facts))]
 fn calls_in_a_row(table: &mut Table<u32>) -> Result<(Option<usize>, u32), Fail>
     ensures { IfOk result (λ taken. taken.1 ≡ 11) }
 {
@@ -29,7 +31,7 @@ fn calls_in_a_row(table: &mut Table<u32>) -> Result<(Option<usize>, u32), Fail>
 }
 
 // Calls on lists of which only one node is known.
-#[tactic(auto, using(crate::proofs::TableFacts::table_facts))]
+#[tactic(auto, using(qx_lists::proofs::TableFacts::table_facts))]
 fn moves_a_node(table: &mut Table<u32>, from: usize, to: usize, node: usize, at: usize) -> u32
     requires from { IsIn table.old from node }
     requires to { IsIn table.old to at }
@@ -48,7 +50,7 @@ fn moves_a_node(table: &mut Table<u32>, from: usize, to: usize, node: usize, at:
 }
 
 #[test]
-#[tactic(auto, using(crate::proofs::TableFacts::table_facts))]
+#[tactic(auto, using(qx_lists::proofs::TableFacts::table_facts))]
 fn nodes_are_put_in_and_taken_out(rt: HostRuntime) -> Result<(), Fail> {
     let mut table = Table::new(rt.alloc());
     table.reserve(2)?;
@@ -69,7 +71,7 @@ fn nodes_are_put_in_and_taken_out(rt: HostRuntime) -> Result<(), Fail> {
 }
 
 #[test]
-#[tactic(auto, using(crate::proofs::TableFacts::table_facts))]
+#[tactic(auto, using(qx_lists::proofs::TableFacts::table_facts))]
 fn an_empty_list_is_freed(rt: HostRuntime) -> Result<(), Fail> {
     let mut table: Table<char> = Table::new(rt.alloc());
     let list = table.add_list()?;
@@ -80,7 +82,7 @@ fn an_empty_list_is_freed(rt: HostRuntime) -> Result<(), Fail> {
 }
 
 // The node at a place of the list, counted from its front.
-#[tactic(auto, using(crate::proofs::TableFacts::table_facts))]
+#[tactic(auto, using(qx_lists::proofs::TableFacts::table_facts))]
 fn node_at(table: &Table<u32>, list: usize, place: usize) -> Option<usize>
     requires { ContainsList table.now list }
     ensures { IfSome result (IsIn table.now list) }
@@ -93,7 +95,7 @@ fn node_at(table: &Table<u32>, list: usize, place: usize) -> Option<usize>
 }
 
 // Whether the list has these nodes with these values, and no others.
-#[tactic(auto, using(crate::proofs::TableFacts::table_facts))]
+#[tactic(auto, using(qx_lists::proofs::TableFacts::table_facts))]
 fn has_nodes(table: &Table<u32>, list: usize, nodes: &Vec<(usize, u32)>) -> bool
     requires { ContainsList table.now list }
 {
@@ -112,7 +114,7 @@ fn has_nodes(table: &Table<u32>, list: usize, nodes: &Vec<(usize, u32)>) -> bool
 }
 
 // Makes a node at the end of the list, and of the vector.
-#[tactic(auto, using(crate::proofs::TableFacts::table_facts))]
+#[tactic(auto, using(qx_lists::proofs::TableFacts::table_facts))]
 fn push_new(
     table: &mut Table<u32>,
     list: usize,
@@ -129,7 +131,7 @@ fn push_new(
 }
 
 // Makes a node before the one at a place, if there is one.
-#[tactic(auto, using(crate::proofs::TableFacts::table_facts))]
+#[tactic(auto, using(qx_lists::proofs::TableFacts::table_facts))]
 fn insert_new(
     table: &mut Table<u32>,
     list: usize,
@@ -151,7 +153,7 @@ fn insert_new(
 }
 
 // Moves the node at a place to the end of another list, and writes its value.
-#[tactic(auto, using(crate::proofs::TableFacts::table_facts))]
+#[tactic(auto, using(qx_lists::proofs::TableFacts::table_facts))]
 fn move_node(
     table: &mut Table<u32>,
     list: usize,
@@ -178,7 +180,7 @@ fn move_node(
 }
 
 // Frees the first node, and tells whether its value was the vector's.
-#[tactic(auto, using(crate::proofs::TableFacts::table_facts))]
+#[tactic(auto, using(qx_lists::proofs::TableFacts::table_facts))]
 fn free_first(table: &mut Table<u32>, list: usize, nodes: &mut Vec<(usize, u32)>) -> bool
     requires { ContainsList table.old list }
     ensures { (other : ℕ) → ContainsList table.old other → ContainsList table.new other }
@@ -193,7 +195,7 @@ fn free_first(table: &mut Table<u32>, list: usize, nodes: &mut Vec<(usize, u32)>
 }
 
 // Frees the node at a place.
-#[tactic(auto, using(crate::proofs::TableFacts::table_facts))]
+#[tactic(auto, using(qx_lists::proofs::TableFacts::table_facts))]
 fn free_at(table: &mut Table<u32>, list: usize, nodes: &mut Vec<(usize, u32)>, place: usize) -> bool
     requires { ContainsList table.old list }
     ensures { (other : ℕ) → ContainsList table.old other → ContainsList table.new other }
@@ -209,7 +211,7 @@ fn free_at(table: &mut Table<u32>, list: usize, nodes: &mut Vec<(usize, u32)>, p
 }
 
 // Puts a new node into a list of its own and takes it out, before it goes last in the list.
-#[tactic(auto, using(crate::proofs::TableFacts::table_facts))]
+#[tactic(auto, using(qx_lists::proofs::TableFacts::table_facts))]
 fn push_by_another_list(
     table: &mut Table<u32>,
     list: usize,
@@ -256,7 +258,7 @@ fn step(
 }
 
 #[test]
-#[tactic(auto, using(crate::proofs::TableFacts::table_facts))]
+#[tactic(auto, using(qx_lists::proofs::TableFacts::table_facts))]
 fn goes_as_three_vectors(rt: HostRuntime) -> Result<(), Fail> {
     let mut table = Table::new(rt.alloc());
     let one = table.add_list()?;
@@ -287,61 +289,5 @@ fn goes_as_three_vectors(rt: HostRuntime) -> Result<(), Fail> {
         );
     }
     assert!(rt; ones.len() > 30 && twos.len() > 30 && threes.len() > 30);
-    Ok(())
-}
-
-// Takes all memory that can be had, in ever smaller pieces: while these are kept, each request is refused.
-fn take_all_memory(alloc: Global) -> Result<Vec<Vec<u8>>, AllocError> {
-    let mut pieces = Vec::with_capacity(alloc, 65_536)?;
-    let mut size: usize = 1 << 46;
-    'sizes: for _ in 0..47 {
-        'pieces: for _ in 0..65_536 {
-            let Ok(piece) = Vec::with_capacity(alloc, size) else {
-                break;
-            };
-            if pieces.len() == 65_536 || pieces.push(piece).is_err() {
-                return Err(AllocError);
-            }
-        }
-        size /= 2;
-    }
-    Ok(pieces)
-}
-
-#[test]
-#[tactic(auto, using(crate::proofs::TableFacts::table_facts))]
-fn what_was_reserved_needs_no_memory(rt: HostRuntime) -> Result<(), Fail> {
-    let mut table: Table<u32> = Table::new(rt.alloc());
-    table.reserve(100)?;
-    let list = table.add_list()?;
-    let pieces = take_all_memory(rt.alloc())?;
-    let refused: Result<Vec<u64>, AllocError> = Vec::with_capacity(rt.alloc(), 1);
-    assert!(rt; refused.is_err());
-    'nodes: for value in 0..100 {
-        let node = table.new_node(value)?;
-        table.push_back(list, node);
-    }
-    match table.new_node(100) {
-        Ok(_) => panic!(rt; "a node was made with no memory"),
-        Err(failed) => assert_eq!(rt; failed.value, 100),
-    }
-    assert!(rt; table.reserve(1).is_err());
-    'lists: for _ in 0..100 {
-        if table.add_list().is_err() {
-            break;
-        }
-    }
-    assert!(rt; table.add_list().is_err());
-    drop(pieces);
-    table.reserve(1)?;
-    table.add_list()?;
-    let last = table.new_node(100)?;
-    table.push_back(list, last);
-    'values: for value in 0..101 {
-        match table.pop_front(list) {
-            Some(node) => assert_eq!(rt; table.free_node(node), value),
-            None => panic!(rt; "a node is missing"),
-        }
-    }
     Ok(())
 }

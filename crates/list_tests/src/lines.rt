@@ -1,7 +1,11 @@
+//! Calls of a line, one after another; and that a line goes as a sorted vector.
+
 ghost use Rattle.std.specs.Prelude.{◌≡◌, ◌≤◌, IfOk};
 ghost use Rattle.qx_lines.specs.Line.{IsInLine, IsLineOf};
 
-use super::*;
+use qx_lines::Line;
+use qx_lists::Table;
+use qx_types::{Prio, Ranked};
 use std::alloc::AllocFailed;
 use std::cmp::Reverse;
 use std::test::Fail;
@@ -22,7 +26,7 @@ impl Ranked for Sent {
 }
 
 // Makes a node for the value, and puts it into the line.
-#[tactic(auto, using(crate::proofs::LineFacts::line_facts))]
+#[tactic(auto, using(qx_lines::proofs::LineFacts::line_facts))]
 fn send<T: Ranked>(table: &mut Table<T>, line: &mut Line, value: T) -> Result<usize, AllocFailed<T>>
     requires { IsLineOf T.rank table.old line.old }
     ensures of { IsLineOf T.rank table.new line.new }
@@ -34,7 +38,7 @@ fn send<T: Ranked>(table: &mut Table<T>, line: &mut Line, value: T) -> Result<us
 }
 
 // Calls in a row, which need no answer under the facts for callers.
-#[tactic(auto, using(crate::proofs::LineFacts::line_facts))]
+#[tactic(auto, using(qx_lines::proofs::LineFacts::line_facts))]
 fn calls_in_a_row(
     table: &mut Table<Sent>,
     one: Sent,

@@ -1,6 +1,8 @@
+//! The traits of nodes, through their bounds.
+
 ghost use Rattle.std.specs.Prelude.{◌≡◌, ◌≤◌, length, nat_lt, Some, Ok, Err};
 
-use super::*;
+use qx_types::{Errno, Prio, Ranked, Waiter};
 
 #[derive(Drop)]
 struct Sent {

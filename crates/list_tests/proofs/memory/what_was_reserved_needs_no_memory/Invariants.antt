@@ -1,5 +1,5 @@
 use Rattle.qx_lists.specs.Table.{ContainsList}
-use Rattle.qx_lists.proofs.tests.what_was_reserved_needs_no_memory.Given as goal
+use Rattle.list_tests.proofs.memory.what_was_reserved_needs_no_memory.Given as goal
 
 abbrev pub invariant-nodes : goal.invariant-nodes
 invariant-nodes g l = ContainsList l.table l.list
