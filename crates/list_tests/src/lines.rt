@@ -8,6 +8,7 @@ use qx_lists::Table;
 use qx_types::{Prio, Ranked};
 use std::alloc::AllocFailed;
 use std::cmp::Reverse;
+use std::process::Abort;
 use std::test::Fail;
 
 #[derive(Drop)]
@@ -63,20 +64,37 @@ fn calls_in_a_row(
     Ok((count, front))
 }
 
+// Asserts that the line has these nodes and no others, and takes them.
+fn assert_taken<T: Ranked>(rt: &impl Abort, table: &mut Table<T>, line: &mut Line, nodes: &[usize])
+    requires { IsLineOf T.rank table.old line.old }
+{
+    'nodes: for node in nodes {
+        assert_eq!(rt; line.take(table), Some(*node));
+    }
+    assert_eq!(rt; line.take(table), None);
+    assert_eq!(rt; line.len(), 0);
+}
+
+// Whether an item of the highest priority goes first, before two others. It is taken out.
+#[tactic(auto, using(qx_lines::proofs::LineFacts::line_facts))]
+fn goes_first(table: &mut Table<Sent>, line: &mut Line) -> Result<bool, Fail>
+    requires { IsLineOf (λ sent. sent.prio.0) table.old line.old }
+    ensures { IsLineOf (λ sent. sent.prio.0) table.new line.new }
+{
+    let urgent = send(table, line, Sent { prio: Prio(63) })?;
+    let found = line.first(table) == Some(urgent) && line.len() == 3;
+    line.remove(table, urgent);
+    Ok(found)
+}
+
 #[test]
 fn goes_by_priority_and_then_by_age(rt: HostRuntime) -> Result<(), Fail> {
     let mut table = Table::new(rt.alloc());
     let mut line = Line::new(&mut table)?;
     let first = send(&mut table, &mut line, Sent { prio: Prio(10) })?;
     let second = send(&mut table, &mut line, Sent { prio: Prio(10) })?;
-    let urgent = send(&mut table, &mut line, Sent { prio: Prio(63) })?;
-    assert_eq!(rt; line.first(&table), Some(urgent));
-    assert_eq!(rt; line.len(), 3);
-    line.remove(&mut table, urgent);
-    assert_eq!(rt; line.take(&mut table), Some(first));
-    assert_eq!(rt; line.take(&mut table), Some(second));
-    assert_eq!(rt; line.take(&mut table), None);
-    assert_eq!(rt; line.len(), 0);
+    assert!(rt; goes_first(&mut table, &mut line)?);
+    assert_taken(&rt, &mut table, &mut line, &[first, second]);
     Ok(())
 }
 

@@ -1,7 +1,7 @@
 //! Calls of a table, one after another; and that three lists of a table go as three vectors.
 
 ghost use Rattle.std.specs.Prelude.{◌≡◌, ◌≢◌, ℕ, IfOk, IfSome};
-ghost use Rattle.qx_lists.specs.Table.{ContainsList, IsIn};
+ghost use Rattle.qx_lists.specs.Table.{ContainsList, IsFree, IsIn};
 
 use qx_lists::Table;
 use std::process::Abort;
@@ -49,24 +49,49 @@ fn moves_a_node(table: &mut Table<u32>, from: usize, to: usize, node: usize, at:
     value
 }
 
+// Makes a node at the end of the list, and one before it. The node in front comes first.
+#[tactic(auto, using(qx_lists::proofs::TableFacts::table_facts))]
+fn push_two(table: &mut Table<char>, list: usize) -> Result<(usize, usize), Fail>
+    requires { ContainsList table.old list }
+    ensures { ContainsList table.new list }
+{
+    let second = table.new_node('b')?;
+    table.push_back(list, second);
+    let first = table.new_node('a')?;
+    table.insert_before(list, second, first);
+    Ok((first, second))
+}
+
+// Takes the first node out of the list, and frees it.
+#[tactic(auto, using(qx_lists::proofs::TableFacts::table_facts))]
+fn take_first(table: &mut Table<char>, list: usize) -> Option<(usize, char)>
+    requires { ContainsList table.old list }
+    ensures { ContainsList table.new list }
+{
+    let node = table.pop_front(list)?;
+    Some((node, table.free_node(node)))
+}
+
 #[test]
 #[tactic(auto, using(qx_lists::proofs::TableFacts::table_facts))]
 fn nodes_are_put_in_and_taken_out(rt: HostRuntime) -> Result<(), Fail> {
     let mut table = Table::new(rt.alloc());
     table.reserve(2)?;
     let list = table.add_list()?;
-    let first = table.new_node('a')?;
-    let second = table.new_node('b')?;
-    table.push_back(list, second);
-    table.insert_before(list, second, first);
+    let (first, second) = push_two(&mut table, list)?;
     assert_eq!(rt; table.first(list), Some(first));
-    *table.value_mut(second) = 'c';
-    assert_eq!(rt; *table.value(second), 'c');
-    if let Some(node) = table.pop_front(list) {
-        assert_eq!(rt; node, first);
-        assert_eq!(rt; table.free_node(node), 'a');
-    }
+    assert!(rt; take_first(&mut table, list) == Some((first, 'a')));
     assert_eq!(rt; table.first(list), Some(second));
+    Ok(())
+}
+
+#[test]
+#[tactic(auto, using(qx_lists::proofs::TableFacts::table_facts))]
+fn a_value_is_written(rt: HostRuntime) -> Result<(), Fail> {
+    let mut table = Table::new(rt.alloc());
+    let node = table.new_node('b')?;
+    *table.value_mut(node) = 'c';
+    assert_eq!(rt; *table.value(node), 'c');
     Ok(())
 }
 
@@ -130,6 +155,16 @@ fn push_new(
     Ok(())
 }
 
+// Puts a free node before another of the list.
+#[tactic(auto, using(qx_lists::proofs::TableFacts::table_facts))]
+fn put_before(table: &mut Table<u32>, list: usize, at: usize, node: usize)
+    requires at { IsIn table.old list at }
+    requires free { IsFree table.old node }
+    ensures { (other : ℕ) → ContainsList table.old other → ContainsList table.new other }
+{
+    table.insert_before(list, at, node);
+}
+
 // Makes a node before the one at a place, if there is one.
 #[tactic(auto, using(qx_lists::proofs::TableFacts::table_facts))]
 fn insert_new(
@@ -144,7 +179,7 @@ fn insert_new(
 {
     if let Some(at) = node_at(table, list, place) {
         let node = table.new_node(value)?;
-        table.insert_before(list, at, node);
+        put_before(table, list, at, node);
         if place < nodes.len() {
             nodes.insert(place, (node, value))?;
         }
