@@ -6,7 +6,7 @@ ghost use Rattle.qx_lines.specs.Line.{IsInLine, IsLineOf};
 use qx_lines::Line;
 use qx_lists::Table;
 use qx_types::{Prio, Ranked};
-use std::alloc::AllocFailed;
+use std::alloc::{AllocError, AllocFailed};
 use std::cmp::Reverse;
 use std::process::Abort;
 use std::test::Fail;
@@ -98,6 +98,12 @@ fn goes_by_priority_and_then_by_age(rt: HostRuntime) -> Result<(), Fail> {
     Ok(())
 }
 
+// Puts a node behind all of its priority or a higher one.
+fn put_sorted(nodes: &mut Vec<(usize, u32)>, node: usize, prio: u32) -> Result<(), AllocError> {
+    nodes.push((node, prio))?;
+    nodes.sort_by_key(|sent| Reverse(sent.1))
+}
+
 #[test]
 fn goes_as_a_sorted_list(rt: HostRuntime) -> Result<(), Fail> {
     let mut table = Table::new(rt.alloc());
@@ -118,8 +124,7 @@ fn goes_as_a_sorted_list(rt: HostRuntime) -> Result<(), Fail> {
         if choice == 0 {
             line.remove(&mut table, node);
         } else {
-            expected.push((node, prio))?;
-            expected.sort_by_key(|sent| Reverse(sent.1))?;
+            put_sorted(&mut expected, node, prio)?;
         }
         if choice == 1 && !expected.is_empty() {
             let (first, _) = expected.remove(0);

@@ -292,6 +292,22 @@ fn step(
     Ok(())
 }
 
+// Asserts that the list has these nodes after that many steps.
+fn assert_nodes(
+    rt: &impl Abort,
+    table: &Table<u32>,
+    list: usize,
+    nodes: &Vec<(usize, u32)>,
+    turn: u32,
+)
+    requires { ContainsList table.now list }
+{
+    assert!(rt;
+        has_nodes(table, list, nodes),
+        "list {list} after step {turn}"
+    );
+}
+
 #[test]
 #[tactic(auto, using(qx_lists::proofs::TableFacts::table_facts))]
 fn goes_as_three_vectors(rt: HostRuntime) -> Result<(), Fail> {
@@ -310,18 +326,9 @@ fn goes_as_three_vectors(rt: HostRuntime) -> Result<(), Fail> {
             1 => step(&rt, &mut table, two, &mut twos, three, &mut threes, seed)?,
             _ => step(&rt, &mut table, three, &mut threes, one, &mut ones, seed)?,
         }
-        assert!(rt;
-            has_nodes(&table, one, &ones),
-            "the first list after step {turn}"
-        );
-        assert!(rt;
-            has_nodes(&table, two, &twos),
-            "the second list after step {turn}"
-        );
-        assert!(rt;
-            has_nodes(&table, three, &threes),
-            "the third list after step {turn}"
-        );
+        assert_nodes(&rt, &table, one, &ones, turn);
+        assert_nodes(&rt, &table, two, &twos, turn);
+        assert_nodes(&rt, &table, three, &threes, turn);
     }
     assert!(rt; ones.len() > 30 && twos.len() > 30 && threes.len() > 30);
     Ok(())
