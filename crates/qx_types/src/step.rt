@@ -115,36 +115,3 @@ impl Clone for Step {
         })
     }
 }
-
-#[cfg(test)]
-mod tests {
-    use super::*;
-    use crate::names::Proc;
-    use std::test::Fail;
-
-    #[test]
-    fn tells_client_steps(rt: HostRuntime) -> Result<(), Fail> {
-        let proc = Proc {
-            user: User(1),
-            num: 1,
-        };
-        let request = Request::OpenPath {
-            path: Bytes::from_slice(rt.alloc(), b"/tmp/log")?,
-            flags: OFlags::CREAT | OFlags::WRITE,
-            mode: 0o644,
-        };
-        let call = Step::Call {
-            thread: Thread { proc, tid: 1 },
-            request: request.clone()?,
-        };
-        assert!(rt; call.is_client());
-        assert_eq!(rt; call.clone()?, call);
-        assert_ne!(rt; request, Request::Close { coid: Coid(3) });
-        let receive = Step::Receive {
-            worker: Worker(1),
-            manager: Manager::Ram,
-        };
-        assert!(rt; !receive.is_client());
-        Ok(())
-    }
-}

@@ -5,6 +5,7 @@ ghost use Rattle.std.specs.Prelude.{◌<◌};
 use crate::steps::{
     RAM_WORKER, assert_same_transcript, config, first_thread, open, perform, receive, spawn,
 };
+use all_memory::take_all_memory;
 use qx_machine::Seen;
 use qx_types::{Coid, Manager, Prio, Request, Step, Thread, User, Worker};
 use qx_world::{Traced, Work, WorkRef, World};
@@ -207,35 +208,6 @@ fn a_close_is_performed_at_last(rt: HostRuntime) -> Result<(), Fail> {
     is_taken_at_last(&rt, rt.alloc(), 16)
 }
 
-/// More pieces than fill an address space, where one may be as large as the machine's memory.
-const PIECES: usize = 1 << 16;
-
-/// Takes all memory, in ever smaller pieces, until not one byte is given. Nothing is written to it. Under the checks of
-/// `rt try` small pieces never come to an end, and this is an error.
-pub fn exhausted(alloc: Global) -> Result<Vec<Vec<u8>>, AllocError> {
-    let mut pieces = Vec::with_capacity(alloc, PIECES)?;
-    let mut size = 1 << 46;
-    for _ in 0..36 {
-        take_pieces(alloc, &mut pieces, size)?;
-        size /= 2;
-    }
-    for less in 0..256 {
-        take_pieces(alloc, &mut pieces, 2048 - 8 * less)?;
-    }
-    Ok(pieces)
-}
-
-/// Takes pieces of a size until one is refused.
-fn take_pieces(alloc: Global, pieces: &mut Vec<Vec<u8>>, size: usize) -> Result<(), AllocError> {
-    for _ in 0..PIECES {
-        match Vec::with_capacity(alloc, size) {
-            Ok(piece) => pieces.push(piece)?,
-            Err(_) => break,
-        }
-    }
-    Ok(())
-}
-
 /// A reply of ann waits to be taken, and an open of bob to be received. There is room for three more steps.
 fn before_sure_steps(alloc: Global) -> Result<Traced, Fail> {
     let (ann, bob) = (first_thread(User(1)), first_thread(User(2)));
@@ -274,7 +246,7 @@ fn takes_sure_steps(traced: &mut Traced) -> bool {
 
 /// With all memory taken, whether a byte is refused while the steps that take no memory are stored.
 fn takes_without_memory(alloc: Global, traced: &mut Traced) -> Result<bool, AllocError> {
-    let pieces = exhausted(alloc)?;
+    let pieces = take_all_memory(alloc)?;
     let taken = takes_sure_steps(traced);
     let byte: Result<Vec<u8>, AllocError> = Vec::with_capacity(alloc, 1);
     drop(pieces);
@@ -287,7 +259,7 @@ fn refused_without_memory(
     traced: &mut Traced,
     step: Step,
 ) -> Result<Option<Step>, AllocError> {
-    let pieces = exhausted(alloc)?;
+    let pieces = take_all_memory(alloc)?;
     let returned = refused(traced, step);
     drop(pieces);
     Ok(returned)

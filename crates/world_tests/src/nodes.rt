@@ -3,7 +3,7 @@
 ghost use Rattle.std.specs.Prelude.{◌<◌, IfOk, OnOk};
 ghost use Rattle.qx_chan.specs.Nodes.{HasThread};
 
-use crate::memory::exhausted;
+use all_memory::take_all_memory;
 use qx_chan::Channel;
 use qx_types::{Manager, Prio, Proc, Thread, User};
 use std::alloc::{AllocError, Global};
@@ -40,7 +40,7 @@ fn takes_without_memory(
 ) -> Result<bool, AllocError>
     requires { HasThread channel.old.nodes proc }
 {
-    let pieces = exhausted(alloc)?;
+    let pieces = take_all_memory(alloc)?;
     let taken = channel.add_server(proc, Manager::Ram).is_ok();
     let byte: Result<Vec<u8>, AllocError> = Vec::with_capacity(alloc, 1);
     drop(pieces);
