@@ -1,10 +1,3 @@
-pub mod Lines
 pub mod Options
-pub mod Play
-pub mod Replay
 pub mod Run
-pub mod Script
-pub mod StepText
-pub mod Text
-pub mod Words
 pub mod Written

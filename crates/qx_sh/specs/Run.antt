@@ -2,11 +2,11 @@
 use Rattle.std.specs.Prelude.{◌≡◌, ◌≤◌, ℕ, List, Option, IfSome, length}
 use Rattle.std.specs.Io.KnownBytes.{Appends}
 use Rattle.qx_types.specs.Configuration.{Configuration}
-use Rattle.qx_sh.specs.declared.command.Command.{Command}
+use Rattle.qx_script.specs.declared.command.Command.{Command}
 use Rattle.qx_sh.specs.declared.ending.End.{End}
 use Rattle.qx_sh.specs.declared.ending.End.TheVariants.{Done, Input, Output, Words, Line, Memory}
-use Rattle.qx_sh.specs.Play.{shown}
-use Rattle.qx_sh.specs.Script.{script, Bad, Good}
+use Rattle.qx_play.specs.Play.{shown}
+use Rattle.qx_script.specs.Script.{script, Bad, Good}
 use Rattle.qx_sh.specs.Written.{AppendsFront}
 
 -- the script is good, and this is the text that it prints

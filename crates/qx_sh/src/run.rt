@@ -3,9 +3,9 @@ ghost use Rattle.qx_sh.specs.Run.{EndsAs, EndsUnprinted, Prints};
 
 use crate::ending::End;
 use crate::limit::Options;
-use crate::play::play;
-use crate::script::{Script, parse};
 use crate::streams::{ReadFault, read_all, write_out};
+use qx_play::play::play;
+use qx_script::{Script, parse};
 use std::alloc::Global;
 use std::io::{Read, Write};
 
