@@ -1,6 +1,5 @@
 -- What is printed of outcomes, of what a user was shown, and of a trace.
 use Rattle.std.specs.Prelude.{ℕ, ◌+◌, List, [], ◌∷◌, ◌++◌, codes, decimal}
-use Rattle.hex.specs.Hex.{encode_lower}
 use Rattle.qx_types.specs.Configuration.{Configuration}
 use Rattle.qx_types.specs.Errno.{errno_name}
 use Rattle.qx_types.specs.declared.names.Actor.{Actor}
@@ -12,7 +11,7 @@ use Rattle.qx_types.specs.declared.outcome.Outcome.TheVariants.{Spawned, Refused
 use Rattle.qx_machine.specs.declared.rows.Entry.{Entry}
 use Rattle.qx_machine.specs.declared.rows.Seen.{Seen}
 use Rattle.qx_script.specs.StepText.{step_text}
-use Rattle.qx_words.specs.WordText.{process_text, thread_text, user_text}
+use Rattle.qx_words.specs.WordText.{bytes_text, process_text, thread_text, user_text}
 
 unfoldable pub actor_text : Configuration → Actor → List ℕ
 actor_text config (OfUser user) = user_text config user.0
@@ -23,11 +22,6 @@ unfoldable pub item_text : Configuration → Item → List ℕ
 item_text config (Message thread) = thread_text config thread ++ codes " message"
 item_text config (Unblock thread) = thread_text config thread ++ codes " unblock"
 item_text config (Disconnect process) = process_text config process ++ codes " disconnect"
-
--- lower-case hexadecimal digits, or `-` for no bytes
-unfoldable pub bytes_text : List ℕ → List ℕ
-bytes_text [] = codes "-"
-bytes_text (byte ∷ bytes) = encode_lower (byte ∷ bytes)
 
 unfoldable pub outcome_text : Configuration → Outcome → List ℕ
 outcome_text config (Spawned number) = codes "spawned " ++ decimal number

@@ -1,12 +1,13 @@
 //! The text of outcomes, of what a user was shown, and of a trace.
 
 ghost use Rattle.std.specs.Prelude.{◌≡◌, ◌++◌, IfOk, OnOk, codes, decimal};
-ghost use Rattle.qx_play.specs.Printed.{actor_text, bytes_text, entry_text, item_text, outcome_text, seen_text, trace_text, transcript_text};
+ghost use Rattle.qx_play.specs.Printed.{actor_text, entry_text, item_text, outcome_text, seen_text, trace_text, transcript_text};
+ghost use Rattle.qx_words.specs.WordText.{bytes_text};
 
 use qx_machine::{Entry, Seen};
 use qx_script::text::push_step;
 use qx_types::{Actor, Bytes, Config, Item, NoMemory, Outcome};
-use qx_words::text::{push_number, push_process, push_thread, push_user};
+use qx_words::text::{push_bytes, push_number, push_process, push_thread, push_user};
 use std::alloc::Global;
 
 /// The lines of what a user was shown.
@@ -97,18 +98,6 @@ fn push_item(text: &mut Vec<u8>, config: &Config, item: Item) -> Result<(), NoMe
             Ok(text.extend_from_slice(b" disconnect")?)
         }
     }
-}
-
-/// Hexadecimal digits, or `-` for no bytes.
-#[tactic(auto, unfolding(crate::specs::Printed::bytes_text))]
-fn push_bytes(alloc: Global, text: &mut Vec<u8>, bytes: &Bytes) -> Result<(), NoMemory>
-    ensures ok { OnOk result (text.new.items ≡ text.old.items ++ bytes_text bytes.now) }
-{
-    if bytes.is_empty() {
-        return Ok(text.extend_from_slice(b"-")?);
-    }
-    let digits = hex::encode(alloc, bytes.as_slice())?;
-    Ok(text.extend_from_slice(digits.as_bytes())?)
 }
 
 #[tactic(auto, unfolding(crate::specs::Printed::outcome_text))]

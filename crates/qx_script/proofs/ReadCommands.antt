@@ -38,31 +38,31 @@ steps_make users = grind arith
 commands_make : (users : List (List ℕ)) → Makes users (CanSayCommand users) command_lines
 commands_make users = grind arith
 
-call_said : (users : List (List ℕ)) (name : List ℕ) (words : List (List ℕ)) (call : Thread × Request) → list_all is_word words ≡ true → call_of users name words ≡ Some call → CanSayCall users call
+call_within : (users : List (List ℕ)) (name : List ℕ) (words : List (List ℕ)) (call : Thread × Request) → list_all is_word words ≡ true → call_of users name words ≡ Some call → CanSayCall users call
 unfolding call_of
-call_said users name words call all is = one_of_within (CanSayCall users) call_lines _ users name words call all (calls_make users) (λ none. cc) is
+call_within users name words call all is = one_of_within (CanSayCall users) call_lines _ users name words call all (calls_make users) (λ none. cc) is
 
-step_said : (users : List (List ℕ)) (name : List ℕ) (words : List (List ℕ)) (step : Step) → list_all is_word words ≡ true → step_of users name words ≡ Some step → CanSay users step
+step_within : (users : List (List ℕ)) (name : List ℕ) (words : List (List ℕ)) (step : Step) → list_all is_word words ≡ true → step_of users name words ≡ Some step → CanSay users step
 unfolding step_of
-step_said users name words step all is =
+step_within users name words step all is =
     one_of_within (CanSay users) step_lines _ users name words step all (steps_make users)
-    (λ called. let call = mapped call_step (call_of users name words) step called in subst (CanSay users) call.2 (call_said users name words call.0 all call.1).1) is
+    (λ called. let call = mapped call_step (call_of users name words) step called in subst (CanSay users) call.2 (call_within users name words call.0 all call.1).1) is
 
-do_said : (users words : List (List ℕ)) (command : Command) → list_all is_word words ≡ true → do_of users words ≡ Some command → CanSayCommand users command
+do_within : (users words : List (List ℕ)) (command : Command) → list_all is_word words ≡ true → do_of users words ≡ Some command → CanSayCommand users command
 unfolding do_of
-do_said users [] command all is = cc
-do_said users (word ∷ []) command all is = cc
-do_said users (word ∷ name ∷ words) command all is =
+do_within users [] command all is = cc
+do_within users (word ∷ []) command all is = cc
+do_within users (word ∷ name ∷ words) command all is =
     let moment = bind_some (moment_of word) _ command is in
     let call = bind_some (call_of users name words) _ command moment.2 in
     let rest = both_true (is_word name) _ (both_true (is_word word) _ all).1 in
     subst (CanSayCommand users) (of_some _ command call.2)
-    (number_within greatest_moment word moment.0 moment.1, call_said users name words call.0 rest.1 call.1)
+    (number_within greatest_moment word moment.0 moment.1, call_within users name words call.0 rest.1 call.1)
 
-pub command_said : (users : List (List ℕ)) (name : List ℕ) (words : List (List ℕ)) (command : Command) → list_all is_word words ≡ true
+pub command_within : (users : List (List ℕ)) (name : List ℕ) (words : List (List ℕ)) (command : Command) → list_all is_word words ≡ true
     → command_of users name words ≡ Some command → CanSayCommand users command
 unfolding command_of
-command_said users name words command all is =
-    by_name (bytes_eq name (codes "do")) (do_of users words) _ command (CanSayCommand users command) (do_said users words command all)
+command_within users name words command all is =
+    by_name (bytes_eq name (codes "do")) (do_of users words) _ command (CanSayCommand users command) (do_within users words command all)
     (one_of_within (CanSayCommand users) command_lines _ users name words command all (commands_make users)
-    (λ taken. let step = mapped Take (step_of users name words) command taken in subst (CanSayCommand users) step.2 (step_said users name words step.0 all step.1))) is
+    (λ taken. let step = mapped Take (step_of users name words) command taken in subst (CanSayCommand users) step.2 (step_within users name words step.0 all step.1))) is

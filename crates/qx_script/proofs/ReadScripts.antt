@@ -15,7 +15,7 @@ use Rattle.qx_words.specs.Kinds.{is_word}
 use Rattle.qx_script.specs.Script.{Bad, Good, Reading, Script, after_line, after_user, after_words, after_workers, is_before_commands, is_new_user, is_skipped, script, script_from, unread, with_command, with_user, with_workers}
 use Rattle.qx_words.specs.Words.{lines_of, words_of}
 use Rattle.qx_words.proofs.PlainWords.{both_true}
-use Rattle.qx_script.proofs.ReadCommands.{CanSayCommand, command_said}
+use Rattle.qx_script.proofs.ReadCommands.{CanSayCommand, command_within}
 use Rattle.qx_script.proofs.ReadForms.{by_name, line_within}
 use Rattle.qx_words.proofs.ReadValues.{bind_some, is_in_line, lines_are_lines, mapped, of_some, words_are_words}
 use Rattle.qx_words.proofs.UserNames as names
@@ -76,7 +76,7 @@ command_read r name words next read all is =
     subst Read command.2 (record {
       users = read.users;
       workers = read.workers;
-      commands = All-push (CanSayCommand r.users) r.commands command.0 read.commands (command_said r.users name words command.0 all command.1);
+      commands = All-push (CanSayCommand r.users) r.commands command.0 read.commands (command_within r.users name words command.0 all command.1);
     })
 
 user_line_read : (r : Reading) (words : List (List ℕ)) (next : Reading) → Read r → list_all is_word words ≡ true → after_user r words ≡ Some next → Read next

@@ -25,7 +25,7 @@ unread = record { users = []; workers = None; commands = [] }
 abbrev pub is_before_commands : Reading → Bool
 is_before_commands reading = length reading.commands == 0
 
--- a name that no earlier line names, and at most the sixteenth
+-- a name that no earlier line names, with room for it
 abbrev pub is_new_user : Reading → List ℕ → Bool
 is_new_user reading name =
     is_before_commands reading && not (list_any (λ other. bytes_eq other name) reading.users) && nat_lt (length reading.users) USERS
@@ -36,7 +36,7 @@ with_user reading name =
     then Some (record { users = reading.users ++ name ∷ []; workers = reading.workers; commands = reading.commands })
     else None
 
--- one to eight workers, named once
+-- a number of workers that a configuration may have, named once
 abbrev pub with_workers : Reading → ℕ → Option Reading
 with_workers reading workers =
     if is_before_commands reading && is_none reading.workers && nat_le 1 workers && nat_le workers WORKERS

@@ -230,7 +230,7 @@ fn show(users: &Users, words: &[&[u8]]) -> Option<Command>
     Some(Command::Show(user))
 }
 
-/// `trace`
+/// `trace`, whoever the users are.
 fn trace(users: &Users, words: &[&[u8]]) -> Option<Command>
     ensures command { result ≡ read trace_line users.now (map (λ word. word.now) words.now) }
 {

@@ -1,5 +1,6 @@
--- How users, processes, threads, flags, modes and managers are printed.
+-- How users, processes, threads, bytes, flags, modes and managers are printed.
 use Rattle.std.specs.Prelude.{ℕ, ◌+◌, ◌/◌, ◌%◌, ◌==◌, Bool, false, not, List, [], ◌∷◌, ◌++◌, Option, Some, None, codes, decimal, bit_and, filter}
+use Rattle.hex.specs.Hex.{encode_lower}
 use Rattle.qx_types.specs.Configuration.{Configuration, name_of}
 use Rattle.qx_types.specs.declared.flags.OFlags.{OFlags}
 use Rattle.qx_types.specs.declared.names.Manager.{Manager}
@@ -23,6 +24,11 @@ process_text config process = user_text config process.user.0 ++ codes "." ++ de
 -- as `ann.1.2`
 unfoldable pub thread_text : Configuration → Thread → List ℕ
 thread_text config thread = process_text config thread.proc ++ codes "." ++ decimal thread.tid
+
+-- lower-case hexadecimal digits, or `-` for no bytes
+unfoldable pub bytes_text : List ℕ → List ℕ
+bytes_text [] = codes "-"
+bytes_text (byte ∷ bytes) = encode_lower (byte ∷ bytes)
 
 -- the flag that the letter names is among the flags
 abbrev pub is_given : ℕ → ℕ → Bool

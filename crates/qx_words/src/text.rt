@@ -1,11 +1,12 @@
 //! The text of words.
 
 ghost use Rattle.std.specs.Prelude.{◌≡◌, ◌++◌, OnOk, decimal, filter};
-ghost use Rattle.qx_words.specs.WordText.{flags_text, is_given, last_octal_digit, manager_text, mode_text, process_text, thread_text, user_text};
+ghost use Rattle.qx_words.specs.WordText.{bytes_text, flags_text, is_given, last_octal_digit, manager_text, mode_text, process_text, thread_text, user_text};
 
 use crate::words::flag;
 use itoa::Buffer;
-use qx_types::{Config, Manager, NoMemory, OFlags, Proc, Thread, User};
+use qx_types::{Bytes, Config, Manager, NoMemory, OFlags, Proc, Thread, User};
+use std::alloc::Global;
 
 /// A number in decimal digits.
 pub fn push_number(text: &mut Vec<u8>, number: u64) -> Result<(), NoMemory>
@@ -44,6 +45,18 @@ pub fn push_thread(text: &mut Vec<u8>, config: &Config, thread: Thread) -> Resul
     push_process(text, config, thread.proc)?;
     text.extend_from_slice(b".")?;
     push_number(text, thread.tid as u64)
+}
+
+/// Hexadecimal digits, or `-` for no bytes.
+#[tactic(auto, unfolding(crate::specs::WordText::bytes_text))]
+pub fn push_bytes(alloc: Global, text: &mut Vec<u8>, bytes: &Bytes) -> Result<(), NoMemory>
+    ensures ok { OnOk result (text.new.items ≡ text.old.items ++ bytes_text bytes.now) }
+{
+    if bytes.is_empty() {
+        return Ok(text.extend_from_slice(b"-")?);
+    }
+    let digits = hex::encode(alloc, bytes.as_slice())?;
+    Ok(text.extend_from_slice(digits.as_bytes())?)
 }
 
 /// A manager.

@@ -111,3 +111,33 @@ fn gives_a_closed_connection_again(rt: HostRuntime) -> Result<(), Fail> {
     assert_eq!(rt; printed.as_slice(), expected.as_slice());
     Ok(())
 }
+
+/// Words are parted by one space, and flags stand in the order of rwcxtan.
+#[test]
+fn traces_each_step_as_its_line(rt: HostRuntime) -> Result<(), Fail> {
+    let text = b"user ann\n\
+        spawn ann  2 10 \n\
+        open ann.1.1 /ann nr 640\n\
+        open ann.1.2 /ann r 007\n\
+        receive 1 ram\n\
+        perform 1 18446744073709551615\n\
+        reply ann.1.2\n\
+        fstat ann.1.2 255\n\
+        close ann.1.2 3\n\
+        prio ann.1.1 63\n\
+        receive 1 pipe\n\
+        trace\n";
+    let expected = b"1 spawn ann 2 10 -> spawned 1\n\
+        2 open ann.1.1 /ann rn 640 -> refused EINVAL\n\
+        3 open ann.1.2 /ann r 007 -> sent\n\
+        4 receive 1 ram -> took ann.1.2 message\n\
+        5 perform 1 18446744073709551615 -> handled\n\
+        6 reply ann.1.2 -> reply 3 -\n\
+        7 fstat ann.1.2 255 -> refused EBADF\n\
+        8 close ann.1.2 3 -> sent\n\
+        9 prio ann.1.1 63 -> done\n\
+        10 receive 1 pipe -> idle\n";
+    let printed = printed(rt.alloc(), text)?;
+    assert_eq!(rt; printed.as_slice(), expected.as_slice());
+    Ok(())
+}
