@@ -1,5 +1,6 @@
 pub mod CommandLemmas
 pub mod Flags
+pub mod Invoked
 pub mod LimitLemmas
 pub mod Numbers
 pub mod PlainWords

@@ -1,3 +1,4 @@
+pub mod Invocation
 pub mod Lines
 pub mod Options
 pub mod Play

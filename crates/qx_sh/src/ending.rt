@@ -37,15 +37,8 @@ impl End {
     }
 }
 
-/// Writes the line that tells the end; after `Done` there is none. A failed write is ignored.
-pub fn report<W: Write>(end: &End, writer: &mut W)
-    ensures front { AppendsFront (W.contents writer.old) (W.contents writer.new) (report_text end.now) }
-{
-    let _ = write_report(end, writer);
-}
-
-/// Writes the line that tells the end.
-fn write_report<W: Write>(end: &End, writer: &mut W) -> Result<(), WriteFailed>
+/// Writes the line that tells the end; after `Done` there is none.
+pub fn report<W: Write>(end: &End, writer: &mut W) -> Result<(), WriteFailed>
     ensures whole { OnOk result (Appends (W.contents writer.old) (W.contents writer.new) (report_text end.now)) }
     ensures front { OnErr result (AppendsFront (W.contents writer.old) (W.contents writer.new) (report_text end.now)) }
 {

@@ -3,6 +3,7 @@
 
 pub mod command;
 pub mod ending;
+pub mod invocation;
 mod items;
 pub mod laws;
 pub mod limit;
@@ -19,6 +20,7 @@ mod words;
 
 pub use command::Command;
 pub use ending::{End, report};
+pub use invocation::invoke;
 pub use script::{Script, parse};
 
 #[cfg(test)]

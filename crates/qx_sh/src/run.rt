@@ -5,11 +5,12 @@ use crate::ending::End;
 use crate::limit::Options;
 use crate::play::play;
 use crate::script::{Script, parse};
-use crate::streams::{ReadFault, read_all, write_out};
+use crate::streams::{ReadFault, read_all, write_and_flush};
 use std::alloc::Global;
 use std::io::{Read, Write};
 
-/// Reads a script, runs it and writes what its `show` lines print. A script that is longer than the limit is not run.
+/// Reads a script, runs it, writes what its `show` lines print and flushes the writer. A script that is longer than the
+/// limit is not run.
 pub fn run<R: Read, W: Write>(
     alloc: Global,
     reader: &mut R,
@@ -24,7 +25,7 @@ pub fn run<R: Read, W: Write>(
         Err(ReadFault::Failed | ReadFault::TooLong) => return End::Input,
     };
     match printed(alloc, &text) {
-        Ok(text) => match write_out(writer, &text) {
+        Ok(text) => match write_and_flush(writer, &text) {
             Ok(()) => End::Done,
             Err(_) => End::Output,
         },

@@ -54,6 +54,6 @@ fn run_script(rt: &HostRuntime, name: &str) -> io::Result<()> {
     writeln!(output, "== {name}")?;
     let end = run(rt.alloc(), &mut script, &mut output, &Options::default());
     writeln!(output, "status {}", end.status())?;
-    report(&end, &mut output);
+    let _ = report(&end, &mut output);
     Ok(())
 }
