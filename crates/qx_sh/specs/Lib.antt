@@ -7,5 +7,6 @@ pub mod Run
 pub mod Script
 pub mod StepText
 pub mod Text
+pub mod Watched
 pub mod Words
 pub mod Written

@@ -1,10 +1,12 @@
 ghost use Rattle.std.specs.Prelude.{◌≡◌, ◌≢◌, MatchResult, map};
 ghost use Rattle.std.specs.IoError.{error_kind};
 ghost use Rattle.qx_sh.specs.Invocation.{EndsOn, EndsUnread, Exits};
+ghost use Rattle.qx_sh.specs.Watched.{has_failed, held};
 
 use crate::ending::{End, report};
 use crate::options::{OptionsFault, options};
 use crate::run::run;
+use crate::watched::Watched;
 use std::alloc::Global;
 use std::convert::AsStr;
 use std::io;
@@ -17,16 +19,16 @@ pub fn invoke<S: AsStr + Drop, R: Read, W: Write, E: Write>(
     alloc: Global,
     words: io::Result<Vec<S>>,
     input: &mut R,
-    output: &mut W,
-    errors: &mut E,
+    output: &mut Watched<W>,
+    errors: &mut Watched<E>,
 ) -> u8
     ensures exit { Exits (λ end. MatchResult words
-        (λ words. EndsOn (map S.text words.items) (R.remaining input.old) (W.contents output.old) (W.contents output.new) end)
-        (λ error. EndsUnread (error_kind error) (W.contents output.old) (W.contents output.new) end))
-        (E.contents errors.old) (E.contents errors.new) result }
+        (λ words. EndsOn (map S.text words.items) (R.remaining input.old) (held W.contents output.old) (held W.contents output.new) (has_failed output.new) end)
+        (λ error. EndsUnread (error_kind error) (held W.contents output.old) (held W.contents output.new) end))
+        (held E.contents errors.old) (held E.contents errors.new) (has_failed errors.new) result }
 {
     let end = end_of(alloc, words, input, output);
-    let _ = report(&end, errors);
+    report(&end, errors);
     end.status()
 }
 
@@ -35,11 +37,11 @@ fn end_of<S: AsStr + Drop, R: Read, W: Write>(
     alloc: Global,
     words: io::Result<Vec<S>>,
     input: &mut R,
-    output: &mut W,
+    output: &mut Watched<W>,
 ) -> End
     ensures ends { MatchResult words
-        (λ words. EndsOn (map S.text words.items) (R.remaining input.old) (W.contents output.old) (W.contents output.new) result)
-        (λ error. EndsUnread (error_kind error) (W.contents output.old) (W.contents output.new) result) }
+        (λ words. EndsOn (map S.text words.items) (R.remaining input.old) (held W.contents output.old) (held W.contents output.new) (has_failed output.new) result)
+        (λ error. EndsUnread (error_kind error) (held W.contents output.old) (held W.contents output.new) result) }
 {
     match words {
         Ok(words) => run_as_asked(alloc, &words, input, output),
@@ -52,9 +54,9 @@ fn run_as_asked<S: AsStr, R: Read, W: Write>(
     alloc: Global,
     words: &[S],
     input: &mut R,
-    output: &mut W,
+    output: &mut Watched<W>,
 ) -> End
-    ensures ends { EndsOn (map S.text words.now) (R.remaining input.old) (W.contents output.old) (W.contents output.new) result }
+    ensures ends { EndsOn (map S.text words.now) (R.remaining input.old) (held W.contents output.old) (held W.contents output.new) (has_failed output.new) result }
 {
     match options(alloc, words) {
         Ok(options) => run(alloc, input, output, &options),

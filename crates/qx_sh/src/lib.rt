@@ -10,18 +10,21 @@ pub mod limit;
 mod lines;
 pub mod options;
 pub mod play;
+pub mod program;
 mod reading;
 pub mod run;
 pub mod script;
 pub mod streams;
 pub mod text;
 mod users;
+pub mod watched;
 mod words;
 
 pub use command::Command;
 pub use ending::{End, report};
 pub use invocation::invoke;
 pub use script::{Script, parse};
+pub use watched::Watched;
 
 #[cfg(test)]
 mod tests;
