@@ -14,7 +14,7 @@ pub enum End {
     Done,
     /// A read failed, or the script is too long.
     Input,
-    /// A write failed.
+    /// A write or a flush failed.
     Output,
     /// The command line's words were refused.
     Words,
@@ -55,11 +55,11 @@ fn write_report<W: Write>(end: &End, writer: &mut Watched<W>) -> Result<(), Writ
 {
     match end {
         End::Done => Ok(()),
-        End::Input => writer.write(b"qnxsh: input\n"),
-        End::Output => writer.write(b"qnxsh: output\n"),
-        End::Words => writer.write(b"qnxsh: words\n"),
+        End::Input => writer.write_all(b"qnxsh: input\n"),
+        End::Output => writer.write_all(b"qnxsh: output\n"),
+        End::Words => writer.write_all(b"qnxsh: words\n"),
         End::Line(line) => write_line(*line, writer),
-        End::Memory => writer.write(b"qnxsh: memory\n"),
+        End::Memory => writer.write_all(b"qnxsh: memory\n"),
     }
 }
 
@@ -69,9 +69,9 @@ fn write_line<W: Write>(line: u64, writer: &mut Watched<W>) -> Result<(), WriteF
     ensures front { OnErr result (AppendsFront (held W.contents writer.old) (held W.contents writer.new) (codes "qnxsh: line " ++ decimal line ++ codes "\n")) }
     ensures failed { OnErr result (has_failed writer.new ≡ true) }
 {
-    writer.write(b"qnxsh: line ")?;
+    writer.write_all(b"qnxsh: line ")?;
     write_number(line, writer)?;
-    writer.write(b"\n")
+    writer.write_all(b"\n")
 }
 
 /// Writes a number.
@@ -81,5 +81,5 @@ fn write_number<W: Write>(number: u64, writer: &mut Watched<W>) -> Result<(), Wr
     ensures failed { OnErr result (has_failed writer.new ≡ true) }
 {
     let mut buffer = Buffer::new();
-    writer.write(buffer.format(number).as_bytes())
+    writer.write_all(buffer.format(number).as_bytes())
 }

@@ -43,7 +43,7 @@ fn write_flushed<W: Write>(writer: &mut Watched<W>, bytes: &[u8]) -> Result<(), 
     ensures front { OnErr result (AppendsFront (held W.contents writer.old) (held W.contents writer.new) bytes.now) }
     ensures failed { OnErr result (has_failed writer.new ≡ true) }
 {
-    writer.write(bytes)?;
+    writer.write_all(bytes)?;
     writer.flush()
 }
 

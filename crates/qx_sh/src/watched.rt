@@ -39,7 +39,7 @@ impl<W: Write> Watched<W> {
     }
 
     /// Writes all bytes, or a front of them where a write fails or takes nothing.
-    pub fn write(&mut self, bytes: &[u8]) -> Result<(), WriteFailed>
+    pub fn write_all(&mut self, bytes: &[u8]) -> Result<(), WriteFailed>
         ensures whole { OnOk result (Appends (held W.contents self.old) (held W.contents self.new) bytes.now) }
         ensures front { OnErr result (AppendsFront (held W.contents self.old) (held W.contents self.new) bytes.now) }
         ensures failed { OnErr result (has_failed self.new ≡ true) }
