@@ -1,3 +1,4 @@
 pub mod CommandLemmas
+pub mod Invoked
 pub mod LimitLemmas
 pub mod Written

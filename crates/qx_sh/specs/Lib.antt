@@ -1,3 +1,5 @@
+pub mod Invocation
 pub mod Options
 pub mod Run
+pub mod Watched
 pub mod Written

@@ -2,12 +2,14 @@
 #![tactic(auto)]
 
 pub mod ending;
+pub mod invocation;
 pub mod limit;
 pub mod options;
+pub mod program;
 pub mod run;
 pub mod streams;
+pub mod watched;
 
 pub use ending::{End, report};
-
-#[cfg(test)]
-mod tests;
+pub use invocation::invoke;
+pub use watched::Watched;
