@@ -1,26 +1,44 @@
 -- Serving leaves no item waiting.
-use Rattle.std.proofs.Common.{◌≡◌, ℕ, suc, zero, ◌+◌, ◌≤◌, ◌<◌, Bool, true, false, List, [], ◌∷◌, ◌++◌, Option, Some, None, length, refl, sym, ap, ◌∙◌, subst, arith, if◌then◌else◌, slice_set, ◌⊎◌, inl, inr, is_some}
+use Rattle.std.proofs.Common.{◌≡◌, ℕ, suc, zero, ◌+◌, ◌≤◌, ◌<◌, Bool, true, false, List, [], ◌∷◌, ◌++◌, Option, Some, None, length, refl, sym, ap, ◌∙◌, subst, arith, if◌then◌else◌, slice_set, cond, is_some}
+use Rattle.std.specs.Prelude.{find, map, nat_lt, slice_get, sum_by}
+use Rattle.std.specs.List.{range_with_len}
 use Rattle.std.proofs.lemmas.Grind.{common_steps}
-use Rattle.std.proofs.Math.ListN.{length-set}
-use Rattle.std.proofs.lemmas.List.{length-replicate}
+use Rattle.std.proofs.lemmas.List.{length-replicate, length-set}
+use Rattle.std.proofs.lemmas.List.Sums.{sum_by-cons}
 use Rattle.qx_types.specs.Configuration.{Configuration}
+use Rattle.qx_types.specs.Managers.{manager_number, managers}
+use Rattle.qx_types.specs.Step.{actor_of, user_of}
+use Rattle.qx_types.specs.declared.names.Actor.{Actor}
 use Rattle.qx_types.specs.declared.names.Manager.{Manager}
-use Rattle.qx_types.specs.declared.names.Manager.TheVariants.{Ram, Pipe}
+use Rattle.qx_types.specs.declared.names.TheConstants.Manager.{COUNT}
 use Rattle.qx_types.specs.declared.step.Step.{Step}
-use Rattle.qx_types.specs.declared.step.Step.TheVariants.{Spawn, Call, TakeReply, SetPrio, Receive, Perform}
+use Rattle.qx_types.specs.declared.step.Step.TheVariants.{Receive, Perform}
 use Rattle.qx_machine.specs.declared.rows.Held.{Held}
 use Rattle.qx_machine.specs.declared.rows.OwnItem.{OwnItem}
 use Rattle.qx_machine.specs.declared.rows.OwnItem.TheVariants.{Message}
 use Rattle.qx_machine.specs.declared.rows.Queued.{Queued}
-use Rattle.qx_machine.specs.Machine.{World, After, step, boot, client_step, receive_hand, receive_line, received_part, with_taken, perform_hand, performed_part, with_empty_hand, is_worker, line_of, line_after}
+use Rattle.qx_machine.specs.Lines.{line_at, with_line}
+use Rattle.qx_machine.specs.Machine.{World, After, acted, changed_manager, line_changed, own_held, step, step_of, server_step, boot, client_step, receive_hand, receive_line, received_part, with_taken, perform_hand, performed_part, with_empty_hand, is_worker, line_of, lines_after}
+use Rattle.qx_machine.specs.Parts.{Part, Change}
 use Rattle.qx_machine.specs.Rows.{row_at}
 use Rattle.qx_machine.specs.Runs.{world_after}
-use Rattle.qx_machine.specs.Users.{Part, serve}
-use Rattle.qx_play.specs.Play.{first_worker, waiting, next_manager, next_of, pipe_next, round, rounds, world_of, hand_emptied, all_served, served}
+use Rattle.qx_machine.specs.Users as users
+use Rattle.qx_machine.specs.Users.{serve}
+use Rattle.qx_play.specs.Play.{first_worker, has_waiting, waiting, next_manager, round, rounds, world_of, hand_emptied, all_served, served}
 
+-- what each step keeps: the number of workers, a place for each one's hand and a line for each manager
 pub record Keeps (w : World) (workers : ℕ) : Type 0 where
   pub same : w.config.workers ≡ workers
   pub hands : length w.hands ≡ workers + 1
+  pub lines : length w.lines ≡ COUNT
+
+lines_kept : (user : ℕ) (lines : List (List Queued)) (changes : List Change) → length (lines_after user lines changes) ≡ length lines
+lines_kept user lines [] = refl
+lines_kept user lines (change ∷ changes) =
+    lines_kept user (with_line lines (manager_number (changed_manager change)) (line_changed user change)) changes ∙ length-set lines _ _
+
+acts : (n : ℕ) (w : World) (user : ℕ) (before after : Part) (changes : List Change) → Keeps w n → Keeps (acted user before after changes w) n
+acts n w user before after changes k = record { same = k.same; hands = k.hands; lines = lines_kept user w.lines changes ∙ k.lines }
 
 choice : (n : ℕ) (b : Bool) (x y : After) → Keeps x.world n → Keeps y.world n → Keeps (if b then x else y).world n
 choice n true x y p q = p
@@ -28,15 +46,14 @@ choice n false x y p q = q
 
 client : (n : ℕ) (w : World) (user : ℕ) (e : Step) (part : Option Part) → Keeps w n → Keeps (client_step w user e part).world n
 client n w user e None k = k
-client n w user e (Some part) k = record { same = k.same; hands = k.hands }
+client n w user e (Some part) k = acts n w user part _ (users.client w.config user (own_held user w.hands) part e).changes k
 
 taken : (n : ℕ) (w : World) (worker : ℕ) (first : Queued) (rest : List Queued) (manager : Manager) → Keeps w n → Keeps (with_taken w worker first rest manager) n
-taken n w worker first rest Ram k = record { same = k.same; hands = simp length-set k.hands }
-taken n w worker first rest Pipe k = record { same = k.same; hands = simp length-set k.hands }
+taken n w worker first rest manager k = record { same = k.same; hands = simp length-set k.hands; lines = length-set w.lines _ rest ∙ k.lines }
 
 given : (n : ℕ) (w : World) (first : Queued) (part : Option Part) → Keeps w n → Keeps (received_part w first part) n
 given n w first None k = k
-given n w first (Some part) k = record { same = k.same; hands = k.hands }
+given n w first (Some part) k = acts n w first.user.0 part _ [] k
 
 line : (n : ℕ) (w : World) (worker : ℕ) (manager : Manager) (items : List Queued) → Keeps w n → Keeps (receive_line w worker manager items).world n
 line n w worker manager [] k = k
@@ -48,23 +65,28 @@ hand n w worker manager (Some held) k = k
 
 done : (n : ℕ) (w : World) (held : Held) (moment : ℕ) (part : Option Part) → Keeps w n → Keeps (performed_part w held moment part) n
 done n w held moment None k = k
-done n w held moment (Some part) k = record { same = k.same; hands = k.hands }
+done n w held moment (Some part) k =
+    acts n w held.user.0 part _ (serve w.config held.user.0 (own_held held.user.0 w.hands) part held.item moment).changes k
 
 emptied : (n : ℕ) (w : World) (worker : ℕ) → Keeps w n → Keeps (with_empty_hand w worker) n
-emptied n w worker k = record { same = k.same; hands = simp length-set k.hands }
+emptied n w worker k = record { same = k.same; hands = simp length-set k.hands; lines = k.lines }
 
 does : (n : ℕ) (w : World) (worker moment : ℕ) (held : Option Held) → Keeps w n → Keeps (perform_hand w worker moment held).world n
 does n w worker moment None k = k
 does n w worker moment (Some held) k = done n _ held moment (row_at w.parts held.user.0) (emptied n w worker k)
 
+server : (n : ℕ) (w : World) (e : Step) → Keeps w n → Keeps (server_step w e).world n
+server n w (Receive worker manager) k = choice n (is_worker w.config worker.0) _ _ (hand n w worker.0 manager (row_at w.hands worker.0) k) k
+server n w (Perform worker moment) k = choice n (is_worker w.config worker.0) _ _ (does n w worker.0 moment (row_at w.hands worker.0) k) k
+server n w _ k = k
+
+by : (n : ℕ) (w : World) (e : Step) (actor : Option Actor) → Keeps w n → Keeps (step_of w e actor).world n
+by n w e None k = server n w e k
+by n w e (Some actor) k = client n w (user_of actor) e (row_at w.parts (user_of actor)) k
+
 pub kept : (n : ℕ) (w : World) (e : Step) → Keeps w n → Keeps (step w e).world n
 unfolding step
-kept n w (Spawn user threads prio) k = client n w user.0 _ (row_at w.parts user.0) k
-kept n w (Call thread request) k = client n w thread.proc.user.0 _ (row_at w.parts thread.proc.user.0) k
-kept n w (TakeReply thread) k = client n w thread.proc.user.0 _ (row_at w.parts thread.proc.user.0) k
-kept n w (SetPrio thread prio) k = client n w thread.proc.user.0 _ (row_at w.parts thread.proc.user.0) k
-kept n w (Receive worker manager) k = choice n (is_worker w.config worker.0) _ _ (hand n w worker.0 manager (row_at w.hands worker.0) k) k
-kept n w (Perform worker moment) k = choice n (is_worker w.config worker.0) _ _ (does n w worker.0 moment (row_at w.hands worker.0) k) k
+kept n w e k = by n w e (actor_of e) k
 
 pub kept_after : (n : ℕ) (w : World) (steps : List Step) → Keeps w n → Keeps (world_after w steps) n
 kept_after n w [] k = k
@@ -79,13 +101,9 @@ no_changes : (c : Configuration) (user : ℕ) (held : List OwnItem) (part : Part
 unfolding serve
 no_changes c user held part (Message process thread) moment = refl
 
-performed_ram : (w : World) (held : Held) (moment : ℕ) (part : Option Part) → (performed_part w held moment part).ram ≡ w.ram
-performed_ram w held moment None = refl
-performed_ram w held moment (Some part) = ap (line_after held.user.0 Ram w.ram) (no_changes w.config held.user.0 _ part held.item moment)
-
-performed_pipe : (w : World) (held : Held) (moment : ℕ) (part : Option Part) → (performed_part w held moment part).pipe ≡ w.pipe
-performed_pipe w held moment None = refl
-performed_pipe w held moment (Some part) = ap (line_after held.user.0 Pipe w.pipe) (no_changes w.config held.user.0 _ part held.item moment)
+performed_lines : (w : World) (held : Held) (moment : ℕ) (part : Option Part) → (performed_part w held moment part).lines ≡ w.lines
+performed_lines w held moment None = refl
+performed_lines w held moment (Some part) = ap (lines_after held.user.0 w.lines) (no_changes w.config held.user.0 _ part held.item moment)
 
 chosen : (b : Bool) (x y : After) → b ≡ true → (if b then x else y) ≡ x
 chosen true x y e = refl
@@ -106,13 +124,9 @@ unfolding step
 performed_is n w moment held some k full =
     ap (λ a. a.world) (chosen (is_worker w.config 1) _ _ (is_first n w some k)) ∙ ap (λ h. (perform_hand w 1 moment h).world) full
 
-given_ram : (w : World) (first : Queued) (part : Option Part) → (received_part w first part).ram ≡ w.ram
-given_ram w first None = refl
-given_ram w first (Some part) = refl
-
-given_pipe : (w : World) (first : Queued) (part : Option Part) → (received_part w first part).pipe ≡ w.pipe
-given_pipe w first None = refl
-given_pipe w first (Some part) = refl
+given_lines : (w : World) (first : Queued) (part : Option Part) → (received_part w first part).lines ≡ w.lines
+given_lines w first None = refl
+given_lines w first (Some part) = refl
 
 given_hands : (w : World) (first : Queued) (part : Option Part) → (received_part w first part).hands ≡ w.hands
 given_hands w first None = refl
@@ -129,8 +143,7 @@ at_one (first ∷ second ∷ rest) row room = refl
 
 -- the first worker does what it holds: its hand is empty, and the lines stay
 pub record Emptied (w u : World) : Type 0 where
-  pub ram : u.ram ≡ w.ram
-  pub pipe : u.pipe ≡ w.pipe
+  pub lines : u.lines ≡ w.lines
   pub free : row_at u.hands 1 ≡ None
 
 pub does_item : (n : ℕ) (w : World) (moment : ℕ) (held : Held) → 1 ≤ n → Keeps w n → row_at w.hands 1 ≡ Some held → Emptied w (step w (Perform first_worker moment)).world
@@ -139,8 +152,7 @@ does_item n w moment held some k full =
     let part = row_at w.parts held.user.0 in
     let room : 1 < length w.hands = omega (arith, k.hands) in
     record {
-      ram = ap (λ v. v.ram) u ∙ performed_ram (with_empty_hand w 1) held moment part;
-      pipe = ap (λ v. v.pipe) u ∙ performed_pipe (with_empty_hand w 1) held moment part;
+      lines = ap (λ v. v.lines) u ∙ performed_lines (with_empty_hand w 1) held moment part;
       free = ap (λ v. row_at v.hands 1) u ∙ ap (λ hands. row_at hands 1) (performed_hands (with_empty_hand w 1) held moment part) ∙ at_one w.hands None room;
     }
 
@@ -154,26 +166,23 @@ record Took (w u : World) (first : Queued) : Type 0 where
   fewer : waiting u + 1 ≡ waiting w
   full : row_at u.hands 1 ≡ Some (record { user = first.user; item = first.item })
 
+-- a line without its first item is one item shorter, and so are all lines together
+shorter : (lines : List (List Queued)) (number : ℕ) (first : Queued) (rest : List Queued) → line_at lines number ≡ first ∷ rest
+    → sum_by length (slice_set lines number rest) + 1 ≡ sum_by length lines
+shorter [] number first rest e = cc
+shorter (line ∷ lines) zero first rest e =
+    let one_less : length line ≡ length (first ∷ rest) = ap length e in
+    omega (arith, sum_by-cons length rest lines, sum_by-cons length line lines, one_less)
+shorter (line ∷ lines) (suc number) first rest e =
+    omega (arith, sum_by-cons length line (slice_set lines number rest), sum_by-cons length line lines, shorter lines number first rest e)
+
 took : (w : World) (manager : Manager) (first : Queued) (rest : List Queued) → 1 < length w.hands → line_of w manager ≡ first ∷ rest
     → Took w (receive_line w 1 manager (first ∷ rest)).world first
-took w Ram first rest room e =
-    let v = with_taken w 1 first rest Ram in
+took w manager first rest room e =
+    let v = with_taken w 1 first rest manager in
     let part = row_at w.parts first.user.0 in
-    let ram : length (received_part v first part).ram ≡ length rest = ap length (given_ram v first part) in
-    let pipe : length (received_part v first part).pipe ≡ length w.pipe = ap length (given_pipe v first part) in
-    let before : length w.ram ≡ length rest + 1 = (let same : length w.ram ≡ length (first ∷ rest) = ap length e in omega (arith, same)) in
     record {
-      fewer = omega (arith, ram, pipe, before);
-      full = ap (λ hands. row_at hands 1) (given_hands v first part) ∙ at_one w.hands _ room;
-    }
-took w Pipe first rest room e =
-    let v = with_taken w 1 first rest Pipe in
-    let part = row_at w.parts first.user.0 in
-    let ram : length (received_part v first part).ram ≡ length w.ram = ap length (given_ram v first part) in
-    let pipe : length (received_part v first part).pipe ≡ length rest = ap length (given_pipe v first part) in
-    let before : length w.pipe ≡ length rest + 1 = (let same : length w.pipe ≡ length (first ∷ rest) = ap length e in omega (arith, same)) in
-    record {
-      fewer = omega (arith, ram, pipe, before);
+      fewer = ap (λ lines. sum_by length lines + 1) (given_lines v first part) ∙ shorter w.lines (manager_number manager) first rest e;
       full = ap (λ hands. row_at hands 1) (given_hands v first part) ∙ at_one w.hands _ room;
     }
 
@@ -187,29 +196,82 @@ one_round n w moment manager first rest some k free e =
     let t : Took w v first = subst (λ x. Took w x first) (sym is) (took w manager first rest room e) in
     let d = does_item n v moment _ some (kept n w _ k) t.full in
     record {
-      fewer = omega (arith, ap length d.ram, ap length d.pipe, t.fewer);
+      fewer = ap (λ lines. sum_by length lines + 1) d.lines ∙ t.fewer;
       free = d.free;
     }
 
-in_lines : (ram pipe : List Queued) (items : ℕ) → length ram + length pipe ≡ suc items
-    → ((first : Queued) × (rest : List Queued) × (ram ≡ first ∷ rest)) ⊎ ((ram ≡ []) × (first : Queued) × (rest : List Queued) × (pipe ≡ first ∷ rest))
-in_lines (first ∷ rest) pipe items e = inl (first, rest, refl)
-in_lines [] (first ∷ rest) items e = inr (refl, first, rest, refl)
-in_lines [] [] items e = absurd (omega (arith, e))
-
--- where items wait, one of them is next
-record Next (w : World) : Type 0 where
+-- among some managers, the first one for which an item waits
+record Next (w : World) (among : List Manager) : Type 0 where
   manager : Manager
   first : Queued
   rest : List Queued
-  next : next_manager w ≡ Some manager
+  next : find (has_waiting w) among ≡ Some manager
   there : line_of w manager ≡ first ∷ rest
 
-some_next : (w : World) (items : ℕ) → waiting w ≡ suc items → Next w
-some_next w items e = elim (in_lines w.ram w.pipe items e) [
-  | inl found ↦ record { manager = Ram; first = found.0; rest = found.1; next = ap (λ l. next_of (length l) (length w.pipe)) found.2; there = found.2 }
-  | inr found ↦ record { manager = Pipe; first = found.1; rest = found.2; next = ap (λ l. next_of (length l) (length w.pipe)) found.0 ∙ ap (λ l. pipe_next (length l)) found.3; there = found.3 }
-]
+one_waits : (first : Queued) (rest : List Queued) → nat_lt 0 (length (first ∷ rest)) ≡ true
+one_waits first rest = grind (arith, common_steps)
+
+-- it is the first of them, or among the others
+next_here : (w : World) (manager : Manager) (others : List Manager) (line : List Queued) → line_of w manager ≡ line
+    → (length line ≡ 0 → Next w others) → Next w (manager ∷ others)
+next_here w manager others (first ∷ rest) e later = record {
+  manager = manager;
+  first = first;
+  rest = rest;
+  next = ap (λ waits. cond waits (Some manager) (find (has_waiting w) others)) (ap (λ l. nat_lt 0 (length l)) e ∙ one_waits first rest);
+  there = e;
+}
+next_here w manager others [] e later =
+    let found = later refl in
+    record {
+      manager = found.manager;
+      first = found.first;
+      rest = found.rest;
+      next = ap (λ l. cond (nat_lt 0 (length l)) (Some manager) (find (has_waiting w) others)) e ∙ found.next;
+      there = found.there;
+    }
+
+next_among : (w : World) (among : List Manager) (items : ℕ) → sum_by length (map (line_of w) among) ≡ suc items → Next w among
+next_among w [] items e = absurd (omega (arith, e))
+next_among w (manager ∷ others) items e =
+    next_here w manager others (line_of w manager) refl
+    (λ none. next_among w others items (omega (arith, none, e, sum_by-cons length (line_of w manager) (map (line_of w) others))))
+
+-- a manager's number is its place among all
+numbered : (among : List Manager) (from number : ℕ) (manager : Manager) → map manager_number among ≡ range_with_len from (length among)
+    → slice_get among number ≡ Some manager → manager_number manager ≡ from + number
+numbered [] from number manager each e = cc
+numbered (first ∷ others) from zero manager each e =
+    let same : first ≡ manager = cc in
+    let first_number : manager_number first ≡ from = cc in
+    sym (ap manager_number same) ∙ first_number ∙ omega arith
+numbered (first ∷ others) from (suc number) manager each e =
+    let later : map manager_number others ≡ range_with_len (from + 1) (length others) = cc in
+    numbered others (from + 1) number manager later e ∙ omega arith
+
+number_of : (number : ℕ) (manager : Manager) → slice_get managers number ≡ Some manager → manager_number manager ≡ number
+number_of number manager e = numbered managers 0 number manager refl e ∙ omega arith
+
+-- each manager's line stands under the manager's place among all
+line_under : (w : World) (number : ℕ) (manager : Manager) → slice_get managers number ≡ Some manager → line_at w.lines number ≡ line_of w manager
+line_under w number manager e = ap (line_at w.lines) (sym (number_of number manager e))
+
+line_of_each_among : (w : World) (among : List Manager) (lines : List (List Queued)) → length lines ≡ length among
+    → ((number : ℕ) (manager : Manager) → slice_get among number ≡ Some manager → line_at lines number ≡ line_of w manager) → map (line_of w) among ≡ lines
+line_of_each_among w [] [] e each = refl
+line_of_each_among w [] (line ∷ lines) e each = absurd (omega (arith, e))
+line_of_each_among w (manager ∷ others) [] e each = absurd (omega (arith, e))
+line_of_each_among w (manager ∷ others) (line ∷ lines) e each =
+    let first : line ≡ line_of w manager = each zero manager refl in
+    let rest = line_of_each_among w others lines (omega (arith, e)) (λ number other found. each (suc number) other found) in
+    λ i. sym first i ∷ rest i
+
+line_of_each : (w : World) → length w.lines ≡ COUNT → map (line_of w) managers ≡ w.lines
+line_of_each w all = line_of_each_among w managers w.lines all (line_under w)
+
+-- where items wait, one of them is next
+some_next : (n : ℕ) (w : World) (items : ℕ) → Keeps w n → waiting w ≡ suc items → Next w managers
+some_next n w items k e = next_among w managers items (ap (sum_by length) (line_of_each w k.lines) ∙ e)
 
 pub turn : (items : ℕ) (config : Configuration) (moment : ℕ) (steps : List Step) (manager : Manager) → next_manager (world_of config steps) ≡ Some manager
     → rounds (suc items) config moment steps ≡ rounds items config moment (round moment steps manager)
@@ -221,7 +283,7 @@ all_rounds : (items n : ℕ) (config : Configuration) (moment : ℕ) (steps : Li
 all_rounds zero n config moment steps some k free e = e
 all_rounds (suc items) n config moment steps some k free e =
     let w = world_of config steps in
-    let f = some_next w items e in
+    let f = some_next n w items k e in
     let last = Receive first_worker f.manager ∷ Perform first_worker moment ∷ [] in
     let same : world_after w last ≡ world_of config (round moment steps f.manager) = sym (after_append (boot config) steps last) in
     let r : Round w (world_of config (round moment steps f.manager)) = subst (λ u. Round w u) same (one_round n w moment f.manager f.first f.rest some k free f.there) in
@@ -231,7 +293,7 @@ all_rounds (suc items) n config moment steps some k free e =
 
 booted : (config : Configuration) → Keeps (boot config) config.workers
 unfolding boot
-booted config = record { same = refl; hands = simp length-replicate (omega arith) }
+booted config = record { same = refl; hands = simp length-replicate (omega arith); lines = refl }
 
 pub keeps_all : (config : Configuration) (steps : List Step) → Keeps (world_of config steps) config.workers
 keeps_all config steps = kept_after config.workers (boot config) steps (booted config)

@@ -1,18 +1,19 @@
 -- What the lines of a script do: the steps that they take and the text that they print.
-use Rattle.std.specs.Prelude.{ℕ, ◌+◌, zero, suc, Bool, true, false, List, [], ◌∷◌, ◌++◌, Option, Some, None, length, if◌then◌else◌, is_some}
+use Rattle.std.specs.Prelude.{ℕ, zero, suc, Bool, true, false, List, [], ◌∷◌, ◌++◌, Option, Some, None, find, length, if◌then◌else◌, is_some, nat_lt, sum_by}
 use Rattle.qx_types.specs.Configuration.{Configuration}
+use Rattle.qx_types.specs.Managers.{managers}
 use Rattle.qx_types.specs.declared.names.Manager.{Manager}
-use Rattle.qx_types.specs.declared.names.Manager.TheVariants.{Ram, Pipe}
 use Rattle.qx_types.specs.declared.names.Thread.{Thread}
 use Rattle.qx_types.specs.declared.names.Worker.{Worker}
 use Rattle.qx_types.specs.declared.outcome.Outcome.{Outcome}
 use Rattle.qx_types.specs.declared.outcome.Outcome.TheVariants.{Spawned, Refused, Done, Sent, Reply, Failed, Pulse, NoPulse, WrongState, Took, Idle, Busy, Handled, Nothing}
 use Rattle.qx_types.specs.declared.step.Step.{Step}
 use Rattle.qx_types.specs.declared.step.Step.TheVariants.{Call, TakeReply, Receive, Perform}
-use Rattle.qx_machine.specs.Machine.{World, step}
+use Rattle.qx_machine.specs.Machine.{World, line_of, step}
 use Rattle.qx_machine.specs.Rows.{row_at}
 use Rattle.qx_machine.specs.Runs.{run, received}
-use Rattle.qx_world.specs.Reads.{is_thread_answered, thread_in}
+use Rattle.qx_parts.specs.Reads.{thread_row}
+use Rattle.qx_steps.specs.Reads.{is_thread_answered}
 use Rattle.qx_script.specs.declared.command.Command.{Command}
 use Rattle.qx_script.specs.declared.command.Command.TheVariants.{Take, Serve, Do, Show, Trace}
 use Rattle.qx_play.specs.Printed.{trace_text, transcript_text}
@@ -33,17 +34,13 @@ first_worker = record { 0 = 1 }
 abbrev pub is_holding : World → Bool
 is_holding w = is_some (row_at w.hands 1)
 
--- the manager whose first item is next: RAM's where an item waits for it
-abbrev pub pipe_next : ℕ → Option Manager
-pipe_next zero = None
-pipe_next (suc waiting) = Some Pipe
+-- an item waits for the manager
+abbrev pub has_waiting : World → Manager → Bool
+has_waiting w manager = nat_lt 0 (length (line_of w manager))
 
-abbrev pub next_of : ℕ → ℕ → Option Manager
-next_of zero pipe = pipe_next pipe
-next_of (suc ram) pipe = Some Ram
-
+-- the manager whose first item is next: the first one, by number, for which an item waits
 abbrev pub next_manager : World → Option Manager
-next_manager w = next_of (length w.ram) (length w.pipe)
+next_manager w = find (has_waiting w) managers
 
 -- the first worker takes an item and does it, at a moment
 abbrev pub round : ℕ → List Step → Manager → List Step
@@ -60,8 +57,9 @@ unfoldable pub hand_emptied : Configuration → ℕ → List Step → List Step
 hand_emptied config moment steps =
     if is_holding (world_of config steps) then steps ++ Perform first_worker moment ∷ [] else steps
 
+-- how many items wait in all lines
 abbrev pub waiting : World → ℕ
-waiting w = length w.ram + length w.pipe
+waiting w = sum_by length w.lines
 
 -- every item that waits is served: each round takes one from its line and puts none there
 unfoldable pub all_served : Configuration → ℕ → List Step → List Step
@@ -88,7 +86,7 @@ is_sent Nothing = false
 
 -- the thread has an answer to take
 abbrev pub is_answered : World → Thread → Bool
-is_answered w thread = is_thread_answered (thread_in thread (row_at w.parts thread.proc.user.0))
+is_answered w thread = is_thread_answered (thread_row w.parts thread)
 
 -- the thread takes its answer, if it has one
 unfoldable pub replied : Configuration → Thread → List Step → List Step

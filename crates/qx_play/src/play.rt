@@ -1,10 +1,14 @@
 //! What the lines of a script do: the steps that they take and the text that they print.
 
-ghost use Rattle.std.specs.Prelude.{◌≡◌, ◌≤◌, ◌++◌, ◌∷◌, [], ℕ, List, IfOk, OnOk};
+ghost use Rattle.std.specs.Prelude.{◌≡◌, ◌≤◌, ◌++◌, ◌∷◌, [], ℕ, List, IfOk, OnOk, find, length, slice_get};
+ghost use Rattle.std.specs.Option.{option_to_list};
 ghost use Rattle.qx_types.specs.Configuration.{Configuration};
+ghost use Rattle.qx_types.specs.Managers.{managers};
+ghost use Rattle.qx_types.specs.declared.names.TheConstants.Manager.{COUNT};
 ghost use Rattle.qx_types.specs.declared.step.Step.{Step};
+ghost use Rattle.qx_machine.specs.Lines.{line_at};
 ghost use Rattle.qx_play.specs.Play as play;
-ghost use Rattle.qx_play.specs.Play.{all_served, called, hand_emptied, played_line, replied, served, shown, waiting, world_of};
+ghost use Rattle.qx_play.specs.Play.{all_served, called, hand_emptied, has_waiting, played_line, replied, served, shown, waiting, world_of};
 
 use crate::text;
 use qx_script::Command;
@@ -136,9 +140,8 @@ fn serve_waiting(traced: &mut Traced, moment: u64) -> Result<(), NoMemory>
     ensures config { traced.new.config ≡ traced.old.config }
     ensures steps { OnOk result (traced.new.steps ≡ all_served traced.old.config moment traced.old.steps) }
 {
-    let world = traced.world();
-    let waiting = world.waiting(Manager::Ram) as u128 + world.waiting(Manager::Pipe) as u128;
-    'rounds: for _ in 0..waiting {
+    let items = waiting(traced.world());
+    'rounds: for _ in 0..items {
         let Some(manager) = next_manager(traced.world()) else {
             return Ok(());
         };
@@ -149,15 +152,48 @@ fn serve_waiting(traced: &mut Traced, moment: u64) -> Result<(), NoMemory>
     Ok(())
 }
 
-/// The manager whose first item is next: RAM's where an item waits for it.
+/// How many items wait in all lines.
+fn waiting(world: &World) -> u128
+    requires { length world.now.lines ≡ COUNT }
+    ensures { result ≡ play.waiting world.now }
+{
+    let mut waiting = 0;
+    'lines: for number in 0..Manager::COUNT {
+        waiting += waiting_at(world, number) as u128;
+    }
+    waiting
+}
+
+/// How many items wait in the line under a number.
+fn waiting_at(world: &World, number: usize) -> usize
+    requires { length world.now.lines ≡ COUNT }
+    ensures { result ≡ length (line_at world.now.lines number) }
+{
+    match Manager::of_number(number) {
+        Some(manager) => world.waiting(manager),
+        None => 0,
+    }
+}
+
+/// The manager whose first item is next: the first one, by number, for which an item waits.
 fn next_manager(world: &World) -> Option<Manager>
     ensures { result ≡ play.next_manager world.now }
 {
-    if world.waiting(Manager::Ram) > 0 {
-        return Some(Manager::Ram);
-    }
-    if world.waiting(Manager::Pipe) > 0 {
-        return Some(Manager::Pipe);
+    'managers: for number in 0..Manager::COUNT {
+        if let Some(manager) = waiting_manager(world, number) {
+            return Some(manager);
+        }
     }
     None
+}
+
+/// The manager of a number, if an item waits for it.
+fn waiting_manager(world: &World, number: usize) -> Option<Manager>
+    ensures { result ≡ find (has_waiting world.now) (option_to_list (slice_get managers number)) }
+{
+    let manager = Manager::of_number(number)?;
+    if world.waiting(manager) == 0 {
+        return None;
+    }
+    Some(manager)
 }
