@@ -80,8 +80,8 @@ replied_rows part thread = elim (option_cases (thread_at part thread.proc.num th
     | inl none ↦ rw (there.1, none) (same_rows part.processes)
     | inr given ↦ rw (there.1, given.1) (same_rows-with part.processes thread.proc.num (with_thread thread.tid ready_thread) (λ x is.
         same_process-thread x thread.tid ready_thread (λ row its number.
-          let same : row ≡ there.0 = in_thread part thread.proc.num thread.tid there.0 x row there.1 is its in
-          rw same (sym (answered_waits there.0.state given.0 given.1 number)))))
+        let same : row ≡ there.0 = in_thread part thread.proc.num thread.tid there.0 x row there.1 is its in
+        rw same (sym (answered_waits there.0.state given.0 given.1 number)))))
   ]
 ]
 

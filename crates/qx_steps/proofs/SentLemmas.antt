@@ -110,7 +110,7 @@ called w thread request sent is = elim (option_cases (row_at w.parts thread.proc
       | inl none ↦ let clash : Err WrongState ≡ Ok sent = rw (part.1, process.1, none) at is in absurd (cc)
       | inr row ↦
           let its : sent_of (own_path w.config thread.proc.user.0) part.0.processes process.0 row.0 request ≡ Ok sent = rw (part.1, process.1, row.1) at is in
-          record { process = process.0; there = rw (part.1) process.1; row = row.0; in_process = row.1; known = judged _ _ process.0 row.0 request sent thread.tid its }
+          record { process = process.0; there = rw (part.1) process.1; row = row.0; in_process = row.1; known = judged (own_path w.config thread.proc.user.0) part.0.processes process.0 row.0 request sent thread.tid its }
     ]
   ]
 ]

@@ -1,5 +1,5 @@
 -- Rows, lines and nodes stand together still as a worker does what it holds.
-use Rattle.std.proofs.Common.{◌≡◌, ◌≢◌, inl, inr, ◌⊎◌, ℕ, zero, suc, ◌<◌, ◌∷◌, [], ◌++◌, ◌||◌, ◌&&◌, not, take, Bool, true, false, List, Option, Some, None, Result, Ok, Err, slice_get, length, is_some, refl, sym, ◌∙◌, ap}
+use Rattle.std.proofs.Common.{◌≡◌, ◌≢◌, inl, inr, ◌+◌, add-one, ℕ, zero, suc, ◌<◌, ◌∷◌, [], ◌++◌, ◌||◌, ◌&&◌, not, take, Bool, true, false, List, Option, Some, None, Result, Ok, Err, slice_get, length, is_some, refl, sym, ◌∙◌, ap}
 use Rattle.std.specs.Prelude.{nat_le, option_map}
 use Rattle.std.specs.FinSet as set
 use Rattle.std.specs.List.{list_any}
@@ -29,7 +29,7 @@ use Rattle.qx_machine.specs.Servers.{is_numbered}
 use Rattle.qx_chan.specs.Channel.{Channel, has_server, sender_of, stands, without_server}
 use Rattle.qx_parts.specs.Deeds.{served_part}
 use Rattle.qx_parts.specs.Reads.{process_in, process_of, thread_row}
-use Rattle.qx_steps.specs.Kept.{Kept, attached_at, is_queued_at, settled, settled_at, stands_at}
+use Rattle.qx_steps.specs.Kept.{Kept, attached_at, is_queued_at, settled, settled_at, settled_number, stands_at}
 use Rattle.qx_chan.proofs.SetLemmas.{has-removed}
 use Rattle.qx_steps.proofs.AttachedLemmas.{attached-with_block, fewer-detached, fewer-given_back, fewer-let_go, is_listed, or_true, threads-given_back, threads-let_go}
 use Rattle.qx_steps.proofs.KeptLemmas.{same_server-differs, same_server-self}
@@ -127,9 +127,9 @@ answered_fewer : (part : Part) (process thread : ℕ) (sent : Sent) (given : Res
     → Fewer (deed_part part given).processes part.processes process → Fewer (answered part process thread sent given).processes part.processes process
 answered_fewer part process thread sent (Ok deed) waits done = fewer_then _ deed.part.processes part.processes process
     (answer_fewer deed.part.processes process thread (Reply deed.status deed.bytes) (λ row. let_go thread sent.over (with_thread thread (answered_thread (Reply deed.status deed.bytes)) row))
-      (λ k. done.lines process thread k ∙ waits k)
-      (λ x. threads-let_go thread sent.over (with_thread thread (answered_thread (Reply deed.status deed.bytes)) x))
-      (λ x k is. fewer-let_go thread sent.over (with_thread thread (answered_thread (Reply deed.status deed.bytes)) x) k is))
+    (λ k. done.lines process thread k ∙ waits k)
+    (λ x. threads-let_go thread sent.over (with_thread thread (answered_thread (Reply deed.status deed.bytes)) x))
+    (λ x k is. fewer-let_go thread sent.over (with_thread thread (answered_thread (Reply deed.status deed.bytes)) x) k is))
     done
 answered_fewer part process thread sent (Err error) waits done =
     answer_fewer part.processes process thread (Failed error) (λ row. given_back thread sent.over (with_thread thread (answered_thread (Failed error)) row)) waits
@@ -239,12 +239,18 @@ module _ (parts : List (Option Part)) (channel : Channel) (user : ℕ) (own : Ow
     ];
   }
 
-  -- an item is done, and the disconnect nodes of its process are settled
-  pub Kept-served : Kept (with_row parts user (λ part. served_part part own)) (settled proc (process_of (with_row parts user (λ part. served_part part own)) proc) managers channel)
-  Kept-served = rw (sender-user user own) at served_at
+-- an item is done, and the disconnect nodes of its process are settled
+pub Kept-served : (parts : List (Option Part)) (channel : Channel) (user : ℕ) (own : OwnItem) → Kept parts channel
+    → Kept (with_row parts user (λ part. served_part part own)) (settled (sender_of user own).proc (process_of (with_row parts user (λ part. served_part part own)) (sender_of user own).proc) managers channel)
+Kept-served parts channel user (item.Message process thread) kept = served_at parts channel user (item.Message process thread) kept
 
 -- one manager more
-pub settled-snoc : (proc : Proc) (process : Option Process) (ms : List Manager) (n : ℕ) (m : Manager) (c : Channel) → slice_get ms n ≡ Some m → settled proc process (take (suc n) ms) c ≡ settled_at proc process m (settled proc process (take n ms) c)
-settled-snoc proc process [] n m c is = cc
-settled-snoc proc process (first ∷ ms) zero m c is = let same : first ≡ m = cc in rw same refl
-settled-snoc proc process (first ∷ ms) (suc n) m c is = settled-snoc proc process ms n m (settled_at proc process first c) is
+
+settled-suc : (proc : Proc) (process : Option Process) (ms : List Manager) (n : ℕ) (c : Channel) → settled proc process (take (suc n) ms) c ≡ settled_number proc process (slice_get ms n) (settled proc process (take n ms) c)
+settled-suc proc process [] zero c = refl
+settled-suc proc process [] (suc n) c = refl
+settled-suc proc process (m ∷ ms) zero c = refl
+settled-suc proc process (m ∷ ms) (suc n) c = settled-suc proc process ms n (settled_at proc process m c)
+
+pub settled-next : (proc : Proc) (process : Option Process) (ms : List Manager) (n : ℕ) (c : Channel) → settled proc process (take (n + 1) ms) c ≡ settled_number proc process (slice_get ms n) (settled proc process (take n ms) c)
+settled-next proc process ms n c = rw (add-one n) (settled-suc proc process ms n c)

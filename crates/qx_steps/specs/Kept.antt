@@ -60,6 +60,11 @@ with_attached channel proc manager over = if attaches over then with_server chan
 abbrev pub settled_at : Proc → Option Process → Manager → Channel → Channel
 settled_at proc process manager channel = if attached_at (manager_number manager) process then channel else without_server channel proc (manager_number manager)
 
+-- at the manager of a number, if there is one
+abbrev pub settled_number : Proc → Option Process → Option Manager → Channel → Channel
+settled_number proc process None channel = channel
+settled_number proc process (Some manager) channel = settled_at proc process manager channel
+
 -- at each of these managers
 abbrev pub settled : Proc → Option Process → List Manager → Channel → Channel
 settled proc process [] channel = channel

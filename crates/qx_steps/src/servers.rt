@@ -1,10 +1,10 @@
 //! The disconnect nodes of server connections, which come and go with what a process has attached.
 
-ghost use Rattle.std.specs.Prelude.{◌≡◌, OnOk, OnErr};
+ghost use Rattle.std.specs.Prelude.{◌≡◌, OnOk, OnErr, slice_get};
 ghost use Rattle.qx_types.specs.Managers.{manager_number, managers};
 ghost use Rattle.qx_chan.specs.Channel.{HasThread};
 ghost use Rattle.qx_parts.specs.Reads.{process_of};
-ghost use Rattle.qx_steps.specs.Kept.{attached_at, settled, with_attached};
+ghost use Rattle.qx_steps.specs.Kept.{attached_at, settled, settled_number, with_attached};
 
 use qx_chan::Channel;
 use qx_machine::{Over, Sent};
@@ -29,11 +29,19 @@ pub fn settle(channel: &mut Channel, parts: &Parts, proc: Proc)
     ensures { channel.new ≡ settled proc (process_of parts.now proc) managers channel.old }
 {
     for number in 0..Manager::COUNT {
-        if let Some(manager) = Manager::of_number(number) {
-            if !is_attached(parts, proc, manager) {
-                channel.remove_server(proc, manager);
-            }
-        }
+        settle_at(channel, parts, proc, number);
+    }
+}
+
+/// The disconnect node at the manager of a number stays if something of the process is attached there.
+fn settle_at(channel: &mut Channel, parts: &Parts, proc: Proc, number: usize)
+    ensures { channel.new ≡ settled_number proc (process_of parts.now proc) (slice_get managers number) channel.old }
+{
+    let Some(manager) = Manager::of_number(number) else {
+        return;
+    };
+    if !is_attached(parts, proc, manager) {
+        channel.remove_server(proc, manager);
     }
 }
 

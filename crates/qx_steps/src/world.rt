@@ -269,7 +269,7 @@ impl World {
     }
 
     /// Whether something is held that the work is not.
-    pub(crate) fn is_stale(&self, worker: Worker, work: &Work) -> bool
+    pub fn is_stale(&self, worker: Worker, work: &Work) -> bool
         ensures { IsTrue result ↔ IsStale (held_work self.now worker.0) work.now }
     {
         match self.held(worker) {

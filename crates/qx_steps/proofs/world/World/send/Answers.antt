@@ -27,8 +27,8 @@ pub invariant_of-self-2 : goal.invariant_of-self-2
 invariant_of-self-2 c =
     let ready : IsReady (thread_row c.self.inside.parts c.args.thread) = rw (← c.self.view_is) at c.requires.ready in
     let free : (process : Process) → process_of c.self.inside.parts c.args.thread.proc ≡ Some process → IsFree c.args.thread.tid c.args.sent.over process = rw (← c.self.view_is) at c.requires.free in
-    rw (c.send.ensures, c.put.ensures, c.in_ok-attach.ensures.ok)
+    rw (c.send.ensures, c.put.ensures.put, c.in_ok-attach.ensures.ok)
     (Kept-sent c.self.inside.parts c.self.inside.channel c.args.thread c.args.sent (sends_from c.self.inside.parts c.args.thread c.args.sent ready free) c.self.invariant)
 
 pub returns-clause-ok : goal.returns-clause-ok
-returns-clause-ok c = rw (← c.self.view_is, c.send.ensures, c.put.ensures, c.in_ok-attach.ensures.ok, lines-attached c.self.inside.channel c.args.thread.proc c.args.sent.manager c.args.sent.over)
+returns-clause-ok c = rw (← c.self.view_is, c.send.ensures, c.put.ensures.put, c.in_ok-attach.ensures.ok, lines-attached c.self.inside.channel c.args.thread.proc c.args.sent.manager c.args.sent.over)
