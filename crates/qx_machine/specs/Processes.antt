@@ -1,5 +1,6 @@
 -- Processes with their threads and connections, and how these change.
 use Rattle.std.specs.Prelude.{ℕ, ◌+◌, List, [], ◌∷◌, Option, Some, None, replicate, slice_set}
+use Rattle.qx_types.specs.declared.limits.TheConstants.Limits.{FIRST_CONNECTION, THREADS}
 use Rattle.qx_types.specs.declared.names.Manager.{Manager}
 use Rattle.qx_types.specs.declared.names.TheConstants.Manager.{COUNT}
 use Rattle.qx_types.specs.declared.outcome.Answer.{Answer}
@@ -28,8 +29,8 @@ new_thread prio = record { state = Ready; prio = record { 0 = prio }; calls = 0 
 abbrev pub new_process : ℕ → ℕ → Process
 new_process threads prio = record {
   threads = None ∷ replicate threads (Some (new_thread prio));
-  connections = None ∷ None ∷ None ∷ [];
-  sides = replicate 5 None;
+  connections = replicate FIRST_CONNECTION None;
+  sides = replicate (THREADS + 1) None;
   servers = replicate COUNT None;
 }
 

@@ -1,16 +1,13 @@
 -- A row that was lent, and is left changed or as it was.
-use Rattle.std.proofs.Common.{◌≡◌, ℕ, List, Option, Some, None, Ok, Err, refl, sym}
-use Rattle.std.specs.Prelude.{option_map, slice_set, Result, OnErr}
+use Rattle.std.proofs.Common.{◌≡◌, ℕ, List, Option, Some, None, Ok, Err, refl, sym, ap}
+use Rattle.std.specs.Prelude.{slice_set, Result, OnErr}
 use Rattle.qx_machine.specs.declared.rows.ThreadRow.{ThreadRow}
 use Rattle.qx_machine.specs.Parts.{Part, thread_at, thread_of, with_process}
 use Rattle.qx_machine.specs.Processes.{Process, with_thread}
-use Rattle.qx_machine.specs.Rows.{row_at, with_row}
+use Rattle.qx_machine.specs.Rows.{row_at}
 use Rattle.qx_procs.specs.Lends.{put_thread}
+use Rattle.qx_procs.proofs.LendLemmas.{put_thread_same}
 use Rattle.qx_procs.proofs.RowLemmas.{with_row-none, set-row}
-
--- where no row is there
-pub set_none : {A : Type 0} (xs : List (Option A)) (n : ℕ) (f : A → A) → row_at xs n ≡ None → slice_set xs n (option_map f (row_at xs n)) ≡ xs
-set_none xs n f none = with_row-none xs n f none
 
 -- a row that a refused call put back
 pub put_back : {A R E : Type 0} (xs : List (Option A)) (n : ℕ) (x y : A) (r : Result R E) → Some x ≡ row_at xs n → OnErr r (y ≡ x) → OnErr r (slice_set xs n (Some y) ≡ xs)
@@ -19,11 +16,7 @@ put_back xs n x y (Err error) there same = rw same (set-row xs n x (sym there))
 
 -- a thread's row that is put back changes nothing
 pub put_thread-same : (part : Part) (number thread : ℕ) (row : ThreadRow) → thread_at part number thread ≡ Some row → with_process number (put_thread thread row) part ≡ part
-put_thread-same part number thread row there = by_process (row_at part.processes number) refl there
-  where
-    by_process : (place : Option Process) → row_at part.processes number ≡ place → thread_of thread place ≡ Some row → with_process number (put_thread thread row) part ≡ part
-    by_process None is of = rw (with_row-none part.processes number (put_thread thread row) is) refl
-    by_process (Some process) is of = rw (is, set-row process.threads thread row of, set-row part.processes number process is) refl
+put_thread-same part number thread row there = ap (λ rows. record part { processes = rows }) (put_thread_same part.processes number thread row there)
 
 -- no thread is there to be changed
 pub with_thread-none : (part : Part) (number thread : ℕ) (f : ThreadRow → ThreadRow) → thread_at part number thread ≡ None → with_process number (with_thread thread f) part ≡ part
@@ -32,7 +25,5 @@ with_thread-none part number thread f none = by_process (row_at part.processes n
     by_process : (place : Option Process) → row_at part.processes number ≡ place → thread_of thread place ≡ None → with_process number (with_thread thread f) part ≡ part
     by_process None is of = rw (with_row-none part.processes number (with_thread thread f) is) refl
     by_process (Some process) is of = rw (is, with_row-none process.threads thread f of, set-row part.processes number process is) refl
-
-pub ruleset row_lends = (set_none, with_row-none)
 
 pub ruleset thread_lends = (put_thread-same, with_thread-none)

@@ -218,7 +218,7 @@ impl Part {
     }
 
     /// Opens the root over a new connection (C Library Reference: `open`).
-    #[tactic(auto, using(crate::proofs::LentRows::row_lends))]
+    #[tactic(auto, using(qx_procs::proofs::LendLemmas::row_lends))]
     fn open(&mut self, process: u8, sent: Sent) -> Result<Result<Reply, Errno>, AllocError>
         ensures done { IfOk result (λ given. deed_with self.new given ≡ open_deed self.old process sent) }
         ensures kept { IfOk result (λ given. OnErr given (self.new ≡ self.old)) }

@@ -90,7 +90,7 @@ impl Parts {
     }
 
     /// Starts a process of a user.
-    #[tactic(auto, using(crate::proofs::LentRows::row_lends))]
+    #[tactic(auto, using(qx_procs::proofs::LendLemmas::row_lends))]
     pub fn spawn(&mut self, user: User, threads: u8, prio: Prio) -> Result<(), AllocError>
         ensures parts { OnOk result (self.new ≡ with_row self.old user.0 (λ part. (or_unchanged part (clients.spawn part threads prio.0)).part)) }
         ensures places { HasPlace (row_at self.old user.0) }
@@ -103,7 +103,7 @@ impl Parts {
     }
 
     /// A message of a thread goes out.
-    #[tactic(auto, using(crate::proofs::LentRows::row_lends))]
+    #[tactic(auto, using(qx_procs::proofs::LendLemmas::row_lends))]
     pub fn send(&mut self, thread: Thread, sent: Sent, room: Room)
         requires { CanSend (thread_row self.old thread) sent.over }
         ensures { self.new ≡ with_row self.old thread.proc.user.0 (with_process thread.proc.num (with_queued thread.tid sent)) }
@@ -114,7 +114,7 @@ impl Parts {
     }
 
     /// An item of a user goes from a line into a worker's hand.
-    #[tactic(auto, using(crate::proofs::LentRows::row_lends))]
+    #[tactic(auto, using(qx_procs::proofs::LendLemmas::row_lends))]
     pub fn take(&mut self, user: User, item: OwnItem)
         ensures { self.new ≡ with_row self.old user.0 (λ part. users.take part item) }
     {
@@ -124,7 +124,7 @@ impl Parts {
     }
 
     /// Does what a worker holds of a user.
-    #[tactic(auto, using(crate::proofs::LentRows::row_lends))]
+    #[tactic(auto, using(qx_procs::proofs::LendLemmas::row_lends))]
     pub fn serve(&mut self, user: User, item: OwnItem) -> Result<(), AllocError>
         ensures ok { OnOk result (self.new ≡ with_row self.old user.0 (λ part. served_part part item)) }
         ensures err { OnErr result (self.new ≡ self.old) }

@@ -33,12 +33,3 @@ IsPriority prio = (1 ≤ prio) × (prio ≤ PRIORITY)
 abbrev pub HasNumber : Over → Type 0
 HasNumber (New coid) = coid.0 ≤ LAST_CONNECTION
 HasNumber _ = ⊤
-
--- what a process that may be there has under a number
-abbrev pub thread_in : ℕ → Option Process → Option ThreadRow
-thread_in thread None = None
-thread_in thread (Some process) = row_at process.threads thread
-
-abbrev pub connection_in : ℕ → Option Process → Option Connection
-connection_in coid None = None
-connection_in coid (Some process) = row_at process.connections coid

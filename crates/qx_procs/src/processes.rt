@@ -9,7 +9,9 @@ ghost use Rattle.qx_machine.specs.Clients as clients;
 ghost use Rattle.qx_machine.specs.Processes.{attached, detached, with_side};
 ghost use Rattle.qx_machine.specs.Rows.{row_at, with_row};
 ghost use Rattle.qx_procs.specs.Calls.{spawn_outcome, spawned, done_or, after_or, with_prio, new_coid, with_new_side};
-ghost use Rattle.qx_procs.specs.Reads.{thread_in, connection_in, IsPriority};
+ghost use Rattle.qx_machine.specs.Parts.{thread_of};
+ghost use Rattle.qx_machine.specs.Performing.{connection_of};
+ghost use Rattle.qx_procs.specs.Reads.{IsPriority};
 
 use crate::places;
 use crate::process::Process;
@@ -65,7 +67,7 @@ impl Processes {
 
     /// A thread's row; none where it is not there.
     pub fn thread(&self, process: u8, thread: u8) -> Option<&ThreadRow>
-        ensures row { option_copied result ≡ thread_in thread (row_at self.now process) }
+        ensures row { option_copied result ≡ thread_of thread (row_at self.now process) }
         ensures priority { IfSome result (λ row. IsPriority row.now.prio.0) }
     {
         self.process(process)?.thread(thread)
@@ -74,14 +76,14 @@ impl Processes {
     /// A thread, for writing; none where it is not there.
     pub fn thread_mut(&mut self, process: u8, thread: u8) -> Option<&mut ThreadCell>
         ensures* writes_back { sem 𝓛 (lends_thread_of self.entry process thread result) }
-        ensures row { option_copied_mut result ≡ thread_in thread (row_at self.old process) }
+        ensures row { option_copied_mut result ≡ thread_of thread (row_at self.old process) }
     {
         self.process_mut(process)?.thread_mut(thread)
     }
 
     /// A connection's row; none where it is not there.
     pub fn conn_of(&self, process: u8, coid: Coid) -> Option<&Connection>
-        ensures row { option_copied result ≡ connection_in coid.0 (row_at self.now process) }
+        ensures row { option_copied result ≡ connection_of coid.0 (row_at self.now process) }
     {
         self.process(process)?.conn_of(coid)
     }

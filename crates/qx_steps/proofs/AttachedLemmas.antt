@@ -5,6 +5,7 @@ use Rattle.std.specs.List.{list_any}
 use Rattle.std.proofs.lemmas.Bool.{cases_Bool, cases_lt}
 use Rattle.std.proofs.lemmas.Bool.Decides.{nat_tests}
 use Rattle.std.proofs.lemmas.List.Folds.{list_any-append}
+use Rattle.qx_chan.proofs.EntryLemmas.{or_false, or_true}
 use Rattle.qx_types.specs.Managers.{manager_number, managers}
 use Rattle.qx_types.specs.declared.names.Manager.{Manager}
 use Rattle.qx_types.specs.declared.names.Manager.TheVariants.{Ram, Pipe}
@@ -20,14 +21,6 @@ use Rattle.qx_steps.specs.Kept.{IsFree, attached_at, attaches}
 pub is_listed : (manager : Manager) → list_any (is_numbered (manager_number manager)) managers ≡ true
 is_listed Ram = refl
 is_listed Pipe = refl
-
-pub or_true : (b : Bool) → (b || true) ≡ true
-or_true true = refl
-or_true false = refl
-
-pub or_false : (b : Bool) → (b || false) ≡ b
-or_false true = refl
-or_false false = refl
 
 or_swap : (a b : Bool) → (a || b) ≡ (b || a)
 or_swap true b = sym (or_true b)

@@ -30,26 +30,13 @@ use Rattle.qx_machine.specs.Users.{take}
 use Rattle.qx_chan.specs.Channel.{Channel, is_same_server, is_same_thread, has_server, has_thread, message_of, sender, sender_of, stands, with_channel_line, with_server, without_server}
 use Rattle.qx_parts.specs.Reads.{process_of, thread_row}
 use Rattle.qx_steps.specs.Kept.{IsFree, Kept, attached_at, attaches, is_queued_at, settled, settled_at, stands_at, with_attached}
-use Rattle.qx_chan.proofs.EntryLemmas.{is_same_thread-differs, is_same_thread-self, stands-into}
-use Rattle.qx_chan.proofs.SetLemmas.{has-server, has-removed}
-use Rattle.qx_steps.proofs.AttachedLemmas.{attached-connected, is_listed, or_false, threads-connected}
-use Rattle.qx_steps.proofs.ProcessLemmas.{proc_cases, process_of-other, process_of-same, thread_cases}
+use Rattle.qx_chan.proofs.EntryLemmas.{is_same_thread-differs, is_same_thread-self, line_at-other, line_at-same, or_false, stands-into}
+use Rattle.qx_chan.proofs.NodesLemmas.{same_or_not, same_proc}
+use Rattle.qx_chan.proofs.SetLemmas.{has-server, is_same_server-differs}
+use Rattle.qx_steps.proofs.AttachedLemmas.{attached-connected, threads-connected}
+use Rattle.qx_steps.proofs.ProcessLemmas.{process_of-other, process_of-same}
 use Rattle.qx_steps.specs.Reads.{IsReady}
 use Rattle.qx_steps.proofs.RowReads.{length-with_row, option_cases, row_at-with_other, row_at-with_same}
-
--- lines under their numbers
-
-pub line_at-same : {A : Type 0} (lines : List (List A)) (number : ℕ) (f : List A → List A) → number < length lines → line_at (with_line lines number f) number ≡ f (line_at lines number)
-line_at-same [] number f within = absurd (omega (arith, within))
-line_at-same (line ∷ lines) zero f within = refl
-line_at-same (line ∷ lines) (suc number) f within = line_at-same lines number f (omega (arith, within))
-
-pub line_at-other : {A : Type 0} (lines : List (List A)) (number other : ℕ) (f : List A → List A) → other ≢ number → line_at (with_line lines number f) other ≡ line_at lines other
-line_at-other [] number other f differs = refl
-line_at-other (line ∷ lines) zero zero f differs = absurd (differs refl)
-line_at-other (line ∷ lines) zero (suc other) f differs = refl
-line_at-other (line ∷ lines) (suc number) zero f differs = refl
-line_at-other (line ∷ lines) (suc number) (suc other) f differs = line_at-other lines number other f (λ same. differs (ap suc same))
 
 -- each manager has a line
 pub number-below : (manager : Manager) → manager_number manager < COUNT
@@ -73,22 +60,13 @@ free-kept thread Side x f free = free
 pub same_server-self : (proc : Proc) (number at : ℕ) → is_same_server proc number proc at ≡ (number == at)
 same_server-self proc number at = rw (eq-eqb proc.user.0 proc.user.0 refl, eq-eqb proc.num proc.num refl) refl
 
-pub same_server-differs : (proc other : Proc) (number at : ℕ) → other ≢ proc → is_same_server proc number other at ≡ false
-same_server-differs proc other number at differs = elim (eqb_tells proc.user.0 other.user.0) [
-  | inr apart ↦ rw apart.0 refl
-  | inl user ↦ elim (eqb_tells proc.num other.num) [
-    | inr apart ↦ rw (user.0, apart.0) refl
-    | inl num ↦ absurd (differs (λ i. record { user = record { 0 = sym user.1 i }; num = sym num.1 i }))
-  ]
-]
-
 module _ (c : Channel) (proc : Proc) (manager : Manager) (over : Over) where
   attached-fields : {A : Type 0} (read : Channel → A) → read (with_server c proc (manager_number manager)) ≡ read c → read (with_attached c proc manager over) ≡ read c
   attached-fields read same = cond_both {A = Channel} (attaches over) _ _ (λ d. read d ≡ read c) (λ attaches. same) (λ not. refl)
 
   has-attached-other : (other : Proc) (at : ℕ) → other ≢ proc → has_server (with_attached c proc manager over) other at ≡ has_server c other at
   has-attached-other other at differs = attached-fields (λ d. has_server d other at)
-      (has-server c.servers proc (manager_number manager) other at ∙ rw (same_server-differs proc other (manager_number manager) at differs) (or_false (has_server c other at)))
+      (has-server c.servers proc (manager_number manager) other at ∙ rw (is_same_server-differs proc other (manager_number manager) at (λ same. absurd (differs same))) (or_false (has_server c other at)))
 
   has-attached-self : (at : ℕ) → has_server (with_attached c proc manager over) proc at ≡ (has_server c proc at || (attaches over && is_numbered at manager))
   has-attached-self at = elim (cases_Bool (attaches over)) [
@@ -136,7 +114,7 @@ module _ (parts : List (Option Part)) (channel : Channel) (thread : Thread) (sen
   row_new = ap (thread_of thread.tid) here ∙ rw (queued-threads thread.tid sent sends.process) (row_at-with_same sends.process.threads thread.tid (queued_thread sent) ∙ ap (option_map (queued_thread sent)) sends.in_process)
 
   row_other : (other : Thread) → other ≢ thread → thread_row new other ≡ thread_row parts other
-  row_other other differs = elim (proc_cases other.proc thread.proc) [
+  row_other other differs = elim (same_proc other.proc thread.proc) [
     | inr apart ↦ ap (thread_of other.tid) (elsewhere other.proc apart)
     | inl same ↦
         let tid : other.tid ≢ thread.tid = λ equal. differs (λ i. record { proc = same i; tid = equal i }) in
@@ -155,17 +133,17 @@ module _ (parts : List (Option Part)) (channel : Channel) (thread : Thread) (sen
   queued : (other : Thread) (at : ℕ) → stands (line_at (channel_sent channel thread sent).lines at) other ≡ stands_at at (thread_row new other)
   queued other at = rw lines_of (elim (cases_eq at number) [
     | inl same ↦ rw (same, line_at-same channel.lines number (λ line. into rank line (message_of thread sent.prio.0)) within) (stands-into rank (line_at channel.lines number) (message_of thread sent.prio.0) other ∙ in_line other)
-    | inr differs ↦ rw (line_at-other channel.lines number at (λ line. into rank line (message_of thread sent.prio.0)) differs) (in_other other at differs)
+    | inr differs ↦ rw (line_at-other channel.lines number (λ line. into rank line (message_of thread sent.prio.0)) at differs) (in_other other at differs)
   ])
     where
       in_line : (other : Thread) → (stands (line_at channel.lines number) other || is_same_thread thread other) ≡ stands_at number (thread_row new other)
-      in_line other = elim (thread_cases other thread) [
+      in_line other = elim (same_or_not other thread) [
         | inl same ↦ rw (same, row_new, waits number, is_same_thread-self thread) (sym (eq-eqb number number refl))
         | inr differs ↦ rw (row_other other differs, is_same_thread-differs thread other (λ same. differs (sym same))) (or_false (stands (line_at channel.lines number) other) ∙ kept.lines other number)
       ]
 
       in_other : (other : Thread) (at : ℕ) → at ≢ number → stands (line_at channel.lines at) other ≡ stands_at at (thread_row new other)
-      in_other other at apart = elim (thread_cases other thread) [
+      in_other other at apart = elim (same_or_not other thread) [
         | inl same ↦ rw (same, row_new, waits at) (sym (eqb-differs number at (λ equal. apart (sym equal))))
         | inr differs ↦ rw (row_other other differs) (kept.lines other at)
       ]
@@ -174,12 +152,12 @@ module _ (parts : List (Option Part)) (channel : Channel) (thread : Thread) (sen
   Kept-sent = record {
     users = attached-fields channel thread.proc sent.manager sent.over (λ d. d.users) refl ∙ kept.users ∙ sym (length-with_row parts thread.proc.user.0 (sent_in thread sent));
     managers = length-set _ number _ ∙ ap length lines_of ∙ kept.managers;
-    threads = λ other. attached-fields channel thread.proc sent.manager sent.over (λ d. has_thread d other) refl ∙ kept.threads other ∙ elim (thread_cases other thread) [
+    threads = λ other. attached-fields channel thread.proc sent.manager sent.over (λ d. has_thread d other) refl ∙ kept.threads other ∙ elim (same_or_not other thread) [
       | inl same ↦ rw (same, row_old, row_new) refl
       | inr differs ↦ ap is_some (sym (row_other other differs))
     ];
     lines = queued;
-    servers = λ other manager. elim (proc_cases other thread.proc) [
+    servers = λ other manager. elim (same_proc other thread.proc) [
       | inr differs ↦ has-attached-other channel thread.proc sent.manager sent.over other (manager_number manager) differs ∙ kept.servers other manager ∙ ap (attached_at (manager_number manager)) (sym (elsewhere other differs))
       | inl same ↦ rw (same, here) (has-attached-self channel thread.proc sent.manager sent.over (manager_number manager)
           ∙ ap (λ b. b || (attaches sent.over && is_numbered (manager_number manager) sent.manager)) (kept.servers thread.proc manager ∙ ap (attached_at (manager_number manager)) sends.there)

@@ -1,32 +1,13 @@
--- One process among the rows of all users, where it changes, and the names of processes and threads.
+-- One process among the rows of all users, where it changes.
 use Rattle.std.proofs.Common.{◌≡◌, ◌≢◌, inl, inr, ℕ, ◌⊎◌, List, Option, Some, None, refl, sym, ◌∙◌, ap}
 use Rattle.std.specs.Prelude.{option_map}
 use Rattle.std.proofs.lemmas.Bool.{cases_eq}
 use Rattle.qx_types.specs.declared.names.Proc.{Proc}
-use Rattle.qx_types.specs.declared.names.Thread.{Thread}
 use Rattle.qx_machine.specs.Parts.{Part}
 use Rattle.qx_machine.specs.Processes.{Process}
 use Rattle.qx_machine.specs.Rows.{row_at, with_row}
 use Rattle.qx_parts.specs.Reads.{process_in, process_of}
 use Rattle.qx_steps.proofs.RowReads.{row_at-with_other, row_at-with_same}
-
-pub proc_cases : (one other : Proc) → (one ≡ other) ⊎ (one ≢ other)
-proc_cases one other = elim (cases_eq one.user.0 other.user.0) [
-  | inr apart ↦ inr (λ same. apart (ap (λ p. p.user.0) same))
-  | inl user ↦ elim (cases_eq one.num other.num) [
-    | inr apart ↦ inr (λ same. apart (ap (λ p. p.num) same))
-    | inl num ↦ inl (λ i. record { user = record { 0 = user i }; num = num i })
-  ]
-]
-
-pub thread_cases : (one other : Thread) → (one ≡ other) ⊎ (one ≢ other)
-thread_cases one other = elim (proc_cases one.proc other.proc) [
-  | inr apart ↦ inr (λ same. apart (ap (λ t. t.proc) same))
-  | inl proc ↦ elim (cases_eq one.tid other.tid) [
-    | inr apart ↦ inr (λ same. apart (ap (λ t. t.tid) same))
-    | inl tid ↦ inl (λ i. record { proc = proc i; tid = tid i })
-  ]
-]
 
 module _ (parts : List (Option Part)) (proc : Proc) (h : Part → Part) (f : Process → Process) (is : (part : Part) → row_at parts proc.user.0 ≡ Some part → (h part).processes ≡ with_row part.processes proc.num f) where
   pub process_of-same : process_of (with_row parts proc.user.0 h) proc ≡ option_map f (process_of parts proc)

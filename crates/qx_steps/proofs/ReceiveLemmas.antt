@@ -21,9 +21,10 @@ use Rattle.qx_machine.specs.Users.{take}
 use Rattle.qx_chan.specs.Channel.{Channel, is_same_thread, sender, sender_of, stands, with_channel_line}
 use Rattle.qx_parts.specs.Reads.{process_of, thread_row}
 use Rattle.qx_steps.specs.Kept.{Kept, attached_at, is_queued_at, stands_at}
-use Rattle.qx_chan.proofs.EntryLemmas.{is_same_thread-differs, is_same_thread-self}
-use Rattle.qx_steps.proofs.KeptLemmas.{eqb-differs, line_at-other, line_at-same, number-below}
-use Rattle.qx_steps.proofs.ProcessLemmas.{process_of-other, process_of-same, thread_cases, proc_cases}
+use Rattle.qx_chan.proofs.EntryLemmas.{is_same_thread-differs, is_same_thread-self, line_at-other, line_at-same}
+use Rattle.qx_chan.proofs.NodesLemmas.{same_or_not, same_proc}
+use Rattle.qx_steps.proofs.KeptLemmas.{eqb-differs, number-below}
+use Rattle.qx_steps.proofs.ProcessLemmas.{process_of-other, process_of-same}
 use Rattle.qx_steps.proofs.RowReads.{length-with_row, read-with_row, row_at-with_other, row_at-with_same}
 
 pub first_of-line : (line : List Queued) (first : Queued) → Some first ≡ slice_get line 0 → line ≡ first ∷ drop 1 line
@@ -104,7 +105,7 @@ module _ (parts : List (Option Part)) (channel : Channel) (manager : Manager) (f
       in_process (Some x) = row_at-with_same x.threads thread.tid taken_thread
 
   row_other : (other : Thread) → other ≢ thread → thread_row new other ≡ thread_row parts other
-  row_other other differs = elim (proc_cases other.proc thread.proc) [
+  row_other other differs = elim (same_proc other.proc thread.proc) [
     | inr apart ↦ ap (thread_of other.tid) (elsewhere other.proc apart)
     | inl same ↦
         let tid : other.tid ≢ thread.tid = λ equal. differs (λ i. record { proc = same i; tid = equal i }) in
@@ -124,11 +125,11 @@ module _ (parts : List (Option Part)) (channel : Channel) (manager : Manager) (f
   left : (other : Thread) (at : ℕ) → stands (line_at (with_channel_line channel number (drop 1)).lines at) other ≡ stands_at at (thread_row new other)
   left other at = elim (cases_eq at number) [
     | inl same ↦ rw (same, line_at-same channel.lines number (drop 1) within, line) (in_line other)
-    | inr differs ↦ rw (line_at-other channel.lines number at (drop 1) differs) (in_other other at differs)
+    | inr differs ↦ rw (line_at-other channel.lines number (drop 1) at differs) (in_other other at differs)
   ]
     where
       in_line : (other : Thread) → stands rest other ≡ stands_at number (thread_row new other)
-      in_line other = elim (thread_cases other thread) [
+      in_line other = elim (same_or_not other thread) [
         | inl same ↦ rw (same, row_new, gone_from (thread_row parts thread) number number stood) gone
         | inr differs ↦
             let not_first : is_same_thread thread other ≡ false = is_same_thread-differs thread other (λ same. differs (sym same)) in
@@ -138,7 +139,7 @@ module _ (parts : List (Option Part)) (channel : Channel) (manager : Manager) (f
       ]
 
       in_other : (other : Thread) (at : ℕ) → at ≢ number → stands (line_at channel.lines at) other ≡ stands_at at (thread_row new other)
-      in_other other at apart = kept.lines other at ∙ elim (thread_cases other thread) [
+      in_other other at apart = kept.lines other at ∙ elim (same_or_not other thread) [
         | inl same ↦ rw (same, row_new, gone_from (thread_row parts thread) number at stood) (stands_once (thread_row parts thread) number at apart stood)
         | inr differs ↦ ap (stands_at at) (sym (row_other other differs))
       ]
@@ -147,12 +148,12 @@ module _ (parts : List (Option Part)) (channel : Channel) (manager : Manager) (f
   taken_at = record {
     users = kept.users ∙ sym (length-with_row parts thread.proc.user.0 h);
     managers = length-set _ number _ ∙ kept.managers;
-    threads = λ other. kept.threads other ∙ elim (thread_cases other thread) [
+    threads = λ other. kept.threads other ∙ elim (same_or_not other thread) [
       | inl same ↦ rw (same, row_new) (sym (is_there (thread_row parts thread)))
       | inr differs ↦ ap is_some (sym (row_other other differs))
     ];
     lines = left;
-    servers = λ other at. kept.servers other at ∙ elim (proc_cases other thread.proc) [
+    servers = λ other at. kept.servers other at ∙ elim (same_proc other thread.proc) [
       | inl same ↦ rw (same, here) (sym (as_before (manager_number at) (process_of parts thread.proc)))
       | inr differs ↦ ap (attached_at (manager_number at)) (sym (elsewhere other differs))
     ];

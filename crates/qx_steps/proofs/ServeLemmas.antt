@@ -30,10 +30,12 @@ use Rattle.qx_chan.specs.Channel.{Channel, has_server, sender_of, stands, withou
 use Rattle.qx_parts.specs.Deeds.{served_part}
 use Rattle.qx_parts.specs.Reads.{process_in, process_of, thread_row}
 use Rattle.qx_steps.specs.Kept.{Kept, attached_at, is_queued_at, settled, settled_at, settled_number, stands_at}
-use Rattle.qx_chan.proofs.SetLemmas.{has-removed}
-use Rattle.qx_steps.proofs.AttachedLemmas.{attached-with_block, fewer-detached, fewer-given_back, fewer-let_go, is_listed, or_true, threads-given_back, threads-let_go}
-use Rattle.qx_steps.proofs.KeptLemmas.{same_server-differs, same_server-self}
-use Rattle.qx_steps.proofs.ProcessLemmas.{proc_cases, process_of-other}
+use Rattle.qx_chan.proofs.SetLemmas.{has-removed, is_same_server-differs}
+use Rattle.qx_chan.proofs.EntryLemmas.{or_true}
+use Rattle.qx_chan.proofs.NodesLemmas.{same_proc}
+use Rattle.qx_steps.proofs.AttachedLemmas.{attached-with_block, fewer-detached, fewer-given_back, fewer-let_go, is_listed, threads-given_back, threads-let_go}
+use Rattle.qx_steps.proofs.KeptLemmas.{same_server-self}
+use Rattle.qx_steps.proofs.ProcessLemmas.{process_of-other}
 use Rattle.qx_steps.proofs.ReceiveLemmas.{sender-user}
 use Rattle.qx_steps.proofs.RowReads.{length-with_row, option_cases, read-with_row, result_cases, row_at-with_other, row_at-with_same}
 
@@ -168,7 +170,7 @@ module _ (proc : Proc) (process : Option Process) where
   has-settled-other other at differs (m ∷ ms) c =
       has-settled-other other at differs ms (settled_at proc process m c)
       ∙ settled_at-fields (λ d. has_server d other at) m c
-      (has-removed c.servers proc (manager_number m) other at ∙ rw (same_server-differs proc other (manager_number m) at differs) (and_true (has_server c other at)))
+      (has-removed c.servers proc (manager_number m) other at ∙ rw (is_same_server-differs proc other (manager_number m) at (λ same. absurd (differs same))) (and_true (has_server c other at)))
 
   has-settled_at-self : (m : Manager) (c : Channel) (k : ℕ) → has_server (settled_at proc process m c) proc k ≡ (has_server c proc k && (attached_at (manager_number m) process || not (is_numbered k m)))
   has-settled_at-self m c k = elim (cases_Bool (attached_at (manager_number m) process)) [
@@ -232,7 +234,7 @@ module _ (parts : List (Option Part)) (channel : Channel) (user : ℕ) (own : Ow
         ∙ sym (read-with_row (λ o. is_some (thread_of t.tid (process_in t.proc.num o))) parts proc.user.0 t.proc.user.0 h (λ part is. (served_fewer part user own).threads t.proc.num t.tid));
     lines = λ t k. ap (λ lines. stands (line_at lines k) t) (settled-fields proc (process_of new proc) (λ c. c.lines) (λ c number. refl) managers channel) ∙ kept.lines t k
         ∙ sym (read-with_row (λ o. stands_at k (thread_of t.tid (process_in t.proc.num o))) parts proc.user.0 t.proc.user.0 h (λ part is. (served_fewer part user own).lines t.proc.num t.tid k));
-    servers = λ other m. elim (proc_cases other proc) [
+    servers = λ other m. elim (same_proc other proc) [
       | inr differs ↦ has-settled-other proc (process_of new proc) other (manager_number m) differs managers channel ∙ kept.servers other m ∙ ap (attached_at (manager_number m)) (sym (elsewhere other differs))
       | inl same ↦ rw same (has-settled-self proc (process_of new proc) managers channel (manager_number m)
           ∙ rw (is_listed m, kept.servers proc m) (kept_if (attached_at (manager_number m) (process_of parts proc)) (attached_at (manager_number m) (process_of new proc)) (attached-fewer (manager_number m))))

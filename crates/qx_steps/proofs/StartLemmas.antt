@@ -30,8 +30,9 @@ use Rattle.qx_parts.specs.Reads.{HasPlace, process_in, process_of, thread_row}
 use Rattle.qx_procs.proofs.RowLemmas.{row_at-get_or}
 use Rattle.qx_steps.specs.Calls.{spawn_number_in}
 use Rattle.qx_steps.specs.Kept.{Kept, attached_at, stands_at}
-use Rattle.qx_steps.proofs.AttachedLemmas.{or_false}
-use Rattle.qx_steps.proofs.ProcessLemmas.{process_of-other, proc_cases}
+use Rattle.qx_chan.proofs.EntryLemmas.{or_false}
+use Rattle.qx_chan.proofs.NodesLemmas.{same_proc}
+use Rattle.qx_steps.proofs.ProcessLemmas.{process_of-other}
 use Rattle.qx_steps.proofs.RowReads.{length-with_row, lowest-within, option_cases, put_row-other, put_row-same, row_at-past, row_at-with_same, row_within}
 
 -- a number that a new process is to have
@@ -142,15 +143,15 @@ module _ (parts : List (Option Part)) (proc : Proc) (threads prio : ℕ) (begun 
     Kept-started channel kept = record {
       users = users-process channel proc threads ∙ kept.users ∙ sym (length-with_row parts proc.user.0 started);
       managers = ap length (lines-process channel proc threads) ∙ kept.managers;
-      threads = λ other. has-process channel proc threads other ∙ elim (proc_cases other.proc proc) [
+      threads = λ other. has-process channel proc threads other ∙ elim (same_proc other.proc proc) [
         | inr differs ↦ rw (not_of other differs) (or_false (has_thread channel other) ∙ kept.threads other ∙ ap (λ o. is_some (thread_of other.tid o)) (sym (elsewhere other.proc differs)))
         | inl same ↦ rw (kept.threads other, same, old_none, here) (own_of other same ∙ sym (new_is threads other.tid (new_thread prio)))
       ];
-      lines = λ other number. ap (λ lines. stands (line_at lines number) other) (lines-process channel proc threads) ∙ kept.lines other number ∙ elim (proc_cases other.proc proc) [
+      lines = λ other number. ap (λ lines. stands (line_at lines number) other) (lines-process channel proc threads) ∙ kept.lines other number ∙ elim (same_proc other.proc proc) [
         | inr differs ↦ ap (λ o. stands_at number (thread_of other.tid o)) (sym (elsewhere other.proc differs))
         | inl same ↦ rw (same, old_none, here) (sym (new_waits threads other.tid prio number))
       ];
-      servers = λ other manager. ap (λ s. set.contains s (other, manager_number manager)) (servers-process channel proc threads) ∙ kept.servers other manager ∙ elim (proc_cases other proc) [
+      servers = λ other manager. ap (λ s. set.contains s (other, manager_number manager)) (servers-process channel proc threads) ∙ kept.servers other manager ∙ elim (same_proc other proc) [
         | inr differs ↦ ap (attached_at (manager_number manager)) (sym (elsewhere other differs))
         | inl same ↦ rw (same, old_none, here) (sym (new_attached threads prio manager))
       ];
