@@ -150,8 +150,8 @@ impl Plain {
                 let (flags, mode) = (*flags, *mode);
                 (Over::New(coid), Message::Open { flags, mode })
             }
-            Request::Close { coid } => (self.connection(thread.proc, *coid)?, Message::Close),
-            Request::Fstat { coid } => (self.connection(thread.proc, *coid)?, Message::Fstat),
+            Request::Close { coid } => (self.used(thread.proc, *coid)?, Message::Close),
+            Request::Fstat { coid } => (self.used(thread.proc, *coid)?, Message::Fstat),
         };
         Ok(Sent {
             manager: Manager::Ram,
@@ -162,7 +162,7 @@ impl Plain {
     }
 
     /// A connection that is there.
-    fn connection(&self, proc: Proc, coid: Coid) -> Result<Over, Errno> {
+    fn used(&self, proc: Proc, coid: Coid) -> Result<Over, Errno> {
         if self.is_connection(proc, coid) {
             Ok(Over::Existing(coid))
         } else {
