@@ -14,7 +14,7 @@ use Rattle.qx_machine.specs.declared.rows.OwnItem.{OwnItem}
 use Rattle.qx_machine.specs.declared.rows.OwnItem.TheVariants as item
 use Rattle.qx_machine.specs.declared.rows.Queued.{Queued}
 use Rattle.qx_machine.specs.Lines.{line_at, with_line}
-use Rattle.qx_machine.specs.Machine.{queued}
+use Rattle.qx_machine.specs.Machine.{queued_item}
 
 -- processes in order
 abbrev pub proc_cmp : Proc → Proc → Ordering
@@ -61,7 +61,7 @@ with_channel_line c number change = record c { lines = with_line c.lines number 
 
 -- a thread's message as it stands in a line
 abbrev pub message_of : Thread → ℕ → Queued
-message_of thread prio = queued thread.proc.user.0 (item.Message thread.proc.num thread.tid) prio
+message_of thread prio = queued_item thread.proc.user.0 (item.Message thread.proc.num thread.tid) prio
 
 abbrev pub sender_of : ℕ → OwnItem → Thread
 sender_of user (item.Message process thread) = record { proc = record { user = record { 0 = user }; num = process }; tid = thread }

@@ -8,12 +8,12 @@ use Rattle.qx_lines.specs.Line.{IsLineOf, IsOwn, nodes_in}
 use Rattle.qx_machine.specs.declared.rows.OwnItem.TheVariants as item
 use Rattle.qx_machine.specs.declared.rows.Queued.{Queued}
 use Rattle.qx_machine.specs.Lines.{into}
-use Rattle.qx_machine.specs.Machine.{queued, rank}
+use Rattle.qx_machine.specs.Machine.{queued_item, rank}
 use Rattle.qx_chan.specs.Channel.{sender}
 use Rattle.qx_chan.specs.Nodes.{Disconnect, Message, Owner, Unblock}
 
 abbrev pub nobodys : Queued
-nobodys = queued 0 (item.Message 0 0) 0
+nobodys = queued_item 0 (item.Message 0 0) 0
 
 -- what a node stands for
 abbrev pub entry_at : Table Queued → ℕ → Queued

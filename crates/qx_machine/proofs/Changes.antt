@@ -9,7 +9,7 @@ use Rattle.qx_machine.specs.declared.rows.Held.{Held}
 use Rattle.qx_machine.specs.declared.rows.OwnItem.{OwnItem}
 use Rattle.qx_machine.specs.declared.rows.Queued.{Queued}
 use Rattle.qx_machine.specs.Laws.{IsInOrder}
-use Rattle.qx_machine.specs.Machine.{rank, queued, without, is_same_item, changed_manager, line_changed, lines_after, own_line, own_held, own_hand}
+use Rattle.qx_machine.specs.Machine.{rank, queued_item, line_without, is_same_item, changed_manager, line_after, lines_after, own_line, own_held, own_hand}
 use Rattle.qx_types.specs.Managers.{manager_number}
 use Rattle.qx_machine.specs.Lines.{line_at, with_line}
 use Rattle.qx_machine.specs.Rows.{row_at}
@@ -26,40 +26,40 @@ in_order_at [] number h = in_order_none rank
 in_order_at (line ∷ lines) zero h = All-head (IsInOrder rank) line lines h
 in_order_at (line ∷ lines) (suc number) h = in_order_at lines number (All-tail (IsInOrder rank) line lines h)
 
-own_line-without : (user : ℕ) (item : OwnItem) (line : List Queued) → own_line user (without user item line) ≡ without user item (own_line user line)
+own_line-without : (user : ℕ) (item : OwnItem) (line : List Queued) → own_line user (line_without user item line) ≡ line_without user item (own_line user line)
 own_line-without user item [] = refl
 own_line-without user item (first ∷ line) = grind (arith, nat_tests, own_line-without user item line)
 
-own_line-without_other : (user other : ℕ) (item : OwnItem) (line : List Queued) → (other == user) ≡ false → own_line user (without other item line) ≡ own_line user line
+own_line-without_other : (user other : ℕ) (item : OwnItem) (line : List Queued) → (other == user) ≡ false → own_line user (line_without other item line) ≡ own_line user line
 own_line-without_other user other item [] differ = refl
 own_line-without_other user other item (first ∷ line) differ = grind (arith, nat_tests, own_line-without_other user other item line differ)
 
-All-without : (P : Queued → Type 0) (user : ℕ) (item : OwnItem) (line : List Queued) → All P line → All P (without user item line)
+All-without : (P : Queued → Type 0) (user : ℕ) (item : OwnItem) (line : List Queued) → All P line → All P (line_without user item line)
 All-without P user item [] h = h
 All-without P user item (first ∷ line) h =
-    cond_both ((first.user.0 == user) && is_same_item first.item item) line (first ∷ without user item line) (All P)
+    cond_both ((first.user.0 == user) && is_same_item first.item item) line (first ∷ line_without user item line) (All P)
     (λ same. All-tail P first line h)
-    (λ differ. All-cons P first (without user item line) (All-head P first line h) (All-without P user item line (All-tail P first line h)))
+    (λ differ. All-cons P first (line_without user item line) (All-head P first line h) (All-without P user item line (All-tail P first line h)))
 
-in_order_without : (user : ℕ) (item : OwnItem) (line : List Queued) → IsInOrder rank line → IsInOrder rank (without user item line)
+in_order_without : (user : ℕ) (item : OwnItem) (line : List Queued) → IsInOrder rank line → IsInOrder rank (line_without user item line)
 in_order_without user item [] h = h
 in_order_without user item (first ∷ line) h =
-    cond_both ((first.user.0 == user) && is_same_item first.item item) line (first ∷ without user item line) (IsInOrder rank)
+    cond_both ((first.user.0 == user) && is_same_item first.item item) line (first ∷ line_without user item line) (IsInOrder rank)
     (λ same. in_order_rest rank first line h)
-    (λ differ. in_order_cons rank first (without user item line)
+    (λ differ. in_order_cons rank first (line_without user item line)
     (All-without (λ later. rank later ≤ rank first) user item line (in_order_first rank first line h))
     (in_order_without user item line (in_order_rest rank first line h)))
 
-in_order_changed : (user : ℕ) (change : Change) (line : List Queued) → IsInOrder rank line → IsInOrder rank (line_changed user change line)
-in_order_changed user (Put manager item prio) line h = in_order_into rank line (queued user item prio) h
+in_order_changed : (user : ℕ) (change : Change) (line : List Queued) → IsInOrder rank line → IsInOrder rank (line_after user change line)
+in_order_changed user (Put manager item prio) line h = in_order_into rank line (queued_item user item prio) h
 in_order_changed user (Remove manager item) line h = in_order_without user item line h
 
-own_line-changed : (user : ℕ) (change : Change) (line : List Queued) → IsInOrder rank line → own_line user (line_changed user change line) ≡ line_changed user change (own_line user line)
-own_line-changed user (Put manager item prio) line h = filter-into rank (λ first. first.user.0 == user) line (queued user item prio) h (eq-eqb user user refl)
+own_line-changed : (user : ℕ) (change : Change) (line : List Queued) → IsInOrder rank line → own_line user (line_after user change line) ≡ line_after user change (own_line user line)
+own_line-changed user (Put manager item prio) line h = filter-into rank (λ first. first.user.0 == user) line (queued_item user item prio) h (eq-eqb user user refl)
 own_line-changed user (Remove manager item) line h = own_line-without user item line
 
-own_line-changed_other : (user other : ℕ) (change : Change) (line : List Queued) → (other == user) ≡ false → own_line user (line_changed other change line) ≡ own_line user line
-own_line-changed_other user other (Put manager item prio) line differ = filter-into_other rank (λ first. first.user.0 == user) line (queued other item prio) differ
+own_line-changed_other : (user other : ℕ) (change : Change) (line : List Queued) → (other == user) ≡ false → own_line user (line_after other change line) ≡ own_line user line
+own_line-changed_other user other (Put manager item prio) line differ = filter-into_other rank (λ first. first.user.0 == user) line (queued_item other item prio) differ
 own_line-changed_other user other (Remove manager item) line differ = own_line-without_other user other item line differ
 
 -- the line that a change is of, and the lines after it
@@ -67,11 +67,11 @@ abbrev number_of : Change → ℕ
 number_of change = manager_number (changed_manager change)
 
 abbrev lines_changed : ℕ → List (List Queued) → Change → List (List Queued)
-lines_changed user lines change = with_line lines (number_of change) (line_changed user change)
+lines_changed user lines change = with_line lines (number_of change) (line_after user change)
 
 lines_in_order_changed : (user : ℕ) (lines : List (List Queued)) (change : Change) → AreInOrder lines → AreInOrder (lines_changed user lines change)
 lines_in_order_changed user lines change h =
-    All-set (IsInOrder rank) lines (number_of change) (line_changed user change (line_at lines (number_of change)))
+    All-set (IsInOrder rank) lines (number_of change) (line_after user change (line_at lines (number_of change)))
     (in_order_changed user change (line_at lines (number_of change)) (in_order_at lines (number_of change) h)) h
 
 pub lines_in_order_after : (user : ℕ) (lines : List (List Queued)) (changes : List Change) → AreInOrder lines → AreInOrder (lines_after user lines changes)
@@ -81,9 +81,9 @@ lines_in_order_after user lines (change ∷ changes) h = lines_in_order_after us
 own_lines-changed : (user : ℕ) (lines : List (List Queued)) (change : Change) → AreInOrder lines → map (own_line user) (lines_changed user lines change) ≡ lines_changed user (map (own_line user) lines) change
 own_lines-changed user lines change h =
     let line = line_at lines (number_of change) in
-    map-set (own_line user) lines (number_of change) (line_changed user change line)
+    map-set (own_line user) lines (number_of change) (line_after user change line)
     ∙ ap (slice_set (map (own_line user) lines) (number_of change))
-    (own_line-changed user change line (in_order_at lines (number_of change) h) ∙ ap (line_changed user change) (sym (at-map (own_line user) lines (number_of change) [] [] refl)))
+    (own_line-changed user change line (in_order_at lines (number_of change) h) ∙ ap (line_after user change) (sym (at-map (own_line user) lines (number_of change) [] [] refl)))
 
 pub own_lines-after : (user : ℕ) (lines : List (List Queued)) (changes : List Change) → AreInOrder lines → map (own_line user) (lines_after user lines changes) ≡ lines_after user (map (own_line user) lines) changes
 own_lines-after user lines [] h = refl
@@ -95,7 +95,7 @@ pub own_lines-after_other : (user other : ℕ) (lines : List (List Queued)) (cha
 own_lines-after_other user other lines [] differ = refl
 own_lines-after_other user other lines (change ∷ changes) differ =
     own_lines-after_other user other (lines_changed other lines change) changes differ
-    ∙ map-set_unseen (own_line user) lines (number_of change) [] (line_changed other change (line_at lines (number_of change)))
+    ∙ map-set_unseen (own_line user) lines (number_of change) [] (line_after other change (line_at lines (number_of change)))
     (own_line-changed_other user other change (line_at lines (number_of change)) differ)
 
 -- a user's items in hands are in that user's view

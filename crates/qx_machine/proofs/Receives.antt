@@ -9,7 +9,7 @@ use Rattle.qx_types.specs.declared.outcome.Outcome.TheVariants.{WrongState, Took
 use Rattle.qx_machine.specs.declared.rows.Held.{Held}
 use Rattle.qx_machine.specs.declared.rows.Queued.{Queued}
 use Rattle.qx_machine.specs.Laws.{IsInOrder}
-use Rattle.qx_machine.specs.Machine.{World, boot, rank, own_hand, own_line, unchanged, line_of, with_taken, shown_item, received_part, receive_line, receive_hand, first_user, receive_owner, view}
+use Rattle.qx_machine.specs.Machine.{World, boot, rank, own_hand, own_line, same_world, line_of, with_taken, shown_item, received_part, receive_line, receive_hand, first_user, receive_owner, view}
 use Rattle.qx_types.specs.Managers.{manager_number}
 use Rattle.qx_machine.specs.Rows.{row_at}
 use Rattle.qx_machine.specs.Runs.{is_owner}
@@ -73,8 +73,8 @@ receive_hand_own w user worker manager None h own = rw (line_of-view user w mana
 receive_hand_own w user worker manager (Some held) h own = absurd (false≢true own)
 
 pub receive_worker_own : (w : World) (user worker : ℕ) (manager : Manager) (is_one : Bool) → IsReached w → is_owner user (if is_one then receive_owner (line_of w manager) (row_at w.hands worker) else None) ≡ true
-    → (if is_one then receive_hand (view user w) worker manager (row_at (view user w).hands worker) else unchanged (view user w) WrongState)
-    ≡ viewed user (if is_one then receive_hand w worker manager (row_at w.hands worker) else unchanged w WrongState)
+    → (if is_one then receive_hand (view user w) worker manager (row_at (view user w).hands worker) else same_world (view user w) WrongState)
+    ≡ viewed user (if is_one then receive_hand w worker manager (row_at w.hands worker) else same_world w WrongState)
 receive_worker_own w user worker manager true h own = rw (row_at-hands user w worker) (receive_hand_own w user worker manager (row_at w.hands worker) h own)
 receive_worker_own w user worker manager false h own = absurd (false≢true own)
 
@@ -90,7 +90,7 @@ receive_hand_other w user worker manager None empty differ = receive_line_other 
 receive_hand_other w user worker manager (Some held) holds differ = refl
 
 pub receive_worker_other : (w : World) (user worker : ℕ) (manager : Manager) (is_one : Bool) → is_owner user (if is_one then receive_owner (line_of w manager) (row_at w.hands worker) else None) ≡ false
-    → view user (if is_one then receive_hand w worker manager (row_at w.hands worker) else unchanged w WrongState).world ≡ view user w
+    → view user (if is_one then receive_hand w worker manager (row_at w.hands worker) else same_world w WrongState).world ≡ view user w
 receive_worker_other w user worker manager true differ = receive_hand_other w user worker manager (row_at w.hands worker) refl differ
 receive_worker_other w user worker manager false differ = refl
 
@@ -102,6 +102,6 @@ reached_hand : (w : World) (worker : ℕ) (manager : Manager) (hand : Option Hel
 reached_hand w worker manager None h = reached_line w worker manager (line_of w manager) refl h
 reached_hand w worker manager (Some held) h = h
 
-pub reached_worker : (w : World) (worker : ℕ) (manager : Manager) (is_one : Bool) → IsReached w → IsReached (if is_one then receive_hand w worker manager (row_at w.hands worker) else unchanged w WrongState).world
+pub reached_worker : (w : World) (worker : ℕ) (manager : Manager) (is_one : Bool) → IsReached w → IsReached (if is_one then receive_hand w worker manager (row_at w.hands worker) else same_world w WrongState).world
 reached_worker w worker manager true h = reached_hand w worker manager (row_at w.hands worker) h
 reached_worker w worker manager false h = h

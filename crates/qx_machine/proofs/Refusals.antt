@@ -16,7 +16,7 @@ use Rattle.qx_machine.specs.declared.rows.OwnItem.{OwnItem}
 use Rattle.qx_machine.specs.declared.rows.Queued.{Queued}
 use Rattle.qx_machine.specs.Judgements.{◌>>=◌}
 use Rattle.qx_machine.specs.Laws.{is_refusal}
-use Rattle.qx_machine.specs.Machine.{World, acted, client_step, is_worker, line_of, own_held, perform_hand, receive_hand, receive_line, server_step, step, step_of, unchanged}
+use Rattle.qx_machine.specs.Machine.{World, step_end, client_step, is_worker, line_of, own_held, perform_hand, receive_hand, receive_line, server_step, step, step_of, same_world}
 use Rattle.qx_types.specs.Step.{actor_of, user_of}
 use Rattle.qx_machine.specs.Rows.{row_at}
 use Rattle.qx_machine.specs.Clients.{ClientStep, client_given, or_unchanged, outcome_of}
@@ -60,14 +60,14 @@ unfolding client
 client_stays config user held part e refused = unchanged_stays part (client_given config user held part e) (given_goes config user held part e) refused
 
 -- rows that stay are put back where they were
-acted_same : (w : World) (user : ℕ) (part : Part) → row_at w.parts user ≡ Some part → acted user part part [] w ≡ w
+acted_same : (w : World) (user : ℕ) (part : Part) → row_at w.parts user ≡ Some part → step_end user part part [] w ≡ w
 unfolding settle
 acted_same w user part here = ap (λ parts. record w { parts = parts }) (ap (slice_set w.parts user) (sym here) ∙ set-row_at w.parts user)
 
 client_same : (w : World) (user : ℕ) (e : Step) (row : Option Part) → row_at w.parts user ≡ row → is_refusal (client_step w user e row).outcome ≡ true → (client_step w user e row).world ≡ w
 client_same w user e None here refused = refl
 client_same w user e (Some part) here refused =
-    ap (λ given. acted user part given.part given.changes w) (client_stays w.config user (own_held user w.hands) part e refused) ∙ acted_same w user part here
+    ap (λ given. step_end user part given.part given.changes w) (client_stays w.config user (own_held user w.hands) part e refused) ∙ acted_same w user part here
 
 line_same : (w : World) (worker : ℕ) (manager : Manager) (line : List Queued) → is_refusal (receive_line w worker manager line).outcome ≡ true → (receive_line w worker manager line).world ≡ w
 line_same w worker manager [] refused = refl
@@ -77,8 +77,8 @@ hand_same : (w : World) (worker : ℕ) (manager : Manager) (hand : Option Held) 
 hand_same w worker manager None refused = line_same w worker manager (line_of w manager) refused
 hand_same w worker manager (Some held) refused = refl
 
-receive_same : (w : World) (worker : ℕ) (manager : Manager) (is_one : Bool) → is_refusal (if is_one then receive_hand w worker manager (row_at w.hands worker) else unchanged w WrongState).outcome ≡ true
-    → (if is_one then receive_hand w worker manager (row_at w.hands worker) else unchanged w WrongState).world ≡ w
+receive_same : (w : World) (worker : ℕ) (manager : Manager) (is_one : Bool) → is_refusal (if is_one then receive_hand w worker manager (row_at w.hands worker) else same_world w WrongState).outcome ≡ true
+    → (if is_one then receive_hand w worker manager (row_at w.hands worker) else same_world w WrongState).world ≡ w
 receive_same w worker manager true refused = hand_same w worker manager (row_at w.hands worker) refused
 receive_same w worker manager false refused = refl
 
@@ -86,8 +86,8 @@ held_same : (w : World) (worker moment : ℕ) (hand : Option Held) → is_refusa
 held_same w worker moment None refused = refl
 held_same w worker moment (Some held) refused = absurd (false≢true refused)
 
-perform_same : (w : World) (worker moment : ℕ) (is_one : Bool) → is_refusal (if is_one then perform_hand w worker moment (row_at w.hands worker) else unchanged w WrongState).outcome ≡ true
-    → (if is_one then perform_hand w worker moment (row_at w.hands worker) else unchanged w WrongState).world ≡ w
+perform_same : (w : World) (worker moment : ℕ) (is_one : Bool) → is_refusal (if is_one then perform_hand w worker moment (row_at w.hands worker) else same_world w WrongState).outcome ≡ true
+    → (if is_one then perform_hand w worker moment (row_at w.hands worker) else same_world w WrongState).world ≡ w
 perform_same w worker moment true refused = held_same w worker moment (row_at w.hands worker) refused
 perform_same w worker moment false refused = refl
 

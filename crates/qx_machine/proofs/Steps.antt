@@ -9,7 +9,7 @@ use Rattle.qx_types.specs.declared.step.Step.{Step}
 use Rattle.qx_types.specs.declared.step.Step.TheVariants.{Receive, Perform}
 use Rattle.qx_machine.specs.declared.rows.Held.{Held}
 use Rattle.qx_machine.specs.declared.rows.Queued.{Queued}
-use Rattle.qx_machine.specs.Machine.{World, own_hand, own_line, unchanged, is_worker, line_of, receive_line, receive_hand, perform_hand, server_step, step_of, step, first_user, receive_owner, server_owner, owner_of, owner, view}
+use Rattle.qx_machine.specs.Machine.{World, own_hand, own_line, same_world, is_worker, line_of, receive_line, receive_hand, perform_hand, server_step, step_of, step, first_user, receive_owner, server_owner, owner_of, owner, view}
 use Rattle.qx_types.specs.Step.{actor_of, user_of}
 use Rattle.qx_machine.specs.Rows.{row_at}
 use Rattle.qx_machine.specs.Runs.{is_owner}
@@ -117,7 +117,7 @@ idle_receive w worker manager None none = idle_line w worker manager (line_of w 
 idle_receive w worker manager (Some held) none = refl
 
 idle_receiver : (w : World) (worker : ℕ) (manager : Manager) (is_one : Bool) → (if is_one then receive_owner (line_of w manager) (row_at w.hands worker) else None) ≡ None
-    → (if is_one then receive_hand w worker manager (row_at w.hands worker) else unchanged w WrongState).world ≡ w
+    → (if is_one then receive_hand w worker manager (row_at w.hands worker) else same_world w WrongState).world ≡ w
 idle_receiver w worker manager true none = idle_receive w worker manager (row_at w.hands worker) none
 idle_receiver w worker manager false none = refl
 
@@ -126,7 +126,7 @@ idle_perform w worker moment None none = refl
 idle_perform w worker moment (Some held) none = absurd (cc)
 
 idle_performer : (w : World) (worker moment : ℕ) (is_one : Bool) → (if is_one then holder (row_at w.hands worker) else None) ≡ None
-    → (if is_one then perform_hand w worker moment (row_at w.hands worker) else unchanged w WrongState).world ≡ w
+    → (if is_one then perform_hand w worker moment (row_at w.hands worker) else same_world w WrongState).world ≡ w
 idle_performer w worker moment true none = idle_perform w worker moment (row_at w.hands worker) none
 idle_performer w worker moment false none = refl
 

@@ -6,7 +6,7 @@ use Rattle.std.proofs.lemmas.List.{set-set}
 use Rattle.qx_types.specs.declared.names.Manager.{Manager}
 use Rattle.qx_types.specs.declared.step.Step.{Step}
 use Rattle.qx_machine.specs.Laws.{IsInOrder}
-use Rattle.qx_machine.specs.Machine.{World, After, boot, rank, own_held, own_hand, own_line, acted, client_step, client_acted, line_of, view}
+use Rattle.qx_machine.specs.Machine.{World, After, boot, rank, own_held, own_hand, own_line, step_end, client_step, client_end, line_of, view}
 use Rattle.qx_types.specs.Managers.{manager_number}
 use Rattle.qx_machine.specs.Rows.{row_at}
 use Rattle.qx_machine.specs.Parts.{Part, Change}
@@ -43,13 +43,13 @@ in_order_line w manager h = in_order_at w.lines (manager_number manager) h.lines
 
 -- the end of a step
 
-pub reached_acted : (user : ℕ) (before after : Part) (changes : List Change) (w : World) → IsReached w → IsReached (acted user before after changes w)
+pub reached_acted : (user : ℕ) (before after : Part) (changes : List Change) (w : World) → IsReached w → IsReached (step_end user before after changes w)
 reached_acted user before after changes w h = record {
   lines = lines_in_order_after user w.lines changes h.lines;
   parts = length-set w.parts user (Some (settle before (own_held user w.hands) after)) ∙ h.parts;
 }
 
-pub acted_self : (user : ℕ) (before after : Part) (changes : List Change) (w : World) → IsReached w → view user (acted user before after changes w) ≡ acted user before after changes (view user w)
+pub acted_self : (user : ℕ) (before after : Part) (changes : List Change) (w : World) → IsReached w → view user (step_end user before after changes w) ≡ step_end user before after changes (view user w)
 unfolding view
 acted_self user before after changes w h = λ i. record {
   config = w.config;
@@ -64,10 +64,10 @@ acted_self user before after changes w h = λ i. record {
         (set-row_at_set (boot w.config).parts w.parts user (Some (settle before (own_held user w.hands) after)) h.parts
         ∙ sym (set-set (boot w.config).parts user (row_at w.parts user) (Some (settle before (own_held user w.hands) after))))
 
-pub acted_own : (user of : ℕ) (before after : Part) (changes : List Change) (w : World) → IsReached w → of ≡ user → view user (acted of before after changes w) ≡ acted of before after changes (view user w)
-acted_own user of before after changes w h same = subst (λ n. view n (acted of before after changes w) ≡ acted of before after changes (view n w)) same (acted_self of before after changes w h)
+pub acted_own : (user of : ℕ) (before after : Part) (changes : List Change) (w : World) → IsReached w → of ≡ user → view user (step_end of before after changes w) ≡ step_end of before after changes (view user w)
+acted_own user of before after changes w h same = subst (λ n. view n (step_end of before after changes w) ≡ step_end of before after changes (view n w)) same (acted_self of before after changes w h)
 
-pub acted_other : (user other : ℕ) (before after : Part) (changes : List Change) (w : World) → (other == user) ≡ false → view user (acted other before after changes w) ≡ view user w
+pub acted_other : (user other : ℕ) (before after : Part) (changes : List Change) (w : World) → (other == user) ≡ false → view user (step_end other before after changes w) ≡ view user w
 unfolding view
 acted_other user other before after changes w differ = λ i. record {
   config = w.config;
@@ -94,7 +94,7 @@ unfolding view
 client_row w user e None h = refl
 client_row w user e (Some part) h =
     let given = client w.config user (own_held user w.hands) part e in
-    ap (λ held. client_acted (view user w) user part (client w.config user held part e)) (own_held-view user w.hands)
+    ap (λ held. client_end (view user w) user part (client w.config user held part e)) (own_held-view user w.hands)
     ∙ ap (λ world. record { world = world; outcome = given.outcome }) (sym (acted_self user part given.part given.changes w h))
 
 client_self : (w : World) (user : ℕ) (e : Step) → IsReached w → client_step (view user w) user e (row_at (view user w).parts user) ≡ viewed user (client_step w user e (row_at w.parts user))

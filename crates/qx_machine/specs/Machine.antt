@@ -56,14 +56,14 @@ is_same_item (Message process thread) (Message other_process other_thread) = (pr
 abbrev pub rank : Queued → ℕ
 rank queued = queued.prio.0
 
-abbrev pub queued : ℕ → OwnItem → ℕ → Queued
-queued user item prio = record { user = record { 0 = user }; item = item; prio = record { 0 = prio } }
+abbrev pub queued_item : ℕ → OwnItem → ℕ → Queued
+queued_item user item prio = record { user = record { 0 = user }; item = item; prio = record { 0 = prio } }
 
 -- the line without a user's item, where that stands in it
-abbrev pub without : ℕ → OwnItem → List Queued → List Queued
-without user item [] = []
-without user item (first ∷ line) =
-    if (first.user.0 == user) && is_same_item first.item item then line else first ∷ without user item line
+abbrev pub line_without : ℕ → OwnItem → List Queued → List Queued
+line_without user item [] = []
+line_without user item (first ∷ line) =
+    if (first.user.0 == user) && is_same_item first.item item then line else first ∷ line_without user item line
 
 -- whose line a change is of
 abbrev pub changed_manager : Change → Manager
@@ -71,14 +71,14 @@ changed_manager (Put manager item prio) = manager
 changed_manager (Remove manager item) = manager
 
 -- that line after the change, which a user's step makes
-abbrev pub line_changed : ℕ → Change → List Queued → List Queued
-line_changed user (Put manager item prio) line = into rank line (queued user item prio)
-line_changed user (Remove manager item) line = without user item line
+abbrev pub line_after : ℕ → Change → List Queued → List Queued
+line_after user (Put manager item prio) line = into rank line (queued_item user item prio)
+line_after user (Remove manager item) line = line_without user item line
 
 abbrev pub lines_after : ℕ → List (List Queued) → List Change → List (List Queued)
 lines_after user lines [] = lines
 lines_after user lines (change ∷ changes) =
-    lines_after user (with_line lines (manager_number (changed_manager change)) (line_changed user change)) changes
+    lines_after user (with_line lines (manager_number (changed_manager change)) (line_after user change)) changes
 
 -- the items of one user in workers' hands
 abbrev pub own_held : ℕ → List (Option Held) → List OwnItem
@@ -87,22 +87,22 @@ own_held user (None ∷ hands) = own_held user hands
 own_held user (Some held ∷ hands) = if held.user.0 == user then held.item ∷ own_held user hands else own_held user hands
 
 -- the end of a step of one user: its rows, settled, and its changes of the lines
-abbrev pub acted : ℕ → Part → Part → List Change → World → World
-acted user before after changes w = record w {
+abbrev pub step_end : ℕ → Part → Part → List Change → World → World
+step_end user before after changes w = record w {
   parts = slice_set w.parts user (Some (settle before (own_held user w.hands) after));
   lines = lines_after user w.lines changes;
 }
 
-abbrev pub unchanged : World → Outcome → After
-unchanged w outcome = record { world = w; outcome = outcome }
+abbrev pub same_world : World → Outcome → After
+same_world w outcome = record { world = w; outcome = outcome }
 
-abbrev pub client_acted : World → ℕ → Part → ClientStep → After
-client_acted w user part given = record { world = acted user part given.part given.changes w; outcome = given.outcome }
+abbrev pub client_end : World → ℕ → Part → ClientStep → After
+client_end w user part given = record { world = step_end user part given.part given.changes w; outcome = given.outcome }
 
 -- a client's step; a user that is not configured has no rows
 abbrev pub client_step : World → ℕ → Step → Option Part → After
-client_step w user e None = unchanged w WrongState
-client_step w user e (Some part) = client_acted w user part (client w.config user (own_held user w.hands) part e)
+client_step w user e None = same_world w WrongState
+client_step w user e (Some part) = client_end w user part (client w.config user (own_held user w.hands) part e)
 
 abbrev pub is_worker : Configuration → ℕ → Bool
 is_worker config worker = nat_le 1 worker && nat_le worker config.workers
@@ -124,10 +124,10 @@ shown_item user (Message process thread) = public.Message (record { proc = recor
 -- the first item goes into the worker's hand
 abbrev pub received_part : World → Queued → Option Part → World
 received_part w first None = w
-received_part w first (Some part) = acted first.user.0 part (take part first.item) [] w
+received_part w first (Some part) = step_end first.user.0 part (take part first.item) [] w
 
 abbrev pub receive_line : World → ℕ → Manager → List Queued → After
-receive_line w worker manager [] = unchanged w Idle
+receive_line w worker manager [] = same_world w Idle
 receive_line w worker manager (first ∷ rest) = record {
   world = received_part (with_taken w worker first rest manager) first (row_at w.parts first.user.0);
   outcome = Took (shown_item first.user.0 first.item);
@@ -135,39 +135,39 @@ receive_line w worker manager (first ∷ rest) = record {
 
 abbrev pub receive_hand : World → ℕ → Manager → Option Held → After
 receive_hand w worker manager None = receive_line w worker manager (line_of w manager)
-receive_hand w worker manager (Some held) = unchanged w Busy
+receive_hand w worker manager (Some held) = same_world w Busy
 
 -- a worker takes the first item of a line (C Library Reference: MsgReceive)
 abbrev pub receive : World → ℕ → Manager → After
 receive w worker manager =
-    if is_worker w.config worker then receive_hand w worker manager (row_at w.hands worker) else unchanged w WrongState
+    if is_worker w.config worker then receive_hand w worker manager (row_at w.hands worker) else same_world w WrongState
 
 abbrev pub with_empty_hand : World → ℕ → World
 with_empty_hand w worker = record w { hands = slice_set w.hands worker None }
 
-abbrev pub served : World → ℕ → Part → Served → World
-served w user part given = acted user part given.part given.changes w
+abbrev pub serve_end : World → ℕ → Part → Served → World
+serve_end w user part given = step_end user part given.part given.changes w
 
 abbrev pub performed_part : World → Held → ℕ → Option Part → World
 performed_part w held moment None = w
 performed_part w held moment (Some part) =
-    served w held.user.0 part (serve w.config held.user.0 (own_held held.user.0 w.hands) part held.item moment)
+    serve_end w held.user.0 part (serve w.config held.user.0 (own_held held.user.0 w.hands) part held.item moment)
 
 abbrev pub perform_hand : World → ℕ → ℕ → Option Held → After
-perform_hand w worker moment None = unchanged w Nothing
+perform_hand w worker moment None = same_world w Nothing
 perform_hand w worker moment (Some held) =
     record { world = performed_part (with_empty_hand w worker) held moment (row_at w.parts held.user.0); outcome = Handled }
 
 -- a worker does what it holds
 abbrev pub perform : World → ℕ → ℕ → After
 perform w worker moment =
-    if is_worker w.config worker then perform_hand w worker moment (row_at w.hands worker) else unchanged w WrongState
+    if is_worker w.config worker then perform_hand w worker moment (row_at w.hands worker) else same_world w WrongState
 
 -- a worker's step
 abbrev pub server_step : World → Step → After
 server_step w (Receive worker manager) = receive w worker.0 manager
 server_step w (Perform worker moment) = perform w worker.0 moment
-server_step w _ = unchanged w WrongState
+server_step w _ = same_world w WrongState
 
 abbrev pub step_of : World → Step → Option Actor → After
 step_of w e (Some actor) = client_step w (user_of actor) e (row_at w.parts (user_of actor))

@@ -21,7 +21,7 @@ use Rattle.qx_machine.specs.declared.rows.State.TheVariants.{Taken}
 use Rattle.qx_machine.specs.Attributes.{root_inode, stat_bytes}
 use Rattle.qx_machine.specs.Judgements.{◌>>=◌, found, need}
 use Rattle.qx_machine.specs.Parts.{Part, Change, thread_at, with_process}
-use Rattle.qx_machine.specs.Processes.{Process, answered_thread, detached, given_back, let_go, with_block, with_thread}
+use Rattle.qx_machine.specs.Processes.{Process, answered_thread, without_connection, after_error, after_reply, with_block, with_thread}
 use Rattle.qx_machine.specs.Rows.{row_at, lowest_from, put_row}
 use Rattle.qx_machine.specs.Servers.{is_numbered}
 
@@ -76,7 +76,7 @@ close_deed part process sent = do
   Ok (record {
     status = 0;
     bytes = [];
-    part = with_process process (detached opened.coid.0) (record part { blocks = slice_set part.blocks opened.number None });
+    part = with_process process (without_connection opened.coid.0) (record part { blocks = slice_set part.blocks opened.number None });
   })
 
 -- an fstat tells the status of what is open (C Library Reference: fstat)
@@ -97,22 +97,22 @@ deed_at part process sent Ram = deed_of part process sent sent.message
 deed_at part process sent _ = Err ENOSYS
 
 -- the rows once the message is answered (C Library Reference: MsgReply, MsgError)
-abbrev pub answered : Part → ℕ → ℕ → Sent → Result Deed Errno → Part
-answered part process thread sent (Ok deed) =
-    with_process process (λ row. let_go thread sent.over (with_thread thread (answered_thread (Reply deed.status deed.bytes)) row)) deed.part
-answered part process thread sent (Err error) =
-    with_process process (λ row. given_back thread sent.over (with_thread thread (answered_thread (Failed error)) row)) part
+abbrev pub after_answer : Part → ℕ → ℕ → Sent → Result Deed Errno → Part
+after_answer part process thread sent (Ok deed) =
+    with_process process (λ row. after_reply thread sent.over (with_thread thread (answered_thread (Reply deed.status deed.bytes)) row)) deed.part
+after_answer part process thread sent (Err error) =
+    with_process process (λ row. after_error thread sent.over (with_thread thread (answered_thread (Failed error)) row)) part
 
 abbrev pub taken_in : State → Option Sent
 taken_in (Taken sent) = Some sent
 taken_in _ = None
 
 -- only a message that was received and not answered is performed
-abbrev pub performed : Part → ℕ → ℕ → Result Part Outcome
-performed part process thread = do
+abbrev pub after_message : Part → ℕ → ℕ → Result Part Outcome
+after_message part process thread = do
   row ← found (thread_at part process thread) WrongState
   sent ← found (taken_in row.state) WrongState
-  Ok (answered part process thread sent (deed_at part process sent sent.manager))
+  Ok (after_answer part process thread sent (deed_at part process sent sent.manager))
 
 -- else nothing is done
 abbrev pub or_kept : Part → Result Part Outcome → Part

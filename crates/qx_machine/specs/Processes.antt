@@ -39,12 +39,12 @@ abbrev pub with_servers : Process → Process
 with_servers process = record process { servers = servers_from 0 process.connections process.sides process.servers }
 
 -- a new connection, with no open control block yet
-abbrev pub attached : ℕ → Manager → Process → Process
-attached coid manager process = with_servers (record process { connections = put_row process.connections coid (record { manager = manager; block = None }) })
+abbrev pub with_connection : ℕ → Manager → Process → Process
+with_connection coid manager process = with_servers (record process { connections = put_row process.connections coid (record { manager = manager; block = None }) })
 
 -- a connection goes
-abbrev pub detached : ℕ → Process → Process
-detached coid process = with_servers (record process { connections = slice_set process.connections coid None })
+abbrev pub without_connection : ℕ → Process → Process
+without_connection coid process = with_servers (record process { connections = slice_set process.connections coid None })
 
 -- a thread has a side connection at a manager, or none
 abbrev pub with_side : ℕ → Option Manager → Process → Process
@@ -59,20 +59,20 @@ abbrev pub with_thread : ℕ → (ThreadRow → ThreadRow) → Process → Proce
 with_thread thread change process = record process { threads = with_row process.threads thread change }
 
 -- what a message goes over is attached
-abbrev pub connected : ℕ → Manager → Over → Process → Process
-connected thread manager (New coid) process = attached coid.0 manager process
-connected thread manager (Existing coid) process = process
-connected thread manager Side process = with_side thread (Some manager) process
+abbrev pub with_over : ℕ → Manager → Over → Process → Process
+with_over thread manager (New coid) process = with_connection coid.0 manager process
+with_over thread manager (Existing coid) process = process
+with_over thread manager Side process = with_side thread (Some manager) process
 
 -- what is attached for one message alone goes with its answer
-abbrev pub let_go : ℕ → Over → Process → Process
-let_go thread Side process = with_side thread None process
-let_go thread _ process = process
+abbrev pub after_reply : ℕ → Over → Process → Process
+after_reply thread Side process = with_side thread None process
+after_reply thread _ process = process
 
 -- an error gives a new connection back too
-abbrev pub given_back : ℕ → Over → Process → Process
-given_back thread (New coid) process = detached coid.0 process
-given_back thread over process = let_go thread over process
+abbrev pub after_error : ℕ → Over → Process → Process
+after_error thread (New coid) process = without_connection coid.0 process
+after_error thread over process = after_reply thread over process
 
 -- a thread that sent a message
 abbrev pub queued_thread : Sent → ThreadRow → ThreadRow
@@ -100,4 +100,4 @@ ranked_thread prio row = record row { prio = record { 0 = prio } }
 
 -- a message of a thread goes out
 abbrev pub with_queued : ℕ → Sent → Process → Process
-with_queued thread sent process = connected thread sent.manager sent.over (with_thread thread (queued_thread sent) process)
+with_queued thread sent process = with_over thread sent.manager sent.over (with_thread thread (queued_thread sent) process)

@@ -7,7 +7,7 @@ use Rattle.qx_machine.specs.declared.rows.OwnItem.TheVariants.{Message}
 use Rattle.qx_machine.specs.Attributes.{root_attribute}
 use Rattle.qx_machine.specs.Clients.{ClientStep, client_given, or_unchanged}
 use Rattle.qx_machine.specs.Parts.{Part, with_process}
-use Rattle.qx_machine.specs.Performing.{Served, or_kept, performed}
+use Rattle.qx_machine.specs.Performing.{Served, or_kept, after_message}
 use Rattle.qx_machine.specs.Processes.{taken_thread, with_thread}
 
 -- the rows of a user at boot
@@ -24,7 +24,7 @@ take part (Message process thread) = with_process process (with_thread thread ta
 
 -- what a worker does with an item that it holds, at a moment
 unfoldable pub serve : Configuration → ℕ → List OwnItem → Part → OwnItem → ℕ → Served
-serve config user held part (Message process thread) moment = record { part = or_kept part (performed part process thread); changes = [] }
+serve config user held part (Message process thread) moment = record { part = or_kept part (after_message part process thread); changes = [] }
 
 -- what the end of each step of a user settles, from the rows before it; nothing is left to settle yet
 unfoldable pub settle : Part → List OwnItem → Part → Part

@@ -8,7 +8,7 @@ use Rattle.qx_machine.specs.declared.rows.OwnItem.TheVariants as item
 use Rattle.qx_machine.specs.declared.rows.Sent.{Sent}
 use Rattle.qx_machine.specs.declared.rows.ThreadRow.{ThreadRow}
 use Rattle.qx_machine.specs.Parts.{Part, thread_at}
-use Rattle.qx_machine.specs.Performing.{Deed, or_kept, performed, taken_in}
+use Rattle.qx_machine.specs.Performing.{Deed, or_kept, after_message, taken_in}
 use Rattle.qx_parts.specs.declared.part.Reply.{Reply}
 
 -- a reply, with the rows that it leaves
@@ -18,7 +18,7 @@ deed_with part (Err error) = Err error
 
 -- a user's rows once an item of it is done
 abbrev pub served_part : Part → OwnItem → Part
-served_part part (item.Message process thread) = or_kept part (performed part process thread)
+served_part part (item.Message process thread) = or_kept part (after_message part process thread)
 
 -- the message that was received and is not answered
 abbrev pub taken_of : Option ThreadRow → Option Sent

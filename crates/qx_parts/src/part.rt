@@ -7,7 +7,7 @@ ghost use Rattle.qx_types.specs.Configuration.{Configuration};
 ghost use Rattle.qx_machine.specs.Clients as clients;
 ghost use Rattle.qx_machine.specs.Clients.{or_unchanged};
 ghost use Rattle.qx_machine.specs.Parts.{thread_at, with_process};
-ghost use Rattle.qx_machine.specs.Performing.{answered, close_deed, deed_at, fstat_deed, open_deed};
+ghost use Rattle.qx_machine.specs.Performing.{after_answer, close_deed, deed_at, fstat_deed, open_deed};
 ghost use Rattle.qx_machine.specs.Performing as performing;
 ghost use Rattle.qx_machine.specs.Processes.{with_queued};
 ghost use Rattle.qx_machine.specs.Rows.{row_at};
@@ -291,7 +291,7 @@ impl Part {
     /// Answers a message of a thread.
     fn answer(&mut self, process: u8, thread: u8, sent: Sent, given: Result<Reply, Errno>)
         requires { IsTrue (is_thread_blocked (thread_at self.old process thread)) }
-        ensures { self.new ≡ answered self.old process thread sent (deed_with self.old given) }
+        ensures { self.new ≡ after_answer self.old process thread sent (deed_with self.old given) }
     {
         let Some(row) = self.process_mut(process) else {
             return;

@@ -18,7 +18,7 @@ use Rattle.qx_machine.specs.declared.rows.OwnItem.{OwnItem}
 use Rattle.qx_machine.specs.declared.rows.OwnItem.TheVariants.{Message}
 use Rattle.qx_machine.specs.declared.rows.Queued.{Queued}
 use Rattle.qx_machine.specs.Lines.{line_at, with_line}
-use Rattle.qx_machine.specs.Machine.{World, After, acted, changed_manager, line_changed, own_held, step, step_of, server_step, boot, client_step, receive_hand, receive_line, received_part, with_taken, perform_hand, performed_part, with_empty_hand, is_worker, line_of, lines_after}
+use Rattle.qx_machine.specs.Machine.{World, After, step_end, changed_manager, line_after, own_held, step, step_of, server_step, boot, client_step, receive_hand, receive_line, received_part, with_taken, perform_hand, performed_part, with_empty_hand, is_worker, line_of, lines_after}
 use Rattle.qx_machine.specs.Parts.{Part, Change}
 use Rattle.qx_machine.specs.Rows.{row_at}
 use Rattle.qx_machine.specs.Runs.{world_after}
@@ -35,9 +35,9 @@ pub record Keeps (w : World) (workers : ℕ) : Type 0 where
 lines_kept : (user : ℕ) (lines : List (List Queued)) (changes : List Change) → length (lines_after user lines changes) ≡ length lines
 lines_kept user lines [] = refl
 lines_kept user lines (change ∷ changes) =
-    lines_kept user (with_line lines (manager_number (changed_manager change)) (line_changed user change)) changes ∙ length-set lines _ _
+    lines_kept user (with_line lines (manager_number (changed_manager change)) (line_after user change)) changes ∙ length-set lines _ _
 
-acts : (n : ℕ) (w : World) (user : ℕ) (before after : Part) (changes : List Change) → Keeps w n → Keeps (acted user before after changes w) n
+acts : (n : ℕ) (w : World) (user : ℕ) (before after : Part) (changes : List Change) → Keeps w n → Keeps (step_end user before after changes w) n
 acts n w user before after changes k = record { same = k.same; hands = k.hands; lines = lines_kept user w.lines changes ∙ k.lines }
 
 choice : (n : ℕ) (b : Bool) (x y : After) → Keeps x.world n → Keeps y.world n → Keeps (if b then x else y).world n

@@ -110,7 +110,7 @@ impl Process {
     #[tactic(auto, using(crate::proofs::ServerLemmas::servers_from_again))]
     pub fn attach(&mut self, coid: Coid, manager: Manager)
         requires within { coid.0 ≤ LAST_CONNECTION }
-        ensures process { self.new ≡ machine.attached coid.0 manager self.old }
+        ensures process { self.new ≡ machine.with_connection coid.0 manager self.old }
     {
         let connection = Connection {
             manager,
@@ -124,7 +124,7 @@ impl Process {
     /// Reference: `ConnectDetach`).
     #[tactic(auto, using(crate::proofs::ServerLemmas::servers_from_again))]
     pub fn detach(&mut self, coid: Coid)
-        ensures process { self.new ≡ machine.detached coid.0 self.old }
+        ensures process { self.new ≡ machine.without_connection coid.0 self.old }
     {
         connections::free(&mut self.connections, coid);
         servers::settle(&mut self.servers, self.connections.as_slice(), &self.sides);
@@ -173,7 +173,7 @@ impl Process {
     pub fn reply(&mut self, thread: u8, over: Over, status: u64, bytes: &[u8])
         requires blocked { IsTrue (is_thread_blocked (row_at self.old.threads thread)) }
         requires fits { length bytes.now ≤ REPLY_BYTES }
-        ensures process { self.new ≡ machine.let_go thread over (with_thread thread (answered_thread (Answer.Reply status bytes.now)) self.old) }
+        ensures process { self.new ≡ machine.after_reply thread over (with_thread thread (answered_thread (Answer.Reply status bytes.now)) self.old) }
     {
         if let Some(cell) = self.thread_mut(thread) {
             cell.reply(status, bytes);
@@ -184,7 +184,7 @@ impl Process {
     /// A blocked thread gets an error, which gives a new connection back too (C Library Reference: `MsgError`).
     pub fn fail(&mut self, thread: u8, over: Over, error: Errno)
         requires blocked { IsTrue (is_thread_blocked (row_at self.old.threads thread)) }
-        ensures process { self.new ≡ machine.given_back thread over (with_thread thread (answered_thread (Answer.Failed error)) self.old) }
+        ensures process { self.new ≡ machine.after_error thread over (with_thread thread (answered_thread (Answer.Failed error)) self.old) }
     {
         if let Some(cell) = self.thread_mut(thread) {
             cell.fail(error);
@@ -198,7 +198,7 @@ impl Process {
     /// What a message goes over is attached.
     fn connect(&mut self, thread: u8, manager: Manager, over: Over)
         requires number { HasNumber over }
-        ensures process { self.new ≡ machine.connected thread manager over self.old }
+        ensures process { self.new ≡ machine.with_over thread manager over self.old }
     {
         match over {
             Over::New(coid) => self.attach(coid, manager),
@@ -209,7 +209,7 @@ impl Process {
 
     /// What was attached for one message alone goes.
     fn let_go(&mut self, thread: u8, over: Over)
-        ensures process { self.new ≡ machine.let_go thread over self.old }
+        ensures process { self.new ≡ machine.after_reply thread over self.old }
     {
         if let Over::Side = over {
             self.detach_side(thread);

@@ -6,7 +6,7 @@ ghost use Rattle.std.specs.Borrow.{sem};
 ghost use Rattle.qx_types.specs.Managers.{manager_number};
 ghost use Rattle.qx_machine.specs.Calls as calls;
 ghost use Rattle.qx_machine.specs.Clients as clients;
-ghost use Rattle.qx_machine.specs.Processes.{attached, detached, with_side};
+ghost use Rattle.qx_machine.specs.Processes.{with_connection, without_connection, with_side};
 ghost use Rattle.qx_machine.specs.Rows.{row_at, with_row};
 ghost use Rattle.qx_procs.specs.Calls.{spawn_outcome, spawned, done_or, after_or, with_prio, new_coid, with_new_side};
 ghost use Rattle.qx_machine.specs.Parts.{thread_of};
@@ -161,7 +161,7 @@ impl Processes {
     /// connection is free, EAGAIN where the user has 64 server connections at the manager and the process none.
     pub fn attach(&mut self, process: u8, manager: Manager) -> Result<Coid, Outcome>
         ensures coid { result ≡ new_coid self.old process manager }
-        ensures ok { IfOk result (λ coid. self.new ≡ with_row self.old process (attached coid.0 manager)) }
+        ensures ok { IfOk result (λ coid. self.new ≡ with_row self.old process (with_connection coid.0 manager)) }
         ensures err { OnErr result (self.new ≡ self.old) }
     {
         let coid = self.new_coid(process, manager)?;
@@ -192,7 +192,7 @@ impl Processes {
     /// Reference: `ConnectDetach`).
     #[tactic(auto, using(crate::proofs::LendLemmas::row_lends))]
     pub fn detach(&mut self, process: u8, coid: Coid)
-        ensures rows { self.new ≡ with_row self.old process (detached coid.0) }
+        ensures rows { self.new ≡ with_row self.old process (without_connection coid.0) }
     {
         if let Some(row) = self.process_mut(process) {
             row.detach(coid);

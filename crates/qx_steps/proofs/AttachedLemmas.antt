@@ -12,7 +12,7 @@ use Rattle.qx_types.specs.declared.names.Manager.TheVariants.{Ram, Pipe}
 use Rattle.qx_machine.specs.declared.rows.Connection.{Connection}
 use Rattle.qx_machine.specs.declared.rows.Over.{Over}
 use Rattle.qx_machine.specs.declared.rows.Over.TheVariants.{New, Existing, Side}
-use Rattle.qx_machine.specs.Processes.{Process, connected, detached, given_back, let_go, with_block, with_side}
+use Rattle.qx_machine.specs.Processes.{Process, with_over, without_connection, after_error, after_reply, with_block, with_side}
 use Rattle.qx_machine.specs.Rows.{row_at, put_row, with_row}
 use Rattle.qx_machine.specs.Servers.{connects, is_attached, is_numbered, sides_with}
 use Rattle.qx_steps.specs.Kept.{IsFree, attached_at, attaches}
@@ -71,14 +71,14 @@ any-with_row asks f same (Some x ∷ places) zero = rw (same x) refl
 any-with_row asks f same (x ∷ places) (suc n) = ap (λ b. asks x || b) (any-with_row asks f same places n)
 
 -- what a message goes over is attached at its manager
-pub attached-connected : (thread : ℕ) (manager : Manager) (over : Over) (x : Process) (number : ℕ) → IsFree thread over x → attached_at number (Some (connected thread manager over x)) ≡ (attached_at number (Some x) || (attaches over && is_numbered number manager))
+pub attached-connected : (thread : ℕ) (manager : Manager) (over : Over) (x : Process) (number : ℕ) → IsFree thread over x → attached_at number (Some (with_over thread manager over x)) ≡ (attached_at number (Some x) || (attaches over && is_numbered number manager))
 attached-connected thread manager (New coid) x number free =
     rw (any-put (connects number) refl x.connections coid.0 (record { manager = manager; block = None }) free) (or_last (list_any (connects number) x.connections) (is_numbered number manager) (list_any (sides_with number) x.sides))
 attached-connected thread manager (Existing coid) x number free = sym (or_false (attached_at number (Some x)))
 attached-connected thread manager Side x number free =
     rw (any-set_some (sides_with number) refl x.sides thread manager free.1 free.0) (or_assoc (list_any (connects number) x.connections) (list_any (sides_with number) x.sides) (is_numbered number manager))
 
-pub threads-connected : (thread : ℕ) (manager : Manager) (over : Over) (x : Process) → (connected thread manager over x).threads ≡ x.threads
+pub threads-connected : (thread : ℕ) (manager : Manager) (over : Over) (x : Process) → (with_over thread manager over x).threads ≡ x.threads
 threads-connected thread manager (New coid) x = refl
 threads-connected thread manager (Existing coid) x = refl
 threads-connected thread manager Side x = refl
@@ -89,28 +89,28 @@ fewer : (a b c d : Bool) → (a ≡ true → c ≡ true) → (b ≡ true → d �
 fewer true b c d one other either = rw (one refl) refl
 fewer false b c d one other either = rw (other either) (or_true c)
 
-pub fewer-detached : (coid : ℕ) (x : Process) (number : ℕ) → attached_at number (Some (detached coid x)) ≡ true → attached_at number (Some x) ≡ true
+pub fewer-detached : (coid : ℕ) (x : Process) (number : ℕ) → attached_at number (Some (without_connection coid x)) ≡ true → attached_at number (Some x) ≡ true
 fewer-detached coid x number is = fewer _ _ _ _ (any-set_none (connects number) refl x.connections coid) (λ same. same) is
 
 fewer-side : (thread : ℕ) (x : Process) (number : ℕ) → attached_at number (Some (with_side thread None x)) ≡ true → attached_at number (Some x) ≡ true
 fewer-side thread x number is = fewer _ _ _ _ (λ same. same) (any-set_none (sides_with number) refl x.sides thread) is
 
-pub fewer-let_go : (thread : ℕ) (over : Over) (x : Process) (number : ℕ) → attached_at number (Some (let_go thread over x)) ≡ true → attached_at number (Some x) ≡ true
+pub fewer-let_go : (thread : ℕ) (over : Over) (x : Process) (number : ℕ) → attached_at number (Some (after_reply thread over x)) ≡ true → attached_at number (Some x) ≡ true
 fewer-let_go thread (New coid) x number is = is
 fewer-let_go thread (Existing coid) x number is = is
 fewer-let_go thread Side x number is = fewer-side thread x number is
 
-pub fewer-given_back : (thread : ℕ) (over : Over) (x : Process) (number : ℕ) → attached_at number (Some (given_back thread over x)) ≡ true → attached_at number (Some x) ≡ true
+pub fewer-given_back : (thread : ℕ) (over : Over) (x : Process) (number : ℕ) → attached_at number (Some (after_error thread over x)) ≡ true → attached_at number (Some x) ≡ true
 fewer-given_back thread (New coid) x number is = fewer-detached coid.0 x number is
 fewer-given_back thread (Existing coid) x number is = is
 fewer-given_back thread Side x number is = fewer-side thread x number is
 
-pub threads-let_go : (thread : ℕ) (over : Over) (x : Process) → (let_go thread over x).threads ≡ x.threads
+pub threads-let_go : (thread : ℕ) (over : Over) (x : Process) → (after_reply thread over x).threads ≡ x.threads
 threads-let_go thread (New coid) x = refl
 threads-let_go thread (Existing coid) x = refl
 threads-let_go thread Side x = refl
 
-pub threads-given_back : (thread : ℕ) (over : Over) (x : Process) → (given_back thread over x).threads ≡ x.threads
+pub threads-given_back : (thread : ℕ) (over : Over) (x : Process) → (after_error thread over x).threads ≡ x.threads
 threads-given_back thread (New coid) x = refl
 threads-given_back thread (Existing coid) x = refl
 threads-given_back thread Side x = refl

@@ -23,7 +23,7 @@ use Rattle.qx_machine.specs.declared.rows.ThreadRow.{ThreadRow}
 use Rattle.qx_machine.specs.Lines.{into, line_at, with_line}
 use Rattle.qx_machine.specs.Machine.{rank}
 use Rattle.qx_machine.specs.Parts.{Part, thread_of, with_process}
-use Rattle.qx_machine.specs.Processes.{Process, connected, queued_thread, taken_state, taken_thread, with_queued, with_thread}
+use Rattle.qx_machine.specs.Processes.{Process, with_over, queued_thread, taken_state, taken_thread, with_queued, with_thread}
 use Rattle.qx_machine.specs.Rows.{row_at, with_row}
 use Rattle.qx_machine.specs.Servers.{is_numbered}
 use Rattle.qx_machine.specs.Users.{take}

@@ -22,8 +22,8 @@ use Rattle.qx_machine.specs.declared.rows.State.TheVariants.{Ready, Queued, Take
 use Rattle.qx_machine.specs.declared.rows.ThreadRow.{ThreadRow}
 use Rattle.qx_machine.specs.Lines.{line_at}
 use Rattle.qx_machine.specs.Parts.{Part, thread_at, thread_of, with_process}
-use Rattle.qx_machine.specs.Performing.{Deed, answered, close_deed, deed_at, deed_of, fstat_deed, new_coid, open_deed, opened_by, taken_in}
-use Rattle.qx_machine.specs.Processes.{Process, answered_thread, detached, given_back, let_go, with_block, with_thread}
+use Rattle.qx_machine.specs.Performing.{Deed, after_answer, close_deed, deed_at, deed_of, fstat_deed, new_coid, open_deed, opened_by, taken_in}
+use Rattle.qx_machine.specs.Processes.{Process, answered_thread, without_connection, after_error, after_reply, with_block, with_thread}
 use Rattle.qx_machine.specs.Rows.{row_at, lowest_from, with_row}
 use Rattle.qx_machine.specs.Servers.{is_numbered}
 use Rattle.qx_chan.specs.Channel.{Channel, has_server, sender_of, stands, without_server}
@@ -96,7 +96,7 @@ open_fewer part process sent = elim (option_cases (new_coid sent.over)) [
 close_fewer : (part : Part) (process : ℕ) (sent : Sent) → Fewer (deed_part part (close_deed part process sent)).processes part.processes process
 close_fewer part process sent = elim (result_cases (opened_by part process sent)) [
   | inr error ↦ rw error.1 (fewer_none part.processes process)
-  | inl opened ↦ rw opened.1 (fewer_with part.processes process (detached opened.0.coid.0) (λ x is t. refl) (λ x is t k. refl) (λ x k is. fewer-detached opened.0.coid.0 x k is))
+  | inl opened ↦ rw opened.1 (fewer_with part.processes process (without_connection opened.0.coid.0) (λ x is t. refl) (λ x is t k. refl) (λ x k is. fewer-detached opened.0.coid.0 x k is))
 ]
 
 fstat_fewer : (part : Part) (process : ℕ) (sent : Sent) → Fewer (deed_part part (fstat_deed part process sent)).processes part.processes process
@@ -126,15 +126,15 @@ answer_fewer rows process thread answer g waits threads attached = fewer_with ro
     waiting x is row its k = rw (is, its) at (waits k)
 
 answered_fewer : (part : Part) (process thread : ℕ) (sent : Sent) (given : Result Deed Errno) → ((k : ℕ) → stands_at k (thread_of thread (row_at part.processes process)) ≡ false)
-    → Fewer (deed_part part given).processes part.processes process → Fewer (answered part process thread sent given).processes part.processes process
+    → Fewer (deed_part part given).processes part.processes process → Fewer (after_answer part process thread sent given).processes part.processes process
 answered_fewer part process thread sent (Ok deed) waits done = fewer_then _ deed.part.processes part.processes process
-    (answer_fewer deed.part.processes process thread (Reply deed.status deed.bytes) (λ row. let_go thread sent.over (with_thread thread (answered_thread (Reply deed.status deed.bytes)) row))
+    (answer_fewer deed.part.processes process thread (Reply deed.status deed.bytes) (λ row. after_reply thread sent.over (with_thread thread (answered_thread (Reply deed.status deed.bytes)) row))
     (λ k. done.lines process thread k ∙ waits k)
     (λ x. threads-let_go thread sent.over (with_thread thread (answered_thread (Reply deed.status deed.bytes)) x))
     (λ x k is. fewer-let_go thread sent.over (with_thread thread (answered_thread (Reply deed.status deed.bytes)) x) k is))
     done
 answered_fewer part process thread sent (Err error) waits done =
-    answer_fewer part.processes process thread (Failed error) (λ row. given_back thread sent.over (with_thread thread (answered_thread (Failed error)) row)) waits
+    answer_fewer part.processes process thread (Failed error) (λ row. after_error thread sent.over (with_thread thread (answered_thread (Failed error)) row)) waits
     (λ x. threads-given_back thread sent.over (with_thread thread (answered_thread (Failed error)) x))
     (λ x k is. fewer-given_back thread sent.over (with_thread thread (answered_thread (Failed error)) x) k is)
 

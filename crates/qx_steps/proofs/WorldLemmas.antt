@@ -11,7 +11,7 @@ use Rattle.qx_types.specs.declared.step.Step.TheVariants.{Spawn, Call, TakeReply
 use Rattle.qx_machine.specs.declared.rows.OwnItem.{OwnItem}
 use Rattle.qx_machine.specs.declared.rows.Sent as sent
 use Rattle.qx_machine.specs.Clients.{ClientStep, answer_in, is_prio, or_unchanged, own_path, sent_by, set_prio, spawn, spawn_number, take_reply}
-use Rattle.qx_machine.specs.Machine.{World, step, client_acted, client_step}
+use Rattle.qx_machine.specs.Machine.{World, step, client_end, client_step}
 use Rattle.qx_machine.specs.Parts.{Part, Change, thread_at}
 use Rattle.qx_machine.specs.Rows.{row_at, with_row}
 use Rattle.qx_machine.specs.Users.{client, settle}
@@ -23,13 +23,13 @@ use Rattle.qx_steps.proofs.RowReads.{option_cases}
 abbrev pub with_part : World → ℕ → Part → World
 with_part w user part = record w { parts = slice_set w.parts user (Some part) }
 
-given_by : (w : World) (user : ℕ) (part : Part) (given : ClientStep) → given.changes ≡ [] → client_acted w user part given ≡ record { world = with_part w user given.part; outcome = given.outcome }
+given_by : (w : World) (user : ℕ) (part : Part) (given : ClientStep) → given.changes ≡ [] → client_end w user part given ≡ record { world = with_part w user given.part; outcome = given.outcome }
 unfolding settle
 given_by w user part given none = rw none refl
 
 -- a user whose rows stay
 
-refused_by : (w : World) (user : ℕ) (part : Part) (outcome : Outcome) → row_at w.parts user ≡ Some part → client_acted w user part (or_unchanged part (Err outcome)) ≡ record { world = w; outcome = outcome }
+refused_by : (w : World) (user : ℕ) (part : Part) (outcome : Outcome) → row_at w.parts user ≡ Some part → client_end w user part (or_unchanged part (Err outcome)) ≡ record { world = w; outcome = outcome }
 unfolding settle
 refused_by w user part outcome row = rw (set-row w.parts user part row) refl
 

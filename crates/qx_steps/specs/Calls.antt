@@ -9,7 +9,7 @@ use Rattle.qx_types.specs.declared.step.Request.{Request}
 use Rattle.qx_machine.specs.declared.rows.OwnItem.TheVariants as item
 use Rattle.qx_machine.specs.declared.rows.Sent.{Sent}
 use Rattle.qx_machine.specs.Clients.{or_unchanged, own_path, sent_by, spawn, spawn_number}
-use Rattle.qx_machine.specs.Machine.{World, rank, queued}
+use Rattle.qx_machine.specs.Machine.{World, rank, queued_item}
 use Rattle.qx_machine.specs.Lines.{into, with_line}
 use Rattle.qx_machine.specs.Parts.{Part, with_process}
 use Rattle.qx_machine.specs.Processes.{with_queued}
@@ -37,5 +37,5 @@ sent_in w thread request = sent_from (own_path w.config thread.proc.user.0) thre
 abbrev pub after_sending : World → Thread → Sent → World
 after_sending w thread sent = record w {
   parts = with_row w.parts thread.proc.user.0 (with_process thread.proc.num (with_queued thread.tid sent));
-  lines = with_line w.lines (manager_number sent.manager) (λ line. into rank line (queued thread.proc.user.0 (item.Message thread.proc.num thread.tid) sent.prio.0));
+  lines = with_line w.lines (manager_number sent.manager) (λ line. into rank line (queued_item thread.proc.user.0 (item.Message thread.proc.num thread.tid) sent.prio.0));
 }

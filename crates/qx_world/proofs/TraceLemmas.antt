@@ -16,7 +16,7 @@ use Rattle.qx_machine.specs.declared.rows.Entry.{Entry}
 use Rattle.qx_machine.specs.declared.rows.Held.{Held}
 use Rattle.qx_machine.specs.declared.rows.Queued.{Queued}
 use Rattle.qx_machine.specs.declared.rows.Seen.{Seen}
-use Rattle.qx_machine.specs.Machine.{World, boot, step, owner, is_worker, line_of, with_taken, unchanged, client_step, server_step, step_of, received_part, receive_line, receive_hand, performed_part, perform_hand}
+use Rattle.qx_machine.specs.Machine.{World, boot, step, owner, is_worker, line_of, with_taken, same_world, client_step, server_step, step_of, received_part, receive_line, receive_hand, performed_part, perform_hand}
 use Rattle.qx_machine.specs.Rows.{row_at}
 use Rattle.qx_machine.specs.Runs.{run, world_after, entries_from, seen_by, received, is_owner, erase_from}
 use Rattle.qx_machine.specs.Parts.{Part}
@@ -50,10 +50,10 @@ perform_hand-config w worker moment (Some held) = performed_part-config _ held m
 
 server_step-config : (w : World) (e : Step) → (server_step w e).world.config ≡ w.config
 server_step-config w (Receive worker manager) =
-    cond_both (is_worker w.config worker.0) (receive_hand w worker.0 manager (row_at w.hands worker.0)) (unchanged w WrongState) (λ after. after.world.config ≡ w.config)
+    cond_both (is_worker w.config worker.0) (receive_hand w worker.0 manager (row_at w.hands worker.0)) (same_world w WrongState) (λ after. after.world.config ≡ w.config)
     (λ _. receive_hand-config w worker.0 manager (row_at w.hands worker.0)) (λ _. refl)
 server_step-config w (Perform worker moment) =
-    cond_both (is_worker w.config worker.0) (perform_hand w worker.0 moment (row_at w.hands worker.0)) (unchanged w WrongState) (λ after. after.world.config ≡ w.config)
+    cond_both (is_worker w.config worker.0) (perform_hand w worker.0 moment (row_at w.hands worker.0)) (same_world w WrongState) (λ after. after.world.config ≡ w.config)
     (λ _. perform_hand-config w worker.0 moment (row_at w.hands worker.0)) (λ _. refl)
 server_step-config w _ = refl
 
