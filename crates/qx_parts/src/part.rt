@@ -1,6 +1,6 @@
 //! All rows of one user.
 
-ghost use Rattle.std.specs.Prelude.{◌≡◌, ◌∷◌, ◌<◌, IsTrue, IsFalse, IsOk, IfOk, OnOk, OnErr, [], length};
+ghost use Rattle.std.specs.Prelude.{◌≡◌, ℕ, ◌∷◌, ◌<◌, IsTrue, IsFalse, IsOk, IfOk, OnOk, OnErr, [], length};
 ghost use Rattle.std.specs.Option.{option_copied, option_copied_mut};
 ghost use Rattle.std.specs.Borrow.{sem};
 ghost use Rattle.qx_types.specs.Configuration.{Configuration};
@@ -203,6 +203,7 @@ impl Part {
     /// Does what a message of a process asks its manager for.
     fn perform(&mut self, process: u8, sent: Sent) -> Result<Result<Reply, Errno>, AllocError>
         ensures ok { IfOk result (λ given. deed_with self.new given ≡ deed_at self.old process sent sent.manager) }
+        ensures threads { IfOk result (λ given. (thread : ℕ) → thread_at self.new process thread ≡ thread_at self.old process thread) }
         ensures kept { IfOk result (λ given. OnErr given (self.new ≡ self.old)) }
         ensures err { OnErr result (self.new ≡ self.old) }
         ensures sure { IsFalse (wants_memory sent.message) → IsOk result }
@@ -221,6 +222,7 @@ impl Part {
     #[tactic(auto, using(qx_procs::proofs::LendLemmas::row_lends))]
     fn open(&mut self, process: u8, sent: Sent) -> Result<Result<Reply, Errno>, AllocError>
         ensures done { IfOk result (λ given. deed_with self.new given ≡ open_deed self.old process sent) }
+        ensures threads { IfOk result (λ given. (thread : ℕ) → thread_at self.new process thread ≡ thread_at self.old process thread) }
         ensures kept { IfOk result (λ given. OnErr given (self.new ≡ self.old)) }
         ensures err { OnErr result (self.new ≡ self.old) }
     {
@@ -241,6 +243,7 @@ impl Part {
     /// Takes a connection and its block away (C Library Reference: `close`).
     fn close(&mut self, process: u8, sent: Sent) -> Result<Reply, Errno>
         ensures done { deed_with self.new result ≡ close_deed self.old process sent }
+        ensures threads { (thread : ℕ) → thread_at self.new process thread ≡ thread_at self.old process thread }
         ensures kept { OnErr result (self.new ≡ self.old) }
     {
         let opened = self.opened_by(process, sent)?;

@@ -3,7 +3,7 @@
 ghost use Rattle.std.specs.Prelude.{◌<◌};
 
 use crate::steps::{
-    RAM_WORKER, assert_same_transcript, config, first_thread, open, perform, receive, spawn,
+    RAM_WORKER, assert_same_transcript, filled, first_thread, open, perform, receive, spawn,
 };
 use all_memory::take_all_memory;
 use qx_machine::Seen;
@@ -18,6 +18,7 @@ const STEPS: usize = 17;
 /// Every kind of step, for two users and two workers.
 fn script(alloc: Global) -> Result<[Step; STEPS], Fail> {
     let (ann, bob) = (first_thread(User(1)), first_thread(User(2)));
+    let (ann_path, bob_path) = (open(alloc, "/ann")?, open(alloc, "/bob")?);
     let other_receive = Step::Receive {
         worker: Worker(2),
         manager: Manager::Ram,
@@ -25,8 +26,8 @@ fn script(alloc: Global) -> Result<[Step; STEPS], Fail> {
     Ok([
         spawn(User(2)),
         spawn(User(1)),
-        call(ann, open(alloc, "/ann")?),
-        call(bob, open(alloc, "/bob")?),
+        call(ann, ann_path),
+        call(bob, bob_path),
         receive(),
         perform(5),
         Step::TakeReply { thread: ann },
@@ -51,16 +52,6 @@ fn script(alloc: Global) -> Result<[Step; STEPS], Fail> {
 
 fn call(thread: Thread, request: Request) -> Step {
     Step::Call { thread, request }
-}
-
-/// A trace that took steps, with no room for one more where they are four or more.
-fn filled(alloc: Global, steps: &[Step]) -> Result<Traced, Fail> {
-    let mut traced = Traced::new(alloc, config(alloc)?)?;
-    traced.reserve(steps.len())?;
-    for step in steps {
-        traced.store(step.clone()?)?;
-    }
-    Ok(traced)
 }
 
 /// What can be seen of a trace: how much is stored, what each worker holds, which users' first threads are answered and
@@ -128,24 +119,26 @@ fn refused(traced: &mut Traced, step: Step) -> Option<Step> {
     }
 }
 
-/// Takes the script's step at a place after those before it. Where it is refused it comes back, nothing has changed, and
-/// it is taken again. In the end all is as in a run without trouble.
+/// Takes a step. Where it is refused it comes back, nothing has changed, and it is taken again.
+fn take_at_last(rt: &impl Abort, traced: &mut Traced, step: &Step) -> Result<(), Fail> {
+    let before = View::of(traced)?;
+    let Some(returned) = refused(traced, step.clone()?) else {
+        return Ok(());
+    };
+    assert_eq!(rt; returned, *step);
+    assert_same_view(rt, &View::of(traced)?, &before);
+    traced.store(returned)?;
+    Ok(())
+}
+
+/// Takes the script's step at a place after those before it, at last. Then all is as in a run without trouble.
 fn is_taken_at_last(rt: &impl Abort, alloc: Global, place: usize) -> Result<(), Fail>
     requires { place < 17 }
 {
     let steps = script(alloc)?;
     let mut traced = filled(alloc, &steps[..place])?;
-    let before = View::of(&traced)?;
-    let step = steps[place].clone()?;
-    let returned = refused(&mut traced, step);
-    let mut untroubled = filled(alloc, &steps[..place])?;
-    let outcome = untroubled.step(steps[place].clone()?)?;
-    if let Some(step) = returned {
-        assert_eq!(rt; step, steps[place]);
-        assert_same_view(rt, &View::of(&traced)?, &before);
-        assert_eq!(rt; traced.step(step)?, outcome);
-    }
-    assert_same(rt, &traced, &untroubled)
+    take_at_last(rt, &mut traced, &steps[place])?;
+    assert_same(rt, &traced, &filled(alloc, &steps[..place + 1])?)
 }
 
 #[test]
@@ -210,24 +203,27 @@ fn a_close_is_performed_at_last(rt: HostRuntime) -> Result<(), Fail> {
 
 /// A reply of ann waits to be taken, and an open of bob to be received. There is room for three more steps.
 fn before_sure_steps(alloc: Global) -> Result<Traced, Fail> {
-    let (ann, bob) = (first_thread(User(1)), first_thread(User(2)));
-    let mut traced = filled(
-        alloc,
-        &[
-            spawn(User(1)),
-            spawn(User(2)),
-            call(ann, open(alloc, "/ann")?),
-            receive(),
-            perform(5),
-            Step::TakeReply { thread: ann },
-            call(ann, Request::Fstat { coid: Coid(3) }),
-            receive(),
-            perform(6),
-            call(bob, open(alloc, "/bob")?),
-        ],
-    )?;
+    let mut traced = filled(alloc, &first_steps(alloc)?)?;
     traced.reserve(3)?;
     Ok(traced)
+}
+
+/// The steps to there.
+fn first_steps(alloc: Global) -> Result<[Step; 10], Fail> {
+    let (ann, bob) = (first_thread(User(1)), first_thread(User(2)));
+    let (ann_path, bob_path) = (open(alloc, "/ann")?, open(alloc, "/bob")?);
+    Ok([
+        spawn(User(1)),
+        spawn(User(2)),
+        call(ann, ann_path),
+        receive(),
+        perform(5),
+        Step::TakeReply { thread: ann },
+        call(ann, Request::Fstat { coid: Coid(3) }),
+        receive(),
+        perform(6),
+        call(bob, bob_path),
+    ])
 }
 
 /// Takes a reply, sets a priority and receives a message, and tells whether all three were stored.
