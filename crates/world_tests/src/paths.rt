@@ -152,7 +152,11 @@ fn stores_in_reserved_room(rt: HostRuntime) -> Result<(), Fail> {
 }
 
 /// A worker receives an open. The message that it then holds.
-fn receive_an_open(rt: &impl Abort, traced: &mut Traced, request: Request) -> Result<Message, Fail> {
+fn receive_an_open(
+    rt: &impl Abort,
+    traced: &mut Traced,
+    request: Request,
+) -> Result<Message, Fail> {
     let thread = first_thread(User(1));
     traced.step(spawn(User(1)))?;
     traced.step(Step::Call { thread, request })?;
@@ -198,7 +202,10 @@ fn run_alone(rt: &impl Abort, alloc: Global, world: &mut World) -> Result<(), Fa
     );
     assert_eq!(rt; world.perform_held(RAM_WORKER, 5)?, Outcome::Handled);
     assert_eq!(rt; world.take_reply(bob), Outcome::Reply(3, Bytes::new(alloc)));
-    assert_eq!(rt; world.perform(RAM_WORKER, &Work::Pulse, 6)?, Outcome::Nothing);
+    assert_eq!(rt;
+        world.perform(RAM_WORKER, &Work::Pulse, 6)?,
+        Outcome::Nothing
+    );
     Ok(())
 }
 
