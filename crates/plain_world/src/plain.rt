@@ -1,6 +1,6 @@
 //! The rules of the machine over plain vectors, with no number of a row being its place.
 
-use qx_machine::{Message, Sent, State};
+use qx_machine::{Message, Over, Sent, State};
 use qx_types::{
     Answer, Bytes, Coid, Config, Errno, Item, Manager, OFlags, Outcome, Prio, Proc, Request, Step,
     Thread, User, Worker,
@@ -114,14 +114,14 @@ impl Plain {
         let Some(calls) = row.calls.checked_add(1) else {
             return Ok(Outcome::Refused(Errno::EAGAIN));
         };
-        let sent = match self.message(thread, request) {
+        let sent = match self.message(thread, prio, request) {
             Ok(sent) => sent,
             Err(error) => return Ok(Outcome::Refused(error)),
         };
-        if let Message::Open { .. } = sent.message {
+        if let Over::New(coid) = sent.over {
             self.connections.push(Connection {
                 proc: thread.proc,
-                coid: sent.coid,
+                coid,
                 block: None,
             })?;
         }
@@ -138,8 +138,8 @@ impl Plain {
     }
 
     /// The message that a request is sent as. All connections are at the RAM manager.
-    fn message(&self, thread: Thread, request: &Request) -> Result<Sent, Errno> {
-        let (coid, message) = match request {
+    fn message(&self, thread: Thread, prio: Prio, request: &Request) -> Result<Sent, Errno> {
+        let (over, message) = match request {
             Request::OpenPath { path, flags, mode } => {
                 if !self.is_own_root(thread.proc.user, path) {
                     return Err(Errno::ENOENT);
@@ -148,20 +148,26 @@ impl Plain {
                     return Err(Errno::EMFILE);
                 };
                 let (flags, mode) = (*flags, *mode);
-                (coid, Message::Open { flags, mode })
+                (Over::New(coid), Message::Open { flags, mode })
             }
-            Request::Close { coid } => (*coid, Message::Close),
-            Request::Fstat { coid } => (*coid, Message::Fstat),
+            Request::Close { coid } => (self.used(thread.proc, *coid)?, Message::Close),
+            Request::Fstat { coid } => (self.used(thread.proc, *coid)?, Message::Fstat),
         };
-        let is_open = matches!(message, Message::Open { .. });
-        if !is_open && !self.is_connection(thread.proc, coid) {
-            return Err(Errno::EBADF);
-        }
         Ok(Sent {
             manager: Manager::Ram,
-            coid,
+            over,
+            prio,
             message,
         })
+    }
+
+    /// A connection that is there.
+    fn used(&self, proc: Proc, coid: Coid) -> Result<Over, Errno> {
+        if self.is_connection(proc, coid) {
+            Ok(Over::Existing(coid))
+        } else {
+            Err(Errno::EBADF)
+        }
     }
 
     fn take_reply(&mut self, thread: Thread) -> Outcome {
@@ -233,26 +239,29 @@ impl Plain {
     fn answer(&mut self, thread: Thread, sent: Sent) -> Result<Answer, AllocError> {
         let (proc, user) = (thread.proc, thread.proc.user);
         let none = Bytes::new(self.alloc);
+        let (Over::New(coid) | Over::Existing(coid)) = sent.over else {
+            return Ok(Answer::Failed(Errno::EINVAL));
+        };
         match sent.message {
             Message::Open { .. } => {
                 let Some(block) = self.free_block(user) else {
-                    self.detach(proc, sent.coid);
+                    self.detach(proc, coid);
                     return Ok(Answer::Failed(Errno::ENFILE));
                 };
                 self.blocks.push((user, block))?;
-                self.set_block(proc, sent.coid, block);
-                Ok(Answer::Reply(u64::from(sent.coid.0), none))
+                self.set_block(proc, coid, block);
+                Ok(Answer::Reply(u64::from(coid.0), none))
             }
             Message::Close => {
-                let Some(block) = self.block(proc, sent.coid) else {
+                let Some(block) = self.block(proc, coid) else {
                     return Ok(Answer::Failed(Errno::EBADF));
                 };
-                self.detach(proc, sent.coid);
+                self.detach(proc, coid);
                 self.blocks.retain(|taken| *taken != (user, block));
                 Ok(Answer::Reply(0, none))
             }
             Message::Fstat => {
-                if self.block(proc, sent.coid).is_none() {
+                if self.block(proc, coid).is_none() {
                     return Ok(Answer::Failed(Errno::EBADF));
                 }
                 let status = root_status(user);

@@ -1,15 +1,18 @@
 -- Lists of entries: which threads stand in them, as items come and go.
-use Rattle.std.proofs.Common.{◌≡◌, ◌≢◌, ◌⊎◌, inl, inr, ℕ, ◌||◌, Bool, true, false, nat_lt, List, [], ◌∷◌, Contains, map, drop, unwrap_or, refl, ap, arith}
+use Rattle.std.proofs.Common.{◌<◌, ◌∙◌, length, sym, ◌≡◌, ◌≢◌, ◌⊎◌, inl, inr, ℕ, ◌||◌, Bool, true, false, nat_lt, List, [], ◌∷◌, Contains, map, drop, unwrap_or, refl, ap, arith}
 use Rattle.std.specs.FinMap as maps
 use Rattle.std.specs.Ordering.{nat_cmp}
 use Rattle.std.proofs.lemmas.Bool.{cases_Bool}
+use Rattle.std.proofs.lemmas.List.{get_or-set_other, get_or-set_same, length-set}
+use Rattle.std.proofs.lemmas.Option.{unwrap_or-slice_get}
 use Rattle.std.proofs.lemmas.Bool.Decides.{eqb_tells, nat_tests}
 use Rattle.qx_types.specs.declared.names.Thread.{Thread}
 use Rattle.qx_lists.proofs.ListLemmas.{contains_cases, contains_first, contains_later}
-use Rattle.qx_lists.proofs.MapLemmas.{get-insert_same, get-insert_other}
+use Rattle.qx_lists.proofs.MapLemmas.{get-insert_same}
 use Rattle.qx_machine.specs.declared.rows.Queued.{Queued}
-use Rattle.qx_machine.specs.Lines.{into}
-use Rattle.qx_chan.specs.Channel.{is_same_thread, nobodys, sender, stands}
+use Rattle.qx_machine.specs.Lines.{into, line_at, with_line}
+use Rattle.qx_chan.specs.Channel.{is_same_thread, sender, stands}
+use Rattle.qx_chan.specs.Kept.{nobodys}
 
 -- priority insertion, by what the items stand for
 pub into-map : {A B : Type 0} (by : A → ℕ) (rank : B → ℕ) (f : A → B) → ((x : A) → by x ≡ rank (f x)) → (xs : List A) (x : A) → map f (into by xs x) ≡ into rank (map f xs) (f x)
@@ -48,12 +51,8 @@ pub map-drop : {A B : Type 0} (f : A → B) (xs : List A) → map f (drop 1 xs) 
 map-drop f [] = refl
 map-drop f (x ∷ xs) = refl
 
-module _ (values : maps.FinMap nat_cmp Queued) (node : ℕ) (entry : Queued) where
-  pub entry-insert_same : unwrap_or (maps.get (maps.insert values node entry) node) nobodys ≡ entry
-  entry-insert_same = ap (λ o. unwrap_or o nobodys) (get-insert_same values node entry)
-
-  pub entry-insert_other : (other : ℕ) → other ≢ node → unwrap_or (maps.get (maps.insert values node entry) other) nobodys ≡ unwrap_or (maps.get values other) nobodys
-  entry-insert_other other differs = ap (λ o. unwrap_or o nobodys) (get-insert_other values node entry other differs)
+pub entry-insert_same : (values : maps.FinMap nat_cmp Queued) (node : ℕ) (entry : Queued) → unwrap_or (maps.get (maps.insert values node entry) node) nobodys ≡ entry
+entry-insert_same values node entry = ap (λ o. unwrap_or o nobodys) (get-insert_same values node entry)
 
 abbrev thread_of : ℕ → ℕ → ℕ → Thread
 thread_of user process thread = record { proc = record { user = record { 0 = user }; num = process }; tid = thread }
@@ -128,3 +127,14 @@ stands-into rank (first ∷ line) entry thread =
     assoc : (a b c : Bool) → (a || (b || c)) ≡ ((a || b) || c)
     assoc true b c = refl
     assoc false b c = refl
+
+-- the lines under their numbers, once one of them was changed
+module _ {A : Type 0} (lines : List (List A)) (number : ℕ) (change : List A → List A) where
+  pub line_at-same : number < length lines → line_at (with_line lines number change) number ≡ change (line_at lines number)
+  line_at-same within = unwrap_or-slice_get (with_line lines number change) number [] ∙ get_or-set_same lines number (change (line_at lines number)) [] within
+
+  pub line_at-other : (other : ℕ) → other ≢ number → line_at (with_line lines number change) other ≡ line_at lines other
+  line_at-other other differs = unwrap_or-slice_get (with_line lines number change) other [] ∙ get_or-set_other lines number other (change (line_at lines number)) [] differs ∙ sym (unwrap_or-slice_get lines other [])
+
+  pub length-with_line : length (with_line lines number change) ≡ length lines
+  length-with_line = length-set lines number (change (line_at lines number))

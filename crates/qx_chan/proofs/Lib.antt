@@ -1,4 +1,12 @@
-pub mod ChannelLemmas
+-- Lists of entries: which threads stand in them, as items come and go; the lines under their numbers.
 pub mod EntryLemmas
+-- What nodes stand for and which lines there are, as one node of the table changes.
+pub mod TableLemmas
+-- The channel's invariant, call by call.
+pub mod KeptLemmas
+-- The columns of nodes, as a thread or a server connection gets its own or gives it back.
 pub mod NodesLemmas
-pub mod SpareLemmas
+-- Sets of threads and of server connections.
+pub mod SetLemmas
+-- Which threads and server connections have nodes, as sets, and what calls make of the channel's value.
+pub mod PresenceLemmas

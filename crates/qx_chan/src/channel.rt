@@ -1,20 +1,22 @@
 //! The managers' lines over one table of nodes, in which the nodes of all users' threads and server connections stand.
 
-ghost use Rattle.std.specs.Prelude.{◌≡◌, ℕ, ◌+◌, ◌-◌, ◌*◌, ◌<◌, ◌≤◌, ◌||◌, ◌&&◌, not, if◌then◌else◌, false, length, drop, slice_get, max, IfOk, IsOk, OnOk, OnErr, IfSome, IsTrue, None, [], is_some};
+ghost use Rattle.std.specs.Prelude.{◌≡◌, ℕ, ◌-◌, ◌*◌, ◌<◌, ◌≤◌, false, length, drop, slice_get, max, IfOk, IsOk, OnOk, OnErr, IfSome, IsTrue, None};
 ghost use Rattle.std.specs.FinMap as maps;
+ghost use Rattle.qx_types.specs.Managers.{manager_number};
+ghost use Rattle.qx_types.specs.declared.limits.TheConstants.Limits.{PRIORITY, PROCESSES, THREADS};
 ghost use Rattle.qx_lists.specs.Table.{ContainsNode, IsFree, IsIn, with_value};
 ghost use Rattle.qx_lines.specs.Line.{IsLineOf};
 ghost use Rattle.qx_machine.specs.Lines.{into};
 ghost use Rattle.qx_machine.specs.Machine as machine;
-ghost use Rattle.qx_chan.specs.Channel.{PutIn, TakenOut, channel_line, entries, entry_at, is_same_server, is_same_thread, is_thread_of, message_of, sender, stands, with_channel_line};
-ghost use Rattle.qx_chan.specs.Nodes.{HasThread, disconnect_at, no_nodes, nodes_at};
+ghost use Rattle.qx_chan.specs.Channel.{HasThread, channel_line, has_server, has_thread, message_of, no_channel, sender, stands, with_channel_line, with_process, with_server, with_thread, without_server};
+ghost use Rattle.qx_chan.specs.Kept.{PutIn, TakenOut, entries};
 
 use crate::nodes::{Nodes, ThreadNodes};
 use crate::waiting::Waiting;
 use qx_lines::Line;
 use qx_lists::Table;
 use qx_machine::{OwnItem, Queued};
-use qx_types::{Manager, Prio, Proc, Thread};
+use qx_types::{Limits, Manager, Prio, Proc, Thread};
 use std::alloc::{AllocError, Global};
 use std::marker::Model;
 
@@ -22,90 +24,89 @@ use std::marker::Model;
 #[derive(Drop)]
 pub struct Channel {
     table: Table<Waiting>,
-    ram: Line,
-    pipe: Line,
+    lines: Vec<Line>,
     nodes: Nodes,
 }
 
 impl Model for Channel {
+    ghost use Rattle.std.specs.Prelude.{◌≡◌, length, map};
+    ghost use Rattle.qx_types.specs.declared.names.TheConstants.Manager.{COUNT};
     ghost use Rattle.qx_chan.specs.Channel as words;
+    ghost use Rattle.qx_chan.specs.Kept.{Kept, entries};
+    ghost use Rattle.qx_chan.specs.Nodes.{node_of, servers_of, threads_of};
 
     ghost Value = { words.Channel };
 
-    ghost view = { λ c. record { ram = words.entries c.table c.ram; pipe = words.entries c.table c.pipe; nodes = c.nodes; room = c.table.room } };
+    ghost coded = { words.channel_code };
 
-    ghost invariant = { λ c. words.Tied c.table c.ram c.pipe c.nodes × words.Spare c.table c.nodes };
+    ghost view = { λ c. record { lines = map (entries c.table) c.lines.items; threads = threads_of c.nodes; servers = servers_of c.nodes; users = length c.nodes; room = c.table.room } };
+
+    ghost invariant = { λ c. (length c.lines.items ≡ COUNT) × Kept c.table c.lines.items (node_of c.nodes) };
 }
 
 impl Channel {
     /// Empty lines, and no nodes of the users from 1 to this many.
     pub fn new(alloc: Global, users: usize) -> Result<Self, AllocError>
-        requires { users < 256 }
-        ensures { IfOk result (λ channel. channel ≡ record { ram = []; pipe = []; nodes = no_nodes users; room = 0 }) }
+        requires few { users < 256 }
+        ensures empty { IfOk result (λ channel. channel ≡ no_channel users) }
     {
         let mut table = Table::new(alloc);
-        let ram = Line::new(&mut table)?;
-        let pipe = Line::new(&mut table)?;
+        let mut lines = Vec::new(alloc);
         let nodes = Nodes::new(alloc, users)?;
+        'managers: for _ in 0..Manager::COUNT {
+            let line = Line::new(&mut table)?;
+            lines.push(line)?;
+        }
         Ok(Channel {
             table,
-            ram,
-            pipe,
+            lines,
             nodes,
         })
     }
 
     /// Puts a thread's message, which stands in no line, into a line.
     pub fn put(&mut self, manager: Manager, thread: Thread, prio: Prio)
-        requires own { IsTrue (is_some (nodes_at self.old.nodes thread)) }
-        requires not_in_ram { stands self.old.ram thread ≡ false }
-        requires not_in_pipe { stands self.old.pipe thread ≡ false }
+        requires own { IsTrue (has_thread self.old thread) }
+        requires idle { (number : ℕ) → stands (channel_line self.old number) thread ≡ false }
         requires lowest { 1 ≤ prio.0 }
-        requires highest { prio.0 ≤ 63 }
-        ensures { self.new ≡ with_channel_line self.old manager (into machine.rank (channel_line self.old manager) (message_of thread prio.0)) }
+        requires highest { prio.0 ≤ PRIORITY }
+        ensures put { self.new ≡ with_channel_line self.old (manager_number manager) (λ line. into machine.rank line (message_of thread prio.0)) }
     {
         let Some(own) = self.nodes.at(thread) else {
             unreachable!();
         };
         let waiting = Waiting::new(queued_message(thread, prio));
-        match manager {
-            Manager::Ram => put_in(&mut self.table, &mut self.ram, own.message, waiting),
-            Manager::Pipe => put_in(&mut self.table, &mut self.pipe, own.message, waiting),
-        }
+        put_in(
+            &mut self.table,
+            &mut self.lines[manager.number()],
+            own.message,
+            waiting,
+        );
     }
 
     /// Takes the first item of a line.
     pub fn take(&mut self, manager: Manager) -> Option<Queued>
-        ensures first { result ≡ slice_get (channel_line self.old manager) 0 }
-        ensures rest { self.new ≡ with_channel_line self.old manager (drop 1 (channel_line self.old manager)) }
-        ensures gone { IfSome result (λ first. stands (drop 1 (channel_line self.old manager)) (sender first) ≡ false) }
+        ensures first { result ≡ slice_get (channel_line self.old (manager_number manager)) 0 }
+        ensures rest { self.new ≡ with_channel_line self.old (manager_number manager) (drop 1) }
+        ensures gone { IfSome result (λ first. stands (drop 1 (channel_line self.old (manager_number manager))) (sender first) ≡ false) }
     {
         self.table.know();
-        match manager {
-            Manager::Ram => take_out(&mut self.table, &mut self.ram),
-            Manager::Pipe => take_out(&mut self.table, &mut self.pipe),
-        }
+        take_out(&mut self.table, &mut self.lines[manager.number()])
     }
 
     /// The first item of a line.
     pub fn first(&self, manager: Manager) -> Option<Queued>
-        ensures { result ≡ slice_get (channel_line self.now manager) 0 }
+        ensures first { result ≡ slice_get (channel_line self.now (manager_number manager)) 0 }
     {
         self.table.know();
-        match manager {
-            Manager::Ram => first_of(&self.table, &self.ram),
-            Manager::Pipe => first_of(&self.table, &self.pipe),
-        }
+        first_of(&self.table, &self.lines[manager.number()])
     }
 
     /// How many items stand in a line.
     pub fn len(&self, manager: Manager) -> usize
-        ensures { result ≡ length (channel_line self.now manager) }
+        ensures count { result ≡ length (channel_line self.now (manager_number manager)) }
     {
-        match manager {
-            Manager::Ram => self.ram.len(),
-            Manager::Pipe => self.pipe.len(),
-        }
+        self.lines[manager.number()].len()
     }
 
     /// Makes room for the nodes of so many threads.
@@ -120,19 +121,14 @@ impl Channel {
 
     /// Makes the nodes of a thread that has none, for which there is room.
     pub fn add(&mut self, thread: Thread, prio: Prio)
-        requires fresh { nodes_at self.old.nodes thread ≡ None }
-        requires user { thread.proc.user.0 < length self.old.nodes }
-        requires process { thread.proc.num < 17 }
-        requires thread { thread.tid < 5 }
+        requires fresh { has_thread self.old thread ≡ false }
+        requires user { thread.proc.user.0 < self.old.users }
+        requires process { thread.proc.num ≤ PROCESSES }
+        requires thread { thread.tid ≤ THREADS }
         requires lowest { 1 ≤ prio.0 }
-        requires highest { prio.0 ≤ 63 }
+        requires highest { prio.0 ≤ PRIORITY }
         requires room { 2 ≤ self.old.room }
-        ensures ram { self.new.ram ≡ self.old.ram }
-        ensures pipe { self.new.pipe ≡ self.old.pipe }
-        ensures room { self.new.room ≡ self.old.room - 2 }
-        ensures users { length self.new.nodes ≡ length self.old.nodes }
-        ensures own { (other : Thread) → is_some (nodes_at self.new.nodes other) ≡ is_some (nodes_at self.old.nodes other) || is_same_thread thread other }
-        ensures servers { (other : Proc) (at : Manager) → disconnect_at self.new.nodes other at ≡ disconnect_at self.old.nodes other at }
+        ensures added { self.new ≡ with_thread self.old thread }
     {
         self.table.know();
         let message = new_node(&mut self.table, Waiting::new(queued_message(thread, prio)));
@@ -143,19 +139,14 @@ impl Channel {
 
     /// Makes the nodes of a process' threads, for which there is room, and none of which has any.
     pub fn add_process(&mut self, proc: Proc, threads: u8, prio: Prio)
-        requires fresh { (thread : ℕ) → nodes_at self.old.nodes (record { proc = proc; tid = thread }) ≡ None }
-        requires user { proc.user.0 < length self.old.nodes }
-        requires process { proc.num < 17 }
-        requires threads { threads ≤ 4 }
+        requires fresh { (thread : ℕ) → has_thread self.old (record { proc = proc; tid = thread }) ≡ false }
+        requires user { proc.user.0 < self.old.users }
+        requires process { proc.num ≤ PROCESSES }
+        requires threads { threads ≤ THREADS }
         requires lowest { 1 ≤ prio.0 }
-        requires highest { prio.0 ≤ 63 }
+        requires highest { prio.0 ≤ PRIORITY }
         requires room { 2 * threads ≤ self.old.room }
-        ensures ram { self.new.ram ≡ self.old.ram }
-        ensures pipe { self.new.pipe ≡ self.old.pipe }
-        ensures room { self.new.room + 2 * threads ≡ self.old.room }
-        ensures users { length self.new.nodes ≡ length self.old.nodes }
-        ensures own { (other : Thread) → is_some (nodes_at self.new.nodes other) ≡ is_some (nodes_at self.old.nodes other) || is_thread_of proc threads other }
-        ensures servers { (other : Proc) (at : Manager) → disconnect_at self.new.nodes other at ≡ disconnect_at self.old.nodes other at }
+        ensures added { self.new ≡ with_process self.old proc threads }
     {
         if threads == 0 {
             return;
@@ -166,13 +157,9 @@ impl Channel {
 
     /// A process has a disconnect node at a manager from now on: the one that it had, or a new one.
     pub fn add_server(&mut self, proc: Proc, manager: Manager) -> Result<(), AllocError>
-        requires { HasThread self.old.nodes proc }
-        ensures ram { OnOk result (self.new.ram ≡ self.old.ram) }
-        ensures pipe { OnOk result (self.new.pipe ≡ self.old.pipe) }
-        ensures room { OnOk result (self.new.room ≡ (if is_some (disconnect_at self.old.nodes proc manager) then self.old.room else self.old.room - 1)) }
-        ensures users { OnOk result (length self.new.nodes ≡ length self.old.nodes) }
-        ensures threads { OnOk result ((thread : Thread) → nodes_at self.new.nodes thread ≡ nodes_at self.old.nodes thread) }
-        ensures servers { OnOk result ((other : Proc) (at : Manager) → is_some (disconnect_at self.new.nodes other at) ≡ is_some (disconnect_at self.old.nodes other at) || is_same_server proc manager other at) }
+        requires started { HasThread self.old proc }
+        ensures ok { OnOk result (self.new ≡ with_server self.old proc (manager_number manager)) }
+        ensures had_node { IsTrue (has_server self.old proc (manager_number manager)) → IsOk result }
         ensures had_room { 1 ≤ self.old.room → IsOk result }
         ensures err { OnErr result (self.new ≡ self.old) }
     {
@@ -185,7 +172,7 @@ impl Channel {
         let nobody = Thread { proc, tid: 0 };
         let node = new_node(
             &mut self.table,
-            Waiting::new(queued_message(nobody, Prio(63))),
+            Waiting::new(queued_message(nobody, Prio(Limits::PRIORITY))),
         );
         self.nodes.set_disconnect(proc, manager, Some(node));
         Ok(())
@@ -193,12 +180,7 @@ impl Channel {
 
     /// A process has no disconnect node at a manager from now on, and room is kept for the one that it had.
     pub fn remove_server(&mut self, proc: Proc, manager: Manager)
-        ensures ram { self.new.ram ≡ self.old.ram }
-        ensures pipe { self.new.pipe ≡ self.old.pipe }
-        ensures room { self.new.room ≡ (if is_some (disconnect_at self.old.nodes proc manager) then self.old.room + 1 else self.old.room) }
-        ensures users { length self.new.nodes ≡ length self.old.nodes }
-        ensures threads { (thread : Thread) → nodes_at self.new.nodes thread ≡ nodes_at self.old.nodes thread }
-        ensures servers { (other : Proc) (at : Manager) → is_some (disconnect_at self.new.nodes other at) ≡ is_some (disconnect_at self.old.nodes other at) && not (is_same_server proc manager other at) }
+        ensures removed { self.new ≡ without_server self.old proc (manager_number manager) }
     {
         if let Some(node) = self.nodes.disconnect(proc, manager) {
             self.table.free_node(node);
@@ -209,7 +191,7 @@ impl Channel {
 
 /// A thread's message, as it stands in a line.
 fn queued_message(thread: Thread, prio: Prio) -> Queued
-    ensures { result ≡ message_of thread prio.0 }
+    ensures message { result ≡ message_of thread prio.0 }
 {
     Queued {
         user: thread.proc.user,
@@ -223,7 +205,7 @@ fn queued_message(thread: Thread, prio: Prio) -> Queued
 
 /// Makes a node, for which there is room.
 fn new_node(table: &mut Table<Waiting>, waiting: Waiting) -> usize
-    requires { 0 < table.old.room }
+    requires room { 0 < table.old.room }
     ensures made { table.new ≡ record table.old { values = maps.insert table.old.values result waiting; room = table.old.room - 1 } }
     ensures was_new { maps.get table.old.values result ≡ None }
 {
@@ -235,8 +217,8 @@ fn new_node(table: &mut Table<Waiting>, waiting: Waiting) -> usize
 
 /// A node stands for another item from now on.
 fn set_entry(table: &mut Table<Waiting>, node: usize, waiting: Waiting)
-    requires { ContainsNode table.old node }
-    ensures { table.new ≡ with_value table.old node waiting }
+    requires there { ContainsNode table.old node }
+    ensures set { table.new ≡ with_value table.old node waiting }
 {
     *table.value_mut(node) = waiting;
 }
@@ -245,7 +227,7 @@ fn set_entry(table: &mut Table<Waiting>, node: usize, waiting: Waiting)
 fn put_in(table: &mut Table<Waiting>, line: &mut Line, node: usize, waiting: Waiting)
     requires line { IsLineOf machine.rank table.old line.old }
     requires free { IsFree table.old node }
-    ensures { PutIn table.old table.new line.old line.new node waiting }
+    ensures put { PutIn table.old table.new line.old line.new node waiting }
 {
     set_entry(table, node, waiting);
     line.put(table, node);
@@ -266,7 +248,7 @@ fn take_out(table: &mut Table<Waiting>, line: &mut Line) -> Option<Queued>
 fn first_of(table: &Table<Waiting>, line: &Line) -> Option<Queued>
     requires line { IsLineOf machine.rank table.now line.now }
     requires there { (list node : ℕ) → IsIn table.now list node → ContainsNode table.now node }
-    ensures { result ≡ slice_get (entries table.now line.now) 0 }
+    ensures first { result ≡ slice_get (entries table.now line.now) 0 }
 {
     let node = line.first(table)?;
     Some(table.value(node).queued())

@@ -1,10 +1,12 @@
 //! The nodes of all threads and of all server connections: made with them, so that a message and a pulse take none.
 
-ghost use Rattle.std.specs.Prelude.{◌≡◌, ◌<◌, ◌+◌, length, IfOk, None, Some, replicate, slice_set, get_or};
+ghost use Rattle.std.specs.Prelude.{◌≡◌, ◌≢◌, ◌<◌, ◌≤◌, length, IfOk, Some};
+ghost use Rattle.qx_types.specs.Managers.{manager_number};
+ghost use Rattle.qx_types.specs.declared.limits.TheConstants.Limits.{PROCESSES, THREADS};
 ghost use Rattle.qx_machine.specs.Rows.{row_at};
-ghost use Rattle.qx_chan.specs.Nodes.{disconnect_at, no_nodes, no_process, nodes_at, server_node, with_disconnect_at, with_nodes_at, with_process, with_server, with_thread};
+ghost use Rattle.qx_chan.specs.Nodes.{disconnect_at, no_nodes, no_process, nodes_at, process_at, process_in, servers_with, threads_with, user_with, with_disconnect_at, with_nodes_at};
 
-use qx_types::{Manager, Proc, Thread};
+use qx_types::{Limits, Manager, Proc, Thread};
 use std::alloc::{AllocError, Global};
 use std::marker::Model;
 
@@ -15,78 +17,64 @@ pub struct ThreadNodes {
     pub unblock: usize,
 }
 
-/// The disconnect nodes of a process, by the manager of its server connection.
-#[derive(Clone, Copy, Debug, PartialEq, Eq)]
-pub struct ServerNodes {
-    pub ram: Option<usize>,
-    pub pipe: Option<usize>,
-}
-
 /// The nodes of a process: those of its threads, by number, and those of its server connections.
 #[derive(Clone, Copy, Debug, PartialEq, Eq)]
 pub struct ProcessNodes {
-    threads: [Option<ThreadNodes>; 5],
-    servers: ServerNodes,
+    threads: [Option<ThreadNodes>; Limits::THREADS as usize + 1],
+    servers: [Option<usize>; Manager::COUNT],
 }
 
 impl ProcessNodes {
     const NONE: ProcessNodes = ProcessNodes {
-        threads: [None; 5],
-        servers: ServerNodes {
-            ram: None,
-            pipe: None,
-        },
+        threads: [None; Limits::THREADS as usize + 1],
+        servers: [None; Manager::COUNT],
     };
 
     fn set(&mut self, thread: u8, own: ThreadNodes)
-        requires { thread < 5 }
-        ensures set { self.new ≡ with_thread self.old thread own }
+        requires thread { thread ≤ THREADS }
+        ensures set { self.new ≡ threads_with self.old thread own }
         ensures there { row_at self.new.threads thread ≡ Some own }
     {
         self.threads[thread as usize] = Some(own);
     }
 
     fn disconnect(&self, manager: Manager) -> Option<usize>
-        ensures { result ≡ server_node self.now.servers manager }
+        ensures node { result ≡ row_at self.now.servers (manager_number manager) }
     {
-        match manager {
-            Manager::Ram => self.servers.ram,
-            Manager::Pipe => self.servers.pipe,
-        }
+        self.servers[manager.number()]
     }
 
     fn set_disconnect(&mut self, manager: Manager, node: Option<usize>)
-        ensures { self.new ≡ with_server self.old manager node }
+        ensures set { self.new ≡ servers_with self.old (manager_number manager) node }
+        ensures there { row_at self.new.servers (manager_number manager) ≡ node }
     {
-        match manager {
-            Manager::Ram => self.servers.ram = node,
-            Manager::Pipe => self.servers.pipe = node,
-        }
+        self.servers[manager.number()] = node;
     }
 }
 
 /// The nodes of a user, by process.
 #[derive(Clone, Copy, Debug, PartialEq, Eq)]
 pub struct UserNodes {
-    processes: [ProcessNodes; 17],
+    processes: [ProcessNodes; Limits::PROCESSES + 1],
 }
 
 impl UserNodes {
     const NONE: UserNodes = UserNodes {
-        processes: [ProcessNodes::NONE; 17],
+        processes: [ProcessNodes::NONE; Limits::PROCESSES + 1],
     };
 
     fn set(&mut self, process: u8, thread: u8, own: ThreadNodes)
-        requires process { process < 17 }
-        requires thread { thread < 5 }
-        ensures set { self.new ≡ with_process self.old process (with_thread (get_or self.old.processes process no_process) thread own) }
-        ensures there { row_at (get_or self.new.processes process no_process).threads thread ≡ Some own }
+        requires process { process ≤ PROCESSES }
+        requires thread { thread ≤ THREADS }
+        ensures set { self.new ≡ user_with self.old process (threads_with (process_in self.old process) thread own) }
+        ensures there { row_at (process_in self.new process).threads thread ≡ Some own }
     {
         self.processes[process as usize].set(thread, own);
     }
 
     fn set_disconnect(&mut self, process: u8, manager: Manager, node: Option<usize>)
-        ensures { self.new ≡ with_process self.old process (with_server (get_or self.old.processes process no_process) manager node) }
+        ensures set { self.new ≡ user_with self.old process (servers_with (process_in self.old process) (manager_number manager) node) }
+        ensures there { process_in self.old process ≢ no_process → row_at (process_in self.new process).servers (manager_number manager) ≡ node }
     {
         let place = process as usize;
         if place < self.processes.len() {
@@ -113,8 +101,8 @@ impl Model for Nodes {
 impl Nodes {
     /// No nodes for users from 1 to this many.
     pub fn new(alloc: Global, users: usize) -> Result<Self, AllocError>
-        requires { users < 256 }
-        ensures { IfOk result (λ nodes. nodes ≡ no_nodes users) }
+        requires few { users < 256 }
+        ensures none { IfOk result (λ nodes. nodes ≡ no_nodes users) }
     {
         let mut places = Vec::new(alloc);
         for _ in 0..users + 1 {
@@ -125,7 +113,7 @@ impl Nodes {
 
     /// A thread's nodes.
     pub fn at(&self, thread: Thread) -> Option<ThreadNodes>
-        ensures { result ≡ nodes_at self.now thread }
+        ensures own { result ≡ nodes_at self.now thread }
     {
         let of_user = self.users.get(thread.proc.user.0 as usize)?;
         let of_process = of_user.processes.get(thread.proc.num as usize)?;
@@ -135,8 +123,8 @@ impl Nodes {
     /// A thread gets its nodes.
     pub fn set(&mut self, thread: Thread, own: ThreadNodes)
         requires user { thread.proc.user.0 < length self.old }
-        requires process { thread.proc.num < 17 }
-        requires thread { thread.tid < 5 }
+        requires process { thread.proc.num ≤ PROCESSES }
+        requires thread { thread.tid ≤ THREADS }
         ensures set { self.new ≡ with_nodes_at self.old thread own }
         ensures there { nodes_at self.new thread ≡ Some own }
     {
@@ -145,7 +133,7 @@ impl Nodes {
 
     /// The disconnect node of a process' server connection at a manager.
     pub fn disconnect(&self, proc: Proc, manager: Manager) -> Option<usize>
-        ensures { result ≡ disconnect_at self.now proc manager }
+        ensures node { result ≡ disconnect_at self.now proc (manager_number manager) }
     {
         let of_user = self.users.get(proc.user.0 as usize)?;
         of_user
@@ -156,7 +144,8 @@ impl Nodes {
 
     /// A process gets another disconnect node at a manager, or none.
     pub fn set_disconnect(&mut self, proc: Proc, manager: Manager, node: Option<usize>)
-        ensures { self.new ≡ with_disconnect_at self.old proc manager node }
+        ensures set { self.new ≡ with_disconnect_at self.old proc (manager_number manager) node }
+        ensures there { process_at self.old proc ≢ no_process → disconnect_at self.new proc (manager_number manager) ≡ node }
     {
         let place = proc.user.0 as usize;
         if place < self.users.len() {

@@ -7,9 +7,6 @@ ghost use Rattle.qx_lists.specs.Table.{IsFree, placed, without};
 ghost use Rattle.qx_machine.specs.Lines.{into};
 ghost use Rattle.qx_lines.specs.Line.{IsInLine, IsLineOf, IsOwn, SameElsewhere, item_count, nodes_in, rank_at, with_line};
 
-#[cfg(test)]
-mod tests;
-
 use qx_lists::Table;
 use qx_types::{Prio, Ranked};
 use std::alloc::AllocError;

@@ -12,8 +12,6 @@ ghost use Rattle.qx_lists.specs.Shows.{Lists, Shows, shown_once};
 ghost use Rattle.qx_lists.specs.Table.{ContainsList, ContainsNode, IsFree, IsIn, IsPlace, nodes_of, with_nodes, without, put_before, placed, next_after};
 
 mod rings;
-#[cfg(test)]
-mod tests;
 
 use rings::{Links, Node, Rings};
 use slab::Slab;

@@ -1,6 +1,6 @@
 -- Rows under numbers: what a write to one place does to the others.
 use Rattle.std.proofs.Common.{◌≡◌, ◌≢◌, ℕ, zero, suc, ◌+◌, ◌-◌, ◌<◌, ◌≤◌, add-one, List, [], ◌∷◌, drop, length, refl, sym, ap, ◌∙◌, arith}
-use Rattle.std.specs.Prelude.{Option, Some, None, slice_set, map}
+use Rattle.std.specs.Prelude.{Option, Some, None, slice_get, slice_set, map, unwrap_or}
 use Rattle.std.proofs.lemmas.List.{set-get_or, get_or-set_other, get_or-drop}
 use Rattle.std.proofs.lemmas.Option.{unwrap_or-slice_get}
 use Rattle.qx_machine.specs.Rows.{row_at, taken_places, lowest_from}
@@ -27,17 +27,6 @@ module _ {A : Type 0} where
   row_at-set_row_at (x ∷ places) (y ∷ others) zero long = refl
   row_at-set_row_at (x ∷ places) (y ∷ others) (suc i) long = row_at-set_row_at places others i (omega arith)
 
-  pub row_at-map : (f : Option A → Option A) (places : List (Option A)) (i : ℕ) → f None ≡ None → row_at (map f places) i ≡ f (row_at places i)
-  row_at-map f [] i none = sym none
-  row_at-map f (x ∷ places) zero none = refl
-  row_at-map f (x ∷ places) (suc i) none = row_at-map f places i none
-
-  -- a write that f cannot tell from what was there
-  pub map-set_unseen : (f : Option A → Option A) (places : List (Option A)) (i : ℕ) (row : Option A) → f row ≡ f (row_at places i) → map f (slice_set places i row) ≡ map f places
-  map-set_unseen f [] i row same = refl
-  map-set_unseen f (x ∷ places) zero row same = ap (λ y. y ∷ map f places) same
-  map-set_unseen f (x ∷ places) (suc i) row same = ap (λ l. f x ∷ l) (map-set_unseen f places i row same)
-
   -- the lowest free number
 
   row_at-drop : (places : List (Option A)) (first i : ℕ) → row_at (drop first places) i ≡ row_at places (first + i)
@@ -61,3 +50,15 @@ module _ {A : Type 0} where
   lowest_from_lowest first number places from below =
       let at : first + (number - first) ≡ number = omega arith in
       λ none. taken_places_taken (drop first places) (number - first) (omega arith) (row_at-drop places first (number - first) ∙ (ap (row_at places) at ∙ none))
+
+module _ {A B : Type 0} (f : A → B) where
+  pub at-map : (places : List A) (i : ℕ) (d : A) (e : B) → f d ≡ e → unwrap_or (slice_get (map f places) i) e ≡ f (unwrap_or (slice_get places i) d)
+  at-map [] i d e none = sym none
+  at-map (x ∷ places) zero d e none = refl
+  at-map (x ∷ places) (suc i) d e none = at-map places i d e none
+
+  -- a write that f cannot tell from what was there
+  pub map-set_unseen : (places : List A) (i : ℕ) (d row : A) → f row ≡ f (unwrap_or (slice_get places i) d) → map f (slice_set places i row) ≡ map f places
+  map-set_unseen [] i d row same = refl
+  map-set_unseen (x ∷ places) zero d row same = ap (λ y. y ∷ map f places) same
+  map-set_unseen (x ∷ places) (suc i) d row same = ap (λ l. f x ∷ l) (map-set_unseen places i d row same)

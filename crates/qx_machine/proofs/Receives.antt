@@ -2,56 +2,45 @@
 use Rattle.std.proofs.Common.{◌≡◌, ℕ, List, [], ◌∷◌, Bool, true, false, refl, sym, ap, subst, ◌∙◌}
 use Rattle.std.specs.Prelude.{◌==◌, Option, Some, None, if◌then◌else◌, slice_set}
 use Rattle.std.proofs.lemmas.Bool.{eqb-true, false≢true}
+use Rattle.std.proofs.lemmas.List.{map-set}
+use Rattle.std.proofs.lemmas.List.Elements.{All-set}
 use Rattle.qx_types.specs.declared.names.Manager.{Manager}
-use Rattle.qx_types.specs.declared.names.Manager.TheVariants.{Ram, Pipe}
 use Rattle.qx_types.specs.declared.outcome.Outcome.TheVariants.{WrongState, Took}
 use Rattle.qx_machine.specs.declared.rows.Held.{Held}
 use Rattle.qx_machine.specs.declared.rows.Queued.{Queued}
 use Rattle.qx_machine.specs.Laws.{IsInOrder}
-use Rattle.qx_machine.specs.Machine.{World, boot, rank, own_hand, own_line, unchanged, line_of, with_taken, shown_item, received_part, receive_line, receive_hand, first_user, receive_owner, view}
+use Rattle.qx_machine.specs.Machine.{World, boot, rank, own_hand, own_line, same_world, line_of, with_taken, shown_item, received_part, receive_line, receive_hand, first_user, receive_owner, view}
+use Rattle.qx_types.specs.Managers.{manager_number}
 use Rattle.qx_machine.specs.Rows.{row_at}
 use Rattle.qx_machine.specs.Runs.{is_owner}
-use Rattle.qx_machine.specs.Users.{Part, take}
-use Rattle.qx_machine.proofs.Changes.{own_hand-put, own_hand-put_other, own_line-rest}
+use Rattle.qx_machine.specs.Parts.{Part}
+use Rattle.qx_machine.specs.Users.{take}
+use Rattle.qx_machine.proofs.Changes.{own_hand-put, own_hand-put_other, own_lines-rest}
 use Rattle.qx_machine.proofs.Orders.{in_order_rest}
-use Rattle.qx_machine.proofs.Views.{IsReached, viewed, row_at-view, row_at-hands, line_of-view, acted_own, acted_other, reached_acted}
+use Rattle.qx_machine.proofs.Views.{IsReached, in_order_line, viewed, row_at-view, row_at-hands, line_of-view, acted_own, acted_other, reached_acted}
 
 reached_taken : (w : World) (worker : ℕ) (manager : Manager) (first : Queued) (rest : List Queued) → IsReached w → line_of w manager ≡ first ∷ rest → IsReached (with_taken w worker first rest manager)
-reached_taken w worker Ram first rest h is = record { ram = in_order_rest rank first rest (subst (IsInOrder rank) is h.ram); pipe = h.pipe; parts = h.parts }
-reached_taken w worker Pipe first rest h is = record { ram = h.ram; pipe = in_order_rest rank first rest (subst (IsInOrder rank) is h.pipe); parts = h.parts }
+reached_taken w worker manager first rest h is = record {
+  lines = All-set (IsInOrder rank) w.lines (manager_number manager) rest (in_order_rest rank first rest (subst (IsInOrder rank) is (in_order_line w manager h))) h.lines;
+  parts = h.parts;
+}
 
 -- what a worker takes of a user into its empty hand is seen in that user's view
 taken_own : (w : World) (user worker : ℕ) (manager : Manager) (first : Queued) (rest : List Queued) → (first.user.0 == user) ≡ true → view user (with_taken w worker first rest manager) ≡ with_taken (view user w) worker first (own_line user rest) manager
 unfolding view
-taken_own w user worker Ram first rest own = λ i. record {
+taken_own w user worker manager first rest own = λ i. record {
   config = w.config;
   parts = slice_set (boot w.config).parts user (row_at w.parts user);
-  ram = own_line user rest;
-  pipe = own_line user w.pipe;
-  hands = own_hand-put user worker (record { user = first.user; item = first.item }) w.hands own i;
-}
-taken_own w user worker Pipe first rest own = λ i. record {
-  config = w.config;
-  parts = slice_set (boot w.config).parts user (row_at w.parts user);
-  ram = own_line user w.ram;
-  pipe = own_line user rest;
+  lines = map-set (own_line user) w.lines (manager_number manager) rest i;
   hands = own_hand-put user worker (record { user = first.user; item = first.item }) w.hands own i;
 }
 
 taken_other : (w : World) (user worker : ℕ) (manager : Manager) (first : Queued) (rest : List Queued) → line_of w manager ≡ first ∷ rest → row_at w.hands worker ≡ None → (first.user.0 == user) ≡ false → view user (with_taken w worker first rest manager) ≡ view user w
 unfolding view
-taken_other w user worker Ram first rest is empty differ = λ i. record {
+taken_other w user worker manager first rest is empty differ = λ i. record {
   config = w.config;
   parts = slice_set (boot w.config).parts user (row_at w.parts user);
-  ram = own_line-rest user first rest w.ram is differ i;
-  pipe = own_line user w.pipe;
-  hands = own_hand-put_other user worker (record { user = first.user; item = first.item }) w.hands empty differ i;
-}
-taken_other w user worker Pipe first rest is empty differ = λ i. record {
-  config = w.config;
-  parts = slice_set (boot w.config).parts user (row_at w.parts user);
-  ram = own_line user w.ram;
-  pipe = own_line-rest user first rest w.pipe is differ i;
+  lines = own_lines-rest user (manager_number manager) first rest w.lines is differ i;
   hands = own_hand-put_other user worker (record { user = first.user; item = first.item }) w.hands empty differ i;
 }
 
@@ -84,8 +73,8 @@ receive_hand_own w user worker manager None h own = rw (line_of-view user w mana
 receive_hand_own w user worker manager (Some held) h own = absurd (false≢true own)
 
 pub receive_worker_own : (w : World) (user worker : ℕ) (manager : Manager) (is_one : Bool) → IsReached w → is_owner user (if is_one then receive_owner (line_of w manager) (row_at w.hands worker) else None) ≡ true
-    → (if is_one then receive_hand (view user w) worker manager (row_at (view user w).hands worker) else unchanged (view user w) WrongState)
-    ≡ viewed user (if is_one then receive_hand w worker manager (row_at w.hands worker) else unchanged w WrongState)
+    → (if is_one then receive_hand (view user w) worker manager (row_at (view user w).hands worker) else same_world (view user w) WrongState)
+    ≡ viewed user (if is_one then receive_hand w worker manager (row_at w.hands worker) else same_world w WrongState)
 receive_worker_own w user worker manager true h own = rw (row_at-hands user w worker) (receive_hand_own w user worker manager (row_at w.hands worker) h own)
 receive_worker_own w user worker manager false h own = absurd (false≢true own)
 
@@ -101,7 +90,7 @@ receive_hand_other w user worker manager None empty differ = receive_line_other 
 receive_hand_other w user worker manager (Some held) holds differ = refl
 
 pub receive_worker_other : (w : World) (user worker : ℕ) (manager : Manager) (is_one : Bool) → is_owner user (if is_one then receive_owner (line_of w manager) (row_at w.hands worker) else None) ≡ false
-    → view user (if is_one then receive_hand w worker manager (row_at w.hands worker) else unchanged w WrongState).world ≡ view user w
+    → view user (if is_one then receive_hand w worker manager (row_at w.hands worker) else same_world w WrongState).world ≡ view user w
 receive_worker_other w user worker manager true differ = receive_hand_other w user worker manager (row_at w.hands worker) refl differ
 receive_worker_other w user worker manager false differ = refl
 
@@ -113,6 +102,6 @@ reached_hand : (w : World) (worker : ℕ) (manager : Manager) (hand : Option Hel
 reached_hand w worker manager None h = reached_line w worker manager (line_of w manager) refl h
 reached_hand w worker manager (Some held) h = h
 
-pub reached_worker : (w : World) (worker : ℕ) (manager : Manager) (is_one : Bool) → IsReached w → IsReached (if is_one then receive_hand w worker manager (row_at w.hands worker) else unchanged w WrongState).world
+pub reached_worker : (w : World) (worker : ℕ) (manager : Manager) (is_one : Bool) → IsReached w → IsReached (if is_one then receive_hand w worker manager (row_at w.hands worker) else same_world w WrongState).world
 reached_worker w worker manager true h = reached_hand w worker manager (row_at w.hands worker) h
 reached_worker w worker manager false h = h

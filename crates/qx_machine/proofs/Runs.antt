@@ -2,12 +2,15 @@
 use Rattle.std.proofs.Common.{◌≡◌, ℕ, zero, suc, List, [], ◌∷◌, ◌++◌, refl, sym, ap, ◌∙◌}
 use Rattle.std.specs.Prelude.{None, map, replicate}
 use Rattle.std.proofs.lemmas.Bool.{cond_both}
+use Rattle.std.proofs.lemmas.List.Elements.{All-replicate}
 use Rattle.qx_types.specs.Configuration.{Configuration}
 use Rattle.qx_types.specs.declared.step.Step.{Step}
 use Rattle.qx_machine.specs.declared.rows.Entry.{Entry}
-use Rattle.qx_machine.specs.Laws.{own_entries}
+use Rattle.qx_machine.specs.Laws.{IsInOrder, own_entries}
 use Rattle.qx_machine.specs.Machine.{World, boot, boot_parts, rank, step, owner, own_hand, view}
-use Rattle.qx_machine.specs.Runs.{world_after, entries_from, run, seen_by, actor_of, received, is_owner, erase_from, erase}
+use Rattle.qx_types.specs.Step.{actor_of}
+use Rattle.qx_types.specs.declared.names.TheConstants.Manager.{COUNT}
+use Rattle.qx_machine.specs.Runs.{world_after, entries_from, run, seen_by, received, is_owner, erase_from, erase}
 use Rattle.qx_machine.proofs.Orders.{in_order_none}
 use Rattle.qx_machine.proofs.Places.{set-row_at}
 use Rattle.qx_machine.proofs.Steps.{reached_step, step_own, step_other, owner_own, seen_other}
@@ -17,7 +20,7 @@ use Rattle.qx_machine.proofs.Views.{IsReached}
 
 reached_boot : (config : Configuration) → IsReached (boot config)
 unfolding boot
-reached_boot config = record { ram = in_order_none rank; pipe = in_order_none rank; parts = refl }
+reached_boot config = record { lines = All-replicate (IsInOrder rank) COUNT [] (in_order_none rank); parts = refl }
 
 own_hand-replicate : (user workers : ℕ) → map (own_hand user) (replicate workers None) ≡ replicate workers None
 own_hand-replicate user zero = refl
@@ -28,8 +31,7 @@ unfolding view boot
 view-boot user config = λ i. record {
   config = config;
   parts = set-row_at (None ∷ boot_parts config 1 config.users) user i;
-  ram = [];
-  pipe = [];
+  lines = replicate COUNT [];
   hands = None ∷ own_hand-replicate user config.workers i;
 }
 

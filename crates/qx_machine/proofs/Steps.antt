@@ -2,49 +2,64 @@
 use Rattle.std.proofs.Common.{◌≡◌, ℕ, List, [], ◌∷◌, Bool, true, false, refl}
 use Rattle.std.specs.Prelude.{Option, Some, None, if◌then◌else◌}
 use Rattle.std.proofs.lemmas.Bool.{eqb-true, false≢true}
+use Rattle.qx_types.specs.declared.names.Actor.{Actor}
 use Rattle.qx_types.specs.declared.names.Manager.{Manager}
 use Rattle.qx_types.specs.declared.outcome.Outcome.TheVariants.{WrongState}
 use Rattle.qx_types.specs.declared.step.Step.{Step}
-use Rattle.qx_types.specs.declared.step.Step.TheVariants.{Spawn, Call, TakeReply, SetPrio, Receive, Perform}
+use Rattle.qx_types.specs.declared.step.Step.TheVariants.{Receive, Perform}
 use Rattle.qx_machine.specs.declared.rows.Held.{Held}
 use Rattle.qx_machine.specs.declared.rows.Queued.{Queued}
-use Rattle.qx_machine.specs.Machine.{World, own_hand, own_line, unchanged, is_worker, line_of, receive_line, receive_hand, perform_hand, step, first_user, receive_owner, owner, view}
+use Rattle.qx_machine.specs.Machine.{World, own_hand, own_line, same_world, is_worker, line_of, receive_line, receive_hand, perform_hand, server_step, step_of, step, first_user, receive_owner, server_owner, owner_of, owner, view}
+use Rattle.qx_types.specs.Step.{actor_of, user_of}
 use Rattle.qx_machine.specs.Rows.{row_at}
 use Rattle.qx_machine.specs.Runs.{is_owner}
 use Rattle.qx_machine.proofs.Views.{IsReached, viewed, row_at-hands, line_of-view, reached_client, client_own, client_other}
 use Rattle.qx_machine.proofs.Receives.{receive_worker_own, receive_worker_other, reached_worker}
 use Rattle.qx_machine.proofs.Performs.{holder, perform_worker_own, perform_worker_other, reached_perform}
-use Rattle.qx_machine.specs.Runs.{seen_by, actor_of}
+use Rattle.qx_machine.specs.Runs.{seen_by}
 use Rattle.qx_types.specs.declared.outcome.Outcome.{Outcome}
+
+reached_server : (w : World) (e : Step) → IsReached w → IsReached (server_step w e).world
+reached_server w (Receive worker manager) h = reached_worker w worker.0 manager (is_worker w.config worker.0) h
+reached_server w (Perform worker moment) h = reached_perform w worker.0 moment (is_worker w.config worker.0) h
+reached_server w _ h = h
+
+reached_of : (w : World) (e : Step) (by : Option Actor) → IsReached w → IsReached (step_of w e by).world
+reached_of w e None h = reached_server w e h
+reached_of w e (Some actor) h = reached_client w (user_of actor) e (row_at w.parts (user_of actor)) h
 
 pub reached_step : (w : World) (e : Step) → IsReached w → IsReached (step w e).world
 unfolding step
-reached_step w (Spawn user threads prio) h = reached_client w user.0 (Spawn user threads prio) (row_at w.parts user.0) h
-reached_step w (Call thread request) h = reached_client w thread.proc.user.0 (Call thread request) (row_at w.parts thread.proc.user.0) h
-reached_step w (TakeReply thread) h = reached_client w thread.proc.user.0 (TakeReply thread) (row_at w.parts thread.proc.user.0) h
-reached_step w (SetPrio thread prio) h = reached_client w thread.proc.user.0 (SetPrio thread prio) (row_at w.parts thread.proc.user.0) h
-reached_step w (Receive worker manager) h = reached_worker w worker.0 manager (is_worker w.config worker.0) h
-reached_step w (Perform worker moment) h = reached_perform w worker.0 moment (is_worker w.config worker.0) h
+reached_step w e h = reached_of w e (actor_of e) h
+
+server_own : (w : World) (user : ℕ) (e : Step) → IsReached w → is_owner user (server_owner w e) ≡ true → server_step (view user w) e ≡ viewed user (server_step w e)
+unfolding view
+server_own w user (Receive worker manager) h own = receive_worker_own w user worker.0 manager (is_worker w.config worker.0) h own
+server_own w user (Perform worker moment) h own = perform_worker_own w user worker.0 moment (is_worker w.config worker.0) h own
+server_own w user _ h own = refl
+
+step_of_own : (w : World) (user : ℕ) (e : Step) (by : Option Actor) → IsReached w → is_owner user (owner_of w e by) ≡ true → step_of (view user w) e by ≡ viewed user (step_of w e by)
+step_of_own w user e None h own = server_own w user e h own
+step_of_own w user e (Some actor) h own = client_own w user (user_of actor) e h (eqb-true (user_of actor) user own)
 
 -- a step of the user goes in the user's view as in the whole world
 pub step_own : (w : World) (user : ℕ) (e : Step) → IsReached w → is_owner user (owner w e) ≡ true → step (view user w) e ≡ viewed user (step w e)
-unfolding step owner view
-step_own w user (Spawn of threads prio) h own = client_own w user of.0 (Spawn of threads prio) h (eqb-true of.0 user own)
-step_own w user (Call thread request) h own = client_own w user thread.proc.user.0 (Call thread request) h (eqb-true thread.proc.user.0 user own)
-step_own w user (TakeReply thread) h own = client_own w user thread.proc.user.0 (TakeReply thread) h (eqb-true thread.proc.user.0 user own)
-step_own w user (SetPrio thread prio) h own = client_own w user thread.proc.user.0 (SetPrio thread prio) h (eqb-true thread.proc.user.0 user own)
-step_own w user (Receive worker manager) h own = receive_worker_own w user worker.0 manager (is_worker w.config worker.0) h own
-step_own w user (Perform worker moment) h own = perform_worker_own w user worker.0 moment (is_worker w.config worker.0) h own
+unfolding step owner
+step_own w user e h own = step_of_own w user e (actor_of e) h own
+
+server_other : (w : World) (user : ℕ) (e : Step) → is_owner user (server_owner w e) ≡ false → view user (server_step w e).world ≡ view user w
+server_other w user (Receive worker manager) differ = receive_worker_other w user worker.0 manager (is_worker w.config worker.0) differ
+server_other w user (Perform worker moment) differ = perform_worker_other w user worker.0 moment (is_worker w.config worker.0) differ
+server_other w user _ differ = refl
+
+step_of_other : (w : World) (user : ℕ) (e : Step) (by : Option Actor) → is_owner user (owner_of w e by) ≡ false → view user (step_of w e by).world ≡ view user w
+step_of_other w user e None differ = server_other w user e differ
+step_of_other w user e (Some actor) differ = client_other w user (user_of actor) e (row_at w.parts (user_of actor)) differ
 
 -- a step of another user, or of nobody, is not seen in the user's view
 pub step_other : (w : World) (user : ℕ) (e : Step) → is_owner user (owner w e) ≡ false → view user (step w e).world ≡ view user w
 unfolding step owner
-step_other w user (Spawn of threads prio) differ = client_other w user of.0 (Spawn of threads prio) (row_at w.parts of.0) differ
-step_other w user (Call thread request) differ = client_other w user thread.proc.user.0 (Call thread request) (row_at w.parts thread.proc.user.0) differ
-step_other w user (TakeReply thread) differ = client_other w user thread.proc.user.0 (TakeReply thread) (row_at w.parts thread.proc.user.0) differ
-step_other w user (SetPrio thread prio) differ = client_other w user thread.proc.user.0 (SetPrio thread prio) (row_at w.parts thread.proc.user.0) differ
-step_other w user (Receive worker manager) differ = receive_worker_other w user worker.0 manager (is_worker w.config worker.0) differ
-step_other w user (Perform worker moment) differ = perform_worker_other w user worker.0 moment (is_worker w.config worker.0) differ
+step_other w user e differ = step_of_other w user e (actor_of e) differ
 
 -- the first of a line is the first of its user's items there
 first_own : (user : ℕ) (line : List Queued) → is_owner user (first_user line) ≡ true → first_user (own_line user line) ≡ first_user line
@@ -69,25 +84,29 @@ performer_own : (w : World) (user worker : ℕ) (is_one : Bool) → is_owner use
 performer_own w user worker true own = rw (row_at-hands user w worker) (holder_own user (row_at w.hands worker) own)
 performer_own w user worker false own = refl
 
+server_owner_own : (w : World) (user : ℕ) (e : Step) → is_owner user (server_owner w e) ≡ true → server_owner (view user w) e ≡ server_owner w e
+unfolding view
+server_owner_own w user (Receive worker manager) own = receiver_own w user worker.0 manager (is_worker w.config worker.0) own
+server_owner_own w user (Perform worker moment) own = performer_own w user worker.0 (is_worker w.config worker.0) own
+server_owner_own w user _ own = refl
+
+owner_of_own : (w : World) (user : ℕ) (e : Step) (by : Option Actor) → is_owner user (owner_of w e by) ≡ true → owner_of (view user w) e by ≡ owner_of w e by
+owner_of_own w user e None own = server_owner_own w user e own
+owner_of_own w user e (Some actor) own = refl
+
 -- a step of the user is the user's in the user's view too
 pub owner_own : (w : World) (user : ℕ) (e : Step) → is_owner user (owner w e) ≡ true → owner (view user w) e ≡ owner w e
-unfolding owner view
-owner_own w user (Spawn of threads prio) own = refl
-owner_own w user (Call thread request) own = refl
-owner_own w user (TakeReply thread) own = refl
-owner_own w user (SetPrio thread prio) own = refl
-owner_own w user (Receive worker manager) own = receiver_own w user worker.0 manager (is_worker w.config worker.0) own
-owner_own w user (Perform worker moment) own = performer_own w user worker.0 (is_worker w.config worker.0) own
+unfolding owner
+owner_own w user e own = owner_of_own w user e (actor_of e) own
+
+seen_of_other : (w : World) (user : ℕ) (e : Step) (outcome : Outcome) (by : Option Actor) → is_owner user (owner_of w e by) ≡ false → seen_by user outcome by ≡ []
+seen_of_other w user e outcome None differ = refl
+seen_of_other w user e outcome (Some actor) differ = rw differ refl
 
 -- of a step that is not the user's, the user's processes receive nothing
 pub seen_other : (w : World) (user : ℕ) (e : Step) (outcome : Outcome) → is_owner user (owner w e) ≡ false → seen_by user outcome (actor_of e) ≡ []
 unfolding owner
-seen_other w user (Spawn of threads prio) outcome differ = rw differ refl
-seen_other w user (Call thread request) outcome differ = rw differ refl
-seen_other w user (TakeReply thread) outcome differ = rw differ refl
-seen_other w user (SetPrio thread prio) outcome differ = rw differ refl
-seen_other w user (Receive worker manager) outcome differ = refl
-seen_other w user (Perform worker moment) outcome differ = refl
+seen_other w user e outcome differ = seen_of_other w user e outcome (actor_of e) differ
 
 idle_line : (w : World) (worker : ℕ) (manager : Manager) (line : List Queued) → first_user line ≡ None → (receive_line w worker manager line).world ≡ w
 idle_line w worker manager [] none = refl
@@ -98,7 +117,7 @@ idle_receive w worker manager None none = idle_line w worker manager (line_of w 
 idle_receive w worker manager (Some held) none = refl
 
 idle_receiver : (w : World) (worker : ℕ) (manager : Manager) (is_one : Bool) → (if is_one then receive_owner (line_of w manager) (row_at w.hands worker) else None) ≡ None
-    → (if is_one then receive_hand w worker manager (row_at w.hands worker) else unchanged w WrongState).world ≡ w
+    → (if is_one then receive_hand w worker manager (row_at w.hands worker) else same_world w WrongState).world ≡ w
 idle_receiver w worker manager true none = idle_receive w worker manager (row_at w.hands worker) none
 idle_receiver w worker manager false none = refl
 
@@ -107,16 +126,20 @@ idle_perform w worker moment None none = refl
 idle_perform w worker moment (Some held) none = absurd (cc)
 
 idle_performer : (w : World) (worker moment : ℕ) (is_one : Bool) → (if is_one then holder (row_at w.hands worker) else None) ≡ None
-    → (if is_one then perform_hand w worker moment (row_at w.hands worker) else unchanged w WrongState).world ≡ w
+    → (if is_one then perform_hand w worker moment (row_at w.hands worker) else same_world w WrongState).world ≡ w
 idle_performer w worker moment true none = idle_perform w worker moment (row_at w.hands worker) none
 idle_performer w worker moment false none = refl
+
+server_idle : (w : World) (e : Step) → server_owner w e ≡ None → (server_step w e).world ≡ w
+server_idle w (Receive worker manager) none = idle_receiver w worker.0 manager (is_worker w.config worker.0) none
+server_idle w (Perform worker moment) none = idle_performer w worker.0 moment (is_worker w.config worker.0) none
+server_idle w _ none = refl
+
+step_of_idle : (w : World) (e : Step) (by : Option Actor) → owner_of w e by ≡ None → (step_of w e by).world ≡ w
+step_of_idle w e None none = server_idle w e none
+step_of_idle w e (Some actor) none = absurd (cc)
 
 -- a step of nobody changes nothing
 pub step_idle : (w : World) (e : Step) → owner w e ≡ None → (step w e).world ≡ w
 unfolding step owner
-step_idle w (Spawn of threads prio) none = absurd (cc)
-step_idle w (Call thread request) none = absurd (cc)
-step_idle w (TakeReply thread) none = absurd (cc)
-step_idle w (SetPrio thread prio) none = absurd (cc)
-step_idle w (Receive worker manager) none = idle_receiver w worker.0 manager (is_worker w.config worker.0) none
-step_idle w (Perform worker moment) none = idle_performer w worker.0 moment (is_worker w.config worker.0) none
+step_idle w e none = step_of_idle w e (actor_of e) none

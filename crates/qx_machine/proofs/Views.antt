@@ -1,22 +1,22 @@
 -- What the end of a step, and a client's step, do to the view of their own user and to the views of others.
-use Rattle.std.proofs.Common.{◌≡◌, ◌≢◌, ℕ, List, length, false, refl, sym, ap, subst, ◌∙◌, length-set}
+use Rattle.std.proofs.Common.{◌≡◌, ◌≢◌, ℕ, List, [], length, false, refl, sym, ap, subst, ◌∙◌, length-set}
 use Rattle.std.specs.Prelude.{◌==◌, Option, Some, None, map, slice_set}
 use Rattle.std.proofs.lemmas.Bool.{eqb-false}
 use Rattle.std.proofs.lemmas.List.{set-set}
 use Rattle.qx_types.specs.declared.names.Manager.{Manager}
-use Rattle.qx_types.specs.declared.names.Manager.TheVariants.{Ram, Pipe}
 use Rattle.qx_types.specs.declared.step.Step.{Step}
 use Rattle.qx_machine.specs.Laws.{IsInOrder}
-use Rattle.qx_machine.specs.Machine.{World, After, boot, rank, own_held, own_hand, own_line, acted, client_step, client_acted, line_of, view}
+use Rattle.qx_machine.specs.Machine.{World, After, boot, rank, own_held, own_hand, own_line, step_end, client_step, client_end, line_of, view}
+use Rattle.qx_types.specs.Managers.{manager_number}
 use Rattle.qx_machine.specs.Rows.{row_at}
-use Rattle.qx_machine.specs.Users.{Part, Change, client, settle}
-use Rattle.qx_machine.proofs.Changes.{own_held-view, own_line-after, own_line-after_other, in_order_after}
-use Rattle.qx_machine.proofs.Places.{row_at-set_other, set-row_at_set, row_at-set_row_at, row_at-map}
+use Rattle.qx_machine.specs.Parts.{Part, Change}
+use Rattle.qx_machine.specs.Users.{client, settle}
+use Rattle.qx_machine.proofs.Changes.{AreInOrder, in_order_at, own_held-view, own_lines-after, own_lines-after_other, lines_in_order_after}
+use Rattle.qx_machine.proofs.Places.{row_at-set_other, set-row_at_set, row_at-set_row_at, at-map}
 
 -- what holds of each world that a run reaches
 pub record IsReached (w : World) : Type 0 where
-  pub ram : IsInOrder rank w.ram
-  pub pipe : IsInOrder rank w.pipe
+  pub lines : AreInOrder w.lines
   pub parts : length w.parts ≡ length (boot w.config).parts
 
 -- what a step gives, as one user sees it
@@ -32,29 +32,29 @@ row_at-view user of w h same = subst (λ n. row_at (view n w).parts of ≡ row_a
 
 pub row_at-hands : (user : ℕ) (w : World) (worker : ℕ) → row_at (view user w).hands worker ≡ own_hand user (row_at w.hands worker)
 unfolding view
-row_at-hands user w worker = row_at-map (own_hand user) w.hands worker refl
+row_at-hands user w worker = at-map (own_hand user) w.hands worker None None refl
 
 pub line_of-view : (user : ℕ) (w : World) (manager : Manager) → line_of (view user w) manager ≡ own_line user (line_of w manager)
 unfolding view
-line_of-view user w Ram = refl
-line_of-view user w Pipe = refl
+line_of-view user w manager = at-map (own_line user) w.lines (manager_number manager) [] [] refl
+
+pub in_order_line : (w : World) (manager : Manager) → IsReached w → IsInOrder rank (line_of w manager)
+in_order_line w manager h = in_order_at w.lines (manager_number manager) h.lines
 
 -- the end of a step
 
-pub reached_acted : (user : ℕ) (before after : Part) (changes : List Change) (w : World) → IsReached w → IsReached (acted user before after changes w)
+pub reached_acted : (user : ℕ) (before after : Part) (changes : List Change) (w : World) → IsReached w → IsReached (step_end user before after changes w)
 reached_acted user before after changes w h = record {
-  ram = in_order_after user Ram w.ram changes h.ram;
-  pipe = in_order_after user Pipe w.pipe changes h.pipe;
+  lines = lines_in_order_after user w.lines changes h.lines;
   parts = length-set w.parts user (Some (settle before (own_held user w.hands) after)) ∙ h.parts;
 }
 
-pub acted_self : (user : ℕ) (before after : Part) (changes : List Change) (w : World) → IsReached w → view user (acted user before after changes w) ≡ acted user before after changes (view user w)
+pub acted_self : (user : ℕ) (before after : Part) (changes : List Change) (w : World) → IsReached w → view user (step_end user before after changes w) ≡ step_end user before after changes (view user w)
 unfolding view
 acted_self user before after changes w h = λ i. record {
   config = w.config;
   parts = parts i;
-  ram = own_line-after user Ram w.ram changes h.ram i;
-  pipe = own_line-after user Pipe w.pipe changes h.pipe i;
+  lines = own_lines-after user w.lines changes h.lines i;
   hands = map (own_hand user) w.hands;
 }
   where
@@ -64,16 +64,15 @@ acted_self user before after changes w h = λ i. record {
         (set-row_at_set (boot w.config).parts w.parts user (Some (settle before (own_held user w.hands) after)) h.parts
         ∙ sym (set-set (boot w.config).parts user (row_at w.parts user) (Some (settle before (own_held user w.hands) after))))
 
-pub acted_own : (user of : ℕ) (before after : Part) (changes : List Change) (w : World) → IsReached w → of ≡ user → view user (acted of before after changes w) ≡ acted of before after changes (view user w)
-acted_own user of before after changes w h same = subst (λ n. view n (acted of before after changes w) ≡ acted of before after changes (view n w)) same (acted_self of before after changes w h)
+pub acted_own : (user of : ℕ) (before after : Part) (changes : List Change) (w : World) → IsReached w → of ≡ user → view user (step_end of before after changes w) ≡ step_end of before after changes (view user w)
+acted_own user of before after changes w h same = subst (λ n. view n (step_end of before after changes w) ≡ step_end of before after changes (view n w)) same (acted_self of before after changes w h)
 
-pub acted_other : (user other : ℕ) (before after : Part) (changes : List Change) (w : World) → (other == user) ≡ false → view user (acted other before after changes w) ≡ view user w
+pub acted_other : (user other : ℕ) (before after : Part) (changes : List Change) (w : World) → (other == user) ≡ false → view user (step_end other before after changes w) ≡ view user w
 unfolding view
 acted_other user other before after changes w differ = λ i. record {
   config = w.config;
   parts = slice_set (boot w.config).parts user (row_at-set_other w.parts other user (Some (settle before (own_held other w.hands) after)) apart i);
-  ram = own_line-after_other user other Ram w.ram changes differ i;
-  pipe = own_line-after_other user other Pipe w.pipe changes differ i;
+  lines = own_lines-after_other user other w.lines changes differ i;
   hands = map (own_hand user) w.hands;
 }
   where
@@ -95,7 +94,7 @@ unfolding view
 client_row w user e None h = refl
 client_row w user e (Some part) h =
     let given = client w.config user (own_held user w.hands) part e in
-    ap (λ held. client_acted (view user w) user part (client w.config user held part e)) (own_held-view user w.hands)
+    ap (λ held. client_end (view user w) user part (client w.config user held part e)) (own_held-view user w.hands)
     ∙ ap (λ world. record { world = world; outcome = given.outcome }) (sym (acted_self user part given.part given.changes w h))
 
 client_self : (w : World) (user : ℕ) (e : Step) → IsReached w → client_step (view user w) user e (row_at (view user w).parts user) ≡ viewed user (client_step w user e (row_at w.parts user))

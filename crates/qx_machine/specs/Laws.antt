@@ -1,6 +1,8 @@
 -- The words of the machine's laws.
-use Rattle.std.specs.Prelude.{◌≡◌, ℕ, ◌≤◌, true, List, [], ◌∷◌, AllPairs, if◌then◌else◌}
+use Rattle.std.specs.Prelude.{◌≡◌, ℕ, ◌≤◌, Bool, true, false, List, [], ◌∷◌, AllPairs, if◌then◌else◌}
 use Rattle.qx_types.specs.Configuration.{Configuration}
+use Rattle.qx_types.specs.declared.outcome.Outcome.{Outcome}
+use Rattle.qx_types.specs.declared.outcome.Outcome.TheVariants.{Refused, WrongState, Idle, Busy, Nothing}
 use Rattle.qx_types.specs.declared.step.Step.{Step}
 use Rattle.qx_machine.specs.declared.rows.Entry.{Entry}
 use Rattle.qx_machine.specs.Machine.{World, step, owner}
@@ -21,3 +23,12 @@ own_entries user w (e ∷ steps) =
 -- this holds in each world that a run reaches, of each step that is taken by or for the user there
 abbrev pub HoldsOfOwnSteps : (ℕ → World → Step → Type 0) → Type 0
 HoldsOfOwnSteps Holds = (config : Configuration) (steps : List Step) (user : ℕ) (e : Step) → is_owner user (owner (run config steps).world e) ≡ true → Holds user (run config steps).world e
+
+-- a step was refused at once
+abbrev pub is_refusal : Outcome → Bool
+is_refusal (Refused error) = true
+is_refusal WrongState = true
+is_refusal Idle = true
+is_refusal Busy = true
+is_refusal Nothing = true
+is_refusal _ = false

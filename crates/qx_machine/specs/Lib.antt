@@ -1,9 +1,15 @@
 pub mod Attributes
+pub mod Calls
+pub mod Clients
 pub mod Examples
+pub mod Judgements
 pub mod Laws
 pub mod Lines
 pub mod Machine
+pub mod Parts
+pub mod Performing
 pub mod Processes
 pub mod Rows
 pub mod Runs
+pub mod Servers
 pub mod Users

@@ -1,28 +1,33 @@
 -- The machine: the rows of all users, the lines and the workers, and what each step does to them.
-use Rattle.std.specs.Prelude.{ℕ, ◌+◌, ◌==◌, ◌&&◌, Bool, true, false, List, [], ◌∷◌, Option, Some, None, nat_le, if◌then◌else◌, slice_set, filter, map, option_map, replicate}
+use Rattle.std.specs.Prelude.{ℕ, ◌+◌, ◌==◌, ◌&&◌, Bool, List, [], ◌∷◌, Option, Some, None, nat_le, if◌then◌else◌, slice_set, filter, map, option_map, replicate}
 use Rattle.qx_types.specs.Configuration.{Configuration}
+use Rattle.qx_types.specs.Managers.{manager_number}
+use Rattle.qx_types.specs.Step.{actor_of, user_of}
+use Rattle.qx_types.specs.declared.names.TheConstants.Manager.{COUNT}
+use Rattle.qx_types.specs.declared.names.Actor.{Actor}
 use Rattle.qx_types.specs.declared.names.Item.{Item}
 use Rattle.qx_types.specs.declared.names.Item.TheVariants as public
 use Rattle.qx_types.specs.declared.names.Manager.{Manager}
-use Rattle.qx_types.specs.declared.names.Manager.TheVariants.{Ram, Pipe}
 use Rattle.qx_types.specs.declared.outcome.Outcome.{Outcome}
 use Rattle.qx_types.specs.declared.outcome.Outcome.TheVariants.{WrongState, Took, Idle, Busy, Handled, Nothing}
 use Rattle.qx_types.specs.declared.step.Step.{Step}
-use Rattle.qx_types.specs.declared.step.Step.TheVariants.{Spawn, Call, TakeReply, SetPrio, Receive, Perform}
+use Rattle.qx_types.specs.declared.step.Step.TheVariants.{Receive, Perform}
 use Rattle.qx_machine.specs.declared.rows.Held.{Held}
 use Rattle.qx_machine.specs.declared.rows.OwnItem.{OwnItem}
 use Rattle.qx_machine.specs.declared.rows.OwnItem.TheVariants.{Message}
 use Rattle.qx_machine.specs.declared.rows.Queued.{Queued}
-use Rattle.qx_machine.specs.Lines.{into}
+use Rattle.qx_machine.specs.Clients.{ClientStep}
+use Rattle.qx_machine.specs.Lines.{into, line_at, with_line}
+use Rattle.qx_machine.specs.Parts.{Part, Change, Put, Remove}
+use Rattle.qx_machine.specs.Performing.{Served}
 use Rattle.qx_machine.specs.Rows.{row_at}
-use Rattle.qx_machine.specs.Users.{Part, Change, Put, Remove, ClientStep, Served, boot_part, client, take, serve, settle}
+use Rattle.qx_machine.specs.Users.{boot_part, client, take, serve, settle}
 
--- the rows of all users, the two managers' lines and what each worker holds; users and workers are numbered from 1
+-- the rows of all users, the lines under their managers' numbers and what each worker holds; users and workers are numbered from 1
 pub record World : Type 0 where
   pub config : Configuration
   pub parts : List (Option Part)
-  pub ram : List Queued
-  pub pipe : List Queued
+  pub lines : List (List Queued)
   pub hands : List (Option Held)
 
 -- what a step gives
@@ -40,16 +45,9 @@ unfoldable pub boot : Configuration → World
 boot config = record {
   config = config;
   parts = None ∷ boot_parts config 1 config.users;
-  ram = [];
-  pipe = [];
+  lines = replicate COUNT [];
   hands = None ∷ replicate config.workers None;
 }
-
-abbrev pub is_same_manager : Manager → Manager → Bool
-is_same_manager Ram Ram = true
-is_same_manager Ram Pipe = false
-is_same_manager Pipe Ram = false
-is_same_manager Pipe Pipe = true
 
 abbrev pub is_same_item : OwnItem → OwnItem → Bool
 is_same_item (Message process thread) (Message other_process other_thread) = (process == other_process) && (thread == other_thread)
@@ -58,23 +56,29 @@ is_same_item (Message process thread) (Message other_process other_thread) = (pr
 abbrev pub rank : Queued → ℕ
 rank queued = queued.prio.0
 
-abbrev pub queued : ℕ → OwnItem → ℕ → Queued
-queued user item prio = record { user = record { 0 = user }; item = item; prio = record { 0 = prio } }
+abbrev pub queued_item : ℕ → OwnItem → ℕ → Queued
+queued_item user item prio = record { user = record { 0 = user }; item = item; prio = record { 0 = prio } }
 
 -- the line without a user's item, where that stands in it
-abbrev pub without : ℕ → OwnItem → List Queued → List Queued
-without user item [] = []
-without user item (first ∷ line) =
-    if (first.user.0 == user) && is_same_item first.item item then line else first ∷ without user item line
+abbrev pub line_without : ℕ → OwnItem → List Queued → List Queued
+line_without user item [] = []
+line_without user item (first ∷ line) =
+    if (first.user.0 == user) && is_same_item first.item item then line else first ∷ line_without user item line
 
--- a manager's line after a change that a user's step makes
-abbrev pub line_changed : ℕ → Manager → List Queued → Change → List Queued
-line_changed user manager line (Put changed item prio) = if is_same_manager changed manager then into rank line (queued user item prio) else line
-line_changed user manager line (Remove changed item) = if is_same_manager changed manager then without user item line else line
+-- whose line a change is of
+abbrev pub changed_manager : Change → Manager
+changed_manager (Put manager item prio) = manager
+changed_manager (Remove manager item) = manager
 
-abbrev pub line_after : ℕ → Manager → List Queued → List Change → List Queued
-line_after user manager line [] = line
-line_after user manager line (change ∷ changes) = line_after user manager (line_changed user manager line change) changes
+-- that line after the change, which a user's step makes
+abbrev pub line_after : ℕ → Change → List Queued → List Queued
+line_after user (Put manager item prio) line = into rank line (queued_item user item prio)
+line_after user (Remove manager item) line = line_without user item line
+
+abbrev pub lines_after : ℕ → List (List Queued) → List Change → List (List Queued)
+lines_after user lines [] = lines
+lines_after user lines (change ∷ changes) =
+    lines_after user (with_line lines (manager_number (changed_manager change)) (line_after user change)) changes
 
 -- the items of one user in workers' hands
 abbrev pub own_held : ℕ → List (Option Held) → List OwnItem
@@ -83,47 +87,33 @@ own_held user (None ∷ hands) = own_held user hands
 own_held user (Some held ∷ hands) = if held.user.0 == user then held.item ∷ own_held user hands else own_held user hands
 
 -- the end of a step of one user: its rows, settled, and its changes of the lines
-abbrev pub acted : ℕ → Part → Part → List Change → World → World
-acted user before after changes w = record {
-  config = w.config;
+abbrev pub step_end : ℕ → Part → Part → List Change → World → World
+step_end user before after changes w = record w {
   parts = slice_set w.parts user (Some (settle before (own_held user w.hands) after));
-  ram = line_after user Ram w.ram changes;
-  pipe = line_after user Pipe w.pipe changes;
-  hands = w.hands;
+  lines = lines_after user w.lines changes;
 }
 
-abbrev pub unchanged : World → Outcome → After
-unchanged w outcome = record { world = w; outcome = outcome }
+abbrev pub same_world : World → Outcome → After
+same_world w outcome = record { world = w; outcome = outcome }
 
-abbrev pub client_acted : World → ℕ → Part → ClientStep → After
-client_acted w user part given = record { world = acted user part given.part given.changes w; outcome = given.outcome }
+abbrev pub client_end : World → ℕ → Part → ClientStep → After
+client_end w user part given = record { world = step_end user part given.part given.changes w; outcome = given.outcome }
 
 -- a client's step; a user that is not configured has no rows
 abbrev pub client_step : World → ℕ → Step → Option Part → After
-client_step w user e None = unchanged w WrongState
-client_step w user e (Some part) = client_acted w user part (client w.config user (own_held user w.hands) part e)
+client_step w user e None = same_world w WrongState
+client_step w user e (Some part) = client_end w user part (client w.config user (own_held user w.hands) part e)
 
 abbrev pub is_worker : Configuration → ℕ → Bool
 is_worker config worker = nat_le 1 worker && nat_le worker config.workers
 
 abbrev pub line_of : World → Manager → List Queued
-line_of w Ram = w.ram
-line_of w Pipe = w.pipe
+line_of w manager = line_at w.lines (manager_number manager)
 
 -- the world with a manager's line replaced and an item in a worker's hand
 abbrev pub with_taken : World → ℕ → Queued → List Queued → Manager → World
-with_taken w worker first rest Ram = record {
-  config = w.config;
-  parts = w.parts;
-  ram = rest;
-  pipe = w.pipe;
-  hands = slice_set w.hands worker (Some (record { user = first.user; item = first.item }));
-}
-with_taken w worker first rest Pipe = record {
-  config = w.config;
-  parts = w.parts;
-  ram = w.ram;
-  pipe = rest;
+with_taken w worker first rest manager = record w {
+  lines = slice_set w.lines (manager_number manager) rest;
   hands = slice_set w.hands worker (Some (record { user = first.user; item = first.item }));
 }
 
@@ -134,10 +124,10 @@ shown_item user (Message process thread) = public.Message (record { proc = recor
 -- the first item goes into the worker's hand
 abbrev pub received_part : World → Queued → Option Part → World
 received_part w first None = w
-received_part w first (Some part) = acted first.user.0 part (take part first.item) [] w
+received_part w first (Some part) = step_end first.user.0 part (take part first.item) [] w
 
 abbrev pub receive_line : World → ℕ → Manager → List Queued → After
-receive_line w worker manager [] = unchanged w Idle
+receive_line w worker manager [] = same_world w Idle
 receive_line w worker manager (first ∷ rest) = record {
   world = received_part (with_taken w worker first rest manager) first (row_at w.parts first.user.0);
   outcome = Took (shown_item first.user.0 first.item);
@@ -145,42 +135,47 @@ receive_line w worker manager (first ∷ rest) = record {
 
 abbrev pub receive_hand : World → ℕ → Manager → Option Held → After
 receive_hand w worker manager None = receive_line w worker manager (line_of w manager)
-receive_hand w worker manager (Some held) = unchanged w Busy
+receive_hand w worker manager (Some held) = same_world w Busy
 
 -- a worker takes the first item of a line (C Library Reference: MsgReceive)
 abbrev pub receive : World → ℕ → Manager → After
 receive w worker manager =
-    if is_worker w.config worker then receive_hand w worker manager (row_at w.hands worker) else unchanged w WrongState
+    if is_worker w.config worker then receive_hand w worker manager (row_at w.hands worker) else same_world w WrongState
 
 abbrev pub with_empty_hand : World → ℕ → World
-with_empty_hand w worker = record { config = w.config; parts = w.parts; ram = w.ram; pipe = w.pipe; hands = slice_set w.hands worker None }
+with_empty_hand w worker = record w { hands = slice_set w.hands worker None }
 
-abbrev pub served : World → ℕ → Part → Served → World
-served w user part given = acted user part given.part given.changes w
+abbrev pub serve_end : World → ℕ → Part → Served → World
+serve_end w user part given = step_end user part given.part given.changes w
 
 abbrev pub performed_part : World → Held → ℕ → Option Part → World
 performed_part w held moment None = w
 performed_part w held moment (Some part) =
-    served w held.user.0 part (serve w.config held.user.0 (own_held held.user.0 w.hands) part held.item moment)
+    serve_end w held.user.0 part (serve w.config held.user.0 (own_held held.user.0 w.hands) part held.item moment)
 
 abbrev pub perform_hand : World → ℕ → ℕ → Option Held → After
-perform_hand w worker moment None = unchanged w Nothing
+perform_hand w worker moment None = same_world w Nothing
 perform_hand w worker moment (Some held) =
     record { world = performed_part (with_empty_hand w worker) held moment (row_at w.parts held.user.0); outcome = Handled }
 
 -- a worker does what it holds
 abbrev pub perform : World → ℕ → ℕ → After
 perform w worker moment =
-    if is_worker w.config worker then perform_hand w worker moment (row_at w.hands worker) else unchanged w WrongState
+    if is_worker w.config worker then perform_hand w worker moment (row_at w.hands worker) else same_world w WrongState
+
+-- a worker's step
+abbrev pub server_step : World → Step → After
+server_step w (Receive worker manager) = receive w worker.0 manager
+server_step w (Perform worker moment) = perform w worker.0 moment
+server_step w _ = same_world w WrongState
+
+abbrev pub step_of : World → Step → Option Actor → After
+step_of w e (Some actor) = client_step w (user_of actor) e (row_at w.parts (user_of actor))
+step_of w e None = server_step w e
 
 -- one step of the system
 unfoldable pub step : World → Step → After
-step w (Spawn user threads prio) = client_step w user.0 (Spawn user threads prio) (row_at w.parts user.0)
-step w (Call thread request) = client_step w thread.proc.user.0 (Call thread request) (row_at w.parts thread.proc.user.0)
-step w (TakeReply thread) = client_step w thread.proc.user.0 (TakeReply thread) (row_at w.parts thread.proc.user.0)
-step w (SetPrio thread prio) = client_step w thread.proc.user.0 (SetPrio thread prio) (row_at w.parts thread.proc.user.0)
-step w (Receive worker manager) = receive w worker.0 manager
-step w (Perform worker moment) = perform w worker.0 moment
+step w e = step_of w e (actor_of e)
 
 abbrev pub first_user : List Queued → Option ℕ
 first_user [] = None
@@ -190,16 +185,20 @@ abbrev pub receive_owner : List Queued → Option Held → Option ℕ
 receive_owner line None = first_user line
 receive_owner line (Some held) = None
 
+abbrev pub server_owner : World → Step → Option ℕ
+server_owner w (Receive worker manager) =
+    if is_worker w.config worker.0 then receive_owner (line_of w manager) (row_at w.hands worker.0) else None
+server_owner w (Perform worker moment) =
+    if is_worker w.config worker.0 then option_map (λ held. held.user.0) (row_at w.hands worker.0) else None
+server_owner w _ = None
+
+abbrev pub owner_of : World → Step → Option Actor → Option ℕ
+owner_of w e (Some actor) = Some (user_of actor)
+owner_of w e None = server_owner w e
+
 -- the user by or for whom a step is taken: the client's; that of the item that a worker takes or does; else nobody
 unfoldable pub owner : World → Step → Option ℕ
-owner w (Spawn user threads prio) = Some user.0
-owner w (Call thread request) = Some thread.proc.user.0
-owner w (TakeReply thread) = Some thread.proc.user.0
-owner w (SetPrio thread prio) = Some thread.proc.user.0
-owner w (Receive worker manager) =
-    if is_worker w.config worker.0 then receive_owner (line_of w manager) (row_at w.hands worker.0) else None
-owner w (Perform worker moment) =
-    if is_worker w.config worker.0 then option_map (λ held. held.user.0) (row_at w.hands worker.0) else None
+owner w e = owner_of w e (actor_of e)
 
 abbrev pub own_line : ℕ → List Queued → List Queued
 own_line user line = filter (λ item. item.user.0 == user) line
@@ -210,10 +209,8 @@ own_hand user (Some held) = if held.user.0 == user then Some held else None
 
 -- what is one user's: the rows, the items in the lines and in workers' hands; all other users are as at boot
 unfoldable pub view : ℕ → World → World
-view user w = record {
-  config = w.config;
+view user w = record w {
   parts = slice_set (boot w.config).parts user (row_at w.parts user);
-  ram = own_line user w.ram;
-  pipe = own_line user w.pipe;
+  lines = map (own_line user) w.lines;
   hands = map (own_hand user) w.hands;
 }

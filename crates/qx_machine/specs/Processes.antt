@@ -1,125 +1,103 @@
--- Processes with their threads and connections, and what a thread asks for.
-use Rattle.std.specs.Prelude.{ℕ, ◌+◌, List, [], ◌∷◌, ◌==◌, ◌&&◌, Bool, true, Option, Some, None, Result, Ok, Err, nat_le, if◌then◌else◌, replicate}
-use Rattle.std.specs.Str.{bytes_eq}
-use Rattle.qx_types.specs.declared.errno.Errno.{Errno}
-use Rattle.qx_types.specs.declared.errno.Errno.TheVariants.{EAGAIN, EBADF, EINVAL, EMFILE, ENOENT}
-use Rattle.qx_types.specs.declared.names.Manager.TheVariants.{Ram}
+-- Processes with their threads and connections, and how these change.
+use Rattle.std.specs.Prelude.{ℕ, ◌+◌, List, [], ◌∷◌, Option, Some, None, replicate, slice_set}
+use Rattle.qx_types.specs.declared.limits.TheConstants.Limits.{FIRST_CONNECTION, THREADS}
+use Rattle.qx_types.specs.declared.names.Manager.{Manager}
+use Rattle.qx_types.specs.declared.names.TheConstants.Manager.{COUNT}
 use Rattle.qx_types.specs.declared.outcome.Answer.{Answer}
-use Rattle.qx_types.specs.declared.outcome.Outcome.{Outcome}
-use Rattle.qx_types.specs.declared.outcome.Outcome.TheVariants.{Refused, WrongState}
-use Rattle.qx_types.specs.declared.step.Request.{Request}
-use Rattle.qx_types.specs.declared.step.Request.TheVariants as request
 use Rattle.qx_machine.specs.declared.rows.Connection.{Connection}
-use Rattle.qx_machine.specs.declared.rows.Message.{Message}
-use Rattle.qx_machine.specs.declared.rows.Message.TheVariants.{Open, Close, Fstat}
+use Rattle.qx_machine.specs.declared.rows.Over.{Over}
+use Rattle.qx_machine.specs.declared.rows.Over.TheVariants.{New, Existing, Side}
 use Rattle.qx_machine.specs.declared.rows.Sent.{Sent}
+use Rattle.qx_machine.specs.declared.rows.ServerConnection.{ServerConnection}
 use Rattle.qx_machine.specs.declared.rows.State.{State}
 use Rattle.qx_machine.specs.declared.rows.State.TheVariants.{Ready, Queued, Taken, Answered}
 use Rattle.qx_machine.specs.declared.rows.ThreadRow.{ThreadRow}
-use Rattle.qx_machine.specs.Rows.{row_at, lowest_from, put_row, with_row}
+use Rattle.qx_machine.specs.Rows.{put_row, with_row}
+use Rattle.qx_machine.specs.Servers.{servers_from}
 
--- threads from 1 and connections from 3
+-- threads from 1 and connections from 3; at which manager each thread has a side connection; and the server connections
 pub record Process : Type 0 where
   pub threads : List (Option ThreadRow)
   pub connections : List (Option Connection)
+  pub sides : List (Option Manager)
+  pub servers : List (Option ServerConnection)
 
 abbrev pub new_thread : ℕ → ThreadRow
 new_thread prio = record { state = Ready; prio = record { 0 = prio }; calls = 0 }
 
--- a process with so many threads, all ready, and no connection
+-- a process with so many threads, all ready, and nothing attached
 abbrev pub new_process : ℕ → ℕ → Process
-new_process threads prio = record { threads = None ∷ replicate threads (Some (new_thread prio)); connections = None ∷ None ∷ None ∷ [] }
+new_process threads prio = record {
+  threads = None ∷ replicate threads (Some (new_thread prio));
+  connections = replicate FIRST_CONNECTION None;
+  sides = replicate (THREADS + 1) None;
+  servers = replicate COUNT None;
+}
 
--- an open may ask to read alone, with a mode of at most 0777
-abbrev pub in_ranges : Request → Bool
-in_ranges (request.OpenPath path flags mode) = (flags.0 == 1) && nat_le mode 511
-in_ranges (request.Close coid) = true
-in_ranges (request.Fstat coid) = true
+-- the server connections follow what is attached
+abbrev pub with_servers : Process → Process
+with_servers process = record process { servers = servers_from 0 process.connections process.sides process.servers }
 
--- a message over a connection that is there (C Library Reference: EBADF)
-abbrev pub sent_over : ℕ → Message → Option Connection → Result Sent Errno
-sent_over coid message None = Err EBADF
-sent_over coid message (Some connection) = Ok (record { manager = connection.manager; coid = record { 0 = coid }; message = message })
+-- a new connection, with no open control block yet
+abbrev pub with_connection : ℕ → Manager → Process → Process
+with_connection coid manager process = with_servers (record process { connections = put_row process.connections coid (record { manager = manager; block = None }) })
 
--- an open over a new connection with this number (C Library Reference: EMFILE)
-abbrev pub sent_anew : Message → ℕ → Result Sent Errno
-sent_anew message coid = if nat_le coid 66 then Ok (record { manager = Ram; coid = record { 0 = coid }; message = message }) else Err EMFILE
+-- a connection goes
+abbrev pub without_connection : ℕ → Process → Process
+without_connection coid process = with_servers (record process { connections = slice_set process.connections coid None })
 
--- the message that a request becomes; the one path is that of the user's own root
-abbrev pub message_of : List ℕ → Process → Request → Result Sent Errno
-message_of own_path process (request.OpenPath path flags mode) =
-    if bytes_eq path own_path then sent_anew (Open flags mode) (lowest_from 3 process.connections) else Err ENOENT
-message_of own_path process (request.Close coid) = sent_over coid.0 Close (row_at process.connections coid.0)
-message_of own_path process (request.Fstat coid) = sent_over coid.0 Fstat (row_at process.connections coid.0)
+-- a thread has a side connection at a manager, or none
+abbrev pub with_side : ℕ → Option Manager → Process → Process
+with_side thread side process = with_servers (record process { sides = slice_set process.sides thread side })
 
--- what the request of a ready thread becomes; a thread makes at most 2^64 - 1 calls
-abbrev pub judged_ready : List ℕ → Process → ThreadRow → Request → Result Sent Errno
-judged_ready own_path process row request =
-    if in_ranges request
-    then (if row.calls == 18446744073709551615 then Err EAGAIN else message_of own_path process request)
-    else Err EINVAL
+-- a connection has its open control block
+abbrev pub with_block : ℕ → ℕ → Process → Process
+with_block coid block process = record process { connections = with_row process.connections coid (λ connection. record connection { block = Some block }) }
 
--- a refusal as the outcome of a call
-abbrev pub or_refused : Result Sent Errno → Result Sent Outcome
-or_refused (Ok sent) = Ok sent
-or_refused (Err error) = Err (Refused error)
+-- one of the threads changes
+abbrev pub with_thread : ℕ → (ThreadRow → ThreadRow) → Process → Process
+with_thread thread change process = record process { threads = with_row process.threads thread change }
 
--- what a call sends, or the outcome of one that sends nothing; only a ready thread may call
-abbrev pub judged_state : List ℕ → Process → Request → ThreadRow → State → Result Sent Outcome
-judged_state own_path process request row Ready = or_refused (judged_ready own_path process row request)
-judged_state own_path process request row (Queued sent) = Err WrongState
-judged_state own_path process request row (Taken sent) = Err WrongState
-judged_state own_path process request row (Answered answer) = Err WrongState
+-- what a message goes over is attached
+abbrev pub with_over : ℕ → Manager → Over → Process → Process
+with_over thread manager (New coid) process = with_connection coid.0 manager process
+with_over thread manager (Existing coid) process = process
+with_over thread manager Side process = with_side thread (Some manager) process
 
-abbrev pub judged_thread : List ℕ → Process → Request → Option ThreadRow → Result Sent Outcome
-judged_thread own_path process request None = Err WrongState
-judged_thread own_path process request (Some row) = judged_state own_path process request row row.state
+-- what is attached for one message alone goes with its answer
+abbrev pub after_reply : ℕ → Over → Process → Process
+after_reply thread Side process = with_side thread None process
+after_reply thread _ process = process
 
-abbrev pub judged_process : List ℕ → ℕ → Request → Option Process → Result Sent Outcome
-judged_process own_path thread request None = Err WrongState
-judged_process own_path thread request (Some process) = judged_thread own_path process request (row_at process.threads thread)
+-- an error gives a new connection back too
+abbrev pub after_error : ℕ → Over → Process → Process
+after_error thread (New coid) process = without_connection coid.0 process
+after_error thread over process = after_reply thread over process
 
--- the connections once the message is sent: an open attaches its own
-abbrev pub connected : List (Option Connection) → Sent → Message → List (Option Connection)
-connected connections sent (Open flags mode) = put_row connections sent.coid.0 (record { manager = sent.manager; block = None })
-connected connections sent Close = connections
-connected connections sent Fstat = connections
+-- a thread that sent a message
+abbrev pub queued_thread : Sent → ThreadRow → ThreadRow
+queued_thread sent row = record row { state = Queued sent; calls = row.calls + 1 }
 
-abbrev pub sending_thread : Sent → ThreadRow → ThreadRow
-sending_thread sent row = record { state = Queued sent; prio = row.prio; calls = row.calls + 1 }
+-- what becomes of a thread's state when its message is received
+abbrev pub taken_state : State → State
+taken_state (Queued sent) = Taken sent
+taken_state state = state
 
--- the process once a thread's message is sent
-abbrev pub sending : ℕ → Sent → Process → Process
-sending thread sent process =
-    record { threads = with_row process.threads thread (sending_thread sent); connections = connected process.connections sent sent.message }
-
--- a thread whose queued message is received
-abbrev pub taking_state : State → State
-taking_state Ready = Ready
-taking_state (Queued sent) = Taken sent
-taking_state (Taken sent) = Taken sent
-taking_state (Answered answer) = Answered answer
-
-abbrev pub taking_thread : ThreadRow → ThreadRow
-taking_thread row = record { state = taking_state row.state; prio = row.prio; calls = row.calls }
-
-abbrev pub taking : ℕ → Process → Process
-taking thread process = record { threads = with_row process.threads thread taking_thread; connections = process.connections }
+abbrev pub taken_thread : ThreadRow → ThreadRow
+taken_thread row = record row { state = taken_state row.state }
 
 -- a thread that has its answer
 abbrev pub answered_thread : Answer → ThreadRow → ThreadRow
-answered_thread given row = record { state = Answered given; prio = row.prio; calls = row.calls }
-
--- a thread of another priority
-abbrev pub ranked_thread : ℕ → ThreadRow → ThreadRow
-ranked_thread prio row = record { state = row.state; prio = record { 0 = prio }; calls = row.calls }
-
-abbrev pub ranked : ℕ → ℕ → Process → Process
-ranked thread prio process = record { threads = with_row process.threads thread (ranked_thread prio); connections = process.connections }
+answered_thread answer row = record row { state = Answered answer }
 
 -- a thread that took its answer
 abbrev pub ready_thread : ThreadRow → ThreadRow
-ready_thread row = record { state = Ready; prio = row.prio; calls = row.calls }
+ready_thread row = record row { state = Ready }
 
-abbrev pub ready : ℕ → Process → Process
-ready thread process = record { threads = with_row process.threads thread ready_thread; connections = process.connections }
+-- a thread of another priority
+abbrev pub ranked_thread : ℕ → ThreadRow → ThreadRow
+ranked_thread prio row = record row { prio = record { 0 = prio } }
+
+-- a message of a thread goes out
+abbrev pub with_queued : ℕ → Sent → Process → Process
+with_queued thread sent process = with_over thread sent.manager sent.over (with_thread thread (queued_thread sent) process)

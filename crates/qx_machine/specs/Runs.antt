@@ -1,11 +1,10 @@
 -- Runs of the machine from boot, what a user receives in one, and the run without what is not the user's.
 use Rattle.std.specs.Prelude.{ℕ, ◌==◌, Bool, false, List, [], ◌∷◌, ◌++◌, Option, Some, None, if◌then◌else◌}
 use Rattle.qx_types.specs.Configuration.{Configuration}
+use Rattle.qx_types.specs.Step.{actor_of, user_of}
 use Rattle.qx_types.specs.declared.names.Actor.{Actor}
-use Rattle.qx_types.specs.declared.names.Actor.TheVariants.{OfUser, OfProc, OfThread}
 use Rattle.qx_types.specs.declared.outcome.Outcome.{Outcome}
 use Rattle.qx_types.specs.declared.step.Step.{Step}
-use Rattle.qx_types.specs.declared.step.Step.TheVariants.{Spawn, Call, TakeReply, SetPrio, Receive, Perform}
 use Rattle.qx_machine.specs.declared.rows.Entry.{Entry}
 use Rattle.qx_machine.specs.declared.rows.Seen.{Seen}
 use Rattle.qx_machine.specs.Machine.{World, boot, step, owner}
@@ -26,20 +25,6 @@ entries_from w (e ∷ steps) = record { step = e; outcome = (step w e).outcome }
 -- the steps from boot
 abbrev pub run : Configuration → List Step → Run
 run config steps = record { world = world_after (boot config) steps; entries = entries_from (boot config) steps }
-
--- who takes a client's step
-abbrev pub actor_of : Step → Option Actor
-actor_of (Spawn user threads prio) = Some (OfUser user)
-actor_of (Call thread request) = Some (OfThread thread)
-actor_of (TakeReply thread) = Some (OfThread thread)
-actor_of (SetPrio thread prio) = Some (OfThread thread)
-actor_of (Receive worker manager) = None
-actor_of (Perform worker moment) = None
-
-abbrev pub user_of : Actor → ℕ
-user_of (OfUser user) = user.0
-user_of (OfProc proc) = proc.user.0
-user_of (OfThread thread) = thread.proc.user.0
 
 abbrev pub seen_by : ℕ → Outcome → Option Actor → List Seen
 seen_by user outcome None = []

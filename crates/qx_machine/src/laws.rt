@@ -1,10 +1,13 @@
 //! The laws of the machine, each a theorem over every configuration, every list of steps and every user number.
 
-ghost use Rattle.std.specs.Prelude.{◌≡◌, ◌≢◌, ℕ, ◌<◌, ◌≤◌, false, List, Option, None};
+ghost use Rattle.std.specs.Prelude.{◌≡◌, ◌≢◌, ℕ, ◌<◌, ◌≤◌, false, true, length, slice_get, List, Option, Some, None};
 ghost use Rattle.qx_types.specs.Configuration.{Configuration};
+ghost use Rattle.qx_types.specs.Managers.{manager_number, managers};
+ghost use Rattle.qx_types.specs.declared.names.TheConstants.Manager.{COUNT};
+ghost use Rattle.qx_types.specs.declared.names.Manager.{Manager};
 ghost use Rattle.qx_types.specs.declared.step.Step.{Step};
-ghost use Rattle.qx_machine.specs.Laws.{HoldsOfOwnSteps, IsInOrder, own_entries};
-ghost use Rattle.qx_machine.specs.Machine.{World, boot, owner, rank, step, view};
+ghost use Rattle.qx_machine.specs.Laws.{HoldsOfOwnSteps, IsInOrder, is_refusal, own_entries};
+ghost use Rattle.qx_machine.specs.Machine.{World, boot, line_of, owner, rank, step, view};
 ghost use Rattle.qx_machine.specs.Rows.{lowest_from, row_at};
 ghost use Rattle.qx_machine.specs.Runs.{erase, is_owner, received, run};
 
@@ -50,10 +53,21 @@ pub fn nobody_idle()
     ensures { (w : World) (e : Step) → owner w e ≡ None → (step w e).world ≡ w }
 {}
 
+/// A step that is refused changes nothing.
+pub fn refusal_changes_nothing()
+    ensures { (w : World) (e : Step) → is_refusal (step w e).outcome ≡ true → (step w e).world ≡ w }
+{}
+
 /// Each line is in order of priority.
 pub fn lines_in_order()
-    ensures ram { (config : Configuration) (steps : List Step) → IsInOrder rank (run config steps).world.ram }
-    ensures pipe { (config : Configuration) (steps : List Step) → IsInOrder rank (run config steps).world.pipe }
+    ensures { (config : Configuration) (steps : List Step) (manager : Manager) → IsInOrder rank (line_of (run config steps).world manager) }
+{}
+
+/// Each manager stands under a number of its own, below their count.
+pub fn managers_apart()
+    ensures there { (manager : Manager) → slice_get managers (manager_number manager) ≡ Some manager }
+    ensures apart { (one other : Manager) → manager_number one ≡ manager_number other → one ≡ other }
+    ensures all { length managers ≡ COUNT }
 {}
 
 /// The lowest free number from a first one on.

@@ -12,11 +12,28 @@ pub enum Message {
     Fstat,
 }
 
-/// A message and what its channel keeps beside it: the manager and the connection that it came over.
+/// What a message goes over: a connection that its call makes, one that is there, or a side connection, which has no
+/// number and lasts as long as the message.
+#[derive(Clone, Copy, Debug, PartialEq, Eq)]
+pub enum Over {
+    New(Coid),
+    Existing(Coid),
+    Side,
+}
+
+/// Where a call goes: to which manager, and over what.
+#[derive(Clone, Copy, Debug, PartialEq, Eq)]
+pub struct Target {
+    pub manager: Manager,
+    pub over: Over,
+}
+
+/// A message and what its channel keeps beside it: its manager, what it goes over, and its priority.
 #[derive(Clone, Copy, Debug, PartialEq, Eq)]
 pub struct Sent {
     pub manager: Manager,
-    pub coid: Coid,
+    pub over: Over,
+    pub prio: Prio,
     pub message: Message,
 }
 
@@ -47,10 +64,24 @@ pub struct Connection {
     pub block: Option<u16>,
 }
 
+/// A server connection: a process, as a manager knows it that something of the process is attached to.
+#[derive(Clone, Copy, Debug, PartialEq, Eq)]
+pub struct ServerConnection {
+    pub number: u8,
+}
+
 /// An open control block: the inode that it has open (Writing a Resource Manager: `iofunc_ocb_t`).
 #[derive(Clone, Copy, Debug, PartialEq, Eq)]
 pub struct Block {
     pub inode: u32,
+}
+
+/// What a message's connection has open: the connection, and its open control block with its number.
+#[derive(Clone, Copy, Debug, PartialEq, Eq)]
+pub struct Opened {
+    pub coid: Coid,
+    pub number: u16,
+    pub block: Block,
 }
 
 /// What an inode is.

@@ -1,40 +1,58 @@
--- What a user's processes answer to a spawn and to a set_prio, and what they are then.
-use Rattle.std.specs.Prelude.{ℕ, List, ◌&&◌, Bool, Option, Some, None, nat_le, if◌then◌else◌}
-use Rattle.qx_types.specs.declared.errno.Errno.TheVariants.{EAGAIN, EINVAL}
+-- How calls on a user's processes are judged, and what the processes are then.
+use Rattle.std.specs.Prelude.{ℕ, List, Option, Some, Result, Ok, Err, nat_le, is_none}
+use Rattle.qx_types.specs.declared.errno.Errno.TheVariants.{EAGAIN, EINVAL, EMFILE}
+use Rattle.qx_types.specs.declared.limits.TheConstants.Limits.{FIRST_CONNECTION, LAST_CONNECTION}
+use Rattle.qx_types.specs.declared.names.Coid.{Coid}
+use Rattle.qx_types.specs.declared.names.Manager.{Manager}
 use Rattle.qx_types.specs.declared.outcome.Outcome.{Outcome}
 use Rattle.qx_types.specs.declared.outcome.Outcome.TheVariants.{Spawned, Refused, Done, WrongState}
-use Rattle.qx_machine.specs.declared.rows.ThreadRow.{ThreadRow}
-use Rattle.qx_machine.specs.Rows.{lowest_from, put_row, with_row}
+use Rattle.qx_machine.specs.Calls.{can_serve}
+use Rattle.qx_machine.specs.Clients.{is_prio}
+use Rattle.qx_machine.specs.Judgements.{◌>>=◌, found, need}
+use Rattle.qx_machine.specs.Processes.{Process, new_process, ranked_thread, with_side, with_thread}
+use Rattle.qx_machine.specs.Rows.{row_at, lowest_from, put_row, with_row}
 
--- 1 to 4 threads of a priority from 1 to 63
-abbrev pub is_spawn : ℕ → ℕ → Bool
-is_spawn threads prio = nat_le 1 threads && nat_le threads 4 && nat_le 1 prio && nat_le prio 63
+-- the outcome of a spawn, by the number of the new process
+abbrev pub spawn_outcome : Result ℕ Outcome → Outcome
+spawn_outcome (Ok number) = Spawned number
+spawn_outcome (Err outcome) = outcome
 
--- a new process has the lowest free number from 1; a user has at most 16
-abbrev pub spawn_outcome : {A : Type 0} → List (Option A) → ℕ → ℕ → Outcome
-spawn_outcome processes threads prio =
-    if is_spawn threads prio
-    then (if nat_le (lowest_from 1 processes) 16 then Spawned (lowest_from 1 processes) else Refused EAGAIN)
-    else Refused EINVAL
+-- the processes with the new one
+abbrev pub spawned : List (Option Process) → ℕ → ℕ → Result ℕ Outcome → List (Option Process)
+spawned processes threads prio (Ok number) = put_row processes number (new_process threads prio)
+spawned processes threads prio (Err outcome) = processes
 
--- a process is started, for which alone memory is wanted
-abbrev pub can_spawn : {A : Type 0} → List (Option A) → ℕ → ℕ → Bool
-can_spawn processes threads prio = is_spawn threads prio && nat_le (lowest_from 1 processes) 16
+-- the outcome of a call that changes the processes and tells nothing more
+abbrev pub done_or : Result (List (Option Process)) Outcome → Outcome
+done_or (Ok after) = Done
+done_or (Err outcome) = outcome
 
-abbrev pub spawned : {A : Type 0} → A → List (Option A) → ℕ → ℕ → List (Option A)
-spawned new processes threads prio =
-    if is_spawn threads prio
-    then (if nat_le (lowest_from 1 processes) 16 then put_row processes (lowest_from 1 processes) new else processes)
-    else processes
+-- the processes after a call, which are as before where it is refused
+abbrev pub after_or : List (Option Process) → Result (List (Option Process)) Outcome → List (Option Process)
+after_or before (Ok after) = after
+after_or before (Err outcome) = before
 
--- a priority is from 1 to 63
-abbrev pub is_prio : ℕ → Bool
-is_prio prio = nat_le 1 prio && nat_le prio 63
+-- a thread gets another priority
+abbrev pub with_prio : List (Option Process) → ℕ → ℕ → ℕ → Result (List (Option Process)) Outcome
+with_prio processes number thread prio = do
+  process ← found (row_at processes number) WrongState
+  row ← found (row_at process.threads thread) WrongState
+  valid ← need (is_prio prio) (Refused EINVAL)
+  Ok (with_row processes number (with_thread thread (ranked_thread prio)))
 
-abbrev pub prio_outcome : ℕ → Option ThreadRow → Outcome
-prio_outcome prio None = WrongState
-prio_outcome prio (Some row) = if is_prio prio then Done else Refused EINVAL
+-- the number of a new connection (C Library Reference: ConnectAttach, EMFILE and EAGAIN)
+abbrev pub new_coid : List (Option Process) → ℕ → Manager → Result Coid Outcome
+new_coid processes number manager = do
+  process ← found (row_at processes number) WrongState
+  free ← need (nat_le (lowest_from FIRST_CONNECTION process.connections) LAST_CONNECTION) (Refused EMFILE)
+  served ← need (can_serve processes process manager) (Refused EAGAIN)
+  Ok (record { 0 = lowest_from FIRST_CONNECTION process.connections })
 
-abbrev pub with_prio : {A : Type 0} → (A → A) → List (Option A) → ℕ → ℕ → Option ThreadRow → List (Option A)
-with_prio change processes process prio None = processes
-with_prio change processes process prio (Some row) = if is_prio prio then with_row processes process change else processes
+-- a thread that has no side connection gets one
+abbrev pub with_new_side : List (Option Process) → ℕ → ℕ → Manager → Result (List (Option Process)) Outcome
+with_new_side processes number thread manager = do
+  process ← found (row_at processes number) WrongState
+  row ← found (row_at process.threads thread) WrongState
+  free ← need (is_none (row_at process.sides thread)) WrongState
+  served ← need (can_serve processes process manager) (Refused EAGAIN)
+  Ok (with_row processes number (with_side thread (Some manager)))

@@ -1,3 +1,3 @@
 pub mod Calls
+pub mod Lends
 pub mod Reads
-pub mod Servers

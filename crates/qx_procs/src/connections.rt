@@ -1,17 +1,22 @@
 //! The connections of a process, from 3: a place for each number.
 
-ghost use Rattle.std.specs.Prelude.{◌≡◌, ◌<◌, ◌∷◌, [], Some, None, slice_set};
+ghost use Rattle.std.specs.Prelude.{◌≡◌, ◌≤◌, ◌∷◌, [], Some, None, slice_set};
+ghost use Rattle.qx_types.specs.declared.limits.TheConstants.Limits.{LAST_CONNECTION};
 ghost use Rattle.qx_machine.specs.Rows.{put_row, with_row};
 
 use arrayvec::ArrayVec;
 use qx_machine::Connection;
-use qx_types::Coid;
+use qx_types::{Coid, Limits};
 
-pub type Connections = ArrayVec<Option<Connection>, 67>;
+/// A place for each number up to the last.
+const PLACES: usize = Limits::LAST_CONNECTION + 1;
+
+/// Places 0 to 2 are no connection's.
+pub type Connections = ArrayVec<Option<Connection>, PLACES>;
 
 /// No connections.
 pub fn no_connections() -> Connections
-    ensures { result.items ≡ None ∷ None ∷ None ∷ [] }
+    ensures none { result.items ≡ None ∷ None ∷ None ∷ [] }
 {
     let mut connections = ArrayVec::new();
     connections.push(None);
@@ -21,9 +26,9 @@ pub fn no_connections() -> Connections
 }
 
 /// A new connection.
-pub fn attach(connections: &mut Connections, coid: Coid, connection: Connection)
-    requires { coid.0 < 67 }
-    ensures { connections.new.items ≡ put_row connections.old.items coid.0 connection }
+pub fn put(connections: &mut Connections, coid: Coid, connection: Connection)
+    requires within { coid.0 ≤ LAST_CONNECTION }
+    ensures put { connections.new.items ≡ put_row connections.old.items coid.0 connection }
 {
     let place = coid.0 as usize;
     if place < connections.len() {
@@ -35,7 +40,7 @@ pub fn attach(connections: &mut Connections, coid: Coid, connection: Connection)
 
 /// The open control block of a connection.
 pub fn set_block(connections: &mut Connections, coid: Coid, block: u16)
-    ensures { connections.new.items ≡ with_row connections.old.items coid.0 (λ connection. record { manager = connection.manager; block = Some block }) }
+    ensures block { connections.new.items ≡ with_row connections.old.items coid.0 (λ connection. record connection { block = Some block }) }
 {
     let place = coid.0 as usize;
     if place < connections.len() {
@@ -46,8 +51,8 @@ pub fn set_block(connections: &mut Connections, coid: Coid, block: u16)
 }
 
 /// A connection goes.
-pub fn detach(connections: &mut Connections, coid: Coid)
-    ensures { connections.new.items ≡ slice_set connections.old.items coid.0 None }
+pub fn free(connections: &mut Connections, coid: Coid)
+    ensures freed { connections.new.items ≡ slice_set connections.old.items coid.0 None }
 {
     let place = coid.0 as usize;
     if place < connections.len() {

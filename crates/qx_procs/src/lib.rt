@@ -6,13 +6,11 @@ pub mod places;
 pub mod process;
 pub mod processes;
 pub mod room;
-pub mod servers;
-#[cfg(test)]
-mod tests;
-mod thread;
+mod servers;
+pub mod thread;
 mod threads;
 
 pub use process::Process;
 pub use processes::Processes;
 pub use room::Room;
-pub use servers::{ServerConnection, Servers};
+pub use thread::ThreadCell;

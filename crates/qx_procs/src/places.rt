@@ -19,8 +19,8 @@ pub fn row<T>(places: &[Option<T>], number: usize) -> Option<&T>
 
 /// The lowest free number that is not below the first.
 pub fn lowest_free<T>(places: &[Option<T>], first: usize) -> usize
-    requires { first < 2 ^ 32 }
-    ensures { result ≡ lowest_from first places.now }
+    requires small { first < 2 ^ 32 }
+    ensures number { result ≡ lowest_from first places.now }
 {
     for number in first..places.len() {
         if places[number].is_none() {
@@ -45,7 +45,7 @@ pub fn put<T: Drop>(places: &mut Vec<Option<T>>, number: usize, row: T) -> Resul
 
 /// A table with no row.
 pub fn empty<T>(alloc: Global) -> Result<Vec<Option<T>>, AllocError>
-    ensures { IfOk result (λ places. places.items ≡ None ∷ []) }
+    ensures none { IfOk result (λ places. places.items ≡ None ∷ []) }
 {
     let mut places = Vec::with_capacity(alloc, 1)?;
     places.push_reserved(None);
@@ -54,7 +54,7 @@ pub fn empty<T>(alloc: Global) -> Result<Vec<Option<T>>, AllocError>
 
 /// Puts a row under a number of the table.
 pub fn set<T: Drop>(places: &mut Vec<Option<T>>, number: usize, row: T)
-    ensures { places.new.items ≡ slice_set places.old.items number (Some row) }
+    ensures row { places.new.items ≡ slice_set places.old.items number (Some row) }
 {
     if number < places.len() {
         places[number] = Some(row);
@@ -63,7 +63,7 @@ pub fn set<T: Drop>(places: &mut Vec<Option<T>>, number: usize, row: T)
 
 /// Frees a number.
 pub fn free<T: Drop>(places: &mut Vec<Option<T>>, number: usize)
-    ensures { places.new.items ≡ slice_set places.old.items number None }
+    ensures freed { places.new.items ≡ slice_set places.old.items number None }
 {
     if number < places.len() {
         places[number] = None;

@@ -1,61 +1,41 @@
-//! The server connections of a process, and the side connections of its threads.
+//! The server connections of a process, under the numbers of their managers, and the side connections of its threads.
 
-ghost use Rattle.std.specs.Prelude.{◌≡◌, None};
+ghost use Rattle.std.specs.Prelude.{◌≡◌, slice_set};
 ghost use Rattle.std.specs.List.{list_any};
-ghost use Rattle.qx_procs.specs.Servers as servers;
+ghost use Rattle.qx_machine.specs.Servers as machine;
 
-use qx_machine::Connection;
+use crate::threads::PLACES;
+use qx_machine::{Connection, ServerConnection};
 use qx_types::Manager;
 
-/// A server connection: a process, as a manager knows it that something of the process is attached to.
-#[derive(Clone, Copy, Debug, PartialEq, Eq)]
-pub struct ServerConnection {
-    pub number: u8,
+/// The server connection at each manager.
+pub type Servers = [Option<ServerConnection>; Manager::COUNT];
+
+/// At which manager each thread has a side connection.
+pub type Sides = [Option<Manager>; PLACES];
+
+/// A thread has a side connection at a manager, or none.
+pub fn set_side(sides: &mut Sides, thread: u8, side: Option<Manager>)
+    ensures side { sides.new ≡ slice_set sides.old thread side }
+{
+    let place = thread as usize;
+    if place < sides.len() {
+        sides[place] = side;
+    }
 }
 
-/// The server connections of a process, at most one at each manager.
-#[derive(Clone, Copy, Debug, PartialEq, Eq)]
-pub struct Servers {
-    pub ram: Option<ServerConnection>,
-    pub pipe: Option<ServerConnection>,
-}
-
-/// At which manager each thread of a process has a side connection.
-pub type Sides = [Option<Manager>; 5];
-
-impl Servers {
-    /// No server connection.
-    pub fn none() -> Self
-        ensures { result ≡ record { ram = None; pipe = None } }
-    {
-        Servers {
-            ram: None,
-            pipe: None,
-        }
-    }
-
-    /// The server connection at a manager.
-    pub fn at(&self, manager: Manager) -> Option<ServerConnection>
-        ensures { result ≡ servers.server_at manager self.now }
-    {
-        match manager {
-            Manager::Ram => self.ram,
-            Manager::Pipe => self.pipe,
-        }
-    }
-
-    /// A server connection comes with the first that is attached to its manager, and goes with the last.
-    pub fn settle(&mut self, connections: &[Option<Connection>], sides: &[Option<Manager>])
-        ensures { self.new ≡ servers.settled connections.now sides.now self.old }
-    {
-        self.ram = settled_at(is_attached(Manager::Ram, connections, sides), self.ram);
-        self.pipe = settled_at(is_attached(Manager::Pipe, connections, sides), self.pipe);
+/// A server connection comes with the first that is attached to its manager, and goes with the last.
+pub fn settle(servers: &mut Servers, connections: &[Option<Connection>], sides: &Sides)
+    ensures servers { servers.new ≡ machine.servers_from 0 connections.now sides.now servers.old }
+{
+    for number in 0..Manager::COUNT {
+        servers[number] = server_while(is_attached(number, connections, sides), servers[number]);
     }
 }
 
 /// The server connection that was there, or a new one; none where nothing is attached.
-fn settled_at(is_attached: bool, server: Option<ServerConnection>) -> Option<ServerConnection>
-    ensures { result ≡ servers.settled_at is_attached server }
+fn server_while(is_attached: bool, server: Option<ServerConnection>) -> Option<ServerConnection>
+    ensures server { result ≡ machine.server_while is_attached server }
 {
     if !is_attached {
         return None;
@@ -66,56 +46,43 @@ fn settled_at(is_attached: bool, server: Option<ServerConnection>) -> Option<Ser
     }
 }
 
-/// Whether something of a process is attached to a manager.
-fn is_attached(
-    manager: Manager,
-    connections: &[Option<Connection>],
-    sides: &[Option<Manager>],
-) -> bool
-    ensures { result ≡ servers.is_attached manager connections.now sides.now }
+/// Whether something of a process is attached to the manager of a number.
+fn is_attached(number: usize, connections: &[Option<Connection>], sides: &Sides) -> bool
+    ensures attached { result ≡ machine.is_attached number connections.now sides.now }
 {
-    has_connection(manager, connections) || has_side(manager, sides)
+    has_connection(number, connections) || has_side(number, sides)
 }
 
-/// Whether a process has a connection at a manager.
-pub fn has_connection(manager: Manager, connections: &[Option<Connection>]) -> bool
-    ensures { result ≡ list_any (servers.connects manager) connections.now }
+/// Whether a process has a connection at the manager of a number.
+fn has_connection(number: usize, connections: &[Option<Connection>]) -> bool
+    ensures connection { result ≡ list_any (machine.connects number) connections.now }
 {
-    connections.iter().any(|place| connects(manager, place))
+    connections.iter().any(|place| connects(number, place))
 }
 
-/// Whether a thread of a process has a side connection at a manager.
-fn has_side(manager: Manager, sides: &[Option<Manager>]) -> bool
-    ensures { result ≡ list_any (servers.sides_with manager) sides.now }
+/// Whether a thread of a process has a side connection at the manager of a number.
+fn has_side(number: usize, sides: &[Option<Manager>]) -> bool
+    ensures side { result ≡ list_any (machine.sides_with number) sides.now }
 {
-    sides.iter().any(|place| sides_with(manager, place))
+    sides.iter().any(|place| sides_with(number, place))
 }
 
 /// Whether a connection is there, at the manager.
-fn connects(manager: Manager, place: &Option<Connection>) -> bool
-    ensures { result ≡ servers.connects manager place.now }
+fn connects(number: usize, place: &Option<Connection>) -> bool
+    ensures connects { result ≡ machine.connects number place.now }
 {
     match place {
-        Some(connection) => is_manager(manager, connection.manager),
+        Some(connection) => connection.manager.number() == number,
         None => false,
     }
 }
 
 /// Whether a thread has a side connection at the manager.
-fn sides_with(manager: Manager, place: &Option<Manager>) -> bool
-    ensures { result ≡ servers.sides_with manager place.now }
+fn sides_with(number: usize, place: &Option<Manager>) -> bool
+    ensures sides { result ≡ machine.sides_with number place.now }
 {
     match place {
-        Some(at) => is_manager(manager, *at),
+        Some(manager) => manager.number() == number,
         None => false,
-    }
-}
-
-fn is_manager(manager: Manager, other: Manager) -> bool
-    ensures { result ≡ servers.is_manager manager other }
-{
-    match (manager, other) {
-        (Manager::Ram, Manager::Ram) | (Manager::Pipe, Manager::Pipe) => true,
-        (Manager::Ram, Manager::Pipe) | (Manager::Pipe, Manager::Ram) => false,
     }
 }

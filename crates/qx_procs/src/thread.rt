@@ -1,7 +1,9 @@
-ghost use Rattle.std.specs.Prelude.{◌≡◌, ◌+◌, ◌≤◌, ◌<◌, ◌^◌, length, IsTrue, MatchOption};
-ghost use Rattle.qx_machine.specs.Processes.{new_thread, sending_thread, taking_thread, answered_thread, ready_thread, ranked_thread};
+ghost use Rattle.std.specs.Prelude.{◌≡◌, ◌≤◌, ◌<◌, length, IsTrue, MatchOption};
+ghost use Rattle.qx_types.specs.declared.limits.TheConstants.Limits.{CALLS};
+ghost use Rattle.qx_machine.specs.Clients.{answer_in};
+ghost use Rattle.qx_machine.specs.Processes.{new_thread, queued_thread, taken_thread, answered_thread, ready_thread, ranked_thread};
 ghost use Rattle.qx_procs.specs.declared.room.TheConstants.{REPLY_BYTES};
-ghost use Rattle.qx_procs.specs.Reads.{is_blocked, answer_in, IsPriority};
+ghost use Rattle.qx_procs.specs.Reads.{is_blocked, IsPriority};
 
 use crate::room::Room;
 use qx_machine::{Sent, State, ThreadRow};
@@ -17,7 +19,7 @@ pub struct ThreadCell {
 }
 
 impl Model for ThreadCell {
-    ghost use Rattle.std.specs.Prelude.{◌≡◌, IsTrue, IsSome};
+    ghost use Rattle.std.specs.Prelude.{IsTrue, IsSome};
     ghost use Rattle.qx_machine.specs.declared.rows.ThreadRow.{ThreadRow};
     ghost use Rattle.qx_procs.specs.Reads.{is_blocked, IsPriority};
 
@@ -29,10 +31,10 @@ impl Model for ThreadCell {
 }
 
 impl ThreadCell {
-    /// A ready thread of a priority.
+    /// A ready thread of a priority, which has made no call.
     pub fn new(prio: Prio) -> Self
-        requires { IsPriority prio.0 }
-        ensures { result ≡ new_thread prio.0 }
+        requires priority { IsPriority prio.0 }
+        ensures row { result ≡ new_thread prio.0 }
     {
         let row = ThreadRow {
             state: State::Ready,
@@ -50,30 +52,31 @@ impl ThreadCell {
         &self.row
     }
 
-    /// A message of the thread goes into a line.
+    /// The thread has sent a message, and is blocked until it is answered; the room is for the reply (C Library Reference:
+    /// `MsgSend`).
     pub fn send(&mut self, sent: Sent, room: Room)
-        requires { self.old.calls + 1 < 2 ^ 64 }
-        ensures { self.new ≡ sending_thread sent self.old }
+        requires countable { self.old.calls < CALLS }
+        ensures row { self.new ≡ queued_thread sent self.old }
     {
         self.row.state = State::Queued(sent);
         self.row.calls += 1;
         self.room = Some(room);
     }
 
-    /// The thread's message is received.
+    /// The thread's message is received (C Library Reference: `MsgReceive`).
     pub fn take(&mut self)
-        ensures { self.new ≡ taking_thread self.old }
+        ensures row { self.new ≡ taken_thread self.old }
     {
         if let State::Queued(sent) = self.row.state {
             self.row.state = State::Taken(sent);
         }
     }
 
-    /// The thread gets a reply.
+    /// The thread gets a reply (C Library Reference: `MsgReply`).
     pub fn reply(&mut self, status: u64, bytes: &[u8])
         requires blocked { IsTrue (is_blocked self.old.state) }
         requires fits { length bytes.now ≤ REPLY_BYTES }
-        ensures { self.new ≡ answered_thread (Answer.Reply status bytes.now) self.old }
+        ensures row { self.new ≡ answered_thread (Answer.Reply status bytes.now) self.old }
     {
         match self.room.take() {
             Some(room) => {
@@ -84,26 +87,27 @@ impl ThreadCell {
         }
     }
 
-    /// The thread gets an error.
+    /// The thread gets an error (C Library Reference: `MsgError`).
     pub fn fail(&mut self, error: Errno)
-        ensures { self.new ≡ answered_thread (Answer.Failed error) self.old }
+        requires blocked { IsTrue (is_blocked self.old.state) }
+        ensures row { self.new ≡ answered_thread (Answer.Failed error) self.old }
     {
         self.row.state = State::Answered(Answer::Failed(error));
         self.room = None;
     }
 
-    /// The thread gets another priority.
+    /// The thread gets another priority (C Library Reference: `SchedSet`).
     pub fn set_prio(&mut self, prio: Prio)
-        requires { IsPriority prio.0 }
-        ensures { self.new ≡ ranked_thread prio.0 self.old }
+        requires priority { IsPriority prio.0 }
+        ensures row { self.new ≡ ranked_thread prio.0 self.old }
     {
         self.row.prio = prio;
     }
 
-    /// The thread's answer, after which it is ready.
+    /// The thread's answer, after which it is ready; none where it has none, and then nothing changes.
     pub fn take_answer(&mut self) -> Option<Answer>
         ensures answer { result ≡ answer_in self.old.state }
-        ensures taken { MatchOption result (self.new ≡ self.old) (λ _. self.new ≡ ready_thread self.old) }
+        ensures row { MatchOption result (self.new ≡ self.old) (λ _. self.new ≡ ready_thread self.old) }
     {
         match mem::replace(&mut self.row.state, State::Ready) {
             State::Answered(answer) => Some(answer),

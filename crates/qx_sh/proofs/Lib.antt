@@ -1,16 +1,4 @@
 pub mod CommandLemmas
-pub mod Flags
+pub mod Invoked
 pub mod LimitLemmas
-pub mod Numbers
-pub mod PlainWords
-pub mod PlayedSteps
-pub mod ReadBack
-pub mod ReadCommands
-pub mod ReadScripts
-pub mod ReadValues
-pub mod ReadWords
-pub mod Replays
-pub mod Rounds
-pub mod Serving
-pub mod UserNames
 pub mod Written

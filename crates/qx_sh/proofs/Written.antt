@@ -23,6 +23,15 @@ front_kept a b c bytes i p q = record {
   appends = Appends-kept a b c _ p q;
 }
 
+-- the whole text is a front of it
+pub front_all : (a b : Option (List ℕ)) (bytes : List ℕ) → Appends a b bytes → AppendsFront a b bytes
+front_all a b bytes p = record {
+  front = bytes;
+  rest = [];
+  parts = sym (append-nil bytes);
+  appends = p;
+}
+
 nothing_kept : (b c : Option (List ℕ)) → Appends b c [] → Keeps b c
 nothing_kept None c p = tt
 nothing_kept (Some x) None p = absurd p

@@ -1,10 +1,5 @@
-pub mod Lines
+pub mod Invocation
 pub mod Options
-pub mod Play
-pub mod Replay
 pub mod Run
-pub mod Script
-pub mod StepText
-pub mod Text
-pub mod Words
+pub mod Watched
 pub mod Written

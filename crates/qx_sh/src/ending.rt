@@ -1,8 +1,10 @@
-ghost use Rattle.std.specs.Prelude.{◌≡◌, ◌++◌, OnOk, OnErr, codes, decimal};
+ghost use Rattle.std.specs.Prelude.{◌≡◌, ◌++◌, true, false, OnOk, OnErr, codes, decimal};
 ghost use Rattle.std.specs.Io.KnownBytes.{Appends};
+ghost use Rattle.qx_sh.specs.Watched.{has_failed, held};
 ghost use Rattle.qx_sh.specs.Written.{AppendsFront, report_text, status_of};
 
-use crate::streams::{WriteFailed, write_out};
+use crate::streams::WriteFailed;
+use crate::watched::Watched;
 use itoa::Buffer;
 use std::io::Write;
 
@@ -12,7 +14,7 @@ pub enum End {
     Done,
     /// A read failed, or the script is too long.
     Input,
-    /// A write failed.
+    /// A write or a flush failed.
     Output,
     /// The command line's words were refused.
     Words,
@@ -37,43 +39,47 @@ impl End {
     }
 }
 
-/// Writes the line that tells the end; after `Done` there is none. A failed write is ignored.
-pub fn report<W: Write>(end: &End, writer: &mut W)
-    ensures front { AppendsFront (W.contents writer.old) (W.contents writer.new) (report_text end.now) }
+/// Writes the line that tells the end; after `Done` there is none. Where a write fails, a front of it is written.
+pub fn report<W: Write>(end: &End, writer: &mut Watched<W>)
+    ensures whole { has_failed writer.new ≡ false → Appends (held W.contents writer.old) (held W.contents writer.new) (report_text end.now) }
+    ensures front { AppendsFront (held W.contents writer.old) (held W.contents writer.new) (report_text end.now) }
 {
     let _ = write_report(end, writer);
 }
 
 /// Writes the line that tells the end.
-fn write_report<W: Write>(end: &End, writer: &mut W) -> Result<(), WriteFailed>
-    ensures whole { OnOk result (Appends (W.contents writer.old) (W.contents writer.new) (report_text end.now)) }
-    ensures front { OnErr result (AppendsFront (W.contents writer.old) (W.contents writer.new) (report_text end.now)) }
+fn write_report<W: Write>(end: &End, writer: &mut Watched<W>) -> Result<(), WriteFailed>
+    ensures whole { OnOk result (Appends (held W.contents writer.old) (held W.contents writer.new) (report_text end.now)) }
+    ensures front { OnErr result (AppendsFront (held W.contents writer.old) (held W.contents writer.new) (report_text end.now)) }
+    ensures failed { OnErr result (has_failed writer.new ≡ true) }
 {
     match end {
         End::Done => Ok(()),
-        End::Input => write_out(writer, b"qnxsh: input\n"),
-        End::Output => write_out(writer, b"qnxsh: output\n"),
-        End::Words => write_out(writer, b"qnxsh: words\n"),
+        End::Input => writer.write_all(b"qnxsh: input\n"),
+        End::Output => writer.write_all(b"qnxsh: output\n"),
+        End::Words => writer.write_all(b"qnxsh: words\n"),
         End::Line(line) => write_line(*line, writer),
-        End::Memory => write_out(writer, b"qnxsh: memory\n"),
+        End::Memory => writer.write_all(b"qnxsh: memory\n"),
     }
 }
 
 /// Writes the line that tells of a bad line.
-fn write_line<W: Write>(line: u64, writer: &mut W) -> Result<(), WriteFailed>
-    ensures whole { OnOk result (Appends (W.contents writer.old) (W.contents writer.new) (codes "qnxsh: line " ++ decimal line ++ codes "\n")) }
-    ensures front { OnErr result (AppendsFront (W.contents writer.old) (W.contents writer.new) (codes "qnxsh: line " ++ decimal line ++ codes "\n")) }
+fn write_line<W: Write>(line: u64, writer: &mut Watched<W>) -> Result<(), WriteFailed>
+    ensures whole { OnOk result (Appends (held W.contents writer.old) (held W.contents writer.new) (codes "qnxsh: line " ++ decimal line ++ codes "\n")) }
+    ensures front { OnErr result (AppendsFront (held W.contents writer.old) (held W.contents writer.new) (codes "qnxsh: line " ++ decimal line ++ codes "\n")) }
+    ensures failed { OnErr result (has_failed writer.new ≡ true) }
 {
-    write_out(writer, b"qnxsh: line ")?;
+    writer.write_all(b"qnxsh: line ")?;
     write_number(line, writer)?;
-    write_out(writer, b"\n")
+    writer.write_all(b"\n")
 }
 
 /// Writes a number.
-fn write_number<W: Write>(number: u64, writer: &mut W) -> Result<(), WriteFailed>
-    ensures whole { OnOk result (Appends (W.contents writer.old) (W.contents writer.new) (decimal number)) }
-    ensures front { OnErr result (AppendsFront (W.contents writer.old) (W.contents writer.new) (decimal number)) }
+fn write_number<W: Write>(number: u64, writer: &mut Watched<W>) -> Result<(), WriteFailed>
+    ensures whole { OnOk result (Appends (held W.contents writer.old) (held W.contents writer.new) (decimal number)) }
+    ensures front { OnErr result (AppendsFront (held W.contents writer.old) (held W.contents writer.new) (decimal number)) }
+    ensures failed { OnErr result (has_failed writer.new ≡ true) }
 {
     let mut buffer = Buffer::new();
-    write_out(writer, buffer.format(number).as_bytes())
+    writer.write_all(buffer.format(number).as_bytes())
 }

@@ -1,25 +1,15 @@
 //! The shell: reads a script, runs it and writes what users were shown.
 #![tactic(auto)]
 
-pub mod command;
 pub mod ending;
-mod items;
-pub mod laws;
+pub mod invocation;
 pub mod limit;
-mod lines;
 pub mod options;
-pub mod play;
-mod reading;
+pub mod program;
 pub mod run;
-pub mod script;
 pub mod streams;
-pub mod text;
-mod users;
-mod words;
+pub mod watched;
 
-pub use command::Command;
 pub use ending::{End, report};
-pub use script::{Script, parse};
-
-#[cfg(test)]
-mod tests;
+pub use invocation::invoke;
+pub use watched::Watched;

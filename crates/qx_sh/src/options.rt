@@ -73,6 +73,3 @@ fn fault_of(error: &clap::Error) -> OptionsFault
         _ => OptionsFault::Words,
     }
 }
-
-#[cfg(test)]
-mod tests;

@@ -1,22 +1,27 @@
-ghost use Rattle.std.specs.Prelude.{MatchResult};
+ghost use Rattle.std.specs.Prelude.{◌≡◌, true, MatchResult, OnErr, OnOk};
+ghost use Rattle.std.specs.Io.KnownBytes.{Appends};
 ghost use Rattle.qx_sh.specs.Run.{EndsAs, EndsUnprinted, Prints};
+ghost use Rattle.qx_sh.specs.Watched.{has_failed, held};
+ghost use Rattle.qx_sh.specs.Written.{AppendsFront};
 
 use crate::ending::End;
 use crate::limit::Options;
-use crate::play::play;
-use crate::script::{Script, parse};
-use crate::streams::{ReadFault, read_all, write_out};
+use crate::streams::{ReadFault, WriteFailed, read_all};
+use crate::watched::Watched;
+use qx_play::play::play;
+use qx_script::{Script, parse};
 use std::alloc::Global;
 use std::io::{Read, Write};
 
-/// Reads a script, runs it and writes what its `show` lines print. A script that is longer than the limit is not run.
+/// Reads a script, runs it, writes what its `show` lines print and flushes the writer. A script that is longer than the
+/// limit is not run.
 pub fn run<R: Read, W: Write>(
     alloc: Global,
     reader: &mut R,
-    writer: &mut W,
+    writer: &mut Watched<W>,
     options: &Options,
 ) -> End
-    ensures ending { EndsAs options.now.limit (R.remaining reader.old) (W.contents writer.old) (W.contents writer.new) result }
+    ensures ending { EndsAs options.now.limit (R.remaining reader.old) (held W.contents writer.old) (held W.contents writer.new) (has_failed writer.new) result }
 {
     let text = match read_all(alloc, reader, options.limit) {
         Ok(text) => text,
@@ -24,12 +29,22 @@ pub fn run<R: Read, W: Write>(
         Err(ReadFault::Failed | ReadFault::TooLong) => return End::Input,
     };
     match printed(alloc, &text) {
-        Ok(text) => match write_out(writer, &text) {
+        Ok(text) => match write_flushed(writer, &text) {
             Ok(()) => End::Done,
             Err(_) => End::Output,
         },
         Err(end) => end,
     }
+}
+
+/// Writes all bytes, or a front of them, and flushes. Where the flush fails, all were written.
+fn write_flushed<W: Write>(writer: &mut Watched<W>, bytes: &[u8]) -> Result<(), WriteFailed>
+    ensures whole { OnOk result (Appends (held W.contents writer.old) (held W.contents writer.new) bytes.now) }
+    ensures front { OnErr result (AppendsFront (held W.contents writer.old) (held W.contents writer.new) bytes.now) }
+    ensures failed { OnErr result (has_failed writer.new ≡ true) }
+{
+    writer.write_all(bytes)?;
+    writer.flush()
 }
 
 /// What a script prints, or how it ends with nothing printed.
@@ -45,6 +60,3 @@ fn printed(alloc: Global, text: &[u8]) -> Result<Vec<u8>, End>
         Err(_) => Err(End::Memory),
     }
 }
-
-#[cfg(test)]
-mod tests;

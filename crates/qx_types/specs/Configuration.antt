@@ -1,6 +1,7 @@
 -- Who uses the system: names and numbers within the limits.
 use Rattle.std.specs.Prelude.{◌≢◌, ℕ, zero, suc, Option, None, slice_get, ◌≤◌, Bool, false, ◌&&◌, ◌||◌, nat_le, IsTrue, List, [], ◌∷◌, length, All, AllPairs}
 use Rattle.std.specs.List.{list_all}
+use Rattle.qx_types.specs.declared.limits.TheConstants.Limits.{NAME, USERS, WORKERS}
 
 -- the users' names in the order of their numbers, and the number of workers
 pub record Configuration : Type 0 where
@@ -20,15 +21,15 @@ is_letter c = nat_le 97 c && nat_le c 122
 abbrev pub is_letter_or_digit : ℕ → Bool
 is_letter_or_digit c = is_letter c || (nat_le 48 c && nat_le c 57)
 
--- 1 to 16 lower-case ASCII letters and digits, a letter first
+-- lower-case ASCII letters and digits, a letter first
 abbrev pub is_user_name : List ℕ → Bool
 is_user_name [] = false
-is_user_name (first ∷ rest) = is_letter first && list_all is_letter_or_digit rest && nat_le (length rest) 15
+is_user_name (first ∷ rest) = is_letter first && list_all is_letter_or_digit rest && nat_le (suc (length rest)) NAME
 
 -- at most 16 users with different names, and 1 to 8 workers
 pub record IsConfiguration (names : List (List ℕ)) (workers : ℕ) : Type 0 where
-  pub few_users : length names ≤ 16
+  pub few_users : length names ≤ USERS
   pub good_names : All (λ name. IsTrue (is_user_name name)) names
   pub different_names : AllPairs (λ one other. one ≢ other) names
   pub some_worker : 1 ≤ workers
-  pub few_workers : workers ≤ 8
+  pub few_workers : workers ≤ WORKERS

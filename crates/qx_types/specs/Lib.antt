@@ -1,4 +1,5 @@
 pub mod Configuration
 pub mod Errno
 pub mod Flags
+pub mod Managers
 pub mod Step

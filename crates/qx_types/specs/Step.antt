@@ -1,13 +1,24 @@
 -- Who takes a step.
-use Rattle.std.specs.Prelude.{Bool, true, false}
+use Rattle.std.specs.Prelude.{ℕ, Bool, Option, Some, None, is_some}
+use Rattle.qx_types.specs.declared.names.Actor.{Actor}
+use Rattle.qx_types.specs.declared.names.Actor.TheVariants.{OfUser, OfProc, OfThread}
 use Rattle.qx_types.specs.declared.step.Step.{Step}
 use Rattle.qx_types.specs.declared.step.Step.TheVariants.{Spawn, Call, TakeReply, SetPrio, Receive, Perform}
 
+-- who takes a client's step; a worker takes the others
+abbrev pub actor_of : Step → Option Actor
+actor_of (Spawn user threads prio) = Some (OfUser user)
+actor_of (Call thread request) = Some (OfThread thread)
+actor_of (TakeReply thread) = Some (OfThread thread)
+actor_of (SetPrio thread prio) = Some (OfThread thread)
+actor_of (Receive worker manager) = None
+actor_of (Perform worker moment) = None
+
+abbrev pub user_of : Actor → ℕ
+user_of (OfUser user) = user.0
+user_of (OfProc proc) = proc.user.0
+user_of (OfThread thread) = thread.proc.user.0
+
 -- a client takes it, and not a worker
 abbrev pub is_client_step : Step → Bool
-is_client_step (Spawn user threads prio) = true
-is_client_step (Call thread request) = true
-is_client_step (TakeReply thread) = true
-is_client_step (SetPrio thread prio) = true
-is_client_step (Receive worker manager) = false
-is_client_step (Perform worker moment) = false
+is_client_step e = is_some (actor_of e)

@@ -103,22 +103,3 @@ impl Clone for Bytes {
         })
     }
 }
-
-#[cfg(test)]
-mod tests {
-    use super::*;
-    use std::test::Fail;
-
-    #[test]
-    fn holds_what_it_is_given(rt: HostRuntime) -> Result<(), Fail> {
-        let alloc = rt.alloc();
-        assert!(rt; Bytes::new(alloc).is_empty());
-        let pipe = Bytes::from_slice(alloc, b"pipe")?;
-        let copy = Bytes::from_vec(pipe.clone()?.into_vec());
-        assert_eq!(rt; copy, pipe);
-        assert_ne!(rt; copy, Bytes::from_slice(alloc, b"pip")?);
-        assert_eq!(rt; copy.len(), 4);
-        assert_eq!(rt; copy.as_slice(), b"pipe".as_slice());
-        Ok(())
-    }
-}

@@ -1,6 +1,7 @@
 ghost use Rattle.std.specs.Prelude.{◌≡◌, ◌↔◌, ◌≢◌, ◌≤◌, All, AllPairs, IsTrue, IsSome, IfSome, length};
 ghost use Rattle.std.specs.List.{list_all};
 ghost use Rattle.std.specs.Option.{option_copied};
+ghost use Rattle.qx_types.specs.declared.limits.TheConstants.Limits.{USERS, WORKERS};
 ghost use Rattle.qx_types.specs.Configuration.{is_letter_or_digit, is_user_name, name_of, IsConfiguration};
 
 use crate::bytes::Bytes;
@@ -24,8 +25,9 @@ impl Model for Config {
     ghost view = { λ c. record { users = c.names.items; workers = c.workers } };
 
     ghost use Rattle.std.specs.Prelude.{◌≤◌, vec_len};
+    ghost use Rattle.qx_types.specs.declared.limits.TheConstants.Limits.{USERS, WORKERS};
 
-    ghost invariant = { λ c. (vec_len c.names ≤ 16) × (c.workers ≤ 8) };
+    ghost invariant = { λ c. (vec_len c.names ≤ USERS) × (c.workers ≤ WORKERS) };
 }
 
 // Written out and not derived, so that its contract says outright that the copy is equal.
@@ -56,10 +58,24 @@ impl Config {
         }
     }
 
+    /// Whether the bytes are a user's name: 1 to 16 lower-case ASCII letters and digits, a letter first.
+    pub fn is_user_name(bytes: &[u8]) -> bool
+        ensures { result ≡ is_user_name bytes.now }
+    {
+        match bytes.split_first() {
+            None => false,
+            Some((first, rest)) => {
+                first.is_ascii_lowercase()
+                    && are_letters_or_digits(rest)
+                    && rest.len() < Limits::NAME
+            }
+        }
+    }
+
     /// How many workers there are.
     pub fn workers(&self) -> u8
         ensures workers { result ≡ self.now.workers }
-        ensures few { result ≤ 8 }
+        ensures few { result ≤ WORKERS }
     {
         self.workers
     }
@@ -74,7 +90,7 @@ impl Config {
     /// How many users there are.
     pub fn user_count(&self) -> usize
         ensures count { result ≡ length self.now.users }
-        ensures few { result ≤ 16 }
+        ensures few { result ≤ USERS }
     {
         self.names.len()
     }
@@ -92,19 +108,10 @@ impl Config {
 fn are_names(names: &[Bytes]) -> bool
     ensures { IsTrue result ↔ (All (λ name. IsTrue (is_user_name name)) names.now × AllPairs (λ one other. one ≢ other) names.now) }
 {
-    names.iter().all(|name| is_name(name.as_slice())) && are_different(names)
-}
-
-/// Whether the bytes are a user's name.
-fn is_name(bytes: &[u8]) -> bool
-    ensures { result ≡ is_user_name bytes.now }
-{
-    match bytes.split_first() {
-        None => false,
-        Some((first, rest)) => {
-            first.is_ascii_lowercase() && are_letters_or_digits(rest) && rest.len() < Limits::NAME
-        }
-    }
+    names
+        .iter()
+        .all(|name| Config::is_user_name(name.as_slice()))
+        && are_different(names)
 }
 
 /// Whether there are only lower-case letters and digits.
@@ -126,87 +133,4 @@ fn are_different(names: &[Bytes]) -> bool
         }
     }
     true
-}
-
-#[cfg(test)]
-mod tests {
-    use super::*;
-    use std::alloc::Global;
-    use std::test::Fail;
-
-    fn names_of(alloc: Global, texts: &[&str]) -> Result<Vec<Bytes>, AllocError> {
-        let mut names = Vec::new(alloc);
-        for text in texts {
-            names.push(Bytes::from_slice(alloc, text.as_bytes())?)?;
-        }
-        Ok(names)
-    }
-
-    fn letters(alloc: Global, last: u8) -> Result<Vec<Bytes>, AllocError> {
-        let mut names = Vec::new(alloc);
-        for letter in b'a'..=last {
-            names.push(Bytes::from_slice(alloc, &[letter])?)?;
-        }
-        Ok(names)
-    }
-
-    #[test]
-    fn refuses_each_broken_rule(rt: HostRuntime) -> Result<(), Fail> {
-        let alloc = rt.alloc();
-        assert!(rt; Config::new(letters(alloc, b'q')?, 1).is_none(), "17 users");
-        for name in ["", "abcdefghijklmnopq", "1abc", "aBc", "a-b"] {
-            assert!(rt;
-                Config::new(names_of(alloc, &["ann", name])?, 1).is_none(),
-                "the name {name:?}"
-            );
-        }
-        assert!(rt;
-            Config::new(names_of(alloc, &["ann", "bob", "ann"])?, 1).is_none(),
-            "equal names"
-        );
-        for workers in [0, 9] {
-            assert!(rt;
-                Config::new(names_of(alloc, &["ann"])?, workers).is_none(),
-                "{workers} workers"
-            );
-        }
-        Ok(())
-    }
-
-    #[test]
-    fn takes_the_last_allowed_values(rt: HostRuntime) -> Result<(), Fail> {
-        let alloc = rt.alloc();
-        assert!(rt;
-            Config::new(letters(alloc, b'p')?, 8).is_some(),
-            "16 users and 8 workers"
-        );
-        assert!(rt;
-            Config::new(names_of(alloc, &["abcdefghijklmn09", "z"])?, 1).is_some(),
-            "16 bytes"
-        );
-        assert!(rt; Config::new(Vec::new(alloc), 1).is_some(), "no users");
-        Ok(())
-    }
-
-    #[test]
-    fn numbers_users_from_one(rt: HostRuntime) -> Result<(), Fail> {
-        let Some(config) = Config::new(names_of(rt.alloc(), &["ann", "bob"])?, 3) else {
-            return Err(Fail::from("refused"));
-        };
-        let copy = config.clone()?;
-        assert_eq!(rt; copy.workers(), 3);
-        assert_eq!(rt; copy.user_count(), 2);
-        assert_eq!(rt; copy.names().len(), 2);
-        assert_eq!(rt;
-            copy.name(User(1)).map(|name| name.as_slice()),
-            Some(b"ann".as_slice())
-        );
-        assert_eq!(rt;
-            copy.name(User(2)).map(|name| name.as_slice()),
-            Some(b"bob".as_slice())
-        );
-        assert!(rt; copy.name(User(0)).is_none());
-        assert!(rt; copy.name(User(3)).is_none());
-        Ok(())
-    }
 }

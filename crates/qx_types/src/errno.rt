@@ -82,16 +82,3 @@ impl<T: Drop> From<AllocFailed<T>> for NoMemory {
         NoMemory
     }
 }
-
-#[cfg(test)]
-mod tests {
-    use super::*;
-
-    #[test]
-    fn names_errors(rt: HostRuntime) {
-        errors_told_apart();
-        assert_eq!(rt; Errno::ENAMETOOLONG.name(), "ENAMETOOLONG");
-        assert_eq!(rt; NoMemory::from(AllocError), NoMemory);
-        assert_eq!(rt; NoMemory::from(AllocFailed { value: 7u8 }), NoMemory);
-    }
-}

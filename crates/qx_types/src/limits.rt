@@ -1,4 +1,4 @@
-/// The limits of this profile.
+/// The limits of this profile: definitions and code name them and no number.
 pub struct Limits;
 
 impl Limits {
@@ -16,10 +16,14 @@ impl Limits {
     pub const FIRST_CONNECTION: usize = 3;
     /// The greatest number of a connection.
     pub const LAST_CONNECTION: usize = 66;
+    /// Server connections of a user at one manager.
+    pub const SERVERS: usize = 64;
     /// Open blocks of a user.
     pub const BLOCKS: usize = 256;
     /// The greatest priority.
     pub const PRIORITY: u8 = 63;
     /// The greatest mode, 0777.
     pub const MODE: u16 = 511;
+    /// Calls of a thread.
+    pub const CALLS: u64 = 18_446_744_073_709_551_615;
 }

@@ -1,3 +1,8 @@
+ghost use Rattle.std.specs.Prelude.{◌≡◌, ◌<◌, slice_get};
+ghost use Rattle.qx_types.specs.Managers.{manager_number, managers};
+ghost use Rattle.qx_types.specs.Step.{user_of};
+ghost use Rattle.qx_types.specs.declared.names.TheConstants.Manager.{COUNT};
+
 /// A user's number, from 1 in the order of the configuration.
 #[derive(Clone, Copy, Debug, PartialEq, Eq)]
 pub struct User(pub u8);
@@ -35,6 +40,33 @@ pub enum Manager {
     Pipe,
 }
 
+impl Manager {
+    /// How many managers there are.
+    pub const COUNT: usize = 2;
+
+    /// The manager's number, from 0, under which rows of each manager stand.
+    pub fn number(self) -> usize
+        ensures number { result ≡ manager_number self }
+        ensures few { result < COUNT }
+    {
+        match self {
+            Manager::Ram => 0,
+            Manager::Pipe => 1,
+        }
+    }
+
+    /// The manager of a number; none for another number.
+    pub fn of_number(number: usize) -> Option<Manager>
+        ensures { result ≡ slice_get managers number }
+    {
+        match number {
+            0 => Some(Manager::Ram),
+            1 => Some(Manager::Pipe),
+            _ => None,
+        }
+    }
+}
+
 /// A worker's number, from 1.
 #[derive(Clone, Copy, Debug, PartialEq, Eq)]
 pub struct Worker(pub u8);
@@ -45,6 +77,19 @@ pub enum Actor {
     OfUser(User),
     OfProc(Proc),
     OfThread(Thread),
+}
+
+impl Actor {
+    /// Whose actor it is.
+    pub fn user(self) -> User
+        ensures { result.0 ≡ user_of self }
+    {
+        match self {
+            Actor::OfUser(user) => user,
+            Actor::OfProc(proc) => proc.user,
+            Actor::OfThread(thread) => thread.proc.user,
+        }
+    }
 }
 
 /// What a line holds and a worker takes (System Architecture: messages and pulses; that both stand in one line is this

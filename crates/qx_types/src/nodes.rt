@@ -60,6 +60,3 @@ pub trait Waiter {
             (λ reply. self.new ≡ replied self.old reply.0 reply.1.now)
             (λ error. self.new ≡ failed self.old error) };
 }
-
-#[cfg(test)]
-mod tests;

@@ -78,21 +78,3 @@ impl Clone for Outcome {
         })
     }
 }
-
-#[cfg(test)]
-mod tests {
-    use super::*;
-    use std::test::Fail;
-
-    #[test]
-    fn copies_are_equal(rt: HostRuntime) -> Result<(), Fail> {
-        let bytes = Bytes::from_slice(rt.alloc(), b"data")?;
-        let answer = Answer::Reply(4, bytes.clone()?);
-        assert_eq!(rt; answer.clone()?, answer);
-        assert_ne!(rt; answer, Answer::Failed(Errno::EPIPE));
-        let outcome = Outcome::Reply(4, bytes);
-        assert_eq!(rt; outcome.clone()?, outcome);
-        assert_ne!(rt; outcome, Outcome::Done);
-        Ok(())
-    }
-}

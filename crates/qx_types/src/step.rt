@@ -1,9 +1,9 @@
 ghost use Rattle.std.specs.Prelude.{◌≡◌};
-ghost use Rattle.qx_types.specs.Step.{is_client_step};
+ghost use Rattle.qx_types.specs.Step.{actor_of, is_client_step};
 
 use crate::bytes::Bytes;
 use crate::flags::OFlags;
-use crate::names::{Coid, Manager, Prio, Thread, User, Worker};
+use crate::names::{Actor, Coid, Manager, Prio, Thread, User, Worker};
 use std::alloc::AllocError;
 
 /// What a client asks of a resource manager.
@@ -44,17 +44,23 @@ pub enum Step {
 }
 
 impl Step {
+    /// Who takes a client's step; nobody where a worker takes it.
+    pub fn actor(&self) -> Option<Actor>
+        ensures { result ≡ actor_of self.now }
+    {
+        match self {
+            Step::Spawn { user, .. } => Some(Actor::OfUser(*user)),
+            Step::Call { thread, .. } | Step::TakeReply { thread } | Step::SetPrio { thread, .. } =>
+                Some(Actor::OfThread(*thread)),
+            Step::Receive { .. } | Step::Perform { .. } => None,
+        }
+    }
+
     /// Whether a client takes the step, and not a worker.
     pub fn is_client(&self) -> bool
         ensures { result ≡ is_client_step self.now }
     {
-        match self {
-            Step::Spawn { .. }
-            | Step::Call { .. }
-            | Step::TakeReply { .. }
-            | Step::SetPrio { .. } => true,
-            Step::Receive { .. } | Step::Perform { .. } => false,
-        }
+        self.actor().is_some()
     }
 }
 
@@ -107,38 +113,5 @@ impl Clone for Step {
                 moment: *moment,
             },
         })
-    }
-}
-
-#[cfg(test)]
-mod tests {
-    use super::*;
-    use crate::names::Proc;
-    use std::test::Fail;
-
-    #[test]
-    fn tells_client_steps(rt: HostRuntime) -> Result<(), Fail> {
-        let proc = Proc {
-            user: User(1),
-            num: 1,
-        };
-        let request = Request::OpenPath {
-            path: Bytes::from_slice(rt.alloc(), b"/tmp/log")?,
-            flags: OFlags::CREAT | OFlags::WRITE,
-            mode: 0o644,
-        };
-        let call = Step::Call {
-            thread: Thread { proc, tid: 1 },
-            request: request.clone()?,
-        };
-        assert!(rt; call.is_client());
-        assert_eq!(rt; call.clone()?, call);
-        assert_ne!(rt; request, Request::Close { coid: Coid(3) });
-        let receive = Step::Receive {
-            worker: Worker(1),
-            manager: Manager::Ram,
-        };
-        assert!(rt; !receive.is_client());
-        Ok(())
     }
 }

@@ -1,9 +1,4 @@
-mod BootLemmas
-mod KeptLemmas
+-- a trace whose outcome is lent
 mod LoanLemmas
-mod ServerLemmas
-mod SpawnLemmas
-mod StandingLemmas
+-- what a trace holds of its run
 mod TraceLemmas
-mod WorkerLemmas
-mod WorldLemmas

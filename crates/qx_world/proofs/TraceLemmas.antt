@@ -5,20 +5,21 @@ use Rattle.std.specs.Prelude.{option_map, if◌then◌else◌}
 use Rattle.std.proofs.lemmas.Bool.{cond_both}
 use Rattle.std.proofs.lemmas.List.{map-append, length-map, get_or-map, take_more}
 use Rattle.qx_types.specs.Configuration.{Configuration}
+use Rattle.qx_types.specs.Step.{actor_of, user_of}
+use Rattle.qx_types.specs.declared.names.Actor.{Actor}
 use Rattle.qx_types.specs.declared.names.Manager.{Manager}
-use Rattle.qx_types.specs.declared.names.Manager.TheVariants.{Ram, Pipe}
 use Rattle.qx_types.specs.declared.names.User.{User}
 use Rattle.qx_types.specs.declared.outcome.Outcome.TheVariants.{WrongState}
 use Rattle.qx_types.specs.declared.step.Step.{Step}
-use Rattle.qx_types.specs.declared.step.Step.TheVariants.{Spawn, Call, TakeReply, SetPrio, Receive, Perform}
+use Rattle.qx_types.specs.declared.step.Step.TheVariants.{Receive, Perform}
 use Rattle.qx_machine.specs.declared.rows.Entry.{Entry}
 use Rattle.qx_machine.specs.declared.rows.Held.{Held}
 use Rattle.qx_machine.specs.declared.rows.Queued.{Queued}
 use Rattle.qx_machine.specs.declared.rows.Seen.{Seen}
-use Rattle.qx_machine.specs.Machine.{World, boot, step, owner, is_worker, line_of, with_taken, unchanged, client_step, received_part, receive_line, receive_hand, performed_part, perform_hand}
+use Rattle.qx_machine.specs.Machine.{World, boot, step, owner, is_worker, line_of, with_taken, same_world, client_step, server_step, step_of, received_part, receive_line, receive_hand, performed_part, perform_hand}
 use Rattle.qx_machine.specs.Rows.{row_at}
-use Rattle.qx_machine.specs.Runs.{run, world_after, entries_from, seen_by, actor_of, received, is_owner, erase_from}
-use Rattle.qx_machine.specs.Users.{Part}
+use Rattle.qx_machine.specs.Runs.{run, world_after, entries_from, seen_by, received, is_owner, erase_from}
+use Rattle.qx_machine.specs.Parts.{Part}
 use Rattle.qx_world.specs.Trace.{IsRun, owners_from, steps_of}
 
 -- the configuration stays
@@ -28,10 +29,8 @@ client_step-config w user e None = refl
 client_step-config w user e (Some part) = refl
 
 received_part-config : (w : World) (worker : ℕ) (first : Queued) (rest : List Queued) (manager : Manager) (part : Option Part) → (received_part (with_taken w worker first rest manager) first part).config ≡ w.config
-received_part-config w worker first rest Ram None = refl
-received_part-config w worker first rest Pipe None = refl
-received_part-config w worker first rest Ram (Some part) = refl
-received_part-config w worker first rest Pipe (Some part) = refl
+received_part-config w worker first rest manager None = refl
+received_part-config w worker first rest manager (Some part) = refl
 
 receive_line-config : (w : World) (worker : ℕ) (manager : Manager) (line : List Queued) → (receive_line w worker manager line).world.config ≡ w.config
 receive_line-config w worker manager [] = refl
@@ -49,18 +48,22 @@ perform_hand-config : (w : World) (worker moment : ℕ) (hand : Option Held) →
 perform_hand-config w worker moment None = refl
 perform_hand-config w worker moment (Some held) = performed_part-config _ held moment (row_at w.parts held.user.0)
 
+server_step-config : (w : World) (e : Step) → (server_step w e).world.config ≡ w.config
+server_step-config w (Receive worker manager) =
+    cond_both (is_worker w.config worker.0) (receive_hand w worker.0 manager (row_at w.hands worker.0)) (same_world w WrongState) (λ after. after.world.config ≡ w.config)
+    (λ _. receive_hand-config w worker.0 manager (row_at w.hands worker.0)) (λ _. refl)
+server_step-config w (Perform worker moment) =
+    cond_both (is_worker w.config worker.0) (perform_hand w worker.0 moment (row_at w.hands worker.0)) (same_world w WrongState) (λ after. after.world.config ≡ w.config)
+    (λ _. perform_hand-config w worker.0 moment (row_at w.hands worker.0)) (λ _. refl)
+server_step-config w _ = refl
+
+step_of-config : (w : World) (e : Step) (by : Option Actor) → (step_of w e by).world.config ≡ w.config
+step_of-config w e None = server_step-config w e
+step_of-config w e (Some actor) = client_step-config w (user_of actor) e (row_at w.parts (user_of actor))
+
 pub step-config : (w : World) (e : Step) → (step w e).world.config ≡ w.config
 unfolding step
-step-config w (Spawn user threads prio) = client_step-config w user.0 (Spawn user threads prio) (row_at w.parts user.0)
-step-config w (Call thread request) = client_step-config w thread.proc.user.0 (Call thread request) (row_at w.parts thread.proc.user.0)
-step-config w (TakeReply thread) = client_step-config w thread.proc.user.0 (TakeReply thread) (row_at w.parts thread.proc.user.0)
-step-config w (SetPrio thread prio) = client_step-config w thread.proc.user.0 (SetPrio thread prio) (row_at w.parts thread.proc.user.0)
-step-config w (Receive worker manager) =
-    cond_both (is_worker w.config worker.0) (receive_hand w worker.0 manager (row_at w.hands worker.0)) (unchanged w WrongState) (λ after. after.world.config ≡ w.config)
-    (λ _. receive_hand-config w worker.0 manager (row_at w.hands worker.0)) (λ _. refl)
-step-config w (Perform worker moment) =
-    cond_both (is_worker w.config worker.0) (perform_hand w worker.0 moment (row_at w.hands worker.0)) (unchanged w WrongState) (λ after. after.world.config ≡ w.config)
-    (λ _. perform_hand-config w worker.0 moment (row_at w.hands worker.0)) (λ _. refl)
+step-config w e = step_of-config w e (actor_of e)
 
 pub boot-config : (config : Configuration) → (boot config).config ≡ config
 unfolding boot

@@ -8,14 +8,14 @@ ghost use Rattle.qx_machine.specs.declared.rows.Entry.{Entry};
 ghost use Rattle.qx_machine.specs.Machine as machine;
 ghost use Rattle.qx_machine.specs.Runs as runs;
 ghost use Rattle.qx_machine.specs.Runs.{run, received, erase};
-ghost use Rattle.qx_world.specs.declared.work.PerformFault.{PerformFault};
-ghost use Rattle.qx_world.specs.Held.{held_work, IsStale};
+ghost use Rattle.qx_types.specs.Step.{actor_of};
+ghost use Rattle.qx_steps.specs.declared.work.PerformFault.{PerformFault};
+ghost use Rattle.qx_steps.specs.Held.{held_work, IsStale};
 ghost use Rattle.qx_world.specs.Trace.{IsAfter, IsLast, run_of, outcome_of, wants_memory, owners_from};
 
-use crate::work::{PerformFault, Work};
-use crate::world::World;
 use qx_machine::{Entry, Seen, laws};
-use qx_types::{Actor, Config, NoMemory, Outcome, Step, User, Worker};
+use qx_steps::{PerformFault, Work, World};
+use qx_types::{Config, NoMemory, Outcome, Step, User, Worker};
 use std::alloc::{AllocError, Global};
 use std::marker::Model;
 use thiserror::Error;
@@ -102,7 +102,7 @@ impl Traced {
     pub fn store(&mut self, step: Step) -> Result<(), Unstored>
         ensures after { IsAfter self.old step (is_ok result) self.new }
         ensures handed_back { IfErr result (λ unstored. unstored.step ≡ step) }
-        ensures sure { 0 < self.old.room → IsFalse (wants_memory step) → IsOk result }
+        ensures sure { 0 < self.old.room → IsFalse (wants_memory (run_of self.old).world step) → IsOk result }
     {
         if self.reserve(1).is_err() {
             return Err(Unstored { step });
@@ -131,7 +131,7 @@ impl Traced {
         ensures* after { sem 𝓛 (Ends self.entry (IsAfter self.old step (is_ok result))) }
         ensures outcome { IfOk result (λ outcome. outcome.now ≡ outcome_of self.old step) }
         ensures handed_back { IfErr result (λ unstored. unstored.step ≡ step) }
-        ensures sure { 0 < self.old.room → IsFalse (wants_memory step) → IsOk result }
+        ensures sure { 0 < self.old.room → IsFalse (wants_memory (run_of self.old).world step) → IsOk result }
     {
         let stored = self.store(step);
         let run = self.rest();
@@ -157,6 +157,7 @@ impl Traced {
         ensures* after { sem 𝓛 (Ends self.entry (IsAfter self.old (Step.Perform worker moment) (is_ok result))) }
         ensures outcome { IfOk result (λ outcome. outcome.now ≡ outcome_of self.old (Step.Perform worker moment)) }
         ensures stale { IsErrOf result PerformFault.Stale ↔ IsStale (held_work (run_of self.old).world worker.0) work.now }
+        ensures sure { 0 < self.old.room → IsFalse (wants_memory (run_of self.old).world (Step.Perform worker moment)) → result ≢ Err PerformFault.NoMemory }
     {
         if self.world.is_stale(worker, work) {
             return Err(PerformFault::Stale);
@@ -230,7 +231,7 @@ fn take(world: &mut World, step: &Step) -> Result<Outcome, NoMemory>
     ensures outcome { IfOk result (λ outcome. outcome ≡ (machine.step world.old step.now).outcome) }
     ensures world { OnOk result (world.new ≡ (machine.step world.old step.now).world) }
     ensures err { OnErr result (world.new ≡ world.old) }
-    ensures sure { IsFalse (wants_memory step.now) → IsOk result }
+    ensures sure { IsFalse (wants_memory world.old step.now) → IsOk result }
 {
     match step {
         Step::Spawn {
@@ -264,35 +265,12 @@ fn is_owner(owner: Option<User>, user: User) -> bool
     }
 }
 
-/// Who takes a client's step.
-fn actor_of(step: &Step) -> Option<Actor>
-    ensures { result ≡ runs.actor_of step.now }
-{
-    match step {
-        Step::Spawn { user, .. } => Some(Actor::OfUser(*user)),
-        Step::Call { thread, .. } | Step::TakeReply { thread } | Step::SetPrio { thread, .. } =>
-            Some(Actor::OfThread(*thread)),
-        Step::Receive { .. } | Step::Perform { .. } => None,
-    }
-}
-
-/// Whose actor it is.
-fn user_of(actor: Actor) -> User
-    ensures { result.0 ≡ runs.user_of actor }
-{
-    match actor {
-        Actor::OfUser(user) => user,
-        Actor::OfProc(proc) => proc.user,
-        Actor::OfThread(thread) => thread.proc.user,
-    }
-}
-
 /// What a step gave to a user's processes, if it is a client step of that user.
 fn seen_by(entry: &Entry, user: User) -> Result<Option<Seen>, AllocError>
-    ensures { IfOk result (λ seen. option_to_list seen ≡ runs.seen_by user.0 entry.now.outcome (runs.actor_of entry.now.step)) }
+    ensures { IfOk result (λ seen. option_to_list seen ≡ runs.seen_by user.0 entry.now.outcome (actor_of entry.now.step)) }
 {
-    match actor_of(&entry.step) {
-        Some(actor) if user_of(actor) == user => Ok(Some(Seen {
+    match entry.step.actor() {
+        Some(actor) if actor.user() == user => Ok(Some(Seen {
             actor,
             outcome: entry.outcome.clone()?,
         })),

@@ -4,9 +4,9 @@
 use qx_sh::ending::report;
 use qx_sh::limit::Options;
 use qx_sh::run::run;
+use qx_sh::watched::Watched;
 use std::fs::File;
 use std::io;
-use std::io::Write;
 
 /// The names of the scripts, in the order in which they are run.
 const SCRIPTS: [&str; 27] = [
@@ -50,10 +50,10 @@ fn main(rt: HostRuntime) -> io::Result<()> {
 fn run_script(rt: &HostRuntime, name: &str) -> io::Result<()> {
     let path = format!(in rt.alloc(); "{name}.script")?;
     let mut script = File::open(rt, path.as_str())?;
-    let mut output = io::writer(rt);
-    writeln!(output, "== {name}")?;
+    println!(rt; "== {name}")?;
+    let mut output = Watched::new(io::writer(rt));
     let end = run(rt.alloc(), &mut script, &mut output, &Options::default());
-    writeln!(output, "status {}", end.status())?;
+    println!(rt; "status {}", end.status())?;
     report(&end, &mut output);
     Ok(())
 }

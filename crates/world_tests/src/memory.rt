@@ -3,8 +3,9 @@
 ghost use Rattle.std.specs.Prelude.{◌<◌};
 
 use crate::steps::{
-    RAM_WORKER, assert_same_transcript, config, first_thread, open, perform, receive, spawn,
+    RAM_WORKER, assert_same_transcript, filled, first_thread, open, perform, receive, spawn,
 };
+use all_memory::take_all_memory;
 use qx_machine::Seen;
 use qx_types::{Coid, Manager, Prio, Request, Step, Thread, User, Worker};
 use qx_world::{Traced, Work, WorkRef, World};
@@ -17,6 +18,7 @@ const STEPS: usize = 17;
 /// Every kind of step, for two users and two workers.
 fn script(alloc: Global) -> Result<[Step; STEPS], Fail> {
     let (ann, bob) = (first_thread(User(1)), first_thread(User(2)));
+    let (ann_path, bob_path) = (open(alloc, "/ann")?, open(alloc, "/bob")?);
     let other_receive = Step::Receive {
         worker: Worker(2),
         manager: Manager::Ram,
@@ -24,8 +26,8 @@ fn script(alloc: Global) -> Result<[Step; STEPS], Fail> {
     Ok([
         spawn(User(2)),
         spawn(User(1)),
-        call(ann, open(alloc, "/ann")?),
-        call(bob, open(alloc, "/bob")?),
+        call(ann, ann_path),
+        call(bob, bob_path),
         receive(),
         perform(5),
         Step::TakeReply { thread: ann },
@@ -50,16 +52,6 @@ fn script(alloc: Global) -> Result<[Step; STEPS], Fail> {
 
 fn call(thread: Thread, request: Request) -> Step {
     Step::Call { thread, request }
-}
-
-/// A trace that took steps, with no room for one more where they are four or more.
-fn filled(alloc: Global, steps: &[Step]) -> Result<Traced, Fail> {
-    let mut traced = Traced::new(alloc, config(alloc)?)?;
-    traced.reserve(steps.len())?;
-    for step in steps {
-        traced.store(step.clone()?)?;
-    }
-    Ok(traced)
 }
 
 /// What can be seen of a trace: how much is stored, what each worker holds, which users' first threads are answered and
@@ -127,24 +119,26 @@ fn refused(traced: &mut Traced, step: Step) -> Option<Step> {
     }
 }
 
-/// Takes the script's step at a place after those before it. Where it is refused it comes back, nothing has changed, and
-/// it is taken again. In the end all is as in a run without trouble.
+/// Takes a step. Where it is refused it comes back, nothing has changed, and it is taken again.
+fn take_at_last(rt: &impl Abort, traced: &mut Traced, step: &Step) -> Result<(), Fail> {
+    let before = View::of(traced)?;
+    let Some(returned) = refused(traced, step.clone()?) else {
+        return Ok(());
+    };
+    assert_eq!(rt; returned, *step);
+    assert_same_view(rt, &View::of(traced)?, &before);
+    traced.store(returned)?;
+    Ok(())
+}
+
+/// Takes the script's step at a place after those before it, at last. Then all is as in a run without trouble.
 fn is_taken_at_last(rt: &impl Abort, alloc: Global, place: usize) -> Result<(), Fail>
     requires { place < 17 }
 {
     let steps = script(alloc)?;
     let mut traced = filled(alloc, &steps[..place])?;
-    let before = View::of(&traced)?;
-    let step = steps[place].clone()?;
-    let returned = refused(&mut traced, step);
-    let mut untroubled = filled(alloc, &steps[..place])?;
-    let outcome = untroubled.step(steps[place].clone()?)?;
-    if let Some(step) = returned {
-        assert_eq!(rt; step, steps[place]);
-        assert_same_view(rt, &View::of(&traced)?, &before);
-        assert_eq!(rt; traced.step(step)?, outcome);
-    }
-    assert_same(rt, &traced, &untroubled)
+    take_at_last(rt, &mut traced, &steps[place])?;
+    assert_same(rt, &traced, &filled(alloc, &steps[..place + 1])?)
 }
 
 #[test]
@@ -207,55 +201,29 @@ fn a_close_is_performed_at_last(rt: HostRuntime) -> Result<(), Fail> {
     is_taken_at_last(&rt, rt.alloc(), 16)
 }
 
-/// More pieces than fill an address space, where one may be as large as the machine's memory.
-const PIECES: usize = 1 << 16;
-
-/// Takes all memory, in ever smaller pieces, until not one byte is given. Nothing is written to it. Under the checks of
-/// `rt try` small pieces never come to an end, and this is an error.
-pub fn exhausted(alloc: Global) -> Result<Vec<Vec<u8>>, AllocError> {
-    let mut pieces = Vec::with_capacity(alloc, PIECES)?;
-    let mut size = 1 << 46;
-    for _ in 0..36 {
-        take_pieces(alloc, &mut pieces, size)?;
-        size /= 2;
-    }
-    for less in 0..256 {
-        take_pieces(alloc, &mut pieces, 2048 - 8 * less)?;
-    }
-    Ok(pieces)
-}
-
-/// Takes pieces of a size until one is refused.
-fn take_pieces(alloc: Global, pieces: &mut Vec<Vec<u8>>, size: usize) -> Result<(), AllocError> {
-    for _ in 0..PIECES {
-        match Vec::with_capacity(alloc, size) {
-            Ok(piece) => pieces.push(piece)?,
-            Err(_) => break,
-        }
-    }
-    Ok(())
-}
-
 /// A reply of ann waits to be taken, and an open of bob to be received. There is room for three more steps.
 fn before_sure_steps(alloc: Global) -> Result<Traced, Fail> {
-    let (ann, bob) = (first_thread(User(1)), first_thread(User(2)));
-    let mut traced = filled(
-        alloc,
-        &[
-            spawn(User(1)),
-            spawn(User(2)),
-            call(ann, open(alloc, "/ann")?),
-            receive(),
-            perform(5),
-            Step::TakeReply { thread: ann },
-            call(ann, Request::Fstat { coid: Coid(3) }),
-            receive(),
-            perform(6),
-            call(bob, open(alloc, "/bob")?),
-        ],
-    )?;
+    let mut traced = filled(alloc, &first_steps(alloc)?)?;
     traced.reserve(3)?;
     Ok(traced)
+}
+
+/// The steps to there.
+fn first_steps(alloc: Global) -> Result<[Step; 10], Fail> {
+    let (ann, bob) = (first_thread(User(1)), first_thread(User(2)));
+    let (ann_path, bob_path) = (open(alloc, "/ann")?, open(alloc, "/bob")?);
+    Ok([
+        spawn(User(1)),
+        spawn(User(2)),
+        call(ann, ann_path),
+        receive(),
+        perform(5),
+        Step::TakeReply { thread: ann },
+        call(ann, Request::Fstat { coid: Coid(3) }),
+        receive(),
+        perform(6),
+        call(bob, bob_path),
+    ])
 }
 
 /// Takes a reply, sets a priority and receives a message, and tells whether all three were stored.
@@ -274,7 +242,7 @@ fn takes_sure_steps(traced: &mut Traced) -> bool {
 
 /// With all memory taken, whether a byte is refused while the steps that take no memory are stored.
 fn takes_without_memory(alloc: Global, traced: &mut Traced) -> Result<bool, AllocError> {
-    let pieces = exhausted(alloc)?;
+    let pieces = take_all_memory(alloc)?;
     let taken = takes_sure_steps(traced);
     let byte: Result<Vec<u8>, AllocError> = Vec::with_capacity(alloc, 1);
     drop(pieces);
@@ -287,7 +255,7 @@ fn refused_without_memory(
     traced: &mut Traced,
     step: Step,
 ) -> Result<Option<Step>, AllocError> {
-    let pieces = exhausted(alloc)?;
+    let pieces = take_all_memory(alloc)?;
     let returned = refused(traced, step);
     drop(pieces);
     Ok(returned)

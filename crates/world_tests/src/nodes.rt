@@ -1,9 +1,9 @@
 //! Nodes of a channel that are given back, and made again with no memory.
 
 ghost use Rattle.std.specs.Prelude.{◌<◌, IfOk, OnOk};
-ghost use Rattle.qx_chan.specs.Nodes.{HasThread};
+ghost use Rattle.qx_chan.specs.Channel.{HasThread};
 
-use crate::memory::exhausted;
+use all_memory::take_all_memory;
 use qx_chan::Channel;
 use qx_types::{Manager, Prio, Proc, Thread, User};
 use std::alloc::{AllocError, Global};
@@ -14,7 +14,7 @@ fn with_thread(alloc: Global, thread: Thread) -> Result<Channel, AllocError>
     requires user { thread.proc.user.0 < 2 }
     requires process { thread.proc.num < 17 }
     requires thread { thread.tid < 5 }
-    ensures { IfOk result (λ channel. HasThread channel.nodes thread.proc) }
+    ensures { IfOk result (λ channel. HasThread channel thread.proc) }
 {
     let mut channel = Channel::new(alloc, 1)?;
     channel.reserve(1)?;
@@ -24,8 +24,8 @@ fn with_thread(alloc: Global, thread: Thread) -> Result<Channel, AllocError>
 
 /// A process gets its disconnect node at a manager, and gives it back.
 fn take_and_give_back(channel: &mut Channel, proc: Proc) -> Result<(), AllocError>
-    requires { HasThread channel.old.nodes proc }
-    ensures { OnOk result (HasThread channel.new.nodes proc) }
+    requires { HasThread channel.old proc }
+    ensures { OnOk result (HasThread channel.new proc) }
 {
     channel.add_server(proc, Manager::Ram)?;
     channel.remove_server(proc, Manager::Ram);
@@ -38,9 +38,9 @@ fn takes_without_memory(
     channel: &mut Channel,
     proc: Proc,
 ) -> Result<bool, AllocError>
-    requires { HasThread channel.old.nodes proc }
+    requires { HasThread channel.old proc }
 {
-    let pieces = exhausted(alloc)?;
+    let pieces = take_all_memory(alloc)?;
     let taken = channel.add_server(proc, Manager::Ram).is_ok();
     let byte: Result<Vec<u8>, AllocError> = Vec::with_capacity(alloc, 1);
     drop(pieces);

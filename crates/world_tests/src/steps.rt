@@ -2,6 +2,7 @@
 
 use qx_machine::Seen;
 use qx_types::{Bytes, Config, Manager, OFlags, Prio, Proc, Request, Step, Thread, User, Worker};
+use qx_world::Traced;
 use std::alloc::Global;
 use std::process::Abort;
 use std::test::Fail;
@@ -58,6 +59,16 @@ pub fn perform(moment: u64) -> Step {
         worker: RAM_WORKER,
         moment,
     }
+}
+
+/// A trace that took steps, with no room for one more where they are four or more.
+pub fn filled(alloc: Global, steps: &[Step]) -> Result<Traced, Fail> {
+    let mut traced = Traced::new(alloc, config(alloc)?)?;
+    traced.reserve(steps.len())?;
+    for step in steps {
+        traced.store(step.clone()?)?;
+    }
+    Ok(traced)
 }
 
 /// Asserts that two transcripts are the same.

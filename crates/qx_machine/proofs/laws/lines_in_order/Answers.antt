@@ -1,8 +1,7 @@
+use Rattle.qx_machine.specs.Runs.{run}
 use Rattle.qx_machine.proofs.Runs.{run_reached}
+use Rattle.qx_machine.proofs.Views.{in_order_line}
 use Rattle.qx_machine.proofs.laws.lines_in_order.Goals as goal
 
 pub returns : goal.returns
-returns c = record {
-  ram = λ config steps. (run_reached config steps).ram;
-  pipe = λ config steps. (run_reached config steps).pipe;
-}
+returns c config steps manager = in_order_line (run config steps).world manager (run_reached config steps)

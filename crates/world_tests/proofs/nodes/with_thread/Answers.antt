@@ -1,12 +1,15 @@
-use Rattle.std.proofs.Common.{◌||◌, ap, ◌∙◌}
-use Rattle.std.specs.Prelude.{is_some}
-use Rattle.qx_chan.specs.Nodes.{nodes_at}
+use Rattle.std.proofs.Common.{ap, ◌∙◌, ◌||◌}
+use Rattle.std.specs.FinSet as set
+use Rattle.qx_chan.specs.Channel.{thread_cmp}
 use Rattle.qx_chan.proofs.EntryLemmas.{is_same_thread-self, or_true}
-use Rattle.qx_chan.proofs.NodesLemmas.{nodes_at-none}
+use Rattle.qx_chan.proofs.SetLemmas.{has-thread}
 use Rattle.world_tests.proofs.nodes.with_thread.Goals as goal
 
 pub add-requires-clause-fresh : goal.add-requires-clause-fresh
-add-requires-clause-fresh c = rw (c.in_ok-reserve.ensures.ok, c.in_ok-channel.ensures) (nodes_at-none 1 c.args.thread)
+add-requires-clause-fresh c = rw (c.in_ok-reserve.ensures.ok, c.in_ok-channel.ensures.empty) (set.contains-empty thread_cmp c.args.thread)
 
 pub returns : goal.returns
-returns c = (c.args.thread.tid, c.add.ensures.own c.args.thread ∙ ap (λ b. is_some (nodes_at c.reserve.new.self.nodes c.args.thread) || b) (is_same_thread-self c.args.thread) ∙ or_true (is_some (nodes_at c.reserve.new.self.nodes c.args.thread)))
+returns c = rw c.add.ensures.added (
+  c.args.thread.tid,
+  has-thread c.reserve.new.self.threads c.args.thread c.args.thread ∙ ap (λ b. set.contains c.reserve.new.self.threads c.args.thread || b) (is_same_thread-self c.args.thread) ∙ or_true (set.contains c.reserve.new.self.threads c.args.thread),
+)

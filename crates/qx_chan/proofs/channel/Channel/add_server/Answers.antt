@@ -1,39 +1,41 @@
-use Rattle.std.proofs.Common.{◌≡◌, Some, ap, refl, ◌∙◌}
-use Rattle.qx_chan.specs.Channel.{Spare, Tied, entries}
-use Rattle.qx_chan.specs.Nodes.{HasThread}
-use Rattle.qx_chan.proofs.ChannelLemmas.{Tied-room, entries-node}
-use Rattle.qx_chan.proofs.NodesLemmas.{disconnect_at-started, is_some-with_disconnect, nodes_at-with_disconnect}
-use Rattle.qx_chan.proofs.SpareLemmas.{Spare-made, Spare-room, Tied-made}
+use Rattle.std.proofs.Common.{◌≡◌, ◌≢◌, ◌-◌, is_some, false, true, sym, max, ap, arith, refl, rules, ◌∙◌}
+use Rattle.qx_lines.specs.declared.Line.{Line}
+use Rattle.qx_chan.specs.Kept.{Kept, entries}
+use Rattle.qx_chan.specs.Nodes.{Disconnect, disconnect_at, no_process, node_of, process_at}
+use Rattle.qx_types.specs.Managers.{manager_number}
+use Rattle.qx_chan.proofs.KeptLemmas.{Kept-made, Kept-room, entries-made, shown-kept}
+use Rattle.qx_chan.proofs.NodesLemmas.{length-with_disconnect, node_of-with_disconnect, none_of}
+use Rattle.qx_chan.proofs.PresenceLemmas.{same_channel, server-had, servers-made, servers-nodes, started, threads-with_disconnect}
 use Rattle.qx_chan.proofs.channel.Channel.add_server.Goals as goal
+
+pub invariant_of-self : goal.invariant_of-self
+invariant_of-self c = rw c.in_err-reserve.ensures.err c.self.invariant
+
+pub returns-in_err-reserve-clause-had_node : goal.returns-in_err-reserve-clause-had_node
+returns-in_err-reserve-clause-had_node c = λ had.
+    let lacked : is_some (disconnect_at c.self.inside.nodes c.args.proc (manager_number c.args.manager)) ≡ false = search rules in
+    let clash : false ≡ true = sym (servers-nodes c.self.inside.nodes c.args.proc (manager_number c.args.manager) ∙ lacked) ∙ rw (← c.self.view_is) at had in
+    absurd (cc)
 
 pub invariant_of-self-2 : goal.invariant_of-self-2
 invariant_of-self-2 c =
-    let lists = ap (λ t. t.lists) c.in_ok-reserve.ensures.ok in
-    let values = ap (λ t. t.values) c.in_ok-reserve.ensures.ok in
-    let tied : Tied c.reserve.new.self c.self.inside.ram c.self.inside.pipe c.self.inside.nodes = Tied-room c.self.inside.table _ _ _ _ lists values c.self.invariant.0 in
-    let spare : Spare c.reserve.new.self c.self.inside.nodes = Spare-room c.self.inside.table _ _ lists values c.self.invariant.1 in
-    let there : HasThread c.self.inside.nodes c.args.proc = rw (← c.self.view_is) at c.requires in
-    let gets = disconnect_at-started c.self.inside.nodes c.args.proc c.args.manager (Some c.new_node-node.result) there in
-    rw c.set_disconnect.ensures (
-      Tied-made c.reserve.new.self _ _ _ _ c.new_node-node.ensures.made c.new_node-node.ensures.was_new c.know.ensures.there _ _ _ c.args.proc c.args.manager tied spare gets,
-      Spare-made c.reserve.new.self _ _ _ _ c.new_node-node.ensures.made c.new_node-node.ensures.was_new c.know.ensures.there _ _ _ c.args.proc c.args.manager tied spare gets,
+    let kept : Kept c.reserve.new.self c.self.inside.lines.items (node_of c.self.inside.nodes) = Kept-room c.self.inside.table _ _ _ (ap (λ t. t.lists) c.in_ok-reserve.ensures.ok) (ap (λ t. t.values) c.in_ok-reserve.ensures.ok) c.self.invariant.1 in
+    let there : process_at c.self.inside.nodes c.args.proc ≢ no_process = started _ _ (rw (← c.self.view_is) at c.requires.started) in
+    let gets = rw c.set_disconnect.ensures.set at c.set_disconnect.ensures.there there in (
+      c.self.invariant.0,
+      rw c.set_disconnect.ensures.set (Kept-made c.reserve.new.self _ _ _ _ c.new_node-node.ensures.made c.new_node-node.ensures.was_new c.know.ensures.there c.self.inside.lines.items _ _ (Disconnect c.args.proc (manager_number c.args.manager))
+          (none_of _ (search rules)) gets (node_of-with_disconnect c.self.inside.nodes c.args.proc (manager_number c.args.manager) _) (rw (c.new.ensures.entry, c.queued_message.ensures.message) refl) kept),
     )
 
-pub returns-clause-ram : goal.returns-clause-ram
-returns-clause-ram c =
-    let same : entries c.reserve.new.self c.self.inside.ram ≡ entries c.self.inside.table c.self.inside.ram = rw c.in_ok-reserve.ensures.ok refl in
-    entries-node c.reserve.new.self _ _ _ _ c.new_node-node.ensures.made c.new_node-node.ensures.was_new c.know.ensures.there c.self.inside.ram ∙ same ∙ ap (λ v. v.ram) c.self.view_is
+pub returns-then-is_some-clause-ok : goal.returns-then-is_some-clause-ok
+returns-then-is_some-clause-ok c = rw (← c.self.view_is) (server-had _ c.self.inside.nodes _ c.args.proc (manager_number c.args.manager) (search rules))
 
-pub returns-clause-pipe : goal.returns-clause-pipe
-returns-clause-pipe c =
-    let same : entries c.reserve.new.self c.self.inside.pipe ≡ entries c.self.inside.table c.self.inside.pipe = rw c.in_ok-reserve.ensures.ok refl in
-    entries-node c.reserve.new.self _ _ _ _ c.new_node-node.ensures.made c.new_node-node.ensures.was_new c.know.ensures.there c.self.inside.pipe ∙ same ∙ ap (λ v. v.pipe) c.self.view_is
-
-pub returns-clause-threads : goal.returns-clause-threads
-returns-clause-threads c = λ thread. rw (c.set_disconnect.ensures, ← c.self.view_is) (nodes_at-with_disconnect c.self.inside.nodes c.args.proc c.args.manager _ thread)
-
-pub returns-clause-servers : goal.returns-clause-servers
-returns-clause-servers c =
-    let there : HasThread c.self.inside.nodes c.args.proc = rw (← c.self.view_is) at c.requires in
-    let gets = disconnect_at-started c.self.inside.nodes c.args.proc c.args.manager (Some c.new_node-node.result) there in
-    λ other at. rw (c.set_disconnect.ensures, ← c.self.view_is) (is_some-with_disconnect c.self.inside.nodes c.args.proc c.args.manager _ other at gets)
+pub returns-clause-ok : goal.returns-clause-ok
+returns-clause-ok c =
+    let there : process_at c.self.inside.nodes c.args.proc ≢ no_process = started _ _ (rw (← c.self.view_is) at c.requires.started) in
+    let gets = rw c.set_disconnect.ensures.set at c.set_disconnect.ensures.there there in
+    let lacked : is_some (disconnect_at c.self.inside.nodes c.args.proc (manager_number c.args.manager)) ≡ false = search rules in
+    let absent = servers-nodes c.self.inside.nodes c.args.proc (manager_number c.args.manager) ∙ lacked in
+    let same : (line : Line) → entries c.new_node-node.new.table line ≡ entries c.self.inside.table line = λ line. entries-made c.reserve.new.self _ _ _ _ c.new_node-node.ensures.made c.new_node-node.ensures.was_new c.know.ensures.there line ∙ ap (λ t. entries t line) c.in_ok-reserve.ensures.ok in
+    let room : c.new_node-node.new.table.room ≡ max c.self.inside.table.room 1 - 1 = ap (λ t. t.room) c.new_node-node.ensures.made ∙ ap (λ t. t.room - 1) c.in_ok-reserve.ensures.ok in
+    rw (← c.self.view_is, c.set_disconnect.ensures.set, absent) (same_channel (shown-kept c.self.inside.table c.new_node-node.new.table c.self.inside.lines.items same) (threads-with_disconnect c.self.inside.nodes c.args.proc (manager_number c.args.manager) _) (servers-made c.self.inside.nodes c.args.proc (manager_number c.args.manager) _ refl gets) (length-with_disconnect c.self.inside.nodes c.args.proc (manager_number c.args.manager) _) (room ∙ omega arith))

@@ -1,30 +1,29 @@
-use Rattle.std.proofs.Common.{None, rules, ap, ◌∙◌}
-use Rattle.qx_chan.specs.Nodes.{Disconnect}
-use Rattle.qx_chan.proofs.NodesLemmas.{disconnect_at-had, is_some-without_disconnect, nodes_at-with_disconnect}
-use Rattle.qx_chan.proofs.SpareLemmas.{Spare-freed, Tied-freed, entries-freed}
+use Rattle.std.proofs.Common.{◌≡◌, None, Some, is_some, refl, rules, ap, ◌∙◌}
+use Rattle.qx_types.specs.Managers.{manager_number}
+use Rattle.qx_lists.specs.Table.{IsFree}
+use Rattle.qx_chan.specs.Nodes.{Disconnect, disconnect_at}
+use Rattle.qx_chan.proofs.KeptLemmas.{IsFree-pulse, Kept-freed, entries-freed, shown-kept}
+use Rattle.qx_chan.proofs.NodesLemmas.{length-with_disconnect, node_of-with_disconnect, started-server}
+use Rattle.qx_chan.proofs.PresenceLemmas.{same_channel, server-lacked, servers-freed, servers-nodes, threads-with_disconnect}
 use Rattle.qx_chan.proofs.channel.Channel.remove_server.Goals as goal
 
 pub free_node-requires : goal.free_node-requires
-free_node-requires c = c.self.invariant.1.free (Disconnect c.args.proc c.args.manager) c.in-Some.node (search rules)
+free_node-requires c = IsFree-pulse c.self.inside.table _ _ (Disconnect c.args.proc (manager_number c.args.manager)) c.in-Some.node c.self.invariant.1 (search rules) (λ thread same. cc)
 
 pub invariant_of-self : goal.invariant_of-self
 invariant_of-self c =
-    let gone = disconnect_at-had c.self.inside.nodes c.args.proc c.args.manager None c.in-Some.node (search rules) in
-    rw c.set_disconnect.ensures (
-      Tied-freed c.self.inside.table _ _ _ _ c.args.proc c.args.manager c.in-Some.node _ c.free_node.ensures.freed c.self.invariant.1 (search rules) c.self.invariant.0,
-      Spare-freed c.self.inside.table _ c.self.inside.ram c.self.inside.pipe _ c.args.proc c.args.manager c.in-Some.node _ c.free_node.ensures.freed c.self.invariant.1 (search rules) gone,
-    )
+    let had : disconnect_at c.self.inside.nodes c.args.proc (manager_number c.args.manager) ≡ Some c.in-Some.node = search rules in
+    let free : IsFree c.self.inside.table c.in-Some.node = IsFree-pulse c.self.inside.table _ _ (Disconnect c.args.proc (manager_number c.args.manager)) c.in-Some.node c.self.invariant.1 had (λ thread same. cc) in
+    let gone = rw c.set_disconnect.ensures.set at c.set_disconnect.ensures.there (started-server c.self.inside.nodes c.args.proc _ _ had) in
+    (c.self.invariant.0, rw c.set_disconnect.ensures.set (Kept-freed c.self.inside.table _ c.in-Some.node _ c.free_node.ensures.freed free c.self.inside.lines.items _ _ (Disconnect c.args.proc (manager_number c.args.manager)) had gone (node_of-with_disconnect c.self.inside.nodes c.args.proc (manager_number c.args.manager) None) c.self.invariant.1))
 
-pub returns-in-Some-clause-ram : goal.returns-in-Some-clause-ram
-returns-in-Some-clause-ram c = entries-freed c.self.inside.table _ c.self.inside.ram c.self.inside.pipe _ c.args.proc c.args.manager c.in-Some.node _ c.free_node.ensures.freed c.self.invariant.1 (search rules) c.self.inside.ram ∙ ap (λ v. v.ram) c.self.view_is
+pub returns-in-Some : goal.returns-in-Some
+returns-in-Some c =
+    let had : disconnect_at c.self.inside.nodes c.args.proc (manager_number c.args.manager) ≡ Some c.in-Some.node = search rules in
+    let free : IsFree c.self.inside.table c.in-Some.node = IsFree-pulse c.self.inside.table _ _ (Disconnect c.args.proc (manager_number c.args.manager)) c.in-Some.node c.self.invariant.1 had (λ thread same. cc) in
+    let gone = rw c.set_disconnect.ensures.set at c.set_disconnect.ensures.there (started-server c.self.inside.nodes c.args.proc _ _ had) in
+    let there = servers-nodes c.self.inside.nodes c.args.proc (manager_number c.args.manager) ∙ ap is_some had in
+    rw (← c.self.view_is, c.set_disconnect.ensures.set, there) (record { removed = same_channel (shown-kept c.self.inside.table c.free_node.new.self c.self.inside.lines.items (entries-freed c.self.inside.table _ c.in-Some.node _ c.free_node.ensures.freed free)) (threads-with_disconnect c.self.inside.nodes c.args.proc (manager_number c.args.manager) None) (servers-freed c.self.inside.nodes c.args.proc (manager_number c.args.manager) None refl gone) (length-with_disconnect c.self.inside.nodes c.args.proc (manager_number c.args.manager) None) (ap (λ t. t.room) c.free_node.ensures.freed) })
 
-pub returns-in-Some-clause-pipe : goal.returns-in-Some-clause-pipe
-returns-in-Some-clause-pipe c = entries-freed c.self.inside.table _ c.self.inside.ram c.self.inside.pipe _ c.args.proc c.args.manager c.in-Some.node _ c.free_node.ensures.freed c.self.invariant.1 (search rules) c.self.inside.pipe ∙ ap (λ v. v.pipe) c.self.view_is
-
-pub returns-in-Some-clause-threads : goal.returns-in-Some-clause-threads
-returns-in-Some-clause-threads c = λ thread. rw (c.set_disconnect.ensures, ← c.self.view_is) (nodes_at-with_disconnect c.self.inside.nodes c.args.proc c.args.manager None thread)
-
-pub returns-in-Some-clause-servers : goal.returns-in-Some-clause-servers
-returns-in-Some-clause-servers c =
-    let gone = disconnect_at-had c.self.inside.nodes c.args.proc c.args.manager None c.in-Some.node (search rules) in
-    λ other at. rw (c.set_disconnect.ensures, ← c.self.view_is) (is_some-without_disconnect c.self.inside.nodes c.args.proc c.args.manager other at gone)
+pub returns-in_default : goal.returns-in_default
+returns-in_default c = rw (← c.self.view_is) (record { removed = server-lacked _ c.self.inside.nodes _ c.args.proc (manager_number c.args.manager) (search rules) })

@@ -1,15 +1,25 @@
-use Rattle.qx_chan.proofs.ChannelLemmas.{Tied-swap, Tied-taken, gone-if}
-use Rattle.qx_chan.proofs.SpareLemmas.{Spare-taken}
+use Rattle.std.proofs.Common.{◌≡◌, Some, slice_get, sym, ◌∙◌, refl}
+use Rattle.std.proofs.lemmas.List.{length-set}
+use Rattle.std.proofs.lemmas.Option.{slice_get_read}
+use Rattle.qx_types.specs.declared.names.TheConstants.Manager.{COUNT}
+use Rattle.qx_chan.proofs.KeptLemmas.{Kept-taken, gone-if, line_at-shown, shown-taken}
+use Rattle.qx_chan.proofs.PresenceLemmas.{same_channel}
 use Rattle.qx_chan.proofs.channel.Channel.take.Goals as goal
 
+pub take_out-requires-clause-line : goal.take_out-requires-clause-line
+take_out-requires-clause-line c = c.self.invariant.1.line c.number.result c.index_mut.result.now (slice_get_read c.self.inside.lines.items COUNT c.number.result c.index_mut.result.now (sym c.self.invariant.0) c.number.ensures.few c.index_mut.ensures.value)
+
 pub invariant_of-self : goal.invariant_of-self
-invariant_of-self c = (Tied-taken _ _ _ _ _ _ c.self.invariant.0 c.take_out.ensures.out, Spare-taken _ _ _ _ _ c.take_out.ensures.out c.self.invariant.1)
+invariant_of-self c =
+    let is : slice_get c.self.inside.lines.items c.number.result ≡ Some c.index_mut.result.now = slice_get_read c.self.inside.lines.items COUNT c.number.result c.index_mut.result.now (sym c.self.invariant.0) c.number.ensures.few c.index_mut.ensures.value in
+    (length-set c.self.inside.lines.items c.number.result c.take_out.new.line ∙ c.self.invariant.0, Kept-taken c.self.inside.table _ _ c.number.result _ _ _ c.self.invariant.1 is c.take_out.ensures.out)
 
-pub invariant_of-self-in-Pipe : goal.invariant_of-self-in-Pipe
-invariant_of-self-in-Pipe c = (Tied-swap _ _ _ _ (Tied-taken _ _ _ _ _ _ (Tied-swap _ _ _ _ c.self.invariant.0) c.take_out-in-Pipe.ensures.out), Spare-taken _ _ _ _ _ c.take_out-in-Pipe.ensures.out c.self.invariant.1)
+pub returns-clause-rest : goal.returns-clause-rest
+returns-clause-rest c =
+    let is : slice_get c.self.inside.lines.items c.number.result ≡ Some c.index_mut.result.now = slice_get_read c.self.inside.lines.items COUNT c.number.result c.index_mut.result.now (sym c.self.invariant.0) c.number.ensures.few c.index_mut.ensures.value in
+    rw (← c.self.view_is, ← c.number.ensures.number) (same_channel (shown-taken c.self.inside.table _ _ c.number.result _ _ _ c.self.invariant.1 is c.take_out.ensures.out) refl refl refl c.take_out.ensures.out.room)
 
-pub returns-in-Ram-clause-gone : goal.returns-in-Ram-clause-gone
-returns-in-Ram-clause-gone c = rw (c.in-Ram.is, ← c.self.view_is) (gone-if _ _ _ _ _ c.self.invariant.0 (c.know.ensures.distinct c.self.inside.ram.list) c.take_out.ensures.first)
-
-pub returns-in-Pipe-clause-gone : goal.returns-in-Pipe-clause-gone
-returns-in-Pipe-clause-gone c = rw (c.in-Pipe.is, ← c.self.view_is) (gone-if _ _ _ _ _ (Tied-swap _ _ _ _ c.self.invariant.0) (c.know.ensures.distinct c.self.inside.pipe.list) c.take_out-in-Pipe.ensures.first)
+pub returns-clause-gone : goal.returns-clause-gone
+returns-clause-gone c =
+    let is : slice_get c.self.inside.lines.items c.number.result ≡ Some c.index_mut.result.now = slice_get_read c.self.inside.lines.items COUNT c.number.result c.index_mut.result.now (sym c.self.invariant.0) c.number.ensures.few c.index_mut.ensures.value in
+    rw (← c.self.view_is, ← c.number.ensures.number, line_at-shown c.self.inside.table _ c.number.result _ is) (gone-if c.self.inside.table _ _ c.index_mut.result.now _ c.self.invariant.1 (c.know.ensures.distinct c.index_mut.result.now.list) c.take_out.ensures.first)

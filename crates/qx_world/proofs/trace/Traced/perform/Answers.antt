@@ -15,5 +15,6 @@ returns c =
         after = tt;
         outcome = c.last_outcome.ensures _ _ (c.as_slice.ensures.value ∙ last) ∙ ap (λ config. (step (world_after (boot config) c.args.self.now.steps) (Perform c.args.worker c.args.moment)).outcome) after.config;
         stale = search rules;
+        sure = λ room wants is. cc;
       },
     )

@@ -35,7 +35,7 @@ use Rattle.qx_types.specs.contracts.outcome.Outcome.{the_row as O}
 use Rattle.qx_types.proofs.outcome.Outcome.TheLaws.{the_row_laws as outcome_laws}
 use Rattle.qx_world.proofs.trace.Unstored.TheLaws.{the_row_laws as unstored_laws}
 use Rattle.qx_world.specs.Lending.{Ends}
-use Rattle.qx_world.specs.Trace.{Trace, IsAfter, IsLast, outcome_of, wants_memory}
+use Rattle.qx_world.specs.Trace.{Trace, IsAfter, IsLast, outcome_of, run_of, wants_memory}
 use Rattle.qx_world.specs.contracts.trace.Traced.rest as h
 use Rattle.qx_world.proofs.trace.Traced.rest.Met.{met as rests}
 use Rattle.qx_world.specs.contracts.trace.told as k
@@ -102,7 +102,7 @@ step_spec 𝓤 𝓛 𝓜 𝓡 wired =
     calls_at ! (framed 𝓤 𝓛.H 𝓜 𝓣) G₁ (stores 𝓤 𝓛 𝓜 𝓡 (code.calls-qx_world::trace::Traced::store 𝓡.env wired)) z₁
     (and_then ! (get ! refl) (and_then ! (get ! refl) (no_more !))) (λ v₁.
     use1 𝓛 (later (some (λ (x : V.Denot). ((‵ (flft (α ∷ []) full_share) ⊛ ‵ ftrue) ⊛ ‵ (V.own_val x (v₁ ∷ []))) ⊛
-    some (λ (ws : Lasts g.ended z₁.0.0 z₁.0.3). ‵ (lasts g.ended z₁.0.0 z₁.0.3 ws) ⊛ (raw (fact 𝓤 (IsAfter r.now e (is_ok x) ws.0)) ⊛ (raw (fact 𝓤 (IfErr x (λ unstored. unstored.step ≡ e))) ⊛ raw (fact 𝓤 (0 < r.now.room → IsFalse (wants_memory e) → IsOk x)))))))) (id⊢ 𝓤 _) $
+    some (λ (ws : Lasts g.ended z₁.0.0 z₁.0.3). ‵ (lasts g.ended z₁.0.0 z₁.0.3 ws) ⊛ (raw (fact 𝓤 (IsAfter r.now e (is_ok x) ws.0)) ⊛ (raw (fact 𝓤 (IfErr x (λ unstored. unstored.step ≡ e))) ⊛ raw (fact 𝓤 (0 < r.now.room → IsFalse (wants_memory (run_of r.now).world e) → IsOk x)))))))) (id⊢ 𝓤 _) $
     await ! tt $ pick ! (λ x. split ! $ split ! $ split ! $ lft_end ! tt $ move ! (2 ∷ []) $
     peeks ! V (Is V) (shows 𝓛 V) x (v₁ ∷ []) (λ is₁. let good₁ = ((V_laws.lawful 𝓛).typed x (v₁ ∷ []) is₁).0 in
     lands_as ! refl refl good₁ $
@@ -151,7 +151,7 @@ step_spec 𝓤 𝓛 𝓜 𝓡 wired =
     let After : Trace → Type 0 = IsAfter r.now e (is_ok given) in
     let Given : Type 0 = IfOk given (λ outcome. outcome.now ≡ outcome_of r.now e) in
     let Back : Type 0 = IfErr given (λ unstored. unstored.step ≡ e) in
-    let Sure : Type 0 = 0 < r.now.room → IsFalse (wants_memory e) → IsOk given in
+    let Sure : Type 0 = 0 < r.now.room → IsFalse (wants_memory (run_of r.now).world e) → IsOk given in
     use1 𝓛 (‵ (Ends r After)) (so-weaker 𝓛 R R r.ghost_name none (λ _ _. ⊤) (λ trace. trace ≡ ws.0) After (λ trace ends. told-after r.now ws.0 trace e x given after kind ends)) $
     use0 𝓛 (raw (fact 𝓤 Sure)) (fact_i 𝓤 Sure (emp 𝓤) (λ room free. kind ∙ sure room free)) $
     use0 𝓛 (raw (fact 𝓤 Back)) (fact_i 𝓤 Back (emp 𝓤) (told-back e x given back returned)) $ join ! $

@@ -1,0 +1,400 @@
+-- How the lines and the nodes stand in the table, as a node is made, put into a line, taken out of one or given back.
+use Rattle.std.proofs.Common.{◌≡◌, ◌≢◌, ◌⊎◌, ◌++◌, inl, inr, ℕ, zero, suc, true, false, nat_eq, List, [], ◌∷◌, Contains, Option, Some, None, option_map, map, drop, length, replicate, slice_get, slice_set, unwrap_or, is_some, IfSome, refl, sym, ◌∙◌, ap, arith}
+use Rattle.std.specs.FinMap as maps
+use Rattle.std.specs.Ordering.{nat_cmp}
+use Rattle.std.specs.List.{IsDistinct, AllByRecursion}
+use Rattle.std.proofs.lemmas.Bool.{cases_Bool}
+use Rattle.std.proofs.lemmas.Bool.Decides.{eqb_tells, nat_tests}
+use Rattle.std.proofs.lemmas.Option.{same_Some, slice_get-map}
+use Rattle.qx_types.specs.declared.names.Thread.{Thread}
+use Rattle.qx_lists.specs.Table.{Table, ContainsNode, IsFree, IsIn, nodes_of}
+use Rattle.qx_lists.proofs.ListLemmas.{contains_cases, contains_first, contains_later, nowhere_from}
+use Rattle.qx_lists.proofs.MapLemmas.{get-remove_same}
+use Rattle.qx_lines.specs.declared.Line.{Line}
+use Rattle.qx_lines.specs.Line.{IsLineOf, IsOwn, SameElsewhere, nodes_in}
+use Rattle.qx_lines.proofs.LineFacts.{IsLineOf-same, IsLineOf-elsewhere, apart_from_new}
+use Rattle.qx_machine.specs.declared.rows.Queued.{Queued}
+use Rattle.qx_machine.specs.Machine.{rank}
+use Rattle.qx_machine.specs.Lines.{into, line_at, with_line}
+use Rattle.qx_chan.specs.Channel.{sender, stands}
+use Rattle.qx_chan.specs.Kept.{Kept, PutIn, TakenOut, entries, entry_at, list_at, named}
+use Rattle.qx_chan.specs.Nodes.{Message, Owner}
+use Rattle.qx_chan.proofs.EntryLemmas.{contains_rest, map-drop, stands-entry, stands-find}
+use Rattle.qx_chan.proofs.TableLemmas.{absent_is, contained-other, contains-insert, contains-other, contains-self, entries-kept, entry-other, entry-same, inserted, line-kept, none_some, nowhere, removed, some_same}
+
+-- a place that was written, and the others
+pub slice_get-set : {A : Type 0} (xs : List A) (i j : ℕ) (x y : A) → slice_get (slice_set xs i x) j ≡ Some y → ((j ≡ i) × (y ≡ x)) ⊎ ((j ≢ i) × (slice_get xs j ≡ Some y))
+slice_get-set [] i j x y is = absurd (none_some y None refl is)
+slice_get-set (z ∷ zs) zero zero x y is = inl (refl, sym (same_Some x y is))
+slice_get-set (z ∷ zs) zero (suc j) x y is = inr (λ same. omega (arith, same), is)
+slice_get-set (z ∷ zs) (suc i) zero x y is = inr (λ same. omega (arith, same), is)
+slice_get-set (z ∷ zs) (suc i) (suc j) x y is = elim (slice_get-set zs i j x y is) [
+  | inl here ↦ inl (ap suc here.0, here.1)
+  | inr there ↦ inr (λ same. there.0 (omega (arith, same)), there.1)
+]
+
+slice_get-more : {A : Type 0} (xs : List A) (x y : A) (i : ℕ) → slice_get (xs ++ x ∷ []) i ≡ Some y → ((i ≡ length xs) × (y ≡ x)) ⊎ (slice_get xs i ≡ Some y)
+slice_get-more [] x y zero is = inl (refl, sym (same_Some x y is))
+slice_get-more [] x y (suc i) is = absurd (none_some y None refl is)
+slice_get-more (z ∷ zs) x y zero is = inr is
+slice_get-more (z ∷ zs) x y (suc i) is = elim (slice_get-more zs x y i is) [
+  | inl last ↦ inl (omega (arith, last.0), last.1)
+  | inr there ↦ inr there
+]
+
+list_at-more : (lines : List Line) (line : Line) (number list : ℕ) → list_at lines number ≡ Some list → list_at (lines ++ line ∷ []) number ≡ Some list
+list_at-more [] line number list is = absurd (none_some list None refl is)
+list_at-more (first ∷ lines) line zero list is = is
+list_at-more (first ∷ lines) line (suc number) list is = list_at-more lines line number list is
+
+-- the line of a number whose list is known
+pub line_of : (lines : List Line) (number list : ℕ) → list_at lines number ≡ Some list → (line : Line) × ((slice_get lines number ≡ Some line) × (line.list ≡ list))
+line_of [] number list is = absurd (none_some list None refl is)
+line_of (line ∷ lines) zero list is = (line, (refl, same_Some line.list list is))
+line_of (line ∷ lines) (suc number) list is = line_of lines number list is
+
+pub list_of : (lines : List Line) (number : ℕ) (line : Line) → slice_get lines number ≡ Some line → list_at lines number ≡ Some line.list
+list_of lines number line is = ap (option_map (λ l. l.list)) is
+
+-- the items of the line of a number
+pub line_at-shown : (t : Table Queued) (lines : List Line) (number : ℕ) (line : Line) → slice_get lines number ≡ Some line → line_at (map (entries t) lines) number ≡ entries t line
+line_at-shown t lines number line is = ap (λ o. unwrap_or o []) (slice_get-map (entries t) lines number ∙ ap (option_map (entries t)) is)
+
+-- a line that changes keeps its list
+list_at-set : (before after : Line) → after.list ≡ before.list → (lines : List Line) (number other : ℕ) → slice_get lines number ≡ Some before → list_at (slice_set lines number after) other ≡ list_at lines other
+list_at-set before after own [] number other is = refl
+list_at-set before after own (line ∷ lines) zero zero is = ap Some (own ∙ ap (λ l. l.list) (sym (same_Some line before is)))
+list_at-set before after own (line ∷ lines) zero (suc other) is = refl
+list_at-set before after own (line ∷ lines) (suc number) zero is = refl
+list_at-set before after own (line ∷ lines) (suc number) (suc other) is = list_at-set before after own lines number other is
+
+-- lines that show what they showed, but for one
+shown-set : (old new : Table Queued) (lines : List Line) (number : ℕ) (after : Line) → ((other : ℕ) (line : Line) → other ≢ number → slice_get lines other ≡ Some line → entries new line ≡ entries old line) → map (entries new) (slice_set lines number after) ≡ slice_set (map (entries old) lines) number (entries new after)
+shown-set old new [] number after same = refl
+shown-set old new (line ∷ lines) zero after same = ap (λ l. entries new after ∷ l) (all lines (λ other line at. same (suc other) line (λ is. omega (arith, is)) at))
+  where
+    all : (lines : List Line) → ((other : ℕ) (line : Line) → slice_get lines other ≡ Some line → entries new line ≡ entries old line) → map (entries new) lines ≡ map (entries old) lines
+    all [] same = refl
+    all (line ∷ lines) same = rw (same zero line refl, all lines (λ other line at. same (suc other) line at)) refl
+shown-set old new (line ∷ lines) (suc number) after same = rw (same zero line (λ is. omega (arith, is)) refl, shown-set old new lines number after (λ other line differs at. same (suc other) line (λ is. differs (omega (arith, is))) at)) refl
+
+-- all lines show what they showed
+pub shown-kept : (old new : Table Queued) (lines : List Line) → ((line : Line) → entries new line ≡ entries old line) → map (entries new) lines ≡ map (entries old) lines
+shown-kept old new [] same = refl
+shown-kept old new (line ∷ lines) same = rw (same line, shown-kept old new lines same) refl
+
+-- the same nodes in another room
+pub Kept-room : (old new : Table Queued) (lines : List Line) (node_of : Owner → Option ℕ) → new.lists ≡ old.lists → new.values ≡ old.values → Kept old lines node_of → Kept new lines node_of
+Kept-room old new lines node_of same_lists values kept = record {
+  line = λ number line at. IsLineOf-same rank old new line (kept.line number line at) (λ list own. rw same_lists refl) (λ node in_line. rw values refl);
+  apart = kept.apart;
+  there = rw values kept.there;
+  names = rw values kept.names;
+  owned = rw values kept.owned;
+  once = kept.once;
+  listed = rw same_lists kept.listed;
+}
+
+-- a node that is no message's stands in no list
+pub IsFree-pulse : (t : Table Queued) (lines : List Line) (node_of : Owner → Option ℕ) (owner : Owner) (node : ℕ) → Kept t lines node_of → node_of owner ≡ Some node → ((thread : Thread) → owner ≢ Message thread) → IsFree t node
+IsFree-pulse t lines node_of owner node kept has pulse = record {
+  there = kept.there owner node has;
+  in_no_list = nowhere_from t.lists node (λ list at. let of = (kept.listed list node at).1 in pulse of.0 (kept.once (Message of.0) owner node of.1 has));
+}
+
+-- and that of a message that stands in no line
+pub IsFree-message : (t : Table Queued) (lines : List Line) (node_of : Owner → Option ℕ) (thread : Thread) (node : ℕ) → Kept t lines node_of → node_of (Message thread) ≡ Some node → ((number : ℕ) → stands (line_at (map (entries t) lines) number) thread ≡ false) → IsFree t node
+IsFree-message t lines node_of thread node kept has idle = record {
+  there = kept.there (Message thread) node has;
+  in_no_list = nowhere_from t.lists node (λ list at.
+      let of = (kept.listed list node at).0 in
+      let line = line_of lines of.0 list of.1 in
+      let here : Contains (nodes_in t line.0) node = rw (← line.1.1) at at in
+      let in_line : stands (entries t line.0) thread ≡ true = stands-entry (entry_at t) thread (nodes_in t line.0) node here (kept.names (Message thread) node has) in
+      let clash : true ≡ false = sym in_line ∙ ap (λ l. stands l thread) (sym (line_at-shown t lines of.0 line.0 line.1.0)) ∙ idle of.0 in
+      cc);
+}
+
+-- one line changes
+module _ (old new : Table Queued) (lines : List Line) (number : ℕ) (before after : Line) (node_of : Owner → Option ℕ) (kept : Kept old lines node_of) (is : slice_get lines number ≡ Some before) (own : after.list ≡ before.list) (elsewhere : (list : ℕ) → (IsOwn before list → ⊥) → maps.get new.lists list ≡ maps.get old.lists list) where
+  not_own : (other : ℕ) (line : Line) → other ≢ number → slice_get lines other ≡ Some line → line.list ≢ before.list
+  not_own other line differs at same = differs (kept.apart other number line.list (list_of lines other line at) (list_of lines number before is ∙ ap Some (sym same)))
+
+  changed : IsLineOf rank new after → ((line : Line) → IsLineOf rank old line → maps.get new.lists line.list ≡ maps.get old.lists line.list → IsLineOf rank new line) → ((node : ℕ) → is_some (maps.get new.values node) ≡ is_some (maps.get old.values node)) → ((owner : Owner) (node : ℕ) → node_of owner ≡ Some node → sender (entry_at new node) ≡ named owner) → ((node : ℕ) → Contains (nodes_in new after) node → Contains (nodes_in old before) node ⊎ ((thread : Thread) × (node_of (Message thread) ≡ Some node))) → Kept new (slice_set lines number after) node_of
+  changed line others same names among = record {
+    line = λ other found at. elim (slice_get-set lines number other after found at) [
+      | inl here ↦ rw here.1 line
+      | inr there ↦ others found (kept.line other found there.1) (elsewhere found.list (not_own other found there.0 there.1))
+    ];
+    apart = λ one other list a b. kept.apart one other list (sym (stays one) ∙ a) (sym (stays other) ∙ b);
+    there = λ owner node has. same node ∙ kept.there owner node has;
+    names = names;
+    owned = λ node there. kept.owned node (sym (same node) ∙ there);
+    once = kept.once;
+    listed = λ list node at. elim (eqb_tells list before.list) [
+      | inl here ↦
+          let in_after : Contains (nodes_in new after) node = rw (own ∙ sym here.1) at in
+          elim (among node in_after) [
+            | inl earlier ↦ ((number, here_now list here.1), (kept.listed before.list node earlier).1)
+            | inr message ↦ ((number, here_now list here.1), message)
+          ]
+      | inr differs ↦
+          let earlier : IsIn old list node = rw (ap (λ o. unwrap_or o []) (elsewhere list differs.1)) at at in
+          let was = kept.listed list node earlier in
+          ((was.0.0, stays was.0.0 ∙ was.0.1), was.1)
+    ];
+  }
+    where
+      stays : (other : ℕ) → list_at (slice_set lines number after) other ≡ list_at lines other
+      stays other = list_at-set before after own lines number other is
+
+      here_now : (list : ℕ) → list ≡ before.list → list_at (slice_set lines number after) number ≡ Some list
+      here_now list here = stays number ∙ list_of lines number before is ∙ ap Some (sym here)
+
+-- a free node of a thread's message is put into a line
+module _ (old new : Table Queued) (lines : List Line) (number : ℕ) (before after : Line) (node_of : Owner → Option ℕ) (thread : Thread) (node : ℕ) (entry : Queued) (kept : Kept old lines node_of) (is : slice_get lines number ≡ Some before) (own : node_of (Message thread) ≡ Some node) (free : IsFree old node) (put : PutIn old new before after node entry) where
+  pub Kept-put : sender entry ≡ thread → Kept new (slice_set lines number after) node_of
+  Kept-put names = changed old new lines number before after node_of kept is put.own put.lists put.line
+      (λ line stands lists. line-kept old new node (inserted old new _ _ put.values) line stands lists (nowhere old free line.list))
+      (λ other. elim (eqb_tells other node) [
+        | inl same ↦ rw same.1 (contains-self old new node entry put.values ∙ sym free.there)
+        | inr differs ↦ ap is_some (inserted old new node entry put.values other differs.1)
+      ])
+      (λ owner other has. elim (eqb_tells other node) [
+        | inl same ↦
+            let message : owner ≡ Message thread = kept.once (Message thread) owner node own (rw same.1 at has) in
+            rw (same.1, message) (ap sender (entry-same old new node entry put.values) ∙ names)
+        | inr differs ↦ ap sender (entry-other old new node (inserted old new _ _ put.values) other differs.1) ∙ kept.names owner other has
+      ])
+      (λ other at. elim (put.among other at) [
+        | inl earlier ↦ inl earlier
+        | inr same ↦ inr (thread, own ∙ ap Some (sym same))
+      ])
+
+  pub shown-put : map (entries new) (slice_set lines number after) ≡ with_line (map (entries old) lines) number (λ line. into rank line entry)
+  shown-put =
+      shown-set old new lines number after (λ other line differs at. entries-kept old new node (inserted old new _ _ put.values) line (put.lists line.list (not_own old new lines number before after node_of kept is put.own put.lists other line differs at)) (nowhere old free line.list))
+      ∙ ap (slice_set (map (entries old) lines) number) (put.entries ∙ ap (λ line. into rank line entry) (sym (line_at-shown old lines number before is)))
+
+-- the first node of a line, if there is one, leaves it
+module _ (old new : Table Queued) (lines : List Line) (number : ℕ) (before after : Line) (node_of : Owner → Option ℕ) (kept : Kept old lines node_of) (is : slice_get lines number ≡ Some before) (taken : TakenOut old new before after) where
+  pub Kept-taken : Kept new (slice_set lines number after) node_of
+  Kept-taken = changed old new lines number before after node_of kept is taken.own taken.lists taken.line
+      (λ line stands lists. IsLineOf-same rank old new line stands (λ list own. rw own lists) (λ node at. rw taken.values refl))
+      (λ node. rw taken.values refl)
+      (λ owner node has. rw taken.values (kept.names owner node has))
+      (λ node at. let rest : Contains (drop 1 (nodes_in old before)) node = rw taken.nodes at at in inl (contains_rest (nodes_in old before) node rest))
+
+  pub shown-taken : map (entries new) (slice_set lines number after) ≡ with_line (map (entries old) lines) number (drop 1)
+  shown-taken =
+      let rest : entries new after ≡ drop 1 (entries old before) = rw (taken.nodes, taken.values) (map-drop (entry_at old) (nodes_in old before)) in
+      shown-set old new lines number after (λ other line differs at.
+      let nodes : nodes_in new line ≡ nodes_in old line = ap (λ o. unwrap_or o []) (taken.lists line.list (not_own old new lines number before after node_of kept is taken.own taken.lists other line differs at)) in
+      rw (nodes, taken.values) refl)
+      ∙ ap (slice_set (map (entries old) lines) number) (rest ∙ ap (drop 1) (sym (line_at-shown old lines number before is)))
+
+-- an owner that had no node gets a new one
+module _ (old new : Table Queued) (node : ℕ) (entry : Queued) (room : ℕ) (is : new ≡ record old { values = maps.insert old.values node entry; room = room }) (absent : maps.get old.values node ≡ None) (contained : (list other : ℕ) → IsIn old list other → ContainsNode old other) where
+  values_made : new.values ≡ maps.insert old.values node entry
+  values_made = ap (λ t. t.values) is
+
+  lists_made : (list : ℕ) → maps.get new.lists list ≡ maps.get old.lists list
+  lists_made list = ap (λ t. maps.get t.lists list) is
+
+  not_listed : (list : ℕ) → IsIn old list node → ⊥
+  not_listed list at = absent_is (maps.get old.values node) (contained list node at) absent
+
+  was_there : (other : ℕ) → ContainsNode old other → other ≢ node
+  was_there other there same = absent_is (maps.get old.values node) (rw (← same) there) absent
+
+  pub entries-made : (line : Line) → entries new line ≡ entries old line
+  entries-made line = entries-kept old new node (inserted old new _ _ values_made) line (lists_made line.list) (not_listed line.list)
+
+  pub Kept-made : (lines : List Line) (node_of after : Owner → Option ℕ) (owner : Owner) → node_of owner ≡ None → after owner ≡ Some node → ((other : Owner) → (other ≡ owner) ⊎ ((other ≢ owner) × (after other ≡ node_of other))) → sender entry ≡ named owner → Kept old lines node_of → Kept new lines after
+  Kept-made lines node_of after owner lacked gets others names kept = record {
+    line = λ number line at. line-kept old new node (inserted old new _ _ values_made) line (kept.line number line at) (lists_made line.list) (not_listed line.list);
+    apart = kept.apart;
+    there = λ one x has. elim (whose one x has) [
+      | inl made ↦ rw made.1 (contains-self old new node entry values_made)
+      | inr was ↦ contains-insert old new node entry values_made x (kept.there one x was)
+    ];
+    names = λ one x has. elim (whose one x has) [
+      | inl made ↦ rw (made.0, made.1) (ap sender (entry-same old new node entry values_made) ∙ names)
+      | inr was ↦ ap sender (entry-other old new node (inserted old new _ _ values_made) x (was_there x (kept.there one x was))) ∙ kept.names one x was
+    ];
+    owned = λ x there. elim (eqb_tells x node) [
+      | inl same ↦ (owner, rw same.1 gets)
+      | inr differs ↦ let was = kept.owned x (contained-other old new node (inserted old new _ _ values_made) x differs.1 there) in (was.0, still was.0 x was.1)
+    ];
+    once = λ one other x has also. elim (whose one x has) [
+      | inl made ↦ elim (whose other x also) [
+        | inl again ↦ again.0 ∙ sym made.0
+        | inr was ↦ absurd (was_there x (kept.there other x was) made.1)
+      ]
+      | inr had ↦ elim (whose other x also) [
+        | inl made ↦ absurd (was_there x (kept.there one x had) made.1)
+        | inr was ↦ kept.once one other x had was
+      ]
+    ];
+    listed = λ list x at.
+        let earlier : IsIn old list x = rw (ap (λ o. unwrap_or o []) (lists_made list)) at at in
+        let was = kept.listed list x earlier in
+        (was.0, (was.1.0, still (Message was.1.0) x was.1.1));
+  }
+    where
+      whose : (one : Owner) (x : ℕ) → after one ≡ Some x → ((one ≡ owner) × (x ≡ node)) ⊎ (node_of one ≡ Some x)
+      whose one x has = elim (others one) [
+        | inl same ↦ let here : after owner ≡ Some x = rw same at has in inl (same, some_same x node _ here gets)
+        | inr other ↦ inr (sym other.1 ∙ has)
+      ]
+
+      still : (one : Owner) (x : ℕ) → node_of one ≡ Some x → after one ≡ Some x
+      still one x has = elim (others one) [
+        | inl same ↦ let here : node_of owner ≡ Some x = rw same at has in absurd (none_some x _ lacked here)
+        | inr other ↦ other.1 ∙ has
+      ]
+
+-- an owner gives its node back, which stands in no list
+module _ (old new : Table Queued) (node room : ℕ) (is : new ≡ record old { values = maps.remove old.values node; room = room }) (free : IsFree old node) where
+  values_freed : new.values ≡ maps.remove old.values node
+  values_freed = ap (λ t. t.values) is
+
+  lists_freed : (list : ℕ) → maps.get new.lists list ≡ maps.get old.lists list
+  lists_freed list = ap (λ t. maps.get t.lists list) is
+
+  pub entries-freed : (line : Line) → entries new line ≡ entries old line
+  entries-freed line = entries-kept old new node (removed old new node values_freed) line (lists_freed line.list) (nowhere old free line.list)
+
+  pub Kept-freed : (lines : List Line) (node_of after : Owner → Option ℕ) (owner : Owner) → node_of owner ≡ Some node → after owner ≡ None → ((other : Owner) → (other ≡ owner) ⊎ ((other ≢ owner) × (after other ≡ node_of other))) → Kept old lines node_of → Kept new lines after
+  Kept-freed lines node_of after owner had gone others kept = record {
+    line = λ number line at. line-kept old new node (removed old new node values_freed) line (kept.line number line at) (lists_freed line.list) (nowhere old free line.list);
+    apart = kept.apart;
+    there = λ one x has. let was = before one x has in contains-other old new node (removed old new node values_freed) x was.0 (kept.there one x was.1);
+    names = λ one x has. let was = before one x has in ap sender (entry-other old new node (removed old new node values_freed) x was.0) ∙ kept.names one x was.1;
+    owned = λ x there.
+        let differs : x ≢ node = λ same. absent_is (maps.get new.values node) (rw same at there) (rw values_freed (get-remove_same old.values node)) in
+        let was = kept.owned x (contained-other old new node (removed old new node values_freed) x differs there) in
+        (was.0, still was.0 x differs was.1);
+    once = λ one other x has also. kept.once one other x (before one x has).1 (before other x also).1;
+    listed = λ list x at.
+        let earlier : IsIn old list x = rw (ap (λ o. unwrap_or o []) (lists_freed list)) at at in
+        let was = kept.listed list x earlier in
+        (was.0, (was.1.0, still (Message was.1.0) x (λ same. nowhere old free list (rw same at earlier)) was.1.1));
+  }
+    where
+      before : (one : Owner) (x : ℕ) → after one ≡ Some x → (x ≢ node) × (node_of one ≡ Some x)
+      before one x has = elim (others one) [
+        | inl same ↦ let here : after owner ≡ Some x = rw same at has in absurd (none_some x _ gone here)
+        | inr other ↦ let was = sym other.1 ∙ has in (λ same. other.0 (kept.once owner one node had (rw same at was)), was)
+      ]
+
+      still : (one : Owner) (x : ℕ) → x ≢ node → node_of one ≡ Some x → after one ≡ Some x
+      still one x differs has = elim (others one) [
+        | inl same ↦ let here : node_of owner ≡ Some x = rw same at has in absurd (differs (some_same x node _ here had))
+        | inr other ↦ other.1 ∙ has
+      ]
+
+-- nobody has a node at first, and there are no lines
+pub Kept-none : (t : Table Queued) (node_of : Owner → Option ℕ) → t.values ≡ maps.empty → ((list : ℕ) → nodes_of t list ≡ []) → ((owner : Owner) → node_of owner ≡ None) → Kept t [] node_of
+Kept-none t node_of values no_list none = record {
+  line = λ number line at. absurd (none_some line None refl at);
+  apart = λ one other list at also. absurd (none_some list None refl at);
+  there = λ owner node has. absurd (none_some node _ (none owner) has);
+  names = λ owner node has. absurd (none_some node _ (none owner) has);
+  owned = λ node there. absurd (absent_is (maps.get t.values node) there (rw values (maps.get-empty nat_cmp node)));
+  once = λ owner other node has also. absurd (none_some node _ (none owner) has);
+  listed = λ list node at. absurd (nothing_in node (rw (no_list list) at at));
+}
+  where
+    nothing_in : (node : ℕ) → Contains [] node → ⊥
+    nothing_in node at = omega (arith, at.1)
+
+-- one more line
+pub Kept-line : (old new : Table Queued) (lines : List Line) (line : Line) (node_of : Owner → Option ℕ) → nodes_in new line ≡ [] → IsLineOf rank new line → ((list : ℕ) → IsOwn line list → maps.get old.lists list ≡ None) → SameElsewhere old new line → Kept old lines node_of → Kept new (lines ++ line ∷ []) node_of
+Kept-line old new lines line node_of none stands was_new elsewhere kept = record {
+  line = λ number found at. elim (slice_get-more lines line found number at) [
+    | inl last ↦ rw last.1 stands
+    | inr earlier ↦ IsLineOf-elsewhere rank old new found line (kept.line number found earlier) elsewhere (unlike number found earlier)
+  ];
+  apart = λ one other list at also.
+      let first = line_of (lines ++ line ∷ []) one list at in
+      let second = line_of (lines ++ line ∷ []) other list also in
+      elim (slice_get-more lines line first.0 one first.1.0) [
+        | inl last ↦ elim (slice_get-more lines line second.0 other second.1.0) [
+          | inl again ↦ last.0 ∙ sym again.0
+          | inr earlier ↦ absurd (unlike other second.0 earlier list (sym second.1.1) (sym first.1.1 ∙ ap (λ l. l.list) last.1))
+        ]
+        | inr earlier ↦ elim (slice_get-more lines line second.0 other second.1.0) [
+          | inl last ↦ absurd (unlike one first.0 earlier list (sym first.1.1) (sym second.1.1 ∙ ap (λ l. l.list) last.1))
+          | inr too ↦ kept.apart one other list (list_of lines one first.0 earlier ∙ ap Some first.1.1) (list_of lines other second.0 too ∙ ap Some second.1.1)
+        ]
+      ];
+  there = rw elsewhere.values kept.there;
+  names = rw elsewhere.values kept.names;
+  owned = rw elsewhere.values kept.owned;
+  once = kept.once;
+  listed = λ list node at. elim (eqb_tells list line.list) [
+    | inl own ↦ let here : Contains [] node = rw (own.1, none) at at in absurd (omega (arith, here.1))
+    | inr differs ↦
+        let earlier : IsIn old list node = rw (ap (λ o. unwrap_or o []) (elsewhere.lists list differs.1)) at at in
+        let was = kept.listed list node earlier in
+        ((was.0.0, list_at-more lines line was.0.0 list was.0.1), was.1)
+  ];
+}
+  where
+    unlike : (number : ℕ) (found : Line) → slice_get lines number ≡ Some found → (list : ℕ) → IsOwn found list → IsOwn line list → ⊥
+    unlike number found at = apart_from_new rank old found line (kept.line number found at) was_new
+
+-- where nobody has a node, no line has an item
+pub shown-none : (t : Table Queued) (lines : List Line) (node_of : Owner → Option ℕ) → Kept t lines node_of → ((owner : Owner) → node_of owner ≡ None) → map (entries t) lines ≡ replicate (length lines) []
+shown-none t lines node_of kept none = all lines
+  where
+    no_nodes : (xs : List ℕ) → ((x : ℕ) → Contains xs x → ⊥) → xs ≡ []
+    no_nodes [] empty = refl
+    no_nodes (x ∷ xs) empty = absurd (empty x (contains_first x xs))
+
+    empty_line : (line : Line) → entries t line ≡ []
+    empty_line line =
+        let nodes : nodes_in t line ≡ [] = no_nodes (nodes_in t line) (λ node at. let of = (kept.listed line.list node at).1 in none_some node _ (none (Message of.0)) of.1) in
+        rw nodes refl
+
+    all : (lines : List Line) → map (entries t) lines ≡ replicate (length lines) []
+    all [] = refl
+    all (line ∷ lines) = rw (empty_line line, all lines) refl
+
+all_at : (x : ℕ) (xs : List ℕ) (y : ℕ) → AllByRecursion (λ z. nat_eq x z ≡ false) xs → Contains xs y → nat_eq x y ≡ false
+all_at x [] y all at = absurd (omega (arith, at.1))
+all_at x (z ∷ zs) y all at = elim (contains_cases z y zs at) [
+  | inl same ↦ rw same all.0
+  | inr later ↦ all_at x zs y all.1 later
+]
+
+-- the message of a thread stands in a line once
+module _ (f : ℕ → Queued) (of : Thread → Option ℕ) where
+  gone_from : (xs : List ℕ) (first : Queued) → IsDistinct nat_eq xs → ((x : ℕ) → Contains xs x → of (sender (f x)) ≡ Some x) → slice_get (map f xs) 0 ≡ Some first → stands (drop 1 (map f xs)) (sender first) ≡ false
+  unfolding IsDistinct
+  gone_from [] first distinct members is = absurd (none_some first None refl is)
+  gone_from (x ∷ xs) first distinct members is =
+      let same : f x ≡ first = cc in
+      rw (← same) (elim (cases_Bool (stands (map f xs) (sender (f x)))) [
+        | inr absent ↦ absent
+        | inl present ↦
+            let found = stands-find f (sender (f x)) xs present in
+            let other : of (sender (f found.0)) ≡ Some found.0 = members found.0 (contains_later x found.0 xs found.1.0) in
+            let this : of (sender (f x)) ≡ Some x = members x (contains_first x xs) in
+            let again : of (sender (f x)) ≡ Some found.0 = sym (ap of found.1.1) ∙ other in
+            let equal : x ≡ found.0 = some_same x found.0 _ this again in
+            let apart : nat_eq x found.0 ≡ false = all_at x xs found.0 distinct.0 found.1.0 in
+            let clash : nat_eq x x ≡ false = rw (← equal) at apart in
+            absurd (differs_from_itself x clash)
+      ])
+    where
+      differs_from_itself : (x : ℕ) → nat_eq x x ≡ false → ⊥
+      differs_from_itself x differs = grind (arith, nat_tests, differs)
+
+pub gone-if : (t : Table Queued) (lines : List Line) (node_of : Owner → Option ℕ) (line : Line) (first : Option Queued) → Kept t lines node_of → IsDistinct nat_eq (nodes_in t line) → first ≡ slice_get (entries t line) 0 → IfSome first (λ taken. stands (drop 1 (entries t line)) (sender taken) ≡ false)
+gone-if t lines node_of line None kept distinct is = tt
+gone-if t lines node_of line (Some first) kept distinct is =
+    gone_from (entry_at t) (λ thread. node_of (Message thread)) (nodes_in t line) first distinct (λ node at.
+    let of = (kept.listed line.list node at).1 in
+    ap (λ thread. node_of (Message thread)) (kept.names (Message of.0) node of.1) ∙ of.1) (sym is)

@@ -1,0 +1,105 @@
+-- What a step that is refused leaves as it was: everything.
+use Rattle.std.proofs.Common.{◌≡◌, ℕ, List, [], ◌∷◌, Bool, true, false, refl, sym, ap, ◌∙◌}
+use Rattle.std.specs.Prelude.{⊤, Option, Some, None, Result, Ok, Err, slice_set, if◌then◌else◌}
+use Rattle.std.proofs.lemmas.Bool.{false≢true}
+use Rattle.qx_types.specs.Configuration.{Configuration}
+use Rattle.qx_types.specs.declared.names.Actor.{Actor}
+use Rattle.qx_types.specs.declared.names.Manager.{Manager}
+use Rattle.qx_types.specs.declared.outcome.Answer.{Answer}
+use Rattle.qx_types.specs.declared.outcome.Answer.TheVariants as answer
+use Rattle.qx_types.specs.declared.outcome.Outcome.{Outcome}
+use Rattle.qx_types.specs.declared.outcome.Outcome.TheVariants.{WrongState}
+use Rattle.qx_types.specs.declared.step.Step.{Step}
+use Rattle.qx_types.specs.declared.step.Step.TheVariants.{Spawn, Call, TakeReply, SetPrio, Receive, Perform}
+use Rattle.qx_machine.specs.declared.rows.Held.{Held}
+use Rattle.qx_machine.specs.declared.rows.OwnItem.{OwnItem}
+use Rattle.qx_machine.specs.declared.rows.Queued.{Queued}
+use Rattle.qx_machine.specs.Judgements.{◌>>=◌}
+use Rattle.qx_machine.specs.Laws.{is_refusal}
+use Rattle.qx_machine.specs.Machine.{World, step_end, client_step, is_worker, line_of, own_held, perform_hand, receive_hand, receive_line, server_step, step, step_of, same_world}
+use Rattle.qx_types.specs.Step.{actor_of, user_of}
+use Rattle.qx_machine.specs.Rows.{row_at}
+use Rattle.qx_machine.specs.Clients.{ClientStep, client_given, or_unchanged, outcome_of}
+use Rattle.qx_machine.specs.Parts.{Part}
+use Rattle.qx_machine.specs.Users.{client, settle}
+use Rattle.qx_machine.proofs.Places.{set-row_at}
+
+-- a step that is not refused at once gives no refusal
+abbrev IsNoRefusal : Result ClientStep Outcome → Type 0
+IsNoRefusal (Ok given) = is_refusal given.outcome ≡ false
+IsNoRefusal (Err outcome) = ⊤
+
+record Goes (given : Result ClientStep Outcome) : Type 0 where
+  goes : IsNoRefusal given
+
+goes_on : {A : Type 0} (first : Result A Outcome) (next : A → Result ClientStep Outcome) → ((value : A) → Goes (next value)) → Goes (first >>= next)
+goes_on (Ok value) next h = h value
+goes_on (Err outcome) next h = record { goes = tt }
+
+done_goes : (given : ClientStep) → is_refusal given.outcome ≡ false → Goes (Ok given)
+done_goes given h = record { goes = h }
+
+answer_goes : (given : Answer) → is_refusal (outcome_of given) ≡ false
+answer_goes (answer.Reply status bytes) = refl
+answer_goes (answer.Failed error) = refl
+
+given_goes : (config : Configuration) (user : ℕ) (held : List OwnItem) (part : Part) (e : Step) → Goes (client_given config user held part e)
+given_goes config user held part (Spawn of threads prio) = search (goes_on, done_goes)
+given_goes config user held part (Call thread request) = search (goes_on, done_goes)
+given_goes config user held part (TakeReply thread) = search (goes_on, done_goes, answer_goes)
+given_goes config user held part (SetPrio thread prio) = search (goes_on, done_goes)
+given_goes config user held part _ = record { goes = tt }
+
+unchanged_stays : (part : Part) (given : Result ClientStep Outcome) → Goes given → is_refusal (or_unchanged part given).outcome ≡ true → or_unchanged part given ≡ or_unchanged part (Err (or_unchanged part given).outcome)
+unchanged_stays part (Ok given) goes refused = absurd (false≢true (sym goes.goes ∙ refused))
+unchanged_stays part (Err outcome) goes refused = refl
+
+-- where a client's step is refused, its user's rows stay and no line changes
+client_stays : (config : Configuration) (user : ℕ) (held : List OwnItem) (part : Part) (e : Step) → is_refusal (client config user held part e).outcome ≡ true → client config user held part e ≡ or_unchanged part (Err (client config user held part e).outcome)
+unfolding client
+client_stays config user held part e refused = unchanged_stays part (client_given config user held part e) (given_goes config user held part e) refused
+
+-- rows that stay are put back where they were
+acted_same : (w : World) (user : ℕ) (part : Part) → row_at w.parts user ≡ Some part → step_end user part part [] w ≡ w
+unfolding settle
+acted_same w user part here = ap (λ parts. record w { parts = parts }) (ap (slice_set w.parts user) (sym here) ∙ set-row_at w.parts user)
+
+client_same : (w : World) (user : ℕ) (e : Step) (row : Option Part) → row_at w.parts user ≡ row → is_refusal (client_step w user e row).outcome ≡ true → (client_step w user e row).world ≡ w
+client_same w user e None here refused = refl
+client_same w user e (Some part) here refused =
+    ap (λ given. step_end user part given.part given.changes w) (client_stays w.config user (own_held user w.hands) part e refused) ∙ acted_same w user part here
+
+line_same : (w : World) (worker : ℕ) (manager : Manager) (line : List Queued) → is_refusal (receive_line w worker manager line).outcome ≡ true → (receive_line w worker manager line).world ≡ w
+line_same w worker manager [] refused = refl
+line_same w worker manager (first ∷ rest) refused = absurd (false≢true refused)
+
+hand_same : (w : World) (worker : ℕ) (manager : Manager) (hand : Option Held) → is_refusal (receive_hand w worker manager hand).outcome ≡ true → (receive_hand w worker manager hand).world ≡ w
+hand_same w worker manager None refused = line_same w worker manager (line_of w manager) refused
+hand_same w worker manager (Some held) refused = refl
+
+receive_same : (w : World) (worker : ℕ) (manager : Manager) (is_one : Bool) → is_refusal (if is_one then receive_hand w worker manager (row_at w.hands worker) else same_world w WrongState).outcome ≡ true
+    → (if is_one then receive_hand w worker manager (row_at w.hands worker) else same_world w WrongState).world ≡ w
+receive_same w worker manager true refused = hand_same w worker manager (row_at w.hands worker) refused
+receive_same w worker manager false refused = refl
+
+held_same : (w : World) (worker moment : ℕ) (hand : Option Held) → is_refusal (perform_hand w worker moment hand).outcome ≡ true → (perform_hand w worker moment hand).world ≡ w
+held_same w worker moment None refused = refl
+held_same w worker moment (Some held) refused = absurd (false≢true refused)
+
+perform_same : (w : World) (worker moment : ℕ) (is_one : Bool) → is_refusal (if is_one then perform_hand w worker moment (row_at w.hands worker) else same_world w WrongState).outcome ≡ true
+    → (if is_one then perform_hand w worker moment (row_at w.hands worker) else same_world w WrongState).world ≡ w
+perform_same w worker moment true refused = held_same w worker moment (row_at w.hands worker) refused
+perform_same w worker moment false refused = refl
+
+server_same : (w : World) (e : Step) → is_refusal (server_step w e).outcome ≡ true → (server_step w e).world ≡ w
+server_same w (Receive worker manager) refused = receive_same w worker.0 manager (is_worker w.config worker.0) refused
+server_same w (Perform worker moment) refused = perform_same w worker.0 moment (is_worker w.config worker.0) refused
+server_same w _ refused = refl
+
+step_of_same : (w : World) (e : Step) (by : Option Actor) → is_refusal (step_of w e by).outcome ≡ true → (step_of w e by).world ≡ w
+step_of_same w e None refused = server_same w e refused
+step_of_same w e (Some actor) refused = client_same w (user_of actor) e _ refl refused
+
+pub refused_same : (w : World) (e : Step) → is_refusal (step w e).outcome ≡ true → (step w e).world ≡ w
+unfolding step
+refused_same w e refused = step_of_same w e (actor_of e) refused

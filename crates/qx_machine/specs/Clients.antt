@@ -1,0 +1,101 @@
+-- What a client's step does to the rows of its user.
+use Rattle.std.specs.Prelude.{ℕ, Bool, List, [], ◌∷◌, ◌&&◌, Option, Some, None, Result, Ok, Err, nat_le, unwrap_or}
+use Rattle.qx_types.specs.Configuration.{Configuration, name_of}
+use Rattle.qx_types.specs.declared.errno.Errno.TheVariants.{EAGAIN, EINVAL}
+use Rattle.qx_types.specs.declared.limits.TheConstants.Limits.{PRIORITY, PROCESSES, THREADS}
+use Rattle.qx_types.specs.declared.names.Thread.{Thread}
+use Rattle.qx_types.specs.declared.outcome.Answer.{Answer}
+use Rattle.qx_types.specs.declared.outcome.Answer.TheVariants as answer
+use Rattle.qx_types.specs.declared.outcome.Outcome.{Outcome}
+use Rattle.qx_types.specs.declared.outcome.Outcome.TheVariants.{Spawned, Refused, Done, Sent, Reply, Failed, WrongState}
+use Rattle.qx_types.specs.declared.step.Request.{Request}
+use Rattle.qx_types.specs.declared.step.Step.{Step}
+use Rattle.qx_types.specs.declared.step.Step.TheVariants.{Spawn, Call, TakeReply, SetPrio}
+use Rattle.qx_machine.specs.declared.rows.OwnItem.{OwnItem}
+use Rattle.qx_machine.specs.declared.rows.OwnItem.TheVariants as item
+use Rattle.qx_machine.specs.declared.rows.Sent as sent
+use Rattle.qx_machine.specs.declared.rows.State.{State}
+use Rattle.qx_machine.specs.declared.rows.State.TheVariants.{Answered}
+use Rattle.qx_machine.specs.Calls.{sent_of}
+use Rattle.qx_machine.specs.Judgements.{◌>>=◌, found, need}
+use Rattle.qx_machine.specs.Parts.{Part, Change, Put, thread_at, with_process, with_thread_of}
+use Rattle.qx_machine.specs.Processes.{Process, new_process, with_queued, ranked_thread, ready_thread}
+use Rattle.qx_machine.specs.Rows.{lowest_from, put_row, row_at}
+
+-- what a client's step gives
+pub record ClientStep : Type 0 where
+  pub outcome : Outcome
+  pub part : Part
+  pub changes : List Change
+
+-- from 1 to the greatest
+abbrev pub is_prio : ℕ → Bool
+is_prio prio = nat_le 1 prio && nat_le prio PRIORITY
+
+-- the number of a new process
+abbrev pub spawn_number : List (Option Process) → ℕ → ℕ → Result ℕ Outcome
+spawn_number processes threads prio = do
+  valid ← need (nat_le 1 threads && nat_le threads THREADS && is_prio prio) (Refused EINVAL)
+  free ← need (nat_le (lowest_from 1 processes) PROCESSES) (Refused EAGAIN)
+  Ok (lowest_from 1 processes)
+
+abbrev pub spawn : Part → ℕ → ℕ → Result ClientStep Outcome
+spawn part threads prio = do
+  number ← spawn_number part.processes threads prio
+  Ok (record { outcome = Spawned number; part = record part { processes = put_row part.processes number (new_process threads prio) }; changes = [] })
+
+-- a slash and the user's name
+abbrev pub own_path : Configuration → ℕ → List ℕ
+own_path config user = 47 ∷ unwrap_or (name_of config user) []
+
+-- what a call of a thread sends
+abbrev pub sent_by : List ℕ → Part → Thread → Request → Result sent.Sent Outcome
+sent_by path part thread request = do
+  process ← found (row_at part.processes thread.proc.num) WrongState
+  row ← found (row_at process.threads thread.tid) WrongState
+  sent_of path part.processes process row request
+
+-- the message goes into its manager's line with its thread's priority (System Architecture: the channel's line of messages)
+abbrev pub call : List ℕ → Part → Thread → Request → Result ClientStep Outcome
+call path part thread request = do
+  sent ← sent_by path part thread request
+  Ok (record {
+    outcome = Sent;
+    part = with_process thread.proc.num (with_queued thread.tid sent) part;
+    changes = Put sent.manager (item.Message thread.proc.num thread.tid) sent.prio.0 ∷ [];
+  })
+
+abbrev pub outcome_of : Answer → Outcome
+outcome_of (answer.Reply status bytes) = Reply status bytes
+outcome_of (answer.Failed error) = Failed error
+
+abbrev pub answer_in : State → Option Answer
+answer_in (Answered given) = Some given
+answer_in _ = None
+
+-- a thread that has its answer gives it and is ready again
+abbrev pub take_reply : Part → Thread → Result ClientStep Outcome
+take_reply part thread = do
+  row ← found (thread_at part thread.proc.num thread.tid) WrongState
+  given ← found (answer_in row.state) WrongState
+  Ok (record { outcome = outcome_of given; part = with_thread_of thread ready_thread part; changes = [] })
+
+-- a thread gets another priority
+abbrev pub set_prio : Part → Thread → ℕ → Result ClientStep Outcome
+set_prio part thread prio = do
+  row ← found (thread_at part thread.proc.num thread.tid) WrongState
+  valid ← need (is_prio prio) (Refused EINVAL)
+  Ok (record { outcome = Done; part = with_thread_of thread (ranked_thread prio) part; changes = [] })
+
+-- what a client's step gives, or the outcome of one that changes nothing
+abbrev pub client_given : Configuration → ℕ → List OwnItem → Part → Step → Result ClientStep Outcome
+client_given config user held part (Spawn of_user threads prio) = spawn part threads prio.0
+client_given config user held part (Call thread request) = call (own_path config user) part thread request
+client_given config user held part (TakeReply thread) = take_reply part thread
+client_given config user held part (SetPrio thread prio) = set_prio part thread prio.0
+client_given config user held part _ = Err WrongState
+
+-- a step that is refused changes nothing
+abbrev pub or_unchanged : Part → Result ClientStep Outcome → ClientStep
+or_unchanged part (Ok given) = given
+or_unchanged part (Err outcome) = record { outcome = outcome; part = part; changes = [] }

@@ -1,0 +1,15 @@
+-- A judgement as one block: each line finds something or gives the error of what changes nothing.
+use Rattle.std.specs.Prelude.{Bool, true, false, Option, Some, None, Result, Ok, Err}
+
+infixl 10 ◌>>=◌
+abbrev pub ◌>>=◌ : {A B E : Type 0} → Result A E → (A → Result B E) → Result B E
+(Ok value) >>= next = next value
+(Err error) >>= next = Err error
+
+abbrev pub found : {A E : Type 0} → Option A → E → Result A E
+found (Some value) error = Ok value
+found None error = Err error
+
+abbrev pub need : {E : Type 0} → Bool → E → Result Bool E
+need true error = Ok true
+need false error = Err error

@@ -1,0 +1,37 @@
+-- All rows of one user, and what a step changes in the lines.
+use Rattle.std.specs.Prelude.{ℕ, List, Option, Some, None}
+use Rattle.qx_types.specs.declared.names.Manager.{Manager}
+use Rattle.qx_types.specs.declared.names.Thread.{Thread}
+use Rattle.qx_machine.specs.declared.rows.Attribute.{Attribute}
+use Rattle.qx_machine.specs.declared.rows.Block.{Block}
+use Rattle.qx_machine.specs.declared.rows.OwnItem.{OwnItem}
+use Rattle.qx_machine.specs.declared.rows.ThreadRow.{ThreadRow}
+use Rattle.qx_machine.specs.Processes.{Process, with_thread}
+use Rattle.qx_machine.specs.Rows.{row_at, with_row}
+
+-- the root of the user's mount, and processes and open blocks from 1
+pub record Part : Type 0 where
+  pub root : Attribute
+  pub processes : List (Option Process)
+  pub blocks : List (Option Block)
+
+-- what a step changes in a manager's line: an item of the user is put there, or one is removed where it stands
+pub data Change : Type 0 where
+  Put : (manager : Manager) (item : OwnItem) (prio : ℕ) → Change
+  Remove : (manager : Manager) (item : OwnItem) → Change
+
+abbrev pub thread_of : ℕ → Option Process → Option ThreadRow
+thread_of thread None = None
+thread_of thread (Some process) = row_at process.threads thread
+
+-- a thread's row, by the number of its process and its own
+abbrev pub thread_at : Part → ℕ → ℕ → Option ThreadRow
+thread_at part process thread = thread_of thread (row_at part.processes process)
+
+-- one of the processes changes
+abbrev pub with_process : ℕ → (Process → Process) → Part → Part
+with_process process change part = record part { processes = with_row part.processes process change }
+
+-- one of the threads changes
+abbrev pub with_thread_of : Thread → (ThreadRow → ThreadRow) → Part → Part
+with_thread_of thread change part = with_process thread.proc.num (with_thread thread.tid change) part

@@ -1,0 +1,3 @@
+pub mod Deeds
+pub mod Lends
+pub mod Reads

@@ -1,0 +1,4 @@
+pub mod PlayedSteps
+pub mod Rounds
+pub mod Serving
+pub mod Shown

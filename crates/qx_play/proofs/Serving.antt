@@ -1,0 +1,317 @@
+-- Serving leaves no item waiting.
+use Rattle.std.proofs.Common.{◌≡◌, ℕ, suc, zero, ◌+◌, ◌≤◌, ◌<◌, Bool, true, false, List, [], ◌∷◌, ◌++◌, Option, Some, None, length, refl, sym, ap, ◌∙◌, subst, arith, if◌then◌else◌, slice_set, cond, is_some}
+use Rattle.std.specs.Prelude.{find, map, nat_lt, slice_get, sum_by}
+use Rattle.std.specs.List.{range_with_len}
+use Rattle.std.proofs.lemmas.Grind.{common_steps}
+use Rattle.std.proofs.lemmas.List.{length-replicate, length-set}
+use Rattle.std.proofs.lemmas.List.Sums.{sum_by-cons}
+use Rattle.qx_types.specs.Configuration.{Configuration}
+use Rattle.qx_types.specs.Managers.{manager_number, managers}
+use Rattle.qx_types.specs.Step.{actor_of, user_of}
+use Rattle.qx_types.specs.declared.names.Actor.{Actor}
+use Rattle.qx_types.specs.declared.names.Manager.{Manager}
+use Rattle.qx_types.specs.declared.names.TheConstants.Manager.{COUNT}
+use Rattle.qx_types.specs.declared.step.Step.{Step}
+use Rattle.qx_types.specs.declared.step.Step.TheVariants.{Receive, Perform}
+use Rattle.qx_machine.specs.declared.rows.Held.{Held}
+use Rattle.qx_machine.specs.declared.rows.OwnItem.{OwnItem}
+use Rattle.qx_machine.specs.declared.rows.OwnItem.TheVariants.{Message}
+use Rattle.qx_machine.specs.declared.rows.Queued.{Queued}
+use Rattle.qx_machine.specs.Lines.{line_at, with_line}
+use Rattle.qx_machine.specs.Machine.{World, After, step_end, changed_manager, line_after, own_held, step, step_of, server_step, boot, client_step, receive_hand, receive_line, received_part, with_taken, perform_hand, performed_part, with_empty_hand, is_worker, line_of, lines_after}
+use Rattle.qx_machine.specs.Parts.{Part, Change}
+use Rattle.qx_machine.specs.Rows.{row_at}
+use Rattle.qx_machine.specs.Runs.{world_after}
+use Rattle.qx_machine.specs.Users as users
+use Rattle.qx_machine.specs.Users.{serve}
+use Rattle.qx_play.specs.Play.{first_worker, has_waiting, waiting, next_manager, round, rounds, world_of, hand_emptied, all_served, served}
+
+-- what each step keeps: the number of workers, a place for each one's hand and a line for each manager
+pub record Keeps (w : World) (workers : ℕ) : Type 0 where
+  pub same : w.config.workers ≡ workers
+  pub hands : length w.hands ≡ workers + 1
+  pub lines : length w.lines ≡ COUNT
+
+lines_kept : (user : ℕ) (lines : List (List Queued)) (changes : List Change) → length (lines_after user lines changes) ≡ length lines
+lines_kept user lines [] = refl
+lines_kept user lines (change ∷ changes) =
+    lines_kept user (with_line lines (manager_number (changed_manager change)) (line_after user change)) changes ∙ length-set lines _ _
+
+acts : (n : ℕ) (w : World) (user : ℕ) (before after : Part) (changes : List Change) → Keeps w n → Keeps (step_end user before after changes w) n
+acts n w user before after changes k = record { same = k.same; hands = k.hands; lines = lines_kept user w.lines changes ∙ k.lines }
+
+choice : (n : ℕ) (b : Bool) (x y : After) → Keeps x.world n → Keeps y.world n → Keeps (if b then x else y).world n
+choice n true x y p q = p
+choice n false x y p q = q
+
+client : (n : ℕ) (w : World) (user : ℕ) (e : Step) (part : Option Part) → Keeps w n → Keeps (client_step w user e part).world n
+client n w user e None k = k
+client n w user e (Some part) k = acts n w user part _ (users.client w.config user (own_held user w.hands) part e).changes k
+
+taken : (n : ℕ) (w : World) (worker : ℕ) (first : Queued) (rest : List Queued) (manager : Manager) → Keeps w n → Keeps (with_taken w worker first rest manager) n
+taken n w worker first rest manager k = record { same = k.same; hands = simp length-set k.hands; lines = length-set w.lines _ rest ∙ k.lines }
+
+given : (n : ℕ) (w : World) (first : Queued) (part : Option Part) → Keeps w n → Keeps (received_part w first part) n
+given n w first None k = k
+given n w first (Some part) k = acts n w first.user.0 part _ [] k
+
+line : (n : ℕ) (w : World) (worker : ℕ) (manager : Manager) (items : List Queued) → Keeps w n → Keeps (receive_line w worker manager items).world n
+line n w worker manager [] k = k
+line n w worker manager (first ∷ rest) k = given n _ first (row_at w.parts first.user.0) (taken n w worker first rest manager k)
+
+hand : (n : ℕ) (w : World) (worker : ℕ) (manager : Manager) (held : Option Held) → Keeps w n → Keeps (receive_hand w worker manager held).world n
+hand n w worker manager None k = line n w worker manager (line_of w manager) k
+hand n w worker manager (Some held) k = k
+
+done : (n : ℕ) (w : World) (held : Held) (moment : ℕ) (part : Option Part) → Keeps w n → Keeps (performed_part w held moment part) n
+done n w held moment None k = k
+done n w held moment (Some part) k =
+    acts n w held.user.0 part _ (serve w.config held.user.0 (own_held held.user.0 w.hands) part held.item moment).changes k
+
+emptied : (n : ℕ) (w : World) (worker : ℕ) → Keeps w n → Keeps (with_empty_hand w worker) n
+emptied n w worker k = record { same = k.same; hands = simp length-set k.hands; lines = k.lines }
+
+does : (n : ℕ) (w : World) (worker moment : ℕ) (held : Option Held) → Keeps w n → Keeps (perform_hand w worker moment held).world n
+does n w worker moment None k = k
+does n w worker moment (Some held) k = done n _ held moment (row_at w.parts held.user.0) (emptied n w worker k)
+
+server : (n : ℕ) (w : World) (e : Step) → Keeps w n → Keeps (server_step w e).world n
+server n w (Receive worker manager) k = choice n (is_worker w.config worker.0) _ _ (hand n w worker.0 manager (row_at w.hands worker.0) k) k
+server n w (Perform worker moment) k = choice n (is_worker w.config worker.0) _ _ (does n w worker.0 moment (row_at w.hands worker.0) k) k
+server n w _ k = k
+
+by : (n : ℕ) (w : World) (e : Step) (actor : Option Actor) → Keeps w n → Keeps (step_of w e actor).world n
+by n w e None k = server n w e k
+by n w e (Some actor) k = client n w (user_of actor) e (row_at w.parts (user_of actor)) k
+
+pub kept : (n : ℕ) (w : World) (e : Step) → Keeps w n → Keeps (step w e).world n
+unfolding step
+kept n w e k = by n w e (actor_of e) k
+
+pub kept_after : (n : ℕ) (w : World) (steps : List Step) → Keeps w n → Keeps (world_after w steps) n
+kept_after n w [] k = k
+kept_after n w (e ∷ steps) k = kept_after n (step w e).world steps (kept n w e k)
+
+pub after_append : (w : World) (xs ys : List Step) → world_after w (xs ++ ys) ≡ world_after (world_after w xs) ys
+after_append w [] ys = refl
+after_append w (e ∷ xs) ys = after_append (step w e).world xs ys
+
+-- what a worker does puts nothing into a line
+no_changes : (c : Configuration) (user : ℕ) (held : List OwnItem) (part : Part) (item : OwnItem) (moment : ℕ) → (serve c user held part item moment).changes ≡ []
+unfolding serve
+no_changes c user held part (Message process thread) moment = refl
+
+performed_lines : (w : World) (held : Held) (moment : ℕ) (part : Option Part) → (performed_part w held moment part).lines ≡ w.lines
+performed_lines w held moment None = refl
+performed_lines w held moment (Some part) = ap (lines_after held.user.0 w.lines) (no_changes w.config held.user.0 _ part held.item moment)
+
+chosen : (b : Bool) (x y : After) → b ≡ true → (if b then x else y) ≡ x
+chosen true x y e = refl
+chosen false x y e = cc
+
+is_first : (n : ℕ) (w : World) → 1 ≤ n → Keeps w n → is_worker w.config 1 ≡ true
+is_first n w some k = let more : 1 ≤ w.config.workers = omega (arith, k.same) in grind (arith, common_steps)
+
+received_is : (n : ℕ) (w : World) (manager : Manager) → 1 ≤ n → Keeps w n → row_at w.hands 1 ≡ None
+    → (step w (Receive first_worker manager)).world ≡ (receive_line w 1 manager (line_of w manager)).world
+unfolding step
+received_is n w manager some k free =
+    ap (λ a. a.world) (chosen (is_worker w.config 1) _ _ (is_first n w some k)) ∙ ap (λ h. (receive_hand w 1 manager h).world) free
+
+performed_is : (n : ℕ) (w : World) (moment : ℕ) (held : Held) → 1 ≤ n → Keeps w n → row_at w.hands 1 ≡ Some held
+    → (step w (Perform first_worker moment)).world ≡ performed_part (with_empty_hand w 1) held moment (row_at w.parts held.user.0)
+unfolding step
+performed_is n w moment held some k full =
+    ap (λ a. a.world) (chosen (is_worker w.config 1) _ _ (is_first n w some k)) ∙ ap (λ h. (perform_hand w 1 moment h).world) full
+
+given_lines : (w : World) (first : Queued) (part : Option Part) → (received_part w first part).lines ≡ w.lines
+given_lines w first None = refl
+given_lines w first (Some part) = refl
+
+given_hands : (w : World) (first : Queued) (part : Option Part) → (received_part w first part).hands ≡ w.hands
+given_hands w first None = refl
+given_hands w first (Some part) = refl
+
+performed_hands : (w : World) (held : Held) (moment : ℕ) (part : Option Part) → (performed_part w held moment part).hands ≡ w.hands
+performed_hands w held moment None = refl
+performed_hands w held moment (Some part) = refl
+
+at_one : {A : Type 0} (places : List (Option A)) (row : Option A) → 1 < length places → row_at (slice_set places 1 row) 1 ≡ row
+at_one [] row room = absurd (omega arith)
+at_one (first ∷ []) row room = absurd (omega arith)
+at_one (first ∷ second ∷ rest) row room = refl
+
+-- the first worker does what it holds: its hand is empty, and the lines stay
+pub record Emptied (w u : World) : Type 0 where
+  pub lines : u.lines ≡ w.lines
+  pub free : row_at u.hands 1 ≡ None
+
+pub does_item : (n : ℕ) (w : World) (moment : ℕ) (held : Held) → 1 ≤ n → Keeps w n → row_at w.hands 1 ≡ Some held → Emptied w (step w (Perform first_worker moment)).world
+does_item n w moment held some k full =
+    let u = performed_is n w moment held some k full in
+    let part = row_at w.parts held.user.0 in
+    let room : 1 < length w.hands = omega (arith, k.hands) in
+    record {
+      lines = ap (λ v. v.lines) u ∙ performed_lines (with_empty_hand w 1) held moment part;
+      free = ap (λ v. row_at v.hands 1) u ∙ ap (λ hands. row_at hands 1) (performed_hands (with_empty_hand w 1) held moment part) ∙ at_one w.hands None room;
+    }
+
+-- the hand is empty, and one item less waits
+pub record Round (w u : World) : Type 0 where
+  pub fewer : waiting u + 1 ≡ waiting w
+  pub free : row_at u.hands 1 ≡ None
+
+-- the first worker takes the first item of a line
+record Took (w u : World) (first : Queued) : Type 0 where
+  fewer : waiting u + 1 ≡ waiting w
+  full : row_at u.hands 1 ≡ Some (record { user = first.user; item = first.item })
+
+-- a line without its first item is one item shorter, and so are all lines together
+shorter : (lines : List (List Queued)) (number : ℕ) (first : Queued) (rest : List Queued) → line_at lines number ≡ first ∷ rest
+    → sum_by length (slice_set lines number rest) + 1 ≡ sum_by length lines
+shorter [] number first rest e = cc
+shorter (line ∷ lines) zero first rest e =
+    let one_less : length line ≡ length (first ∷ rest) = ap length e in
+    omega (arith, sum_by-cons length rest lines, sum_by-cons length line lines, one_less)
+shorter (line ∷ lines) (suc number) first rest e =
+    omega (arith, sum_by-cons length line (slice_set lines number rest), sum_by-cons length line lines, shorter lines number first rest e)
+
+took : (w : World) (manager : Manager) (first : Queued) (rest : List Queued) → 1 < length w.hands → line_of w manager ≡ first ∷ rest
+    → Took w (receive_line w 1 manager (first ∷ rest)).world first
+took w manager first rest room e =
+    let v = with_taken w 1 first rest manager in
+    let part = row_at w.parts first.user.0 in
+    record {
+      fewer = ap (λ lines. sum_by length lines + 1) (given_lines v first part) ∙ shorter w.lines (manager_number manager) first rest e;
+      full = ap (λ hands. row_at hands 1) (given_hands v first part) ∙ at_one w.hands _ room;
+    }
+
+-- one round, at a line that holds an item
+pub one_round : (n : ℕ) (w : World) (moment : ℕ) (manager : Manager) (first : Queued) (rest : List Queued) → 1 ≤ n → Keeps w n → row_at w.hands 1 ≡ None → line_of w manager ≡ first ∷ rest
+    → Round w (world_after w (Receive first_worker manager ∷ Perform first_worker moment ∷ []))
+one_round n w moment manager first rest some k free e =
+    let v = (step w (Receive first_worker manager)).world in
+    let room : 1 < length w.hands = omega (arith, k.hands) in
+    let is : v ≡ (receive_line w 1 manager (first ∷ rest)).world = received_is n w manager some k free ∙ ap (λ items. (receive_line w 1 manager items).world) e in
+    let t : Took w v first = subst (λ x. Took w x first) (sym is) (took w manager first rest room e) in
+    let d = does_item n v moment _ some (kept n w _ k) t.full in
+    record {
+      fewer = ap (λ lines. sum_by length lines + 1) d.lines ∙ t.fewer;
+      free = d.free;
+    }
+
+-- among some managers, the first one for which an item waits
+record Next (w : World) (among : List Manager) : Type 0 where
+  manager : Manager
+  first : Queued
+  rest : List Queued
+  next : find (has_waiting w) among ≡ Some manager
+  there : line_of w manager ≡ first ∷ rest
+
+one_waits : (first : Queued) (rest : List Queued) → nat_lt 0 (length (first ∷ rest)) ≡ true
+one_waits first rest = grind (arith, common_steps)
+
+-- it is the first of them, or among the others
+next_here : (w : World) (manager : Manager) (others : List Manager) (line : List Queued) → line_of w manager ≡ line
+    → (length line ≡ 0 → Next w others) → Next w (manager ∷ others)
+next_here w manager others (first ∷ rest) e later = record {
+  manager = manager;
+  first = first;
+  rest = rest;
+  next = ap (λ waits. cond waits (Some manager) (find (has_waiting w) others)) (ap (λ l. nat_lt 0 (length l)) e ∙ one_waits first rest);
+  there = e;
+}
+next_here w manager others [] e later =
+    let found = later refl in
+    record {
+      manager = found.manager;
+      first = found.first;
+      rest = found.rest;
+      next = ap (λ l. cond (nat_lt 0 (length l)) (Some manager) (find (has_waiting w) others)) e ∙ found.next;
+      there = found.there;
+    }
+
+next_among : (w : World) (among : List Manager) (items : ℕ) → sum_by length (map (line_of w) among) ≡ suc items → Next w among
+next_among w [] items e = absurd (omega (arith, e))
+next_among w (manager ∷ others) items e =
+    next_here w manager others (line_of w manager) refl
+    (λ none. next_among w others items (omega (arith, none, e, sum_by-cons length (line_of w manager) (map (line_of w) others))))
+
+-- a manager's number is its place among all
+numbered : (among : List Manager) (from number : ℕ) (manager : Manager) → map manager_number among ≡ range_with_len from (length among)
+    → slice_get among number ≡ Some manager → manager_number manager ≡ from + number
+numbered [] from number manager each e = cc
+numbered (first ∷ others) from zero manager each e =
+    let same : first ≡ manager = cc in
+    let first_number : manager_number first ≡ from = cc in
+    sym (ap manager_number same) ∙ first_number ∙ omega arith
+numbered (first ∷ others) from (suc number) manager each e =
+    let later : map manager_number others ≡ range_with_len (from + 1) (length others) = cc in
+    numbered others (from + 1) number manager later e ∙ omega arith
+
+number_of : (number : ℕ) (manager : Manager) → slice_get managers number ≡ Some manager → manager_number manager ≡ number
+number_of number manager e = numbered managers 0 number manager refl e ∙ omega arith
+
+-- each manager's line stands under the manager's place among all
+line_under : (w : World) (number : ℕ) (manager : Manager) → slice_get managers number ≡ Some manager → line_at w.lines number ≡ line_of w manager
+line_under w number manager e = ap (line_at w.lines) (sym (number_of number manager e))
+
+line_of_each_among : (w : World) (among : List Manager) (lines : List (List Queued)) → length lines ≡ length among
+    → ((number : ℕ) (manager : Manager) → slice_get among number ≡ Some manager → line_at lines number ≡ line_of w manager) → map (line_of w) among ≡ lines
+line_of_each_among w [] [] e each = refl
+line_of_each_among w [] (line ∷ lines) e each = absurd (omega (arith, e))
+line_of_each_among w (manager ∷ others) [] e each = absurd (omega (arith, e))
+line_of_each_among w (manager ∷ others) (line ∷ lines) e each =
+    let first : line ≡ line_of w manager = each zero manager refl in
+    let rest = line_of_each_among w others lines (omega (arith, e)) (λ number other found. each (suc number) other found) in
+    λ i. sym first i ∷ rest i
+
+line_of_each : (w : World) → length w.lines ≡ COUNT → map (line_of w) managers ≡ w.lines
+line_of_each w all = line_of_each_among w managers w.lines all (line_under w)
+
+-- where items wait, one of them is next
+some_next : (n : ℕ) (w : World) (items : ℕ) → Keeps w n → waiting w ≡ suc items → Next w managers
+some_next n w items k e = next_among w managers items (ap (sum_by length) (line_of_each w k.lines) ∙ e)
+
+pub turn : (items : ℕ) (config : Configuration) (moment : ℕ) (steps : List Step) (manager : Manager) → next_manager (world_of config steps) ≡ Some manager
+    → rounds (suc items) config moment steps ≡ rounds items config moment (round moment steps manager)
+turn items config moment steps manager e =
+    ap (λ next. elim next as (λ _. List Step) [ None ↦ steps | Some other ↦ rounds items config moment (round moment steps other) ]) e
+
+all_rounds : (items n : ℕ) (config : Configuration) (moment : ℕ) (steps : List Step) → 1 ≤ n → Keeps (world_of config steps) n → row_at (world_of config steps).hands 1 ≡ None
+    → waiting (world_of config steps) ≡ items → waiting (world_of config (rounds items config moment steps)) ≡ 0
+all_rounds zero n config moment steps some k free e = e
+all_rounds (suc items) n config moment steps some k free e =
+    let w = world_of config steps in
+    let f = some_next n w items k e in
+    let last = Receive first_worker f.manager ∷ Perform first_worker moment ∷ [] in
+    let same : world_after w last ≡ world_of config (round moment steps f.manager) = sym (after_append (boot config) steps last) in
+    let r : Round w (world_of config (round moment steps f.manager)) = subst (λ u. Round w u) same (one_round n w moment f.manager f.first f.rest some k free f.there) in
+    let more : Keeps (world_of config (round moment steps f.manager)) n = subst (λ u. Keeps u n) same (kept_after n w last k) in
+    subst (λ l. waiting (world_of config l) ≡ 0) (sym (turn items config moment steps f.manager f.next))
+    (all_rounds items n config moment (round moment steps f.manager) some more r.free (omega (arith, r.fewer, e)))
+
+booted : (config : Configuration) → Keeps (boot config) config.workers
+unfolding boot
+booted config = record { same = refl; hands = simp length-replicate (omega arith); lines = refl }
+
+pub keeps_all : (config : Configuration) (steps : List Step) → Keeps (world_of config steps) config.workers
+keeps_all config steps = kept_after config.workers (boot config) steps (booted config)
+
+hand_free : (config : Configuration) (moment : ℕ) (steps : List Step) (hand : Option Held) → 1 ≤ config.workers → row_at (world_of config steps).hands 1 ≡ hand
+    → row_at (world_of config (hand_emptied config moment steps)).hands 1 ≡ None
+unfolding hand_emptied
+hand_free config moment steps None some e =
+    ap (λ h. row_at (world_of config (if is_some h then steps ++ Perform first_worker moment ∷ [] else steps)).hands 1) e ∙ e
+hand_free config moment steps (Some held) some e =
+    ap (λ h. row_at (world_of config (if is_some h then steps ++ Perform first_worker moment ∷ [] else steps)).hands 1) e
+    ∙ ap (λ w. row_at w.hands 1) (after_append (boot config) steps (Perform first_worker moment ∷ []))
+    ∙ (does_item config.workers (world_of config steps) moment held some (keeps_all config steps) e).free
+
+-- after serving no item waits
+pub none_waits : (config : Configuration) (moment : ℕ) (steps : List Step) → 1 ≤ config.workers → waiting (world_of config (served config moment steps)) ≡ 0
+unfolding served all_served
+none_waits config moment steps some =
+    let begun = hand_emptied config moment steps in
+    all_rounds (waiting (world_of config begun)) config.workers config moment begun some (keeps_all config begun)
+    (hand_free config moment steps (row_at (world_of config steps).hands 1) some refl) refl

@@ -1,0 +1,123 @@
+-- What the lines of a script do: the steps that they take and the text that they print.
+use Rattle.std.specs.Prelude.{ℕ, zero, suc, Bool, true, false, List, [], ◌∷◌, ◌++◌, Option, Some, None, find, length, if◌then◌else◌, is_some, nat_lt, sum_by}
+use Rattle.qx_types.specs.Configuration.{Configuration}
+use Rattle.qx_types.specs.Managers.{managers}
+use Rattle.qx_types.specs.declared.names.Manager.{Manager}
+use Rattle.qx_types.specs.declared.names.Thread.{Thread}
+use Rattle.qx_types.specs.declared.names.Worker.{Worker}
+use Rattle.qx_types.specs.declared.outcome.Outcome.{Outcome}
+use Rattle.qx_types.specs.declared.outcome.Outcome.TheVariants.{Spawned, Refused, Done, Sent, Reply, Failed, Pulse, NoPulse, WrongState, Took, Idle, Busy, Handled, Nothing}
+use Rattle.qx_types.specs.declared.step.Step.{Step}
+use Rattle.qx_types.specs.declared.step.Step.TheVariants.{Call, TakeReply, Receive, Perform}
+use Rattle.qx_machine.specs.Machine.{World, line_of, step}
+use Rattle.qx_machine.specs.Rows.{row_at}
+use Rattle.qx_machine.specs.Runs.{run, received}
+use Rattle.qx_parts.specs.Reads.{thread_row}
+use Rattle.qx_steps.specs.Reads.{is_thread_answered}
+use Rattle.qx_script.specs.declared.command.Command.{Command}
+use Rattle.qx_script.specs.declared.command.Command.TheVariants.{Take, Serve, Do, Show, Trace}
+use Rattle.qx_play.specs.Printed.{trace_text, transcript_text}
+
+-- the steps taken and the text printed so far
+pub record Played : Type 0 where
+  pub steps : List Step
+  pub text : List ℕ
+
+-- the world after the steps
+abbrev pub world_of : Configuration → List Step → World
+world_of config steps = (run config steps).world
+
+-- the worker that serves
+abbrev pub first_worker : Worker
+first_worker = record { 0 = 1 }
+
+abbrev pub is_holding : World → Bool
+is_holding w = is_some (row_at w.hands 1)
+
+-- an item waits for the manager
+abbrev pub has_waiting : World → Manager → Bool
+has_waiting w manager = nat_lt 0 (length (line_of w manager))
+
+-- the manager whose first item is next: the first one, by number, for which an item waits
+abbrev pub next_manager : World → Option Manager
+next_manager w = find (has_waiting w) managers
+
+-- the first worker takes an item and does it, at a moment
+abbrev pub round : ℕ → List Step → Manager → List Step
+round moment steps manager = steps ++ Receive first_worker manager ∷ Perform first_worker moment ∷ []
+
+-- so many items are served, as long as one waits
+abbrev pub rounds : ℕ → Configuration → ℕ → List Step → List Step
+rounds zero config moment steps = steps
+rounds (suc items) config moment steps =
+    elim (next_manager (world_of config steps)) [ None ↦ steps | Some manager ↦ rounds items config moment (round moment steps manager) ]
+
+-- the first worker does what it holds
+unfoldable pub hand_emptied : Configuration → ℕ → List Step → List Step
+hand_emptied config moment steps =
+    if is_holding (world_of config steps) then steps ++ Perform first_worker moment ∷ [] else steps
+
+-- how many items wait in all lines
+abbrev pub waiting : World → ℕ
+waiting w = sum_by length w.lines
+
+-- every item that waits is served: each round takes one from its line and puts none there
+unfoldable pub all_served : Configuration → ℕ → List Step → List Step
+all_served config moment steps = rounds (waiting (world_of config steps)) config moment steps
+
+unfoldable pub served : Configuration → ℕ → List Step → List Step
+served config moment steps = all_served config moment (hand_emptied config moment steps)
+
+abbrev pub is_sent : Outcome → Bool
+is_sent (Spawned number) = false
+is_sent (Refused error) = false
+is_sent Done = false
+is_sent Sent = true
+is_sent (Reply status bytes) = false
+is_sent (Failed error) = false
+is_sent (Pulse code value) = false
+is_sent NoPulse = false
+is_sent WrongState = false
+is_sent (Took item) = false
+is_sent Idle = false
+is_sent Busy = false
+is_sent Handled = false
+is_sent Nothing = false
+
+-- the thread has an answer to take
+abbrev pub is_answered : World → Thread → Bool
+is_answered w thread = is_thread_answered (thread_row w.parts thread)
+
+-- the thread takes its answer, if it has one
+unfoldable pub replied : Configuration → Thread → List Step → List Step
+replied config thread steps = if is_answered (world_of config steps) thread then steps ++ TakeReply thread ∷ [] else steps
+
+-- a call; where it is sent, all is served and the answer is taken
+unfoldable pub called : Configuration → ℕ → Thread → Step → List Step → List Step
+called config moment thread call steps =
+    if is_sent (step (world_of config steps) call).outcome
+    then replied config thread (served config moment (steps ++ call ∷ []))
+    else steps ++ call ∷ []
+
+-- what one line does
+abbrev pub played_line : Configuration → Played → Command → Played
+played_line config played (Take step) = record { steps = played.steps ++ step ∷ []; text = played.text }
+played_line config played (Serve moment) = record { steps = served config moment played.steps; text = played.text }
+played_line config played (Do moment thread request) =
+    record { steps = called config moment thread (Call thread request) played.steps; text = played.text }
+played_line config played (Show user) =
+    record { steps = played.steps; text = played.text ++ transcript_text config (received user.0 (run config played.steps).entries) }
+played_line config played Trace =
+    record { steps = played.steps; text = played.text ++ trace_text config (run config played.steps).entries }
+
+abbrev pub played_lines : Configuration → Played → List Command → Played
+played_lines config played [] = played
+played_lines config played (command ∷ commands) = played_lines config (played_line config played command) commands
+
+-- all lines, from boot
+abbrev pub played : Configuration → List Command → Played
+played config commands = played_lines config (record { steps = []; text = [] }) commands
+
+-- what a script prints
+unfoldable pub shown : Configuration → List Command → List ℕ
+shown config commands = (played config commands).text

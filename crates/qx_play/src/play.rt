@@ -1,0 +1,199 @@
+//! What the lines of a script do: the steps that they take and the text that they print.
+
+ghost use Rattle.std.specs.Prelude.{◌≡◌, ◌≤◌, ◌++◌, ◌∷◌, [], ℕ, List, IfOk, OnOk, find, length, slice_get};
+ghost use Rattle.std.specs.Option.{option_to_list};
+ghost use Rattle.qx_types.specs.Configuration.{Configuration};
+ghost use Rattle.qx_types.specs.Managers.{managers};
+ghost use Rattle.qx_types.specs.declared.names.TheConstants.Manager.{COUNT};
+ghost use Rattle.qx_types.specs.declared.step.Step.{Step};
+ghost use Rattle.qx_machine.specs.Lines.{line_at};
+ghost use Rattle.qx_play.specs.Play as play;
+ghost use Rattle.qx_play.specs.Play.{all_served, called, hand_emptied, has_waiting, played_line, replied, served, shown, waiting, world_of};
+
+use crate::text;
+use qx_script::Command;
+use qx_types::{Config, Manager, NoMemory, Outcome, Request, Step, Thread, Worker};
+use qx_world::{Traced, World};
+use std::alloc::Global;
+
+/// The worker that serves.
+const FIRST: Worker = Worker(1);
+
+/// After `serve` no item waits in a line, whatever steps were taken before.
+pub fn none_waits_once_served()
+    ensures none_waits { (config : Configuration) (moment : ℕ) (steps : List Step) → 1 ≤ config.workers → waiting (world_of config (served config moment steps)) ≡ 0 }
+{}
+
+/// Runs the lines of a script, and gives the text that they print.
+#[tactic(auto, unfolding(crate::specs::Play::shown))]
+pub fn play(alloc: Global, config: Config, commands: Vec<Command>) -> Result<Vec<u8>, NoMemory>
+    ensures text { IfOk result (λ text. text.items ≡ shown config commands.items) }
+{
+    let mut traced = Traced::new(alloc, config)?;
+    let mut text = Vec::new(alloc);
+    let mut lines = commands.into_iter();
+    'lines: while let Some(command) = lines.next() {
+        play_line(alloc, &mut traced, &mut text, command)?;
+    }
+    Ok(text)
+}
+
+/// Runs one line.
+fn play_line(
+    alloc: Global,
+    traced: &mut Traced,
+    text: &mut Vec<u8>,
+    command: Command,
+) -> Result<(), NoMemory>
+    ensures config { traced.new.config ≡ traced.old.config }
+    ensures steps { OnOk result (traced.new.steps ≡ (played_line traced.old.config (record { steps = traced.old.steps; text = text.old.items }) command).steps) }
+    ensures text { OnOk result (text.new.items ≡ (played_line traced.old.config (record { steps = traced.old.steps; text = text.old.items }) command).text) }
+{
+    match command {
+        Command::Take(step) => store(traced, step),
+        Command::Serve(moment) => serve(traced, moment),
+        Command::Do(moment, thread, request) => call(traced, moment, thread, request),
+        Command::Show(user) => {
+            let seen = traced.transcript(user)?;
+            let lines = text::transcript(alloc, traced.config(), &seen)?;
+            text.extend_from_slice(&lines)?;
+            Ok(())
+        }
+        Command::Trace => {
+            let lines = text::trace(alloc, traced.config(), traced.entries())?;
+            text.extend_from_slice(&lines)?;
+            Ok(())
+        }
+    }
+}
+
+/// Takes a step.
+fn store(traced: &mut Traced, step: Step) -> Result<(), NoMemory>
+    ensures config { traced.new.config ≡ traced.old.config }
+    ensures steps { OnOk result (traced.new.steps ≡ traced.old.steps ++ step ∷ []) }
+{
+    match traced.store(step) {
+        Ok(()) => Ok(()),
+        Err(_) => Err(NoMemory),
+    }
+}
+
+/// A call; where it is sent, all that waits is served, and its reply is taken.
+#[tactic(auto, unfolding(crate::specs::Play::called))]
+fn call(traced: &mut Traced, moment: u64, thread: Thread, request: Request) -> Result<(), NoMemory>
+    ensures config { traced.new.config ≡ traced.old.config }
+    ensures steps { OnOk result (traced.new.steps ≡ called traced.old.config moment thread (Step.Call thread request) traced.old.steps) }
+{
+    store(traced, Step::Call { thread, request })?;
+    if !is_sent(traced.last()) {
+        return Ok(());
+    }
+    serve(traced, moment)?;
+    take_reply(traced, thread)
+}
+
+/// Whether a call went into its line.
+fn is_sent(outcome: &Outcome) -> bool
+    ensures { result ≡ play.is_sent outcome.now }
+{
+    matches!(outcome, Outcome::Sent)
+}
+
+/// Takes a thread's answer, if it has one.
+#[tactic(auto, unfolding(crate::specs::Play::replied))]
+fn take_reply(traced: &mut Traced, thread: Thread) -> Result<(), NoMemory>
+    ensures config { traced.new.config ≡ traced.old.config }
+    ensures steps { OnOk result (traced.new.steps ≡ replied traced.old.config thread traced.old.steps) }
+{
+    if traced.world().answered(thread) {
+        store(traced, Step::TakeReply { thread })?;
+    }
+    Ok(())
+}
+
+/// The first worker does what it holds, and then all that waits.
+#[tactic(auto, unfolding(crate::specs::Play::served))]
+fn serve(traced: &mut Traced, moment: u64) -> Result<(), NoMemory>
+    ensures config { traced.new.config ≡ traced.old.config }
+    ensures steps { OnOk result (traced.new.steps ≡ served traced.old.config moment traced.old.steps) }
+{
+    empty_hand(traced, moment)?;
+    serve_waiting(traced, moment)
+}
+
+/// The first worker does what it holds.
+#[tactic(auto, unfolding(crate::specs::Play::hand_emptied))]
+fn empty_hand(traced: &mut Traced, moment: u64) -> Result<(), NoMemory>
+    ensures config { traced.new.config ≡ traced.old.config }
+    ensures steps { OnOk result (traced.new.steps ≡ hand_emptied traced.old.config moment traced.old.steps) }
+{
+    if traced.world().holds(FIRST) {
+        let worker = FIRST;
+        store(traced, Step::Perform { worker, moment })?;
+    }
+    Ok(())
+}
+
+/// The first worker takes and does all that waits.
+#[tactic(auto, unfolding(crate::specs::Play::all_served))]
+fn serve_waiting(traced: &mut Traced, moment: u64) -> Result<(), NoMemory>
+    ensures config { traced.new.config ≡ traced.old.config }
+    ensures steps { OnOk result (traced.new.steps ≡ all_served traced.old.config moment traced.old.steps) }
+{
+    let items = waiting(traced.world());
+    'rounds: for _ in 0..items {
+        let Some(manager) = next_manager(traced.world()) else {
+            return Ok(());
+        };
+        let worker = FIRST;
+        store(traced, Step::Receive { worker, manager })?;
+        store(traced, Step::Perform { worker, moment })?;
+    }
+    Ok(())
+}
+
+/// How many items wait in all lines.
+fn waiting(world: &World) -> u128
+    requires { length world.now.lines ≡ COUNT }
+    ensures { result ≡ play.waiting world.now }
+{
+    let mut waiting = 0;
+    'lines: for number in 0..Manager::COUNT {
+        waiting += waiting_at(world, number) as u128;
+    }
+    waiting
+}
+
+/// How many items wait in the line under a number.
+fn waiting_at(world: &World, number: usize) -> usize
+    requires { length world.now.lines ≡ COUNT }
+    ensures { result ≡ length (line_at world.now.lines number) }
+{
+    match Manager::of_number(number) {
+        Some(manager) => world.waiting(manager),
+        None => 0,
+    }
+}
+
+/// The manager whose first item is next: the first one, by number, for which an item waits.
+fn next_manager(world: &World) -> Option<Manager>
+    ensures { result ≡ play.next_manager world.now }
+{
+    'managers: for number in 0..Manager::COUNT {
+        if let Some(manager) = waiting_manager(world, number) {
+            return Some(manager);
+        }
+    }
+    None
+}
+
+/// The manager of a number, if an item waits for it.
+fn waiting_manager(world: &World, number: usize) -> Option<Manager>
+    ensures { result ≡ find (has_waiting world.now) (option_to_list (slice_get managers number)) }
+{
+    let manager = Manager::of_number(number)?;
+    if world.waiting(manager) == 0 {
+        return None;
+    }
+    Some(manager)
+}

@@ -1,0 +1,23 @@
+-- A row that was lent and is left as it was.
+use Rattle.std.proofs.Common.{◌≡◌, ℕ, List, Option, Some, None, refl}
+use Rattle.std.specs.Prelude.{option_map, slice_set}
+use Rattle.qx_machine.specs.declared.rows.ThreadRow.{ThreadRow}
+use Rattle.qx_machine.specs.Parts.{thread_of}
+use Rattle.qx_machine.specs.Processes.{Process}
+use Rattle.qx_machine.specs.Rows.{row_at, with_row}
+use Rattle.qx_procs.proofs.RowLemmas.{set-row, with_row-none}
+use Rattle.qx_procs.specs.Lends.{put_thread}
+
+-- a thread's row that is put back changes nothing
+pub put_thread_same : (rows : List (Option Process)) (number thread : ℕ) (row : ThreadRow) → thread_of thread (row_at rows number) ≡ Some row → with_row rows number (put_thread thread row) ≡ rows
+put_thread_same rows number thread row there = by_process (row_at rows number) refl there
+  where
+    by_process : (place : Option Process) → row_at rows number ≡ place → thread_of thread place ≡ Some row → with_row rows number (put_thread thread row) ≡ rows
+    by_process None is of = rw (with_row-none rows number (put_thread thread row) is) refl
+    by_process (Some process) is of = rw (is, set-row process.threads thread row of, set-row rows number process is) refl
+
+-- where no row is there
+pub set_none : {A : Type 0} (rows : List (Option A)) (number : ℕ) (change : A → A) → row_at rows number ≡ None → slice_set rows number (option_map change (row_at rows number)) ≡ rows
+set_none rows number change none = with_row-none rows number change none
+
+pub ruleset row_lends = (set_none, with_row-none)

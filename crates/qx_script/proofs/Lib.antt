@@ -1,0 +1,5 @@
+pub mod ReadBack
+pub mod ReadCommands
+pub mod ReadForms
+pub mod ReadScripts
+pub mod Replays

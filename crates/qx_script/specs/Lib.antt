@@ -1,0 +1,5 @@
+pub mod Forms
+pub mod Lines
+pub mod Replay
+pub mod Script
+pub mod StepText

@@ -1,0 +1,115 @@
+-- The lines of a script.
+use Rattle.std.specs.Prelude.{ℕ, List, [], ◌∷◌, Option, Some, None, if◌then◌else◌, codes, option_map}
+use Rattle.std.specs.Str.{bytes_eq}
+use Rattle.qx_types.specs.declared.names.Thread.{Thread}
+use Rattle.qx_types.specs.declared.step.Request.{Request}
+use Rattle.qx_types.specs.declared.step.Request.TheVariants.{OpenPath, Close, Fstat}
+use Rattle.qx_types.specs.declared.step.Step.{Step}
+use Rattle.qx_types.specs.declared.step.Step.TheVariants.{Spawn, Call, TakeReply, SetPrio, Receive, Perform}
+use Rattle.qx_script.specs.declared.command.Command.{Command}
+use Rattle.qx_script.specs.declared.command.Command.TheVariants.{Take, Serve, Do, Show, Trace}
+use Rattle.qx_script.specs.Forms.{◌then◌, end, Line, Saying, CanBeSaid, by, read_one_of}
+use Rattle.qx_words.specs.Kinds.{AName, AUser, AThread, AByte, AMoment, APath, SomeFlags, AMode, AManager}
+use Rattle.qx_words.specs.Words.{◌>>=◌, moment_of}
+
+-- who uses the system, and how many workers serve it
+
+abbrev pub user_line : Line (List ℕ)
+user_line = record { name = codes "user"; form = AName then end; made = λ name. name }
+
+abbrev pub workers_line : Line ℕ
+workers_line = record { name = codes "workers"; form = AByte then end; made = λ workers. workers }
+
+-- calls
+
+abbrev pub open_line : Line (Thread × Request)
+open_line = record {
+  name = codes "open";
+  form = AThread then APath then SomeFlags then AMode then end;
+  made = λ thread path flags mode. (thread, OpenPath path flags mode);
+}
+
+abbrev pub close_line : Line (Thread × Request)
+close_line = record { name = codes "close"; form = AThread then AByte then end; made = λ thread coid. (thread, Close (record { 0 = coid })) }
+
+abbrev pub fstat_line : Line (Thread × Request)
+fstat_line = record { name = codes "fstat"; form = AThread then AByte then end; made = λ thread coid. (thread, Fstat (record { 0 = coid })) }
+
+abbrev pub call_lines : List (Line (Thread × Request))
+call_lines = open_line ∷ close_line ∷ fstat_line ∷ []
+
+abbrev pub call_said : Thread → Request → Saying
+call_said thread (OpenPath path flags mode) = by open_line (thread, (path, (flags, (mode, tt))))
+call_said thread (Close coid) = by close_line (thread, (coid.0, tt))
+call_said thread (Fstat coid) = by fstat_line (thread, (coid.0, tt))
+
+-- steps
+
+abbrev pub spawn_line : Line Step
+spawn_line = record { name = codes "spawn"; form = AUser then AByte then AByte then end; made = λ user threads prio. Spawn user threads (record { 0 = prio }) }
+
+abbrev pub reply_line : Line Step
+reply_line = record { name = codes "reply"; form = AThread then end; made = λ thread. TakeReply thread }
+
+abbrev pub prio_line : Line Step
+prio_line = record { name = codes "prio"; form = AThread then AByte then end; made = λ thread prio. SetPrio thread (record { 0 = prio }) }
+
+abbrev pub receive_line : Line Step
+receive_line = record { name = codes "receive"; form = AByte then AManager then end; made = λ worker manager. Receive (record { 0 = worker }) manager }
+
+abbrev pub perform_line : Line Step
+perform_line = record { name = codes "perform"; form = AByte then AMoment then end; made = λ worker moment. Perform (record { 0 = worker }) moment }
+
+abbrev pub step_lines : List (Line Step)
+step_lines = spawn_line ∷ reply_line ∷ prio_line ∷ receive_line ∷ perform_line ∷ []
+
+-- the line that takes the step
+abbrev pub step_said : Step → Saying
+step_said (Spawn user threads prio) = by spawn_line (user, (threads, (prio.0, tt)))
+step_said (Call thread request) = call_said thread request
+step_said (TakeReply thread) = by reply_line (thread, tt)
+step_said (SetPrio thread prio) = by prio_line (thread, (prio.0, tt))
+step_said (Receive worker manager) = by receive_line (worker.0, (manager, tt))
+step_said (Perform worker moment) = by perform_line (worker.0, (moment, tt))
+
+abbrev pub CanSay : List (List ℕ) → Step → Type 0
+CanSay users step = CanBeSaid users (step_said step)
+
+-- commands
+
+abbrev pub serve_line : Line Command
+serve_line = record { name = codes "serve"; form = AMoment then end; made = λ moment. Serve moment }
+
+abbrev pub show_line : Line Command
+show_line = record { name = codes "show"; form = AUser then end; made = λ user. Show user }
+
+abbrev pub trace_line : Line Command
+trace_line = record { name = codes "trace"; form = end; made = Trace }
+
+abbrev pub command_lines : List (Line Command)
+command_lines = serve_line ∷ show_line ∷ trace_line ∷ []
+
+-- who calls and for what
+unfoldable pub call_of : List (List ℕ) → List ℕ → List (List ℕ) → Option (Thread × Request)
+call_of users name words = read_one_of call_lines None users name words
+
+abbrev pub call_step : Thread × Request → Step
+call_step call = Call call.0 call.1
+
+unfoldable pub step_of : List (List ℕ) → List ℕ → List (List ℕ) → Option Step
+step_of users name words = read_one_of step_lines (option_map call_step (call_of users name words)) users name words
+
+-- moment, a call
+unfoldable pub do_of : List (List ℕ) → List (List ℕ) → Option Command
+do_of users [] = None
+do_of users (word ∷ []) = None
+do_of users (word ∷ name ∷ words) = do
+  moment ← moment_of word
+  call ← call_of users name words
+  Some (Do moment call.0 call.1)
+
+-- a line that takes steps or prints, by its first word
+unfoldable pub command_of : List (List ℕ) → List ℕ → List (List ℕ) → Option Command
+command_of users name words =
+    if bytes_eq name (codes "do") then do_of users words
+    else read_one_of command_lines (option_map Take (step_of users name words)) users name words

@@ -1,0 +1,267 @@
+ghost use Rattle.std.specs.Prelude.{◌≡◌, ℕ, IfOk, IfSome, List, map, option_map, true};
+ghost use Rattle.qx_types.specs.Configuration.{is_user_name};
+ghost use Rattle.qx_script.specs.Forms.{read};
+ghost use Rattle.qx_script.specs.Lines.{call_of, close_line, command_of, do_of, fstat_line, open_line, perform_line, prio_line, receive_line, reply_line, serve_line, show_line, spawn_line, step_of, trace_line, user_line, workers_line};
+
+use crate::command::Command;
+use qx_types::{Bytes, Coid, NoMemory, Prio, Request, Step, Thread, Worker};
+use qx_words::Users;
+use qx_words::words::{byte, flags, manager, mode, moment, name, thread};
+use std::alloc::Global;
+
+/// `user NAME`
+pub fn user<'a>(words: &[&'a [u8]]) -> Option<&'a [u8]>
+    ensures name { (users : List (List ℕ)) → option_map (λ name. name.now) result ≡ read user_line users (map (λ word. word.now) words.now) }
+    ensures good { IfSome result (λ name. is_user_name name.now ≡ true) }
+{
+    let [word] = words else {
+        return None;
+    };
+    name(*word)
+}
+
+/// `workers NUMBER`
+pub fn workers(words: &[&[u8]]) -> Option<u8>
+    ensures number { (users : List (List ℕ)) → result ≡ read workers_line users (map (λ word. word.now) words.now) }
+{
+    let [word] = words else {
+        return None;
+    };
+    byte(*word)
+}
+
+/// `spawn USER THREADS PRIORITY`
+fn spawn(users: &Users, words: &[&[u8]]) -> Option<Step>
+    ensures step { result ≡ read spawn_line users.now (map (λ word. word.now) words.now) }
+{
+    let [user, threads, prio] = words else {
+        return None;
+    };
+    let user = users.find(*user)?;
+    let threads = byte(*threads)?;
+    let prio = byte(*prio)?;
+    Some(Step::Spawn {
+        user,
+        threads,
+        prio: Prio(prio),
+    })
+}
+
+/// `open THREAD PATH FLAGS MODE`
+fn open(
+    alloc: Global,
+    users: &Users,
+    words: &[&[u8]],
+) -> Result<Option<(Thread, Request)>, NoMemory>
+    ensures call { IfOk result (λ call. call ≡ read open_line users.now (map (λ word. word.now) words.now)) }
+{
+    let [thread_word, path, flags_word, mode_word] = words else {
+        return Ok(None);
+    };
+    let Some(thread) = thread(users, *thread_word) else {
+        return Ok(None);
+    };
+    let Some(flags) = flags(*flags_word) else {
+        return Ok(None);
+    };
+    let Some(mode) = mode(*mode_word) else {
+        return Ok(None);
+    };
+    let path = Bytes::from_slice(alloc, *path)?;
+    Ok(Some((thread, Request::OpenPath { path, flags, mode })))
+}
+
+/// `close THREAD CONNECTION`
+fn close(users: &Users, words: &[&[u8]]) -> Option<(Thread, Request)>
+    ensures call { result ≡ read close_line users.now (map (λ word. word.now) words.now) }
+{
+    let [thread_word, coid] = words else {
+        return None;
+    };
+    let thread = thread(users, *thread_word)?;
+    let coid = Coid(byte(*coid)?);
+    Some((thread, Request::Close { coid }))
+}
+
+/// `fstat THREAD CONNECTION`
+fn fstat(users: &Users, words: &[&[u8]]) -> Option<(Thread, Request)>
+    ensures call { result ≡ read fstat_line users.now (map (λ word. word.now) words.now) }
+{
+    let [thread_word, coid] = words else {
+        return None;
+    };
+    let thread = thread(users, *thread_word)?;
+    let coid = Coid(byte(*coid)?);
+    Some((thread, Request::Fstat { coid }))
+}
+
+/// `reply THREAD`
+fn reply(users: &Users, words: &[&[u8]]) -> Option<Step>
+    ensures step { result ≡ read reply_line users.now (map (λ word. word.now) words.now) }
+{
+    let [word] = words else {
+        return None;
+    };
+    let thread = thread(users, *word)?;
+    Some(Step::TakeReply { thread })
+}
+
+/// `prio THREAD PRIORITY`
+fn prio(users: &Users, words: &[&[u8]]) -> Option<Step>
+    ensures step { result ≡ read prio_line users.now (map (λ word. word.now) words.now) }
+{
+    let [thread_word, prio] = words else {
+        return None;
+    };
+    let thread = thread(users, *thread_word)?;
+    let prio = Prio(byte(*prio)?);
+    Some(Step::SetPrio { thread, prio })
+}
+
+/// `receive WORKER ram|pipe`
+fn receive(words: &[&[u8]]) -> Option<Step>
+    ensures step { (users : List (List ℕ)) → result ≡ read receive_line users (map (λ word. word.now) words.now) }
+{
+    let [worker, manager_word] = words else {
+        return None;
+    };
+    let worker = Worker(byte(*worker)?);
+    let manager = manager(*manager_word)?;
+    Some(Step::Receive { worker, manager })
+}
+
+/// `perform WORKER MOMENT`
+fn perform(words: &[&[u8]]) -> Option<Step>
+    ensures step { (users : List (List ℕ)) → result ≡ read perform_line users (map (λ word. word.now) words.now) }
+{
+    let [worker, moment_word] = words else {
+        return None;
+    };
+    let worker = Worker(byte(*worker)?);
+    let moment = moment(*moment_word)?;
+    Some(Step::Perform { worker, moment })
+}
+
+/// Who calls and for what, by the call's first word.
+#[tactic(auto, unfolding(crate::specs::Lines::call_of))]
+fn call(
+    alloc: Global,
+    users: &Users,
+    name: &[u8],
+    words: &[&[u8]],
+) -> Result<Option<(Thread, Request)>, NoMemory>
+    ensures call { IfOk result (λ call. call ≡ call_of users.now name.now (map (λ word. word.now) words.now)) }
+{
+    if name == b"open".as_slice() {
+        open(alloc, users, words)
+    } else if name == b"close".as_slice() {
+        Ok(close(users, words))
+    } else if name == b"fstat".as_slice() {
+        Ok(fstat(users, words))
+    } else {
+        Ok(None)
+    }
+}
+
+/// A step, by its first word.
+#[tactic(auto, unfolding(crate::specs::Lines::step_of))]
+fn step(
+    alloc: Global,
+    users: &Users,
+    name: &[u8],
+    words: &[&[u8]],
+) -> Result<Option<Step>, NoMemory>
+    ensures step { IfOk result (λ step. step ≡ step_of users.now name.now (map (λ word. word.now) words.now)) }
+{
+    if name == b"spawn".as_slice() {
+        Ok(spawn(users, words))
+    } else if name == b"reply".as_slice() {
+        Ok(reply(users, words))
+    } else if name == b"prio".as_slice() {
+        Ok(prio(users, words))
+    } else if name == b"receive".as_slice() {
+        Ok(receive(words))
+    } else if name == b"perform".as_slice() {
+        Ok(perform(words))
+    } else {
+        match call(alloc, users, name, words)? {
+            Some((thread, request)) => Ok(Some(Step::Call { thread, request })),
+            None => Ok(None),
+        }
+    }
+}
+
+/// `serve MOMENT`
+fn serve(words: &[&[u8]]) -> Option<Command>
+    ensures command { (users : List (List ℕ)) → result ≡ read serve_line users (map (λ word. word.now) words.now) }
+{
+    let [word] = words else {
+        return None;
+    };
+    let moment = moment(*word)?;
+    Some(Command::Serve(moment))
+}
+
+/// `do MOMENT CALL`
+#[tactic(auto, unfolding(crate::specs::Lines::do_of))]
+fn do_call(alloc: Global, users: &Users, words: &[&[u8]]) -> Result<Option<Command>, NoMemory>
+    ensures command { IfOk result (λ command. command ≡ do_of users.now (map (λ word. word.now) words.now)) }
+{
+    let [moment_word, name, rest @ ..] = words else {
+        return Ok(None);
+    };
+    let Some(moment) = moment(*moment_word) else {
+        return Ok(None);
+    };
+    match call(alloc, users, *name, rest)? {
+        Some((thread, request)) => Ok(Some(Command::Do(moment, thread, request))),
+        None => Ok(None),
+    }
+}
+
+/// `show USER`
+fn show(users: &Users, words: &[&[u8]]) -> Option<Command>
+    ensures command { result ≡ read show_line users.now (map (λ word. word.now) words.now) }
+{
+    let [word] = words else {
+        return None;
+    };
+    let user = users.find(*word)?;
+    Some(Command::Show(user))
+}
+
+/// `trace`, whoever the users are.
+fn trace(users: &Users, words: &[&[u8]]) -> Option<Command>
+    ensures command { result ≡ read trace_line users.now (map (λ word. word.now) words.now) }
+{
+    if !words.is_empty() {
+        return None;
+    }
+    Some(Command::Trace)
+}
+
+/// A line that takes steps or prints, by its first word.
+#[tactic(auto, unfolding(crate::specs::Lines::command_of))]
+pub fn command(
+    alloc: Global,
+    users: &Users,
+    name: &[u8],
+    words: &[&[u8]],
+) -> Result<Option<Command>, NoMemory>
+    ensures command { IfOk result (λ command. command ≡ command_of users.now name.now (map (λ word. word.now) words.now)) }
+{
+    if name == b"do".as_slice() {
+        do_call(alloc, users, words)
+    } else if name == b"serve".as_slice() {
+        Ok(serve(words))
+    } else if name == b"show".as_slice() {
+        Ok(show(users, words))
+    } else if name == b"trace".as_slice() {
+        Ok(trace(users, words))
+    } else {
+        match step(alloc, users, name, words)? {
+            Some(step) => Ok(Some(Command::Take(step))),
+            None => Ok(None),
+        }
+    }
+}

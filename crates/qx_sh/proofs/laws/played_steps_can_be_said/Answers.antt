@@ -1,9 +1,0 @@
-use Rattle.qx_sh.proofs.PlayedSteps.{played_said}
-use Rattle.qx_sh.proofs.ReadScripts.{script_read}
-use Rattle.qx_sh.proofs.laws.played_steps_can_be_said.Goals as goal
-
-pub returns : goal.returns
-returns c = record {
-  configured = λ text config commands good. (script_read text config commands good).configured;
-  said = played_said;
-}

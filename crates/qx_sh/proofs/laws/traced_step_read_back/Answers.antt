@@ -1,5 +1,0 @@
-use Rattle.qx_sh.proofs.ReadBack.{read_back}
-use Rattle.qx_sh.proofs.laws.traced_step_read_back.Goals as goal
-
-pub returns : goal.returns
-returns c = record { read_back = read_back }

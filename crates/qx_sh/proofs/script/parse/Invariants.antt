@@ -1,8 +1,0 @@
-use Rattle.std.proofs.Common.{◌≡◌, ◌+◌, drop, map}
-use Rattle.qx_sh.specs.Script.{script_from, unread}
-use Rattle.qx_sh.specs.Words.{lines_of}
-use Rattle.qx_sh.proofs.script.parse.Given as goal
-
-abbrev pub invariant-lines : goal.invariant-lines
-invariant-lines l =
-    script_from l.reading (l.index + 1) (map (λ line. line.now) (drop l.index l.line-items)) ≡ script_from unread 1 (lines_of l.text)

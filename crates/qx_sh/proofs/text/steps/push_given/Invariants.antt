@@ -1,6 +1,0 @@
-use Rattle.std.proofs.Common.{◌≡◌, ◌++◌, take, filter}
-use Rattle.qx_sh.specs.StepText.{is_given}
-use Rattle.qx_sh.proofs.text.steps.push_given.Given as goal
-
-abbrev pub invariant-letters : goal.invariant-letters
-invariant-letters l = l.text.items ≡ l.initial.text.items ++ filter (is_given l.flags.0) (take l.letter-index l.letters)

@@ -1,6 +1,0 @@
-use Rattle.std.proofs.Common.{◌≡◌, drop}
-use Rattle.qx_sh.specs.Words.{flags_after}
-use Rattle.qx_sh.proofs.words.all_flags.Given as goal
-
-abbrev pub invariant-letters : goal.invariant-letters
-invariant-letters l = flags_after l.flags (drop l.letter-index l.word) ≡ flags_after 0 l.word

@@ -1,0 +1,24 @@
+-- where a process is attached, as connections come and go
+mod AttachedLemmas
+-- a message goes out
+mod KeptLemmas
+-- one process among all users' rows
+mod ProcessLemmas
+-- a message is received
+mod ReceiveLemmas
+-- rows of a table
+mod RowReads
+-- changes that lines and nodes are not told of
+mod SeenLemmas
+-- a call that goes out
+mod SentLemmas
+-- a worker does what it holds
+mod ServeLemmas
+-- the rows of one more user at boot
+mod BootLemmas
+-- a process starts, and boot
+mod StartLemmas
+-- a receive and a perform, case by case
+mod WorkerLemmas
+-- a client's step, by the rows of its user
+mod WorldLemmas

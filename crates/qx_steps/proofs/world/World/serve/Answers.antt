@@ -1,0 +1,5 @@
+use Rattle.qx_steps.proofs.ServeLemmas.{Kept-served}
+use Rattle.qx_steps.proofs.world.World.serve.Goals as goal
+
+pub invariant_of-self-2 : goal.invariant_of-self-2
+invariant_of-self-2 c = rw (c.settle.ensures, c.in_ok-serve.ensures.ok, c.sender.ensures) (Kept-served c.self.inside.parts c.self.inside.channel c.args.held.user.0 c.args.held.item c.self.invariant)

@@ -1,0 +1,24 @@
+use Rattle.std.proofs.Common.{◌≡◌, Ok, sym, rules}
+use Rattle.qx_machine.specs.Rows.{row_at}
+use Rattle.qx_chan.proofs.PresenceLemmas.{lines-process}
+use Rattle.qx_steps.specs.Calls.{spawn_number_in}
+use Rattle.qx_steps.proofs.StartLemmas.{Kept-room, Kept-started, fresh, starts, user_within}
+use Rattle.qx_steps.proofs.world.World.start.Goals as goal
+
+pub add_process-requires-clause-fresh : goal.add_process-requires-clause-fresh
+add_process-requires-clause-fresh c =
+    let number : spawn_number_in c.args.threads c.args.prio.0 (row_at c.self.inside.parts c.args.proc.user.0) ≡ Ok c.args.proc.num = rw (← c.self.view_is) at c.requires in
+    rw c.in_ok-reserve.ensures.ok (fresh c.self.inside.parts c.args.proc c.args.threads c.args.prio.0 (starts c.self.inside.parts c.args.proc c.args.threads c.args.prio.0 number) c.self.inside.channel c.self.invariant)
+
+pub add_process-requires-clause-user : goal.add_process-requires-clause-user
+add_process-requires-clause-user c =
+    let number : spawn_number_in c.args.threads c.args.prio.0 (row_at c.self.inside.parts c.args.proc.user.0) ≡ Ok c.args.proc.num = rw (← c.self.view_is) at c.requires in
+    rw c.in_ok-reserve.ensures.ok (user_within c.self.inside.parts c.args.proc c.args.threads c.args.prio.0 (starts c.self.inside.parts c.args.proc c.args.threads c.args.prio.0 number) c.self.inside.channel c.self.invariant)
+
+pub invariant_of-self-2 : goal.invariant_of-self-2
+invariant_of-self-2 c =
+    let number : spawn_number_in c.args.threads c.args.prio.0 (row_at c.self.inside.parts c.args.proc.user.0) ≡ Ok c.args.proc.num = rw (← c.self.view_is) at c.requires in
+    rw (c.add_process.ensures.added, c.in_ok-reserve.ensures.ok, c.in_ok-spawn.ensures.parts) (Kept-started c.self.inside.parts c.args.proc c.args.threads c.args.prio.0 (starts c.self.inside.parts c.args.proc c.args.threads c.args.prio.0 number) c.in_ok-spawn.ensures.places _ (Kept-room _ _ _ c.self.invariant))
+
+pub returns-clause-ok : goal.returns-clause-ok
+returns-clause-ok c = rw (← c.self.view_is, c.in_ok-spawn.ensures.parts, c.add_process.ensures.added, lines-process c.reserve.new.self c.args.proc c.args.threads, c.in_ok-reserve.ensures.ok)

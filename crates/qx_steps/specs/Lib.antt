@@ -1,0 +1,5 @@
+pub mod Calls
+pub mod Held
+pub mod Kept
+pub mod Reads
+pub mod Workers

@@ -1,0 +1,459 @@
+//! The rows of all users, the managers' lines and what each worker holds, with one call for each step.
+
+ghost use Rattle.std.specs.Prelude.{◌≡◌, ◌<◌, ◌∷◌, ◌↔◌, ◌≢◌, [], None, Some, Err, IfOk, IsOk, IsTrue, IsFalse, OnOk, OnErr, IsErrOf, length, is_some, option_map, replicate, slice_set, unwrap_or, if◌then◌else◌};
+ghost use Rattle.std.specs.Option.{option_copied};
+ghost use Rattle.qx_machine.specs.Clients as clients;
+ghost use Rattle.qx_machine.specs.Laws.{is_refusal};
+ghost use Rattle.qx_machine.specs.Machine as machine;
+ghost use Rattle.qx_machine.specs.Processes as processes;
+ghost use Rattle.qx_machine.specs.Rows.{row_at};
+ghost use Rattle.qx_chan.specs.Channel.{sender_of};
+ghost use Rattle.qx_procs.specs.Reads.{is_thread_blocked, IsPriority};
+ghost use Rattle.qx_parts.specs.Reads.{CanSend, process_of, thread_row};
+ghost use Rattle.qx_steps.specs.Calls.{after_sending, after_start, sent_in, spawn_number_in};
+ghost use Rattle.qx_steps.specs.Held.{hand_wants_memory, held_work, holds_wanting, work_now, IsStale};
+ghost use Rattle.qx_steps.specs.Kept.{IsFree};
+ghost use Rattle.qx_steps.specs.Reads.{is_thread_answered, IsReady};
+ghost use Rattle.qx_steps.specs.Workers.{after_serving};
+
+use crate::servers;
+use crate::work::{PerformFault, Work, WorkRef};
+use qx_chan::Channel;
+use qx_machine::{Held, OwnItem, Queued, Sent, State};
+use qx_parts::{Part, Parts};
+use qx_procs::{Room, places};
+use qx_types::{
+    Bytes, Config, Item, Manager, NoMemory, Outcome, Prio, Proc, Request, Step, Thread, User,
+    Worker,
+};
+use std::alloc::{AllocError, Global};
+use std::marker::Model;
+
+/// The rows of all users, the managers' lines and what each worker holds.
+#[derive(Drop)]
+pub struct World {
+    alloc: Global,
+    config: Config,
+    parts: Parts,
+    channel: Channel,
+    hands: Vec<Option<Held>>,
+}
+
+impl Model for World {
+    ghost use Rattle.qx_machine.specs.Machine as machine;
+    ghost use Rattle.qx_steps.specs.Kept.{Kept};
+
+    ghost Value = { machine.World };
+
+    ghost view = { λ w. record { config = w.config; parts = w.parts; lines = w.channel.lines; hands = w.hands.items } };
+
+    ghost invariant = { λ w. Kept w.parts w.channel };
+}
+
+impl World {
+    /// The system at boot: each user has an empty mount, the lines are empty and the workers idle.
+    #[tactic(auto, unfolding(qx_machine::specs::Machine::boot))]
+    pub fn new(alloc: Global, config: Config) -> Result<Self, AllocError>
+        ensures { IfOk result (λ world. world ≡ machine.boot config) }
+    {
+        let parts = boot_parts(alloc, &config)?;
+        let hands = empty_hands(alloc, config.workers())?;
+        let channel = Channel::new(alloc, config.user_count())?;
+        Ok(World {
+            alloc,
+            config,
+            parts,
+            channel,
+            hands,
+        })
+    }
+
+    /// Starts a process of 1 to 4 ready threads of a priority from 1 to 63 (System Architecture: processes and threads).
+    /// EINVAL for other numbers; EAGAIN where the user has 16 processes; `WrongState` for a user who is not configured. A
+    /// spawn that is refused wants no memory.
+    pub fn spawn(&mut self, user: User, threads: u8, prio: Prio) -> Result<Outcome, AllocError>
+        ensures outcome { IfOk result (λ outcome. outcome ≡ (machine.step self.old (Step.Spawn user threads prio)).outcome) }
+        ensures world { OnOk result (self.new ≡ (machine.step self.old (Step.Spawn user threads prio)).world) }
+        ensures sure { IsTrue (is_refusal (machine.step self.old (Step.Spawn user threads prio)).outcome) → IsOk result }
+        ensures err { OnErr result (self.new ≡ self.old) }
+    {
+        match self.spawn_number(user, threads, prio) {
+            Ok(number) => {
+                self.start(Proc { user, num: number }, threads, prio)?;
+                Ok(Outcome::Spawned(number))
+            }
+            Err(outcome) => Ok(outcome),
+        }
+    }
+
+    /// The number of a process that would start now, or how the spawn is refused.
+    fn spawn_number(&self, user: User, threads: u8, prio: Prio) -> Result<u8, Outcome>
+        ensures { result ≡ spawn_number_in threads prio.0 (row_at self.now.parts user.0) }
+    {
+        match self.parts.part(user) {
+            Some(part) => part.spawn_number(threads, prio),
+            None => Err(Outcome::WrongState),
+        }
+    }
+
+    /// Starts a process under the number that it is to have: the room for its threads' nodes, its rows, then the nodes.
+    fn start(&mut self, proc: Proc, threads: u8, prio: Prio) -> Result<(), AllocError>
+        requires { spawn_number_in threads prio.0 (row_at self.old.parts proc.user.0) ≡ Ok proc.num }
+        ensures ok { OnOk result (self.new ≡ after_start self.old proc.user.0 threads prio.0) }
+        ensures err { OnErr result (self.new ≡ self.old) }
+    {
+        self.channel.reserve(threads)?;
+        self.parts.spawn(proc.user, threads, prio)?;
+        self.channel.add_process(proc, threads, prio);
+        Ok(())
+    }
+
+    /// A thread takes its answer and is ready (C Library Reference: what `MsgSend` returns). `WrongState` where the thread
+    /// is not there or has none.
+    pub fn take_reply(&mut self, thread: Thread) -> Outcome
+        ensures outcome { result ≡ (machine.step self.old (Step.TakeReply thread)).outcome }
+        ensures world { self.new ≡ (machine.step self.old (Step.TakeReply thread)).world }
+    {
+        let Some(part) = self.parts.part_mut(thread.proc.user) else {
+            return Outcome::WrongState;
+        };
+        part.take_reply(thread)
+    }
+
+    /// A thread gets another priority, from 1 to 63; a message that it sent keeps the one that it was sent with (C Library
+    /// Reference: `SchedSet`). `WrongState` where the thread is not there, then EINVAL for another number.
+    pub fn set_prio(&mut self, thread: Thread, prio: Prio) -> Outcome
+        ensures outcome { result ≡ (machine.step self.old (Step.SetPrio thread prio)).outcome }
+        ensures world { self.new ≡ (machine.step self.old (Step.SetPrio thread prio)).world }
+    {
+        let Some(part) = self.parts.part_mut(thread.proc.user) else {
+            return Outcome::WrongState;
+        };
+        part.set_prio(thread, prio)
+    }
+
+    /// A client's request goes as a message into its manager's line, and the thread is blocked (C Library Reference:
+    /// `MsgSend`). `WrongState` where the thread is not there or not ready; then EINVAL for fields out of their ranges,
+    /// EAGAIN where the thread's calls are used up, ENOENT for a path other than the user's own root, EMFILE where no
+    /// connection is free, EAGAIN where the user has all its server connections at the manager, EBADF where there is no
+    /// such connection. A call that is refused wants no memory.
+    pub fn call(&mut self, thread: Thread, request: &Request) -> Result<Outcome, NoMemory>
+        ensures outcome { IfOk result (λ outcome. outcome ≡ (machine.step self.old (Step.Call thread request.now)).outcome) }
+        ensures world { OnOk result (self.new ≡ (machine.step self.old (Step.Call thread request.now)).world) }
+        ensures sure { IsTrue (is_refusal (machine.step self.old (Step.Call thread request.now)).outcome) → IsOk result }
+        ensures err { OnErr result (self.new ≡ self.old) }
+    {
+        match self.judge(thread, request) {
+            Ok(sent) => {
+                self.send(thread, sent)?;
+                Ok(Outcome::Sent)
+            }
+            Err(outcome) => Ok(outcome),
+        }
+    }
+
+    /// What a call sends, or the outcome of one that sends nothing.
+    fn judge(&self, thread: Thread, request: &Request) -> Result<Sent, Outcome>
+        ensures priority { IfOk result (λ sent. IsPriority sent.prio.0) }
+        ensures sent { result ≡ sent_in self.now thread request.now }
+    {
+        let user = thread.proc.user;
+        match self.parts.part(user) {
+            Some(part) => part.judge(name_bytes(self.config.name(user)), thread, request),
+            None => Err(Outcome::WrongState),
+        }
+    }
+
+    /// A message goes into its manager's line, and its thread is blocked.
+    #[tactic(auto, unfolding(qx_machine::specs::Users::settle))]
+    fn send(&mut self, thread: Thread, sent: Sent) -> Result<(), NoMemory>
+        requires sendable { CanSend (thread_row self.old.parts thread) sent.over }
+        requires ready { IsReady (thread_row self.old.parts thread) }
+        requires free { (process : processes.Process) → process_of self.old.parts thread.proc ≡ Some process → IsFree thread.tid sent.over process }
+        requires priority { IsPriority sent.prio.0 }
+        ensures ok { OnOk result (self.new ≡ after_sending self.old thread sent) }
+        ensures err { OnErr result (self.new ≡ self.old) }
+    {
+        let room = Room::new(self.alloc)?;
+        servers::attach(&mut self.channel, thread.proc, sent)?;
+        self.channel.put(sent.manager, thread, sent.prio);
+        self.parts.send(thread, sent, room);
+        Ok(())
+    }
+
+    /// Whether a worker is configured.
+    fn is_worker(&self, worker: Worker) -> bool
+        ensures { result ≡ machine.is_worker self.now.config worker.0 }
+    {
+        1 <= worker.0 && worker.0 <= self.config.workers()
+    }
+
+    /// What a worker holds.
+    fn hand(&self, worker: Worker) -> Option<Held>
+        ensures { result ≡ row_at self.now.hands worker.0 }
+    {
+        places::row(self.hands.as_slice(), worker.0 as usize).copied()
+    }
+
+    /// A worker takes the first item of a line (C Library Reference: `MsgReceive`). `WrongState` where there is no such
+    /// worker, `Busy` where it holds an item, `Idle` on an empty line.
+    #[tactic(auto, using(crate::proofs::WorkerLemmas::receive_steps))]
+    pub fn receive(&mut self, worker: Worker, manager: Manager) -> Outcome
+        ensures outcome { result ≡ (machine.step self.old (Step.Receive worker manager)).outcome }
+        ensures world { self.new ≡ (machine.step self.old (Step.Receive worker manager)).world }
+    {
+        if !self.is_worker(worker) {
+            return Outcome::WrongState;
+        }
+        if self.hand(worker).is_some() {
+            return Outcome::Busy;
+        }
+        let Some(first) = self.channel.take(manager) else {
+            return Outcome::Idle;
+        };
+        hold_in(&mut self.hands, worker, first);
+        self.parts.take(first.user, first.item);
+        Outcome::Took(shown_item(first.user, first.item))
+    }
+
+    /// A worker does what it holds (C Library Reference: `MsgReply`, `MsgError`), at a moment that becomes the times of
+    /// what it changes. `WrongState` where there is no such worker, `Nothing` where it holds nothing.
+    #[tactic(auto, using(crate::proofs::WorkerLemmas::perform_steps))]
+    pub fn perform_held(&mut self, worker: Worker, moment: u64) -> Result<Outcome, NoMemory>
+        ensures outcome { IfOk result (λ outcome. outcome ≡ (machine.step self.old (Step.Perform worker moment)).outcome) }
+        ensures world { OnOk result (self.new ≡ (machine.step self.old (Step.Perform worker moment)).world) }
+        ensures err { OnErr result (self.new ≡ self.old) }
+        ensures sure { IsFalse (holds_wanting self.old worker.0) → IsOk result }
+    {
+        if !self.is_worker(worker) {
+            return Ok(Outcome::WrongState);
+        }
+        let Some(held) = self.hand(worker) else {
+            return Ok(Outcome::Nothing);
+        };
+        self.serve(worker, held)?;
+        Ok(Outcome::Handled)
+    }
+
+    /// Does an item that a worker holds, and empties the hand.
+    #[tactic(auto, unfolding(qx_machine::specs::Users::settle, qx_machine::specs::Users::serve))]
+    fn serve(&mut self, worker: Worker, held: Held) -> Result<(), NoMemory>
+        ensures ok { OnOk result (self.new ≡ after_serving self.old worker.0 held) }
+        ensures err { OnErr result (self.new ≡ self.old) }
+        ensures sure { IsFalse (hand_wants_memory self.old (Some held)) → IsOk result }
+    {
+        self.parts.serve(held.user, held.item)?;
+        servers::settle(&mut self.channel, &self.parts, sender(held).proc);
+        places::free(&mut self.hands, worker.0 as usize);
+        Ok(())
+    }
+
+    /// Does what `perform_held` does, if what the worker holds is the work at hand, else answers `Stale`. For a worker that
+    /// read its item before and comes back with it.
+    pub fn perform(
+        &mut self,
+        worker: Worker,
+        work: &Work,
+        moment: u64,
+    ) -> Result<Outcome, PerformFault>
+        ensures outcome { IfOk result (λ outcome. outcome ≡ (machine.step self.old (Step.Perform worker moment)).outcome) }
+        ensures world { OnOk result (self.new ≡ (machine.step self.old (Step.Perform worker moment)).world) }
+        ensures err { OnErr result (self.new ≡ self.old) }
+        ensures stale { IsErrOf result PerformFault.Stale ↔ IsStale (held_work self.old worker.0) work.now }
+        ensures sure { IsFalse (holds_wanting self.old worker.0) → result ≢ Err PerformFault.NoMemory }
+    {
+        if self.is_stale(worker, work) {
+            return Err(PerformFault::Stale);
+        }
+        Ok(self.perform_held(worker, moment)?)
+    }
+
+    /// Whether something is held that the work is not.
+    pub fn is_stale(&self, worker: Worker, work: &Work) -> bool
+        ensures { IsTrue result ↔ IsStale (held_work self.now worker.0) work.now }
+    {
+        match self.held(worker) {
+            Some(held) => !is_same_work(held, work),
+            None => false,
+        }
+    }
+
+    /// What a worker holds: the content of a message, or a pulse. None where there is no such worker or it holds
+    /// nothing.
+    pub fn held(&self, worker: Worker) -> Option<WorkRef<'_>>
+        ensures { option_map work_now result ≡ held_work self.now worker.0 }
+    {
+        if !self.is_worker(worker) {
+            return None;
+        }
+        let held = self.hand(worker)?;
+        let row = self.parts.thread(sender(held))?;
+        match &row.state {
+            State::Taken(sent) => Some(WorkRef::Message(&sent.message)),
+            _ => None,
+        }
+    }
+
+    /// Whether a worker holds an item. False where there is no such worker.
+    pub fn holds(&self, worker: Worker) -> bool
+        ensures { result ≡ is_some (row_at self.now.hands worker.0) }
+    {
+        self.hand(worker).is_some()
+    }
+
+    /// Whether a thread has an answer that it has not yet taken. False for a thread that is not there.
+    pub fn answered(&self, thread: Thread) -> bool
+        ensures { result ≡ is_thread_answered (thread_row self.now.parts thread) }
+    {
+        match self.parts.thread(thread) {
+            Some(row) => matches!(row.state, State::Answered(_)),
+            None => false,
+        }
+    }
+
+    /// Whether a thread waits for an answer: its message stands in a line, or was received. False for a thread that is
+    /// not there.
+    pub fn blocked(&self, thread: Thread) -> bool
+        ensures { result ≡ is_thread_blocked (thread_row self.now.parts thread) }
+    {
+        match self.parts.thread(thread) {
+            Some(row) => matches!(row.state, State::Queued(_) | State::Taken(_)),
+            None => false,
+        }
+    }
+
+    /// How many items stand in a manager's line.
+    pub fn waiting(&self, manager: Manager) -> usize
+        ensures { result ≡ length (machine.line_of self.now manager) }
+    {
+        self.channel.len(manager)
+    }
+
+    /// The configuration.
+    pub fn config(&self) -> &Config
+        ensures { result.now ≡ self.now.config }
+    {
+        &self.config
+    }
+
+    /// The user by or for whom a step would be taken now: the client's; that of the item that a worker would take or
+    /// do; else nobody.
+    #[tactic(auto, unfolding(qx_machine::specs::Machine::owner))]
+    pub fn owner(&self, step: &Step) -> Option<User>
+        ensures { option_map (λ user. user.0) result ≡ machine.owner self.now step.now }
+    {
+        match step.actor() {
+            Some(actor) => Some(actor.user()),
+            None => self.server_owner(step),
+        }
+    }
+
+    /// The user for whom a worker would take a step.
+    fn server_owner(&self, step: &Step) -> Option<User>
+        ensures { option_map (λ user. user.0) result ≡ machine.server_owner self.now step.now }
+    {
+        match step {
+            Step::Receive { worker, manager } => self.receive_owner(*worker, *manager),
+            Step::Perform { worker, .. } => self.perform_owner(*worker),
+            _ => None,
+        }
+    }
+
+    /// The user of the item that a worker would take.
+    fn receive_owner(&self, worker: Worker, manager: Manager) -> Option<User>
+        ensures { option_map (λ user. user.0) result ≡ (if machine.is_worker self.now.config worker.0 then machine.receive_owner (machine.line_of self.now manager) (row_at self.now.hands worker.0) else None) }
+    {
+        if !self.is_worker(worker) || self.hand(worker).is_some() {
+            return None;
+        }
+        Some(self.channel.first(manager)?.user)
+    }
+
+    /// The user of the item that a worker would do.
+    fn perform_owner(&self, worker: Worker) -> Option<User>
+        ensures { option_map (λ user. user.0) result ≡ (if machine.is_worker self.now.config worker.0 then option_map (λ held. held.user.0) (row_at self.now.hands worker.0) else None) }
+    {
+        if !self.is_worker(worker) {
+            return None;
+        }
+        Some(self.hand(worker)?.user)
+    }
+}
+
+/// Each user's rows at boot.
+#[tactic(auto, using(crate::proofs::BootLemmas::boot_parts_steps))]
+fn boot_parts(alloc: Global, config: &Config) -> Result<Parts, AllocError>
+    ensures { IfOk result (λ parts. parts ≡ None ∷ machine.boot_parts config.now 1 config.now.users) }
+{
+    let mut parts = Parts::new(alloc)?;
+    for number in 0..config.user_count() {
+        parts.push(Part::boot(alloc, User(number as u8 + 1))?)?;
+    }
+    Ok(parts)
+}
+
+/// A hand for each worker, all of them empty.
+fn empty_hands(alloc: Global, workers: u8) -> Result<Vec<Option<Held>>, AllocError>
+    ensures { IfOk result (λ hands. hands.items ≡ None ∷ replicate workers None) }
+{
+    let mut hands = places::empty(alloc)?;
+    for _ in 0..workers {
+        hands.push(None)?;
+    }
+    Ok(hands)
+}
+
+/// An item goes into a worker's hand.
+fn hold_in(hands: &mut Vec<Option<Held>>, worker: Worker, first: Queued)
+    ensures { hands.new.items ≡ slice_set hands.old.items worker.0 (Some (record { user = first.user; item = first.item })) }
+{
+    let held = Held {
+        user: first.user,
+        item: first.item,
+    };
+    places::set(hands, worker.0 as usize, held);
+}
+
+/// The bytes of a user's name.
+fn name_bytes(name: Option<&Bytes>) -> &[u8]
+    ensures { result.now ≡ unwrap_or (option_copied name.entry) [] }
+{
+    match name {
+        Some(name) => name.as_slice(),
+        None => &[],
+    }
+}
+
+/// The thread whose message a worker holds.
+fn sender(held: Held) -> Thread
+    ensures { result ≡ sender_of held.user.0 held.item }
+{
+    let OwnItem::Message { process, thread } = held.item;
+    let proc = Proc {
+        user: held.user,
+        num: process,
+    };
+    Thread { proc, tid: thread }
+}
+
+/// An item as it is shown.
+fn shown_item(user: User, item: OwnItem) -> Item
+    ensures { result ≡ machine.shown_item user.0 item }
+{
+    let OwnItem::Message { process, thread } = item;
+    Item::Message(Thread {
+        proc: Proc { user, num: process },
+        tid: thread,
+    })
+}
+
+/// Whether the work is what is lent.
+fn is_same_work(held: WorkRef<'_>, work: &Work) -> bool
+    ensures { IsTrue result ↔ (work_now held.entry ≡ work.now) }
+{
+    match (held, work) {
+        (WorkRef::Message(message), Work::Message(given)) => message == given,
+        (WorkRef::Pulse, Work::Pulse) => true,
+        (WorkRef::Message(_), Work::Pulse) | (WorkRef::Pulse, Work::Message(_)) => false,
+    }
+}

@@ -1,0 +1,3 @@
+pub mod Kinds
+pub mod Words
+pub mod WordText

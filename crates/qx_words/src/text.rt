@@ -1,0 +1,116 @@
+//! The text of words.
+
+ghost use Rattle.std.specs.Prelude.{◌≡◌, ◌++◌, OnOk, decimal, filter};
+ghost use Rattle.qx_words.specs.WordText.{bytes_text, flags_text, is_given, last_octal_digit, manager_text, mode_text, process_text, thread_text, user_text};
+
+use crate::words::flag;
+use itoa::Buffer;
+use qx_types::{Bytes, Config, Manager, NoMemory, OFlags, Proc, Thread, User};
+use std::alloc::Global;
+
+/// A number in decimal digits.
+pub fn push_number(text: &mut Vec<u8>, number: u64) -> Result<(), NoMemory>
+    ensures ok { OnOk result (text.new.items ≡ text.old.items ++ decimal number) }
+{
+    let mut buffer = Buffer::new();
+    Ok(text.extend_from_slice(buffer.format(number).as_bytes())?)
+}
+
+/// A user's name.
+#[tactic(auto, unfolding(crate::specs::WordText::user_text))]
+pub fn push_user(text: &mut Vec<u8>, config: &Config, user: User) -> Result<(), NoMemory>
+    ensures ok { OnOk result (text.new.items ≡ text.old.items ++ user_text config.now user.0) }
+{
+    match config.name(user) {
+        Some(name) => Ok(text.extend_from_slice(name.as_slice())?),
+        None => Ok(()),
+    }
+}
+
+/// A process, as `ann.1`.
+#[tactic(auto, unfolding(crate::specs::WordText::process_text))]
+pub fn push_process(text: &mut Vec<u8>, config: &Config, process: Proc) -> Result<(), NoMemory>
+    ensures ok { OnOk result (text.new.items ≡ text.old.items ++ process_text config.now process) }
+{
+    push_user(text, config, process.user)?;
+    text.extend_from_slice(b".")?;
+    push_number(text, process.num as u64)
+}
+
+/// A thread, as `ann.1.2`.
+#[tactic(auto, unfolding(crate::specs::WordText::thread_text))]
+pub fn push_thread(text: &mut Vec<u8>, config: &Config, thread: Thread) -> Result<(), NoMemory>
+    ensures ok { OnOk result (text.new.items ≡ text.old.items ++ thread_text config.now thread) }
+{
+    push_process(text, config, thread.proc)?;
+    text.extend_from_slice(b".")?;
+    push_number(text, thread.tid as u64)
+}
+
+/// Hexadecimal digits, or `-` for no bytes.
+#[tactic(auto, unfolding(crate::specs::WordText::bytes_text))]
+pub fn push_bytes(alloc: Global, text: &mut Vec<u8>, bytes: &Bytes) -> Result<(), NoMemory>
+    ensures ok { OnOk result (text.new.items ≡ text.old.items ++ bytes_text bytes.now) }
+{
+    if bytes.is_empty() {
+        return Ok(text.extend_from_slice(b"-")?);
+    }
+    let digits = hex::encode(alloc, bytes.as_slice())?;
+    Ok(text.extend_from_slice(digits.as_bytes())?)
+}
+
+/// A manager.
+pub fn push_manager(text: &mut Vec<u8>, manager: Manager) -> Result<(), NoMemory>
+    ensures ok { OnOk result (text.new.items ≡ text.old.items ++ manager_text manager) }
+{
+    match manager {
+        Manager::Ram => Ok(text.extend_from_slice(b"ram")?),
+        Manager::Pipe => Ok(text.extend_from_slice(b"pipe")?),
+    }
+}
+
+/// The letters of flags.
+#[tactic(auto, unfolding(crate::specs::WordText::flags_text))]
+pub fn push_flags(text: &mut Vec<u8>, flags: OFlags) -> Result<(), NoMemory>
+    ensures ok { OnOk result (text.new.items ≡ text.old.items ++ flags_text flags) }
+{
+    push_given(text, flags, b"rwcxtan")
+}
+
+/// Those of some letters whose flags are given.
+fn push_given(text: &mut Vec<u8>, flags: OFlags, letters: &[u8]) -> Result<(), NoMemory>
+    ensures ok { OnOk result (text.new.items ≡ text.old.items ++ filter (is_given flags.0) letters.now) }
+{
+    'letters: for letter in letters {
+        if is_given(flags, *letter) {
+            text.push(*letter)?;
+        }
+    }
+    Ok(())
+}
+
+/// Whether the flag of a letter is among the flags.
+fn is_given(flags: OFlags, letter: u8) -> bool
+    ensures given { result ≡ is_given flags.0 letter }
+{
+    match flag(letter) {
+        Some(flag) => flags.0 & flag != 0,
+        None => false,
+    }
+}
+
+/// A mode's last three octal digits.
+#[tactic(auto, unfolding(crate::specs::WordText::mode_text))]
+pub fn push_mode(text: &mut Vec<u8>, mode: u16) -> Result<(), NoMemory>
+    ensures ok { OnOk result (text.new.items ≡ text.old.items ++ mode_text mode) }
+{
+    text.push(last_octal_digit(mode / 64))?;
+    text.push(last_octal_digit(mode / 8))?;
+    Ok(text.push(last_octal_digit(mode))?)
+}
+
+fn last_octal_digit(number: u16) -> u8
+    ensures digit { result ≡ last_octal_digit number }
+{
+    b'0' + (number % 8) as u8
+}

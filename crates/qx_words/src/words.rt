@@ -1,0 +1,224 @@
+ghost use Rattle.std.specs.Prelude.{true, ◌≡◌, ◌==◌, ◌<◌, ◌≤◌, IfOk, IfSome, length, map, option_map, position};
+ghost use Rattle.std.specs.Char.{is_ascii_digit};
+ghost use Rattle.std.specs.List.{list_all};
+ghost use Rattle.qx_types.specs.Configuration.{is_user_name};
+ghost use Rattle.qx_words.specs.Words.{byte_of, flag_of, flags_after, flags_of, is_numeral, lines_of, manager_of, mode_of, moment_of, name_of, number_of, octal_of, around_dot, thread_of, with_flag, words_of};
+
+use crate::users::Users;
+use qx_types::{Config, Manager, OFlags, Proc, Thread};
+use std::alloc::{AllocError, Global};
+
+/// The lines of a text.
+pub fn lines(alloc: Global, text: &[u8]) -> Result<Vec<&[u8]>, AllocError>
+    ensures lines { IfOk result (λ lines. map (λ line. line.now) lines.items ≡ lines_of text.now) }
+{
+    text.split(|byte| *byte == b'\n').collect(alloc)
+}
+
+/// The words of a line.
+pub fn words(alloc: Global, line: &[u8]) -> Result<Vec<&[u8]>, AllocError>
+    ensures words { IfOk result (λ words. map (λ word. word.now) words.items ≡ words_of line.now) }
+{
+    line.split(|byte| *byte == b' ')
+        .filter(|word| !word.is_empty())
+        .collect(alloc)
+}
+
+/// Whether there are only digits.
+fn are_digits(word: &[u8]) -> bool
+    ensures digits { result ≡ list_all is_ascii_digit word.now }
+{
+    word.iter().all(|byte| byte.is_ascii_digit())
+}
+
+/// Whether a word is a number in digits without leading zeros.
+fn is_numeral(word: &[u8]) -> bool
+    ensures numeral { result ≡ is_numeral word.now }
+{
+    are_digits(word)
+        && match word {
+            [] => false,
+            [_] => true,
+            [first, ..] => *first != b'0',
+        }
+}
+
+/// A number that is at most the greatest one.
+#[tactic(auto, unfolding(crate::specs::Words::number_of))]
+fn number(word: &[u8], greatest: u64) -> Option<u64>
+    ensures number { result ≡ number_of greatest word.now }
+    ensures bound { IfSome result (λ number. number ≤ greatest) }
+{
+    if is_numeral(word) {
+        parsed(numeral_text(word), greatest)
+    } else {
+        None
+    }
+}
+
+/// The text of a word of digits.
+#[tactic(auto, using(crate::proofs::Numbers::numeral_is_text))]
+fn numeral_text(word: &[u8]) -> &str
+    requires numeral { is_numeral word.now ≡ true }
+    ensures same { result.now ≡ word.now }
+{
+    match std::str::from_utf8(word) {
+        Ok(text) => text,
+        Err(_) => unreachable!(),
+    }
+}
+
+/// The number that a text of digits names, where it is at most the greatest one.
+#[tactic(auto, unfolding(crate::specs::Words::number_of))]
+fn parsed(text: &str, greatest: u64) -> Option<u64>
+    requires numeral { is_numeral text.now ≡ true }
+    ensures number { result ≡ number_of greatest text.now }
+    ensures bound { IfSome result (λ number. number ≤ greatest) }
+{
+    match text.parse::<u64>() {
+        Ok(number) if number <= greatest => Some(number),
+        Ok(_) => None,
+        Err(_) => None,
+    }
+}
+
+/// A number of one byte.
+pub fn byte(word: &[u8]) -> Option<u8>
+    ensures byte { result ≡ byte_of word.now }
+{
+    let number = number(word, 255)?;
+    Some(number as u8)
+}
+
+/// A name that a user may have.
+pub fn name(word: &[u8]) -> Option<&[u8]>
+    ensures name { option_map (λ name. name.now) result ≡ name_of word.now }
+    ensures good { IfSome result (λ name. is_user_name name.now ≡ true) }
+{
+    if Config::is_user_name(word) {
+        Some(word)
+    } else {
+        None
+    }
+}
+
+/// A moment.
+pub fn moment(word: &[u8]) -> Option<u64>
+    ensures moment { result ≡ moment_of word.now }
+{
+    number(word, u64::MAX)
+}
+
+/// The place of the first dot.
+fn place_of_dot(word: &[u8]) -> Option<usize>
+    ensures first { result ≡ position (λ byte. byte == 46) word.now }
+    ensures within { IfSome result (λ place. place < length word.now) }
+{
+    word.iter().position(|byte| *byte == b'.')
+}
+
+/// What stands before and after the first dot.
+#[tactic(auto, unfolding(crate::specs::Words::around_dot))]
+fn around_dot(word: &[u8]) -> Option<(&[u8], &[u8])>
+    ensures parts { option_map (λ parts. (parts.0.now, parts.1.now)) result ≡ around_dot word.now }
+{
+    let place = place_of_dot(word)?;
+    Some((&word[..place], &word[place + 1..]))
+}
+
+/// A thread, as `ann.1.2`.
+#[tactic(auto, unfolding(crate::specs::Words::thread_of))]
+pub fn thread(users: &Users, word: &[u8]) -> Option<Thread>
+    ensures thread { result ≡ thread_of users.now word.now }
+{
+    let (user, numbers) = around_dot(word)?;
+    let user = users.find(user)?;
+    let (process, thread) = around_dot(numbers)?;
+    let num = byte(process)?;
+    let tid = byte(thread)?;
+    Some(Thread {
+        proc: Proc { user, num },
+        tid,
+    })
+}
+
+/// The flag that a letter names.
+pub fn flag(letter: u8) -> Option<u16>
+    ensures flag { result ≡ flag_of letter }
+{
+    match letter {
+        b'r' => Some(1),
+        b'w' => Some(2),
+        b'c' => Some(4),
+        b'x' => Some(8),
+        b't' => Some(16),
+        b'a' => Some(32),
+        b'n' => Some(64),
+        _ => None,
+    }
+}
+
+/// An octal digit.
+fn octal(byte: u8) -> Option<u16>
+    ensures octal { result ≡ octal_of byte }
+{
+    match byte {
+        b'0'..=b'7' => Some((byte - b'0') as u16),
+        _ => None,
+    }
+}
+
+/// The flags that letters name.
+#[tactic(auto, unfolding(crate::specs::Words::flags_of))]
+pub fn flags(word: &[u8]) -> Option<OFlags>
+    ensures flags { result ≡ flags_of word.now }
+{
+    if word.is_empty() {
+        return None;
+    }
+    let flags = all_flags(word)?;
+    Some(OFlags(flags))
+}
+
+/// The flags of letters, each at most once.
+fn all_flags(word: &[u8]) -> Option<u16>
+    ensures flags { result ≡ flags_after 0 word.now }
+{
+    let mut flags = 0;
+    'letters: for letter in word {
+        let flag = flag(*letter)?;
+        if flags & flag != 0 {
+            return None;
+        }
+        flags |= flag;
+    }
+    Some(flags)
+}
+
+/// A mode of three octal digits.
+#[tactic(auto, unfolding(crate::specs::Words::mode_of))]
+pub fn mode(word: &[u8]) -> Option<u16>
+    ensures mode { result ≡ mode_of word.now }
+{
+    let [high, middle, low] = word else {
+        return None;
+    };
+    let high = octal(*high)?;
+    let middle = octal(*middle)?;
+    let low = octal(*low)?;
+    Some(high * 64 + middle * 8 + low)
+}
+
+/// A manager.
+#[tactic(auto, unfolding(crate::specs::Words::manager_of))]
+pub fn manager(word: &[u8]) -> Option<Manager>
+    ensures manager { result ≡ manager_of word.now }
+{
+    if word == b"ram".as_slice() {
+        Some(Manager::Ram)
+    } else if word == b"pipe".as_slice() {
+        Some(Manager::Pipe)
+    } else {
+        None
+    }
+}
