@@ -9,6 +9,8 @@ use Rattle.qx_types.specs.declared.names.Manager.TheVariants.{Ram}
 use Rattle.qx_types.specs.declared.outcome.Answer.TheVariants.{Reply, Failed}
 use Rattle.qx_types.specs.declared.outcome.Outcome.{Outcome}
 use Rattle.qx_types.specs.declared.outcome.Outcome.TheVariants.{WrongState}
+use Rattle.qx_machine.specs.declared.rows.Attribute.{Attribute}
+use Rattle.qx_machine.specs.declared.rows.Block.{Block}
 use Rattle.qx_machine.specs.declared.rows.Connection.{Connection}
 use Rattle.qx_machine.specs.declared.rows.Message.{Message}
 use Rattle.qx_machine.specs.declared.rows.Message.TheVariants.{Open, Close, Fstat}
@@ -79,17 +81,34 @@ close_deed part process sent = do
     part = with_process process (without_connection opened.coid.0) (record part { blocks = slice_set part.blocks opened.number None });
   })
 
+-- what a message over an open connection does, which changes no process
+pub record Use : Type 0 where
+  pub status : ℕ
+  pub bytes : List ℕ
+  pub root : Attribute
+  pub blocks : List (Option Block)
+
 -- an fstat tells the status of what is open (C Library Reference: fstat)
-abbrev pub fstat_deed : Part → ℕ → Sent → Result Deed Errno
-fstat_deed part process sent = do
+abbrev pub fstat_use : Part → Opened → Result Use Errno
+fstat_use part opened = Ok (record { status = 0; bytes = stat_bytes opened.block.inode part.root; root = part.root; blocks = part.blocks })
+
+-- the RAM manager's functions for such messages
+abbrev pub use_of : Message → Option (Part → Opened → Result Use Errno)
+use_of Fstat = Some fstat_use
+use_of _ = None
+
+abbrev pub used_deed : Part → ℕ → Sent → Message → Result Deed Errno
+used_deed part process sent message = do
+  function ← found (use_of message) ENOSYS
   opened ← opened_by part process sent
-  Ok (record { status = 0; bytes = stat_bytes opened.block.inode part.root; part = part })
+  given ← function part opened
+  Ok (record { status = given.status; bytes = given.bytes; part = record part { root = given.root; blocks = given.blocks } })
 
 -- what the RAM manager does with a message of a process
 abbrev pub deed_of : Part → ℕ → Sent → Message → Result Deed Errno
 deed_of part process sent (Open flags mode) = open_deed part process sent
 deed_of part process sent Close = close_deed part process sent
-deed_of part process sent Fstat = fstat_deed part process sent
+deed_of part process sent message = used_deed part process sent message
 
 -- no other manager has functions yet (Writing a Resource Manager: ENOSYS where there is no function)
 abbrev pub deed_at : Part → ℕ → Sent → Manager → Result Deed Errno

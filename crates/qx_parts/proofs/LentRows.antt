@@ -5,9 +5,9 @@ use Rattle.qx_machine.specs.declared.rows.ThreadRow.{ThreadRow}
 use Rattle.qx_machine.specs.Parts.{Part, thread_at, thread_of, with_process}
 use Rattle.qx_machine.specs.Processes.{Process, with_thread}
 use Rattle.qx_machine.specs.Rows.{row_at}
-use Rattle.qx_procs.specs.Lends.{put_thread}
+use Rattle.qx_process.specs.Lends.{put_thread}
 use Rattle.qx_procs.proofs.LendLemmas.{put_thread_same}
-use Rattle.qx_procs.proofs.RowLemmas.{with_row-none, set-row}
+use Rattle.qx_process.proofs.RowLemmas.{with_row-none, set-row}
 
 -- a row that a refused call put back
 pub put_back : {A R E : Type 0} (xs : List (Option A)) (n : ℕ) (x y : A) (r : Result R E) → Some x ≡ row_at xs n → OnErr r (y ≡ x) → OnErr r (slice_set xs n (Some y) ≡ xs)

@@ -3,7 +3,7 @@ use Rattle.std.specs.Prelude.{ℕ, List, Option, Some, slice_set}
 use Rattle.std.specs.Borrow.{LendsIf, Fml, MutBor}
 use Rattle.qx_machine.specs.Parts.{Part}
 use Rattle.qx_machine.specs.Processes.{Process}
-use Rattle.qx_procs.specs.contracts.process.Process as process
+use Rattle.qx_process.specs.contracts.process.Process as process
 use Rattle.qx_parts.specs.contracts.part.Part as part
 use Rattle.qx_parts.specs.contracts.parts.Parts as parts
 

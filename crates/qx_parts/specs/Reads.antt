@@ -7,7 +7,7 @@ use Rattle.qx_machine.specs.declared.rows.ThreadRow.{ThreadRow}
 use Rattle.qx_machine.specs.Parts.{Part, thread_of}
 use Rattle.qx_machine.specs.Processes.{Process}
 use Rattle.qx_machine.specs.Rows.{row_at}
-use Rattle.qx_procs.specs.Reads.{CanCall, HasNumber}
+use Rattle.qx_process.specs.Reads.{CanCall, HasNumber}
 
 abbrev pub process_in : ℕ → Option Part → Option Process
 process_in number None = None

@@ -4,11 +4,12 @@ ghost use Rattle.std.specs.Prelude.{◌≡◌, ◌∷◌, IfOk};
 ghost use Rattle.std.specs.Str.{bytes_eq};
 ghost use Rattle.qx_machine.specs.Calls as calls;
 ghost use Rattle.qx_machine.specs.Rows.{row_at};
-ghost use Rattle.qx_procs.specs.Reads.{IsPriority};
+ghost use Rattle.qx_process.specs.Reads.{IsPriority};
 ghost use Rattle.qx_machine.specs.Calls.{address, in_ranges, message_of, target_at, target_over};
 
 use qx_machine::{Message, Over, Sent, State, Target, ThreadRow};
-use qx_procs::{Process, Processes};
+use qx_process::Process;
+use qx_procs::Processes;
 use qx_types::{Coid, Errno, Limits, Manager, OFlags, Outcome, Request};
 
 /// What a thread's call sends, or the outcome of one that sends nothing.

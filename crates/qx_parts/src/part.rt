@@ -7,12 +7,13 @@ ghost use Rattle.qx_types.specs.Configuration.{Configuration};
 ghost use Rattle.qx_machine.specs.Clients as clients;
 ghost use Rattle.qx_machine.specs.Clients.{or_unchanged};
 ghost use Rattle.qx_machine.specs.Parts.{thread_at, with_process};
-ghost use Rattle.qx_machine.specs.Performing.{after_answer, close_deed, deed_at, fstat_deed, open_deed};
+ghost use Rattle.qx_machine.specs.Performing.{after_answer, close_deed, deed_at, open_deed, used_deed};
 ghost use Rattle.qx_machine.specs.Performing as performing;
+ghost use Rattle.qx_machine.specs.declared.rows.Message.TheVariants.{Fstat};
 ghost use Rattle.qx_machine.specs.Processes.{with_queued};
 ghost use Rattle.qx_machine.specs.Rows.{row_at};
 ghost use Rattle.qx_machine.specs.Users as users;
-ghost use Rattle.qx_procs.specs.Reads.{is_thread_blocked, IsPriority};
+ghost use Rattle.qx_process.specs.Reads.{is_thread_blocked, IsPriority};
 ghost use Rattle.qx_parts.specs.Deeds.{deed_with, served_part, taken_of, wants_memory, wants_memory_item};
 ghost use Rattle.qx_parts.specs.Reads.{CanSend};
 
@@ -22,7 +23,8 @@ use arrayvec::ArrayVec;
 use qx_machine::{
     Attribute, Block, Connection, Kind, Message, Opened, Over, OwnItem, Sent, State, ThreadRow,
 };
-use qx_procs::{Process, Processes, Room, places};
+use qx_process::{Process, Room, places};
+use qx_procs::Processes;
 use qx_types::{Answer, Coid, Errno, Limits, Manager, Outcome, Prio, Request, Thread, User};
 use std::alloc::{AllocError, Global};
 use std::marker::Model;
@@ -256,7 +258,7 @@ impl Part {
 
     /// Tells the status of what is open (C Library Reference: `fstat`).
     fn fstat(&self, process: u8, sent: Sent) -> Result<Reply, Errno>
-        ensures { deed_with self.now result ≡ fstat_deed self.now process sent }
+        ensures { deed_with self.now result ≡ used_deed self.now process sent Fstat }
     {
         let opened = self.opened_by(process, sent)?;
         Ok(Reply {

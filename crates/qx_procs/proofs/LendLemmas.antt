@@ -5,8 +5,8 @@ use Rattle.qx_machine.specs.declared.rows.ThreadRow.{ThreadRow}
 use Rattle.qx_machine.specs.Parts.{thread_of}
 use Rattle.qx_machine.specs.Processes.{Process}
 use Rattle.qx_machine.specs.Rows.{row_at, with_row}
-use Rattle.qx_procs.proofs.RowLemmas.{set-row, with_row-none}
-use Rattle.qx_procs.specs.Lends.{put_thread}
+use Rattle.qx_process.proofs.RowLemmas.{set-row, with_row-none}
+use Rattle.qx_process.specs.Lends.{put_thread}
 
 -- a thread's row that is put back changes nothing
 pub put_thread_same : (rows : List (Option Process)) (number thread : ℕ) (row : ThreadRow) → thread_of thread (row_at rows number) ≡ Some row → with_row rows number (put_thread thread row) ≡ rows

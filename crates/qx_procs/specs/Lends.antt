@@ -4,16 +4,10 @@ use Rattle.std.specs.Borrow.{LendsIf, Fml, MutBor}
 use Rattle.qx_machine.specs.declared.rows.ThreadRow.{ThreadRow}
 use Rattle.qx_machine.specs.Processes.{Process}
 use Rattle.qx_machine.specs.Rows.{with_row}
-use Rattle.qx_procs.specs.contracts.process.Process as process
+use Rattle.qx_process.specs.contracts.process.Process as process
+use Rattle.qx_process.specs.contracts.thread.ThreadCell as cell
+use Rattle.qx_process.specs.Lends.{put_thread}
 use Rattle.qx_procs.specs.contracts.processes.Processes as processes
-use Rattle.qx_procs.specs.contracts.thread.ThreadCell as cell
-
--- the process with another row of a thread that is there
-abbrev pub put_thread : ℕ → ThreadRow → Process → Process
-put_thread thread row process = record process { threads = slice_set process.threads thread (Some row) }
-
-abbrev pub lends_thread : MutBor Process → ℕ → Option (MutBor ThreadRow) → Fml
-lends_thread lender thread r = LendsIf process.the_row cell.the_row lender r (λ row. put_thread thread row lender.now) lender.now
 
 abbrev pub lends_process : MutBor (List (Option Process)) → ℕ → Option (MutBor Process) → Fml
 lends_process lender number r = LendsIf processes.the_row process.the_row lender r (λ row. slice_set lender.now number (Some row)) lender.now

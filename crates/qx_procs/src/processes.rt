@@ -11,12 +11,10 @@ ghost use Rattle.qx_machine.specs.Rows.{row_at, with_row};
 ghost use Rattle.qx_procs.specs.Calls.{spawn_outcome, spawned, done_or, after_or, with_prio, new_coid, with_new_side};
 ghost use Rattle.qx_machine.specs.Parts.{thread_of};
 ghost use Rattle.qx_machine.specs.Performing.{connection_of};
-ghost use Rattle.qx_procs.specs.Reads.{IsPriority};
+ghost use Rattle.qx_process.specs.Reads.{IsPriority};
 
-use crate::places;
-use crate::process::Process;
-use crate::thread::ThreadCell;
 use qx_machine::{Connection, ThreadRow};
+use qx_process::{Process, ThreadCell, places};
 use qx_types::{Coid, Errno, Limits, Manager, Outcome, Prio};
 use std::alloc::{AllocError, Global};
 use std::marker::Model;

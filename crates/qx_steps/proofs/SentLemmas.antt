@@ -25,7 +25,7 @@ use Rattle.qx_machine.specs.Parts.{Part}
 use Rattle.qx_machine.specs.Processes.{Process}
 use Rattle.qx_machine.specs.Rows.{row_at, lowest_from}
 use Rattle.qx_machine.proofs.Places.{lowest_from_free}
-use Rattle.qx_procs.specs.Reads.{HasNumber}
+use Rattle.qx_process.specs.Reads.{HasNumber}
 use Rattle.qx_parts.specs.Reads.{CanSend, process_of, thread_row}
 use Rattle.qx_steps.specs.Calls.{sent_in}
 use Rattle.qx_steps.specs.Kept.{IsFree}

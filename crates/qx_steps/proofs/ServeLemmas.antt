@@ -15,14 +15,14 @@ use Rattle.qx_types.specs.declared.outcome.Answer.TheVariants.{Reply, Failed}
 use Rattle.qx_machine.specs.declared.rows.OwnItem.{OwnItem}
 use Rattle.qx_machine.specs.declared.rows.OwnItem.TheVariants as item
 use Rattle.qx_machine.specs.declared.rows.Message.{Message}
-use Rattle.qx_machine.specs.declared.rows.Message.TheVariants.{Open, Close, Fstat}
+use Rattle.qx_machine.specs.declared.rows.Message.TheVariants.{Open, Close}
 use Rattle.qx_machine.specs.declared.rows.Sent.{Sent}
 use Rattle.qx_machine.specs.declared.rows.State.{State}
 use Rattle.qx_machine.specs.declared.rows.State.TheVariants.{Ready, Queued, Taken, Answered}
 use Rattle.qx_machine.specs.declared.rows.ThreadRow.{ThreadRow}
 use Rattle.qx_machine.specs.Lines.{line_at}
 use Rattle.qx_machine.specs.Parts.{Part, thread_at, thread_of, with_process}
-use Rattle.qx_machine.specs.Performing.{Deed, after_answer, close_deed, deed_at, deed_of, fstat_deed, new_coid, open_deed, opened_by, taken_in}
+use Rattle.qx_machine.specs.Performing.{Deed, after_answer, close_deed, deed_at, deed_of, new_coid, open_deed, opened_by, taken_in, use_of, used_deed}
 use Rattle.qx_machine.specs.Processes.{Process, answered_thread, without_connection, after_error, after_reply, with_block, with_thread}
 use Rattle.qx_machine.specs.Rows.{row_at, lowest_from, with_row}
 use Rattle.qx_machine.specs.Servers.{is_numbered}
@@ -99,16 +99,22 @@ close_fewer part process sent = elim (result_cases (opened_by part process sent)
   | inl opened ↦ rw opened.1 (fewer_with part.processes process (without_connection opened.0.coid.0) (λ x is t. refl) (λ x is t k. refl) (λ x k is. fewer-detached opened.0.coid.0 x k is))
 ]
 
-fstat_fewer : (part : Part) (process : ℕ) (sent : Sent) → Fewer (deed_part part (fstat_deed part process sent)).processes part.processes process
-fstat_fewer part process sent = elim (result_cases (opened_by part process sent)) [
-  | inr error ↦ rw error.1 (fewer_none part.processes process)
-  | inl opened ↦ rw opened.1 (fewer_none part.processes process)
+used_fewer : (part : Part) (process : ℕ) (sent : Sent) (message : Message) → Fewer (deed_part part (used_deed part process sent message)).processes part.processes process
+used_fewer part process sent message = elim (option_cases (use_of message)) [
+  | inl none ↦ rw none (fewer_none part.processes process)
+  | inr function ↦ elim (result_cases (opened_by part process sent)) [
+    | inr error ↦ rw (function.1, error.1) (fewer_none part.processes process)
+    | inl opened ↦ elim (result_cases (function.0 part opened.0)) [
+      | inr error ↦ rw (function.1, opened.1, error.1) (fewer_none part.processes process)
+      | inl given ↦ rw (function.1, opened.1, given.1) (fewer_none part.processes process)
+    ]
+  ]
 ]
 
 deed_fewer : (part : Part) (process : ℕ) (sent : Sent) (message : Message) → Fewer (deed_part part (deed_of part process sent message)).processes part.processes process
 deed_fewer part process sent (Open flags mode) = open_fewer part process sent
 deed_fewer part process sent Close = close_fewer part process sent
-deed_fewer part process sent Fstat = fstat_fewer part process sent
+deed_fewer part process sent message = used_fewer part process sent message
 
 at_fewer : (part : Part) (process : ℕ) (sent : Sent) (manager : Manager) → Fewer (deed_part part (deed_at part process sent manager)).processes part.processes process
 at_fewer part process sent Ram = deed_fewer part process sent sent.message

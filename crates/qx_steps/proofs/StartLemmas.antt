@@ -27,7 +27,7 @@ use Rattle.qx_machine.proofs.Places.{lowest_from_free}
 use Rattle.qx_chan.specs.Channel.{Channel, has_server, has_thread, is_thread_of, no_channel, stands, thread_cmp, server_cmp, with_process}
 use Rattle.qx_chan.proofs.PresenceLemmas.{has-process, lines-process, servers-process, users-process}
 use Rattle.qx_parts.specs.Reads.{HasPlace, process_in, process_of, thread_row}
-use Rattle.qx_procs.proofs.RowLemmas.{row_at-get_or}
+use Rattle.qx_process.proofs.RowLemmas.{row_at-get_or}
 use Rattle.qx_steps.specs.Calls.{spawn_number_in}
 use Rattle.qx_steps.specs.Kept.{Kept, attached_at, stands_at}
 use Rattle.qx_chan.proofs.EntryLemmas.{or_false}

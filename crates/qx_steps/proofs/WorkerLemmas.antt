@@ -12,7 +12,7 @@ use Rattle.qx_machine.specs.Machine.{World, step, is_worker, line_of, with_taken
 use Rattle.qx_machine.specs.Rows.{row_at}
 use Rattle.qx_machine.specs.Parts.{Part}
 use Rattle.qx_machine.specs.Users.{take, serve, settle}
-use Rattle.qx_procs.proofs.RowLemmas.{with_row-none}
+use Rattle.qx_process.proofs.RowLemmas.{with_row-none}
 use Rattle.qx_parts.specs.Deeds.{served_part}
 use Rattle.qx_steps.specs.Workers.{after_holding, after_serving}
 

@@ -15,7 +15,7 @@ use Rattle.qx_machine.specs.Machine.{World, step, client_end, client_step}
 use Rattle.qx_machine.specs.Parts.{Part, Change, thread_at}
 use Rattle.qx_machine.specs.Rows.{row_at, with_row}
 use Rattle.qx_machine.specs.Users.{client, settle}
-use Rattle.qx_procs.proofs.RowLemmas.{set-row}
+use Rattle.qx_process.proofs.RowLemmas.{set-row}
 use Rattle.qx_steps.specs.Calls.{after_sending, after_start, sent_from, sent_in, spawn_number_in}
 use Rattle.qx_steps.proofs.RowReads.{option_cases}
 

@@ -8,7 +8,7 @@ ghost use Rattle.qx_machine.specs.Machine as machine;
 ghost use Rattle.qx_machine.specs.Processes as processes;
 ghost use Rattle.qx_machine.specs.Rows.{row_at};
 ghost use Rattle.qx_chan.specs.Channel.{sender_of};
-ghost use Rattle.qx_procs.specs.Reads.{is_thread_blocked, IsPriority};
+ghost use Rattle.qx_process.specs.Reads.{is_thread_blocked, IsPriority};
 ghost use Rattle.qx_parts.specs.Reads.{CanSend, process_of, thread_row};
 ghost use Rattle.qx_steps.specs.Calls.{after_sending, after_start, sent_in, spawn_number_in};
 ghost use Rattle.qx_steps.specs.Held.{hand_wants_memory, held_work, holds_wanting, work_now, IsStale};
@@ -21,7 +21,7 @@ use crate::work::{PerformFault, Work, WorkRef};
 use qx_chan::Channel;
 use qx_machine::{Held, OwnItem, Queued, Sent, State};
 use qx_parts::{Part, Parts};
-use qx_procs::{Room, places};
+use qx_process::{Room, places};
 use qx_types::{
     Bytes, Config, Item, Manager, NoMemory, Outcome, Prio, Proc, Request, Step, Thread, User,
     Worker,

@@ -4,9 +4,9 @@ ghost use Rattle.std.specs.Option.{option_copied};
 ghost use Rattle.qx_types.specs.declared.limits.TheConstants.Limits.{USERS, WORKERS};
 ghost use Rattle.qx_types.specs.Configuration.{is_letter_or_digit, is_user_name, name_of, IsConfiguration};
 
-use crate::bytes::Bytes;
 use crate::limits::Limits;
 use crate::names::User;
+use qx_bytes::Bytes;
 use std::alloc::AllocError;
 use std::marker::Model;
 

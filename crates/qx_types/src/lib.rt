@@ -1,7 +1,6 @@
 //! The names, requests, steps and outcomes that every other crate speaks of.
 #![tactic(auto)]
 
-pub mod bytes;
 pub mod config;
 pub mod errno;
 pub mod flags;
@@ -11,7 +10,6 @@ pub mod nodes;
 pub mod outcome;
 pub mod step;
 
-pub use bytes::Bytes;
 pub use config::Config;
 pub use errno::{Errno, NoMemory};
 pub use flags::{Conds, OFlags};
@@ -19,4 +17,5 @@ pub use limits::Limits;
 pub use names::{Actor, Coid, Item, Manager, Prio, Proc, Thread, User, Worker};
 pub use nodes::{Ranked, Waiter};
 pub use outcome::{Answer, Outcome};
+pub use qx_bytes::Bytes;
 pub use step::{Request, Step};

@@ -1,8 +1,8 @@
 ghost use Rattle.std.specs.Prelude.{◌≡◌};
 
-use crate::bytes::Bytes;
 use crate::errno::Errno;
 use crate::names::Item;
+use qx_bytes::Bytes;
 use std::alloc::AllocError;
 
 /// What a server answers to a message (C Library Reference: `MsgReply`, `MsgError`).

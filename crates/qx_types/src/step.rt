@@ -1,9 +1,9 @@
 ghost use Rattle.std.specs.Prelude.{◌≡◌};
 ghost use Rattle.qx_types.specs.Step.{actor_of, is_client_step};
 
-use crate::bytes::Bytes;
 use crate::flags::OFlags;
 use crate::names::{Actor, Coid, Manager, Prio, Thread, User, Worker};
+use qx_bytes::Bytes;
 use std::alloc::AllocError;
 
 /// What a client asks of a resource manager.

@@ -9,7 +9,7 @@ use std::fs::File;
 use std::io;
 
 /// The names of the scripts, in the order in which they are run.
-const SCRIPTS: [&str; 27] = [
+const SCRIPTS: [&str; 40] = [
     "empty",
     "first_path",
     "bad_line",
@@ -37,6 +37,19 @@ const SCRIPTS: [&str; 27] = [
     "refused_do",
     "three_users",
     "changed_priority",
+    "spaces_alone",
+    "comment_after_a_space",
+    "user_twice",
+    "workers_twice",
+    "user_after_a_step",
+    "leading_zero",
+    "number_256",
+    "flag_twice",
+    "mode_008",
+    "moment_too_great",
+    "traced_order",
+    "kept_priorities",
+    "traced_lines",
 ];
 
 fn main(rt: HostRuntime) -> io::Result<()> {

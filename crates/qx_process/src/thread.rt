@@ -1,0 +1,120 @@
+ghost use Rattle.std.specs.Prelude.{◌≡◌, ◌≤◌, ◌<◌, length, IsTrue, MatchOption};
+ghost use Rattle.qx_types.specs.declared.limits.TheConstants.Limits.{CALLS};
+ghost use Rattle.qx_machine.specs.Clients.{answer_in};
+ghost use Rattle.qx_machine.specs.Processes.{new_thread, queued_thread, taken_thread, answered_thread, ready_thread, ranked_thread};
+ghost use Rattle.qx_process.specs.declared.room.TheConstants.{REPLY_BYTES};
+ghost use Rattle.qx_process.specs.Reads.{is_blocked, IsPriority};
+
+use crate::room::Room;
+use qx_machine::{Sent, State, ThreadRow};
+use qx_types::{Answer, Errno, Prio};
+use std::marker::Model;
+use std::mem;
+
+/// A thread, with the room for its reply while it is blocked.
+#[derive(Drop)]
+pub struct ThreadCell {
+    row: ThreadRow,
+    room: Option<Room>,
+}
+
+impl Model for ThreadCell {
+    ghost use Rattle.std.specs.Prelude.{IsTrue, IsSome};
+    ghost use Rattle.qx_machine.specs.declared.rows.ThreadRow.{ThreadRow};
+    ghost use Rattle.qx_process.specs.Reads.{is_blocked, IsPriority};
+
+    ghost Value = { ThreadRow };
+
+    ghost view = { λ c. c.row };
+
+    ghost invariant = { λ c. (IsTrue (is_blocked c.row.state) → IsSome c.room) × IsPriority c.row.prio.0 };
+}
+
+impl ThreadCell {
+    /// A ready thread of a priority, which has made no call.
+    pub fn new(prio: Prio) -> Self
+        requires priority { IsPriority prio.0 }
+        ensures row { result ≡ new_thread prio.0 }
+    {
+        let row = ThreadRow {
+            state: State::Ready,
+            prio,
+            calls: 0,
+        };
+        ThreadCell { row, room: None }
+    }
+
+    /// The thread's row.
+    pub fn row(&self) -> &ThreadRow
+        ensures row { result.now ≡ self.now }
+        ensures priority { IsPriority result.now.prio.0 }
+    {
+        &self.row
+    }
+
+    /// The thread has sent a message, and is blocked until it is answered; the room is for the reply (C Library Reference:
+    /// `MsgSend`).
+    pub fn send(&mut self, sent: Sent, room: Room)
+        requires countable { self.old.calls < CALLS }
+        ensures row { self.new ≡ queued_thread sent self.old }
+    {
+        self.row.state = State::Queued(sent);
+        self.row.calls += 1;
+        self.room = Some(room);
+    }
+
+    /// The thread's message is received (C Library Reference: `MsgReceive`).
+    pub fn take(&mut self)
+        ensures row { self.new ≡ taken_thread self.old }
+    {
+        if let State::Queued(sent) = self.row.state {
+            self.row.state = State::Taken(sent);
+        }
+    }
+
+    /// The thread gets a reply (C Library Reference: `MsgReply`).
+    pub fn reply(&mut self, status: u64, bytes: &[u8])
+        requires blocked { IsTrue (is_blocked self.old.state) }
+        requires fits { length bytes.now ≤ REPLY_BYTES }
+        ensures row { self.new ≡ answered_thread (Answer.Reply status bytes.now) self.old }
+    {
+        match self.room.take() {
+            Some(room) => {
+                let reply = Answer::Reply(status, room.filled(bytes));
+                self.row.state = State::Answered(reply);
+            }
+            None => unreachable!(),
+        }
+    }
+
+    /// The thread gets an error (C Library Reference: `MsgError`).
+    pub fn fail(&mut self, error: Errno)
+        requires blocked { IsTrue (is_blocked self.old.state) }
+        ensures row { self.new ≡ answered_thread (Answer.Failed error) self.old }
+    {
+        self.row.state = State::Answered(Answer::Failed(error));
+        self.room = None;
+    }
+
+    /// The thread gets another priority (C Library Reference: `SchedSet`).
+    pub fn set_prio(&mut self, prio: Prio)
+        requires priority { IsPriority prio.0 }
+        ensures row { self.new ≡ ranked_thread prio.0 self.old }
+    {
+        self.row.prio = prio;
+    }
+
+    /// The thread's answer, after which it is ready; none where it has none, and then nothing changes.
+    pub fn take_answer(&mut self) -> Option<Answer>
+        ensures answer { result ≡ answer_in self.old.state }
+        ensures row { MatchOption result (self.new ≡ self.old) (λ _. self.new ≡ ready_thread self.old) }
+    {
+        match mem::replace(&mut self.row.state, State::Ready) {
+            State::Answered(answer) => Some(answer),
+            state => {
+                self.row.state = state;
+                None
+            }
+        }
+    }
+}

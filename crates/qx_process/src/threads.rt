@@ -1,0 +1,45 @@
+//! The threads of a process, from 1: a place for each number.
+
+ghost use Rattle.std.specs.Prelude.{◌≡◌, ◌≤◌, ◌∷◌, Some, None, replicate, IfSome};
+ghost use Rattle.std.specs.Option.{option_copied};
+ghost use Rattle.qx_types.specs.declared.limits.TheConstants.Limits.{THREADS};
+ghost use Rattle.qx_machine.specs.Processes.{new_thread};
+ghost use Rattle.qx_machine.specs.Rows.{row_at};
+ghost use Rattle.qx_process.specs.Reads.{IsPriority};
+
+use crate::places;
+use crate::thread::ThreadCell;
+use arrayvec::ArrayVec;
+use qx_machine::ThreadRow;
+use qx_types::{Limits, Prio};
+
+/// A place for each number up to the last.
+pub const PLACES: usize = Limits::THREADS as usize + 1;
+
+/// Place 0 is no thread's.
+pub type Threads = ArrayVec<Option<ThreadCell>, PLACES>;
+
+/// So many ready threads.
+pub fn new_threads(count: u8, prio: Prio) -> Threads
+    requires count { count ≤ THREADS }
+    requires priority { IsPriority prio.0 }
+    ensures threads { result.items ≡ None ∷ replicate count (Some (new_thread prio.0)) }
+{
+    let mut threads = ArrayVec::new();
+    threads.push(None);
+    for _ in 0..count {
+        threads.push(Some(ThreadCell::new(prio)));
+    }
+    threads
+}
+
+/// A thread's row.
+pub fn thread_row(threads: &Threads, thread: u8) -> Option<&ThreadRow>
+    ensures row { option_copied result ≡ row_at threads.now.items thread }
+    ensures priority { IfSome result (λ row. IsPriority row.now.prio.0) }
+{
+    match places::row(threads.as_slice(), thread as usize) {
+        Some(cell) => Some(cell.row()),
+        None => None,
+    }
+}
