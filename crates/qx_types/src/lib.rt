@@ -4,6 +4,7 @@
 pub mod bytes;
 pub mod config;
 pub mod errno;
+pub mod fields;
 pub mod flags;
 pub mod limits;
 pub mod names;
@@ -14,6 +15,7 @@ pub mod step;
 pub use bytes::Bytes;
 pub use config::Config;
 pub use errno::{Errno, NoMemory};
+pub use fields::{NotifyAction, Whence};
 pub use flags::{Conds, OFlags};
 pub use limits::Limits;
 pub use names::{Actor, Coid, Item, Manager, Prio, Proc, Thread, User, Worker};
