@@ -217,14 +217,19 @@ judged_or_cut (Known y) = elim (in_ranges y) as (λ v. (cond v (Known y) Malform
 
 -- ---- the laws
 
-pub known_spells : (bytes : List ℕ) (m : Message) → IsBytes bytes → meaning bytes ≡ Known m → Spells m bytes
-unfolding meaning cut body_cut spelling
-known_spells bytes m fits e =
-    let j = judged_known (cut bytes) m e in
-    let f = in_frame (frame_at bytes) (Known m) j.0 (λ h. cc) in
+cut_spelling : (bytes : List ℕ) (m : Message) → IsBytes bytes → cut bytes ≡ Known m → bytes ≡ spelling m
+unfolding cut body_cut spelling
+cut_spelling bytes m fits e =
+    let f = in_frame (frame_at bytes) (Known m) e (λ h. cc) in
     let frame = frame_takes bytes f.0 fits f.1 in
     let has = found_known f.0.type f.0.subtype f.0.body (arms f.0.body) (are_arms f.0.body frame.fits) m f.2 in
-    (j.1, rw (has.type, has.subtype, has.body) frame.parts)
+    rw (has.type, has.subtype, has.body) frame.parts
+
+pub known_spells : (bytes : List ℕ) (m : Message) → IsBytes bytes → meaning bytes ≡ Known m → Spells m bytes
+unfolding meaning
+known_spells bytes m fits e =
+    let j = judged_known (cut bytes) m e in
+    (j.1, cut_spelling bytes m fits j.0)
 
 pub spells_known : (bytes : List ℕ) (m : Message) → Spells m bytes → meaning bytes ≡ Known m
 unfolding meaning cut body_cut spelling
@@ -259,8 +264,14 @@ of_no_kind_unknown bytes fits k =
 pub one_message : (bytes : List ℕ) (m n : Message) → Spells m bytes → Spells n bytes → m ≡ n
 one_message bytes m n p q = known_one m n (sym (spells_known bytes m p) ∙ spells_known bytes n q)
 
--- a message that bytes mean is spelled by them
-pub meant_spells : (bytes : List ℕ) → IsBytes bytes → (m : Meaning) → m ≡ meaning bytes → IfKnown m (λ m. Spells m bytes)
-meant_spells bytes fits (Known m) e = known_spells bytes m fits (sym e)
-meant_spells bytes fits Unknown e = ()
-meant_spells bytes fits Malformed e = ()
+-- what bytes are cut into has their spelling
+pub cut_spelled : (bytes : List ℕ) → IsBytes bytes → (c : Meaning) → c ≡ cut bytes → IfKnown c (λ m. bytes ≡ spelling m)
+cut_spelled bytes fits (Known m) e = cut_spelling bytes m fits (sym e)
+cut_spelled bytes fits Unknown e = tt
+cut_spelled bytes fits Malformed e = tt
+
+pub meant_spells : (bytes : List ℕ) (c : Meaning) → c ≡ meaning bytes → IfKnown c (λ m. bytes ≡ spelling m) → IfKnown c (λ m. Spells m bytes)
+unfolding meaning
+meant_spells bytes (Known m) e spelled = ((judged_known (cut bytes) m (sym e)).1, spelled)
+meant_spells bytes Unknown e spelled = tt
+meant_spells bytes Malformed e spelled = tt

@@ -30,7 +30,9 @@ pub fn in_ranges(message: &Message<'_>) -> bool
             code,
             value,
             ..
-        } => are_conditions(*conditions) && *code <= Limits::PULSE_CODE && *value <= Limits::PULSE_VALUE,
+        } => are_conditions(*conditions)
+            && *code <= Limits::PULSE_CODE
+            && *value <= Limits::PULSE_VALUE,
     }
 }
 

@@ -1,7 +1,9 @@
 ghost use Rattle.std.specs.Prelude.{◌≡◌, ◌<◌, length, take, drop, Option, None, Some, if◌then◌else◌, nat_lt};
 ghost use Rattle.std.specs.Int.{w8, w16, w32, w64};
 ghost use Rattle.std.specs.Option.{option_map};
+ghost use Rattle.qx_wire.specs.Laws.{IfKnown};
 ghost use Rattle.qx_wire.specs.Reading.{body_cut, chmod_at, cut, dup_at, ended, judged, known_or_malformed, lseek_at, mknod_at, notify_at, number_at, open_at, read_at};
+ghost use Rattle.qx_wire.specs.Table.{spelling};
 
 use crate::borrowed::BorrowedBytes;
 use crate::message::{Meaning, Message};
@@ -202,7 +204,8 @@ fn body_cut(kind: u16, subtype: u16, body: &[u8]) -> Meaning<'_>
 /// What bytes are cut into, with no look at the ranges of values and at the bytes of texts.
 #[tactic(auto, unfolding(crate::specs::Reading::cut, crate::specs::Reading::frame_at))]
 pub(crate) fn cut(bytes: &[u8]) -> Meaning<'_>
-    ensures { result ≡ cut bytes.now }
+    ensures cut { result ≡ cut bytes.now }
+    ensures spelled { IfKnown result (λ message. bytes.now ≡ spelling message) }
 {
     let Some((kind, rest)) = u16_at(bytes) else {
         return Meaning::Malformed;

@@ -117,7 +117,10 @@ fn first_of(bytes: &[u8]) -> (&[u8], Option<&[u8]>)
 pub fn is_component(bytes: &[u8]) -> bool
     ensures { result ≡ is_component bytes.now }
 {
-    !bytes.is_empty() && bytes.len() <= Limits::COMPONENT && !is_dots(bytes) && are_name_bytes(bytes)
+    !bytes.is_empty()
+        && bytes.len() <= Limits::COMPONENT
+        && !is_dots(bytes)
+        && are_name_bytes(bytes)
 }
 
 /// Whether none of the bytes is zero or `/`.
