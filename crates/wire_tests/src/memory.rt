@@ -8,11 +8,11 @@ use qx_wire::{Meaning, Message, Parsed, encode};
 use std::alloc::Global;
 use std::test::Fail;
 
-/// How many components the rest has that the bytes open; none of other bytes.
-fn opened_components(parsed: &Parsed) -> usize {
+/// The last component of the rest that the bytes open; none of other bytes.
+fn last_component(parsed: &Parsed) -> Option<&[u8]> {
     match parsed.meaning() {
-        Meaning::Known(Message::Open { rest, .. }) => rest.components().count(),
-        _ => 0,
+        Meaning::Known(Message::Open { rest, .. }) => rest.components().last(),
+        _ => None,
     }
 }
 
@@ -32,7 +32,7 @@ fn reads_without_memory(rt: HostRuntime) -> Result<(), Fail> {
     let bytes = Bytes::from_vec(from_hex(rt.alloc(), OPEN)?);
     let taken = take_all_memory(rt.alloc())?;
     let parsed = Parsed::read(bytes);
-    assert_eq!(rt; opened_components(&parsed), 2);
+    assert_eq!(rt; last_component(&parsed), Some(b"b".as_slice()));
     assert_eq!(rt; spelled_room(rt.alloc(), &parsed), Err(NoMemory));
     drop(taken);
     assert_eq!(rt; spelled_room(rt.alloc(), &parsed), Ok((15, 15)));

@@ -35,7 +35,8 @@ pub fn is_encoded_again(alloc: Global, parsed: &Parsed) -> Result<bool, NoMemory
 /// The bytes of a header, given as hexadecimal digits of type and subtype, and of the body behind it.
 pub fn framed(alloc: Global, kind: &str, body: &[u8]) -> Result<Bytes, Fail> {
     let mut bytes = from_hex(alloc, kind)?;
-    bytes.extend_from_slice(&(body.len() as u32).to_le_bytes())?;
+    let [b0, b1, b2, b3, ..] = (body.len() as u64).to_le_bytes();
+    bytes.extend_from_slice(&[b0, b1, b2, b3])?;
     bytes.extend_from_slice(body)?;
     Ok(Bytes::from_vec(bytes))
 }
