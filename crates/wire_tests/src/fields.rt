@@ -32,6 +32,20 @@ fn assert_name(rt: &impl Abort, alloc: Global, text: &[u8], expected: Verdict) -
     Ok(())
 }
 
+/// Asserts what each of these texts means, as a rest and as a name.
+fn assert_texts(
+    rt: &impl Abort,
+    alloc: Global,
+    texts: &[&str],
+    expected: Verdict,
+) -> Result<(), Fail> {
+    for text in texts {
+        assert_rest(rt, alloc, text.as_bytes(), expected)?;
+        assert_name(rt, alloc, text.as_bytes(), expected)?;
+    }
+    Ok(())
+}
+
 const COMPONENTS: &[&str] = &["", "m", "...", ".a", "a..", "a b", "\u{ff}"];
 
 const NO_COMPONENTS: &[&str] = &[
@@ -40,20 +54,18 @@ const NO_COMPONENTS: &[&str] = &[
 
 #[test]
 fn takes_components(rt: HostRuntime) -> Result<(), Fail> {
-    for text in COMPONENTS {
-        assert_rest(&rt, rt.alloc(), text.as_bytes(), Verdict::Known)?;
-        assert_name(&rt, rt.alloc(), text.as_bytes(), Verdict::Known)?;
-    }
-    assert_rest(&rt, rt.alloc(), b"a/b/..c", Verdict::Known)
+    assert_texts(&rt, rt.alloc(), COMPONENTS, Verdict::Known)
 }
 
 #[test]
 fn refuses_what_is_no_component(rt: HostRuntime) -> Result<(), Fail> {
-    for text in NO_COMPONENTS {
-        assert_rest(&rt, rt.alloc(), text.as_bytes(), Verdict::Malformed)?;
-        assert_name(&rt, rt.alloc(), text.as_bytes(), Verdict::Malformed)?;
-    }
-    assert_name(&rt, rt.alloc(), b"a/b", Verdict::Malformed)
+    assert_texts(&rt, rt.alloc(), NO_COMPONENTS, Verdict::Malformed)
+}
+
+#[test]
+fn takes_several_components_in_a_rest_alone(rt: HostRuntime) -> Result<(), Fail> {
+    assert_rest(&rt, rt.alloc(), b"a/b/..c", Verdict::Known)?;
+    assert_name(&rt, rt.alloc(), b"a/b/..c", Verdict::Malformed)
 }
 
 /// Components of 64 bytes, of so many bytes together with the slashes.
