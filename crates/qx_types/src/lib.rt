@@ -3,6 +3,7 @@
 
 pub mod config;
 pub mod errno;
+pub mod fields;
 pub mod flags;
 pub mod limits;
 pub mod names;
@@ -12,6 +13,7 @@ pub mod step;
 
 pub use config::Config;
 pub use errno::{Errno, NoMemory};
+pub use fields::{NotifyAction, Whence};
 pub use flags::{Conds, OFlags};
 pub use limits::Limits;
 pub use names::{Actor, Coid, Item, Manager, Prio, Proc, Thread, User, Worker};

@@ -24,6 +24,18 @@ impl Limits {
     pub const PRIORITY: u8 = 63;
     /// The greatest mode, 0777.
     pub const MODE: u16 = 511;
+    /// Bytes of a path.
+    pub const PATH: usize = 1024;
+    /// Bytes of a path's component.
+    pub const COMPONENT: usize = 64;
+    /// Bytes of one read or write.
+    pub const TRANSFER: usize = 4096;
+    /// Bytes of a message's body.
+    pub const BODY: usize = 4160;
+    /// The greatest code of a pulse.
+    pub const PULSE_CODE: u8 = 127;
+    /// The greatest value of a pulse, below 2^28.
+    pub const PULSE_VALUE: u32 = 268_435_455;
     /// Calls of a thread.
     pub const CALLS: u64 = 18_446_744_073_709_551_615;
 }

@@ -1,0 +1,4 @@
+pub mod FieldLemmas
+pub mod ReadLemmas
+pub mod RestLemmas
+pub mod TableLemmas

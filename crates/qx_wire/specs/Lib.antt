@@ -1,0 +1,4 @@
+pub mod Laws
+pub mod Reading
+pub mod Rests
+pub mod Table

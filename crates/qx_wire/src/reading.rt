@@ -1,0 +1,233 @@
+ghost use Rattle.std.specs.Prelude.{◌≡◌, ◌<◌, length, take, drop, Option, None, Some, if◌then◌else◌, nat_lt};
+ghost use Rattle.std.specs.Int.{w8, w16, w32, w64};
+ghost use Rattle.std.specs.Option.{option_map};
+ghost use Rattle.qx_wire.specs.Laws.{IfKnown};
+ghost use Rattle.qx_wire.specs.Reading.{body_cut, chmod_at, cut, dup_at, ended, judged, known_or_malformed, lseek_at, mknod_at, notify_at, number_at, open_at, read_at};
+ghost use Rattle.qx_wire.specs.Table.{spelling};
+
+use crate::borrowed::BorrowedBytes;
+use crate::message::{Meaning, Message};
+use crate::ranges::in_ranges;
+use crate::rest::Rest;
+use qx_types::{Coid, Conds, Limits, NotifyAction, OFlags, Whence};
+
+/// A number of 8 bits, and the bytes after it.
+fn u8_at(bytes: &[u8]) -> Option<(u8, &[u8])>
+    ensures { option_map (λ x. (x.0, x.1.now)) result ≡ number_at w8 bytes.now }
+{
+    let [b0, rest @ ..] = bytes else {
+        return None;
+    };
+    Some((u8::from_le_bytes([*b0]), rest))
+}
+
+/// A number of 16 bits, and the bytes after it.
+fn u16_at(bytes: &[u8]) -> Option<(u16, &[u8])>
+    ensures { option_map (λ x. (x.0, x.1.now)) result ≡ number_at w16 bytes.now }
+{
+    let [b0, b1, rest @ ..] = bytes else {
+        return None;
+    };
+    Some((u16::from_le_bytes([*b0, *b1]), rest))
+}
+
+/// A number of 32 bits, and the bytes after it.
+fn u32_at(bytes: &[u8]) -> Option<(u32, &[u8])>
+    ensures { option_map (λ x. (x.0, x.1.now)) result ≡ number_at w32 bytes.now }
+{
+    let [b0, b1, b2, b3, rest @ ..] = bytes else {
+        return None;
+    };
+    Some((u32::from_le_bytes([*b0, *b1, *b2, *b3]), rest))
+}
+
+/// A number of 64 bits, and the bytes after it.
+fn u64_at(bytes: &[u8]) -> Option<(u64, &[u8])>
+    ensures { option_map (λ x. (x.0, x.1.now)) result ≡ number_at w64 bytes.now }
+{
+    let [b0, b1, b2, b3, b4, b5, b6, b7, rest @ ..] = bytes else {
+        return None;
+    };
+    Some((
+        u64::from_le_bytes([*b0, *b1, *b2, *b3, *b4, *b5, *b6, *b7]),
+        rest,
+    ))
+}
+
+/// The message, if no bytes are left.
+fn ended<'a>(bytes: &[u8], message: Message<'a>) -> Option<Message<'a>>
+    ensures { result ≡ ended bytes.now message.entry }
+{
+    if bytes.is_empty() {
+        Some(message)
+    } else {
+        None
+    }
+}
+
+#[tactic(auto, unfolding(crate::specs::Reading::open_at))]
+fn open_at(body: &[u8]) -> Option<Message<'_>>
+    ensures { result ≡ open_at body.now }
+{
+    let (flags, body) = u16_at(body)?;
+    let (mode, body) = u16_at(body)?;
+    Some(Message::Open {
+        flags: OFlags(flags),
+        mode,
+        rest: Rest::new(body),
+    })
+}
+
+#[tactic(auto, unfolding(crate::specs::Reading::mknod_at))]
+fn mknod_at(body: &[u8]) -> Option<Message<'_>>
+    ensures { result ≡ mknod_at body.now }
+{
+    let (kind, body) = u16_at(body)?;
+    let (mode, body) = u16_at(body)?;
+    if kind != 2 {
+        return None;
+    }
+    Some(Message::Mknod {
+        mode,
+        rest: Rest::new(body),
+    })
+}
+
+#[tactic(auto, unfolding(crate::specs::Reading::read_at))]
+fn read_at(body: &[u8]) -> Option<Message<'_>>
+    ensures { result ≡ read_at body.now }
+{
+    let (count, body) = u32_at(body)?;
+    ended(body, Message::Read { count })
+}
+
+#[tactic(auto, unfolding(crate::specs::Reading::dup_at))]
+fn dup_at(body: &[u8]) -> Option<Message<'_>>
+    ensures { result ≡ dup_at body.now }
+{
+    let (old, body) = u16_at(body)?;
+    if old > 255 {
+        return None;
+    }
+    ended(
+        body,
+        Message::Dup {
+            old: Coid(old as u8),
+        },
+    )
+}
+
+#[tactic(auto, unfolding(crate::specs::Reading::lseek_at))]
+fn lseek_at(whence: Whence, body: &[u8]) -> Option<Message<'_>>
+    ensures { result ≡ lseek_at whence body.now }
+{
+    let (offset, body) = u64_at(body)?;
+    ended(
+        body,
+        Message::Lseek {
+            whence,
+            offset: offset.cast_signed(),
+        },
+    )
+}
+
+#[tactic(auto, unfolding(crate::specs::Reading::chmod_at))]
+fn chmod_at(body: &[u8]) -> Option<Message<'_>>
+    ensures { result ≡ chmod_at body.now }
+{
+    let (mode, body) = u16_at(body)?;
+    ended(body, Message::Chmod { mode })
+}
+
+#[tactic(auto, unfolding(crate::specs::Reading::notify_at))]
+fn notify_at(action: NotifyAction, body: &[u8]) -> Option<Message<'_>>
+    ensures { result ≡ notify_at action body.now }
+{
+    let (conditions, body) = u8_at(body)?;
+    let (code, body) = u8_at(body)?;
+    let (value, body) = u32_at(body)?;
+    ended(
+        body,
+        Message::Notify {
+            action,
+            conditions: Conds(conditions),
+            code,
+            value,
+        },
+    )
+}
+
+fn known_or_malformed<'a>(message: Option<Message<'a>>) -> Meaning<'a>
+    ensures { result ≡ known_or_malformed message.entry }
+{
+    match message {
+        None => Meaning::Malformed,
+        Some(message) => Meaning::Known(message),
+    }
+}
+
+/// What a body of that type and subtype is cut into.
+#[tactic(auto, unfolding(crate::specs::Reading::body_cut))]
+fn body_cut(kind: u16, subtype: u16, body: &[u8]) -> Meaning<'_>
+    ensures { result ≡ body_cut kind subtype body.now }
+{
+    known_or_malformed(match (kind, subtype) {
+        (256, 1) => open_at(body),
+        (256, 2) => Some(Message::Stat {
+            rest: Rest::new(body),
+        }),
+        (256, 3) => Some(Message::Unlink {
+            rest: Rest::new(body),
+        }),
+        (256, 4) => mknod_at(body),
+        (257, 0) => read_at(body),
+        (258, 0) => Some(Message::Write {
+            bytes: BorrowedBytes::new(body),
+        }),
+        (259, 0) => ended(body, Message::Close),
+        (260, 0) => dup_at(body),
+        (261, 0) => lseek_at(Whence::Set, body),
+        (261, 1) => lseek_at(Whence::Current, body),
+        (261, 2) => lseek_at(Whence::End, body),
+        (262, 0) => ended(body, Message::Fstat),
+        (263, 0) => Some(Message::List {
+            after: BorrowedBytes::new(body),
+        }),
+        (264, 0) => chmod_at(body),
+        (265, 0) => notify_at(NotifyAction::Poll, body),
+        (265, 1) => notify_at(NotifyAction::PollArm, body),
+        (265, 2) => notify_at(NotifyAction::TranArm, body),
+        _ => return Meaning::Unknown,
+    })
+}
+
+/// What bytes are cut into, with no look at the ranges of values and at the bytes of texts.
+#[tactic(auto, unfolding(crate::specs::Reading::cut, crate::specs::Reading::frame_at))]
+pub(crate) fn cut(bytes: &[u8]) -> Meaning<'_>
+    ensures cut { result ≡ cut bytes.now }
+    ensures spelled { IfKnown result (λ message. bytes.now ≡ spelling message) }
+{
+    let Some((kind, rest)) = u16_at(bytes) else {
+        return Meaning::Malformed;
+    };
+    let Some((subtype, rest)) = u16_at(rest) else {
+        return Meaning::Malformed;
+    };
+    let Some((len, body)) = u32_at(rest) else {
+        return Meaning::Malformed;
+    };
+    if body.len() != len as usize || body.len() > Limits::BODY {
+        return Meaning::Malformed;
+    }
+    body_cut(kind, subtype, body)
+}
+
+/// A message, if its values are in their ranges.
+pub(crate) fn judged(meaning: Meaning<'_>) -> Meaning<'_>
+    ensures { result ≡ judged meaning.entry }
+{
+    match meaning {
+        Meaning::Known(message) if !in_ranges(&message) => Meaning::Malformed,
+        meaning => meaning,
+    }
+}

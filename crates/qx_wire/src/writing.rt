@@ -1,0 +1,110 @@
+ghost use Rattle.std.specs.Prelude.{◌≡◌, ◌≤◌, IsTrue, IfOk, length};
+ghost use Rattle.std.specs.List.{flat_map};
+ghost use Rattle.qx_types.specs.declared.limits.TheConstants.Limits.{BODY};
+ghost use Rattle.qx_wire.specs.Table.{action_number, framed, in_ranges, spelling, whence_number};
+
+use crate::message::Message;
+use qx_types::{Bytes, NoMemory, NotifyAction, Whence};
+use std::alloc::Global;
+
+/// The one spelling of a message whose values are in their ranges, in one vector of that length.
+#[tactic(auto, unfolding(crate::specs::Table::spelling))]
+pub fn encode(alloc: Global, message: &Message<'_>) -> Result<Bytes, NoMemory>
+    requires in_ranges { IsTrue (in_ranges message.now) }
+    ensures spelling { IfOk result (λ bytes. bytes ≡ spelling message.now) }
+{
+    match message {
+        Message::Open { flags, mode, rest } => framed(
+            alloc,
+            256,
+            1,
+            &[&flags.0.to_le_bytes(), &mode.to_le_bytes(), rest.as_slice()],
+        ),
+        Message::Stat { rest } => framed(alloc, 256, 2, &[rest.as_slice()]),
+        Message::Unlink { rest } => framed(alloc, 256, 3, &[rest.as_slice()]),
+        Message::Mknod { mode, rest } => framed(
+            alloc,
+            256,
+            4,
+            &[&2u16.to_le_bytes(), &mode.to_le_bytes(), rest.as_slice()],
+        ),
+        Message::Read { count } => framed(alloc, 257, 0, &[&count.to_le_bytes()]),
+        Message::Write { bytes } => framed(alloc, 258, 0, &[bytes.as_slice()]),
+        Message::Close => framed(alloc, 259, 0, &[]),
+        Message::Dup { old } => framed(alloc, 260, 0, &[&u16::from(old.0).to_le_bytes()]),
+        Message::Lseek { whence, offset } => {
+            framed(alloc, 261, whence_number(*whence), &[&offset.to_le_bytes()])
+        }
+        Message::Fstat => framed(alloc, 262, 0, &[]),
+        Message::List { after } => framed(alloc, 263, 0, &[after.as_slice()]),
+        Message::Chmod { mode } => framed(alloc, 264, 0, &[&mode.to_le_bytes()]),
+        Message::Notify {
+            action,
+            conditions,
+            code,
+            value,
+        } => framed(
+            alloc,
+            265,
+            action_number(*action),
+            &[
+                &conditions.0.to_le_bytes(),
+                &code.to_le_bytes(),
+                &value.to_le_bytes(),
+            ],
+        ),
+    }
+}
+
+/// The subtype of a seek.
+fn whence_number(whence: Whence) -> u16
+    ensures { result ≡ whence_number whence }
+{
+    match whence {
+        Whence::Set => 0,
+        Whence::Current => 1,
+        Whence::End => 2,
+    }
+}
+
+/// The subtype of a notification.
+fn action_number(action: NotifyAction) -> u16
+    ensures { result ≡ action_number action }
+{
+    match action {
+        NotifyAction::Poll => 0,
+        NotifyAction::PollArm => 1,
+        NotifyAction::TranArm => 2,
+    }
+}
+
+/// A header, and the fields behind it.
+fn framed(alloc: Global, kind: u16, subtype: u16, fields: &[&[u8]]) -> Result<Bytes, NoMemory>
+    requires fits { length (flat_map (λ f. f.now) fields.now) ≤ BODY }
+    ensures framed { IfOk result (λ bytes. bytes ≡ framed kind subtype (flat_map (λ f. f.now) fields.now)) }
+{
+    let len = total(fields);
+    let mut bytes = Vec::with_capacity(alloc, HEADER + len)?;
+    bytes.extend_from_slice(&kind.to_le_bytes())?;
+    bytes.extend_from_slice(&subtype.to_le_bytes())?;
+    bytes.extend_from_slice(&(len as u32).to_le_bytes())?;
+    for field in fields {
+        bytes.extend_from_slice(field)?;
+    }
+    Ok(Bytes::from_vec(bytes))
+}
+
+/// The bytes of a header.
+const HEADER: usize = 8;
+
+/// How many bytes the fields have.
+fn total(fields: &[&[u8]]) -> usize
+    requires fits { length (flat_map (λ f. f.now) fields.now) ≤ BODY }
+    ensures total { result ≡ length (flat_map (λ f. f.now) fields.now) }
+{
+    let mut total = 0;
+    for field in fields {
+        total += field.len();
+    }
+    total
+}
