@@ -19,14 +19,14 @@ impl<'a> Model for BorrowedBytes<'a> {
 impl<'a> BorrowedBytes<'a> {
     /// The bytes of a slice, where they stand.
     pub fn new(bytes: &'a [u8]) -> BorrowedBytes<'a>
-        ensures { result ≡ bytes.now }
+        ensures bytes { result ≡ bytes.now }
     {
         BorrowedBytes { bytes }
     }
 
     /// The bytes as a slice, which may be kept as long as what they stand in.
     pub fn as_slice(&self) -> &'a [u8]
-        ensures { result.now ≡ self.now }
+        ensures bytes { result.now ≡ self.now }
     {
         self.bytes
     }

@@ -28,7 +28,8 @@ impl Model for Parsed {
 }
 
 impl Parsed {
-    /// Reads the bytes and keeps them. All bytes are looked at here, and none of a text or of what is written later.
+    /// Reads the bytes and keeps them. The bytes of paths and names are looked at here, and not again by `meaning`; the
+    /// bytes that a WRITE has are looked at by neither.
     #[tactic(auto, unfolding(crate::specs::Reading::meaning))]
     pub fn read(bytes: Bytes) -> Parsed
         ensures bytes { result ≡ bytes }
@@ -42,14 +43,14 @@ impl Parsed {
 
     /// The bytes that were read.
     pub fn bytes(&self) -> &Bytes
-        ensures { result.now ≡ self.now }
+        ensures bytes { result.now ≡ self.now }
     {
         &self.bytes
     }
 
     /// The bytes that were read, in their memory.
     pub fn into_bytes(self) -> Bytes
-        ensures { result ≡ self }
+        ensures bytes { result ≡ self }
     {
         let Parsed { bytes, .. } = self;
         bytes

@@ -65,6 +65,8 @@ fn ended<'a>(bytes: &[u8], message: Message<'a>) -> Option<Message<'a>>
     }
 }
 
+// What each kind of body is cut into. Ranges are judged later, by `judged`.
+
 #[tactic(auto, unfolding(crate::specs::Reading::open_at))]
 fn open_at(body: &[u8]) -> Option<Message<'_>>
     ensures { result ≡ open_at body.now }
@@ -157,6 +159,7 @@ fn notify_at(action: NotifyAction, body: &[u8]) -> Option<Message<'_>>
     )
 }
 
+/// What was cut, or that it could not be cut.
 fn known_or_malformed<'a>(message: Option<Message<'a>>) -> Meaning<'a>
     ensures { result ≡ known_or_malformed message.entry }
 {

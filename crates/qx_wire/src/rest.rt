@@ -42,7 +42,7 @@ impl<'a> Model for Components<'a> {
 impl<'a> Rest<'a> {
     /// The bytes of a rest, where they stand; `is_good` tells whether they are one.
     pub fn new(bytes: &'a [u8]) -> Rest<'a>
-        ensures { result ≡ components_of bytes.now }
+        ensures components { result ≡ components_of bytes.now }
     {
         Rest { bytes }
     }
@@ -50,7 +50,7 @@ impl<'a> Rest<'a> {
     /// The components with one `/` between each two, which may be kept as long as what they stand in.
     #[tactic(auto, using(crate::proofs::RestLemmas::joined_components))]
     pub fn as_slice(&self) -> &'a [u8]
-        ensures { result.now ≡ joined self.now }
+        ensures joined { result.now ≡ joined self.now }
     {
         self.bytes
     }
@@ -58,7 +58,7 @@ impl<'a> Rest<'a> {
     /// The components, to be walked from the first one on.
     #[tactic(auto, using(crate::proofs::RestLemmas::components_none, crate::proofs::RestLemmas::components_some))]
     pub fn components(&self) -> Components<'a>
-        ensures { result ≡ self.now }
+        ensures components { result ≡ self.now }
     {
         if self.bytes.is_empty() {
             Components { left: None }
@@ -71,7 +71,7 @@ impl<'a> Rest<'a> {
 
     /// Whether each component is one, and all of them joined have at most 1,024 bytes.
     pub fn is_good(&self) -> bool
-        ensures { result ≡ is_rest self.now }
+        ensures good { result ≡ is_rest self.now }
     {
         if self.as_slice().len() > Limits::PATH {
             return false;
@@ -115,7 +115,7 @@ fn first_of(bytes: &[u8]) -> (&[u8], Option<&[u8]>)
 
 /// Whether the bytes are a component: 1 to 64 of them, none zero or `/`, and neither `.` nor `..`.
 pub fn is_component(bytes: &[u8]) -> bool
-    ensures { result ≡ is_component bytes.now }
+    ensures component { result ≡ is_component bytes.now }
 {
     !bytes.is_empty()
         && bytes.len() <= Limits::COMPONENT
