@@ -1,5 +1,5 @@
 use Rattle.qx_lines.specs.Line.{IsLineOf}
-use Rattle.list_tests.proofs.lines.goes_as_a_sorted_list.Given as goal
+use Rattle.lower_tests.proofs.lines.goes_as_a_sorted_vector.Given as goal
 
 abbrev pub invariant-steps : goal.invariant-steps
 invariant-steps g l = IsLineOf (λ sent. sent.prio.0) l.table l.line

@@ -4,9 +4,10 @@ ghost use Rattle.std.specs.Prelude.{◌≡◌, ◌≤◌, length, nat_lt, Some, 
 
 use qx_types::{Errno, Prio, Ranked, Waiter};
 
+/// A value of a priority from 1 to 63.
 #[derive(Drop)]
-struct Sent {
-    prio: Prio,
+pub struct Sent {
+    pub prio: Prio,
     ghost lowest: { 1 ≤ prio.0 },
     ghost highest: { prio.0 ≤ 63 },
 }
@@ -102,7 +103,7 @@ fn answers_through_the_bound(rt: HostRuntime) {
             gone,
             answer: None,
         };
-        assert_eq!(rt; serve(&mut message), 5);
-        assert_eq!(rt; message.answer, Some(want));
+        assert!(rt; serve(&mut message) == 5);
+        assert!(rt; message.answer == Some(want));
     }
 }

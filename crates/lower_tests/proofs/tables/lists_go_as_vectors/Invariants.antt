@@ -1,5 +1,5 @@
 use Rattle.qx_lists.specs.Table.{ContainsList}
-use Rattle.list_tests.proofs.tables.goes_as_three_vectors.Given as goal
+use Rattle.lower_tests.proofs.tables.lists_go_as_vectors.Given as goal
 
 abbrev pub invariant-steps : goal.invariant-steps
 invariant-steps g l = record {
