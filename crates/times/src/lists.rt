@@ -1,15 +1,14 @@
-//! Makes one kind of calls, on a table or on a line of so many nodes, so many times, and prints nothing: a clock outside measures it.
-#![tactic(auto)]
+//! One kind of calls, on a table or on a line of so many nodes, so many times.
 
 ghost use Rattle.std.specs.Prelude.{◌≤◌};
 ghost use Rattle.qx_lists.specs.Table.{ContainsList, IsFree};
 ghost use Rattle.qx_lines.specs.Line.{IsLineOf};
 
+use anyhow::bail;
 use qx_lines::Line;
 use qx_lists::Table;
 use qx_types::{Prio, Ranked};
 use std::alloc::{AllocFailed, Global};
-use std::env;
 
 /// An item of middle priority.
 #[derive(Drop)]
@@ -134,16 +133,19 @@ fn on_line(alloc: Global, count: usize, rounds: u32) -> anyhow::Result<()> {
     Ok(())
 }
 
-fn main(rt: HostRuntime) -> anyhow::Result<()> {
-    let words: Vec<String> = env::args(&rt)?.collect(rt.alloc())?;
-    let [_, calls, count, rounds] = words.as_slice() else {
-        return Ok(());
+/// The words are the calls, a count and the rounds.
+pub fn on_words(alloc: Global, words: &[String]) -> anyhow::Result<()> {
+    let [calls, count, rounds] = words else {
+        bail!("give the calls, a count and the rounds");
     };
-    let count: usize = count.parse()?;
-    let rounds: u32 = rounds.parse()?;
-    if calls.as_str() == "put" {
-        on_line(rt.alloc(), count, rounds)
+    make_calls(alloc, calls, count.parse()?, rounds.parse()?)
+}
+
+/// Makes these calls at so many nodes, so many times.
+pub fn make_calls(alloc: Global, calls: &str, count: usize, rounds: u32) -> anyhow::Result<()> {
+    if calls == "put" {
+        on_line(alloc, count, rounds)
     } else {
-        on_table(rt.alloc(), calls.as_str(), count, rounds)
+        on_table(alloc, calls, count, rounds)
     }
 }

@@ -1,6 +1,6 @@
 use Rattle.qx_lists.specs.Table.{IsFree}
 use Rattle.qx_lines.specs.Line.{IsLineOf}
-use Rattle.list_times.proofs.put_and_remove.Given as goal
+use Rattle.times.proofs.lists.put_and_remove.Given as goal
 
 abbrev pub invariant-rounds : goal.invariant-rounds
 invariant-rounds l = record {

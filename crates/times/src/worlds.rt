@@ -1,5 +1,4 @@
-//! Takes one kind of steps in a world, so many times, and prints how many were answered: a clock outside measures it.
-#![tactic(auto)]
+//! One kind of steps in a world, so many times.
 
 use anyhow::bail;
 use qx_types::{
@@ -7,7 +6,6 @@ use qx_types::{
 };
 use qx_world::World;
 use std::alloc::{AllocError, Global};
-use std::env;
 
 const WORKER: Worker = Worker(1);
 
@@ -16,21 +14,33 @@ const PRIO: Prio = Prio(10);
 /// The users' names, of one letter each.
 const NAMES: &[u8] = b"abcdefghijklmnop";
 
-fn main(rt: HostRuntime) -> anyhow::Result<()> {
-    let words: Vec<String> = env::args(&rt)?.collect(rt.alloc())?;
-    let [_, steps, users, count, rounds] = words.as_slice() else {
+/// The words are the steps, the users, a count and the rounds.
+pub fn on_words(alloc: Global, words: &[String]) -> anyhow::Result<u64> {
+    let [steps, users, count, rounds] = words else {
         bail!("give the steps, the users, a count and the rounds");
     };
-    let users: usize = users.parse()?;
-    let count: u16 = count.parse()?;
-    let rounds: u32 = rounds.parse()?;
-    let answered = match steps.as_str() {
-        "line" => answered_in_line(rt.alloc(), users, count, rounds)?,
-        "spawn" => spawned(rt.alloc(), users, count, rounds)?,
-        _ => opened_and_closed(rt.alloc(), users, count, rounds)?,
-    };
-    println!(rt; "{answered}")?;
-    Ok(())
+    take_steps(
+        alloc,
+        steps,
+        users.parse()?,
+        count.parse()?,
+        rounds.parse()?,
+    )
+}
+
+/// Takes these steps with so many users, so many times, and tells how many were answered.
+pub fn take_steps(
+    alloc: Global,
+    steps: &str,
+    users: usize,
+    count: u16,
+    rounds: u32,
+) -> anyhow::Result<u64> {
+    match steps {
+        "line" => answered_in_line(alloc, users, count, rounds),
+        "spawn" => spawned(alloc, users, count, rounds),
+        _ => opened_and_closed(alloc, users, count, rounds),
+    }
 }
 
 /// A world of so many users, at most 16, and a worker.
