@@ -3,113 +3,77 @@
 use crate::streams::{FailingFlush, FailingWriter, SCRIPT, SHOWN, kept};
 use qx_sh::invocation::invoke;
 use qx_sh::watched::Watched;
-use std::alloc::Global;
+use std::alloc::{AllocError, Global};
 use std::io;
 use std::io::{ErrorKind, Write};
 use std::test::Fail;
 
-/// The status, what was written to the output, and what to the errors.
-type Exit = (u8, Vec<u8>, Vec<u8>);
-
-/// The words of a command line that names this limit.
-fn with_limit(alloc: Global, limit: &str) -> Result<Vec<&str>, Fail> {
-    Ok(vec![in alloc; "qnxsh", "--limit", limit]?)
-}
-
-/// How the shell ends on these words and this script.
-fn invoked(alloc: Global, words: io::Result<Vec<&str>>, script: &[u8]) -> Exit {
-    let mut input = script;
+/// Whether the shell, on these words or the error for which they could not be had, ends the script with status 0 and
+/// its text, or with another status, no text and this line on the errors.
+fn ends_with(
+    alloc: Global,
+    words: io::Result<Vec<&str>>,
+    mut script: &[u8],
+    status: u8,
+    told: &[u8],
+) -> bool {
     let mut output = kept(alloc);
     let mut errors = kept(alloc);
-    let status = invoke(alloc, words, &mut input, &mut output, &mut errors);
-    (status, output.into_inner(), errors.into_inner())
+    let given = invoke(alloc, words, &mut script, &mut output, &mut errors);
+    let shown = if status == 0 { SHOWN } else { b"" };
+    given == status
+        && output.into_inner().as_slice() == shown
+        && errors.into_inner().as_slice() == told
 }
 
-/// The status and the errors where the script is written to this output.
-fn invoked_to<W: Write>(alloc: Global, output: &mut Watched<W>) -> Result<(u8, Vec<u8>), Fail> {
-    let mut input = SCRIPT;
-    let mut errors = kept(alloc);
-    let words = Ok(vec![in alloc; "qnxsh"]?);
-    let status = invoke(alloc, words, &mut input, output, &mut errors);
-    Ok((status, errors.into_inner()))
+/// Whether the shell ends the script so with this limit.
+fn ends_within(alloc: Global, limit: &str, status: u8, told: &[u8]) -> Result<bool, AllocError> {
+    let words = vec![in alloc; "qnxsh", "--limit", limit]?;
+    Ok(ends_with(alloc, Ok(words), SCRIPT, status, told))
 }
 
 #[test]
-fn runs_a_script(rt: HostRuntime) -> Result<(), Fail> {
-    let words = Ok(vec![in rt.alloc(); "qnxsh"]?);
-    let (status, output, errors) = invoked(rt.alloc(), words, SCRIPT);
-    assert_eq!(rt; status, 0);
-    assert_eq!(rt; output.as_slice(), SHOWN);
-    assert!(rt; errors.is_empty());
+fn ends_by_the_limit(rt: HostRuntime) -> Result<(), Fail> {
+    assert!(rt; ends_within(rt.alloc(), "133", 0, b"")?);
+    assert!(rt; ends_within(rt.alloc(), "132", 1, b"qnxsh: input\n")?);
+    assert!(rt; ends_within(rt.alloc(), "0", 2, b"qnxsh: words\n")?);
     Ok(())
-}
-
-#[test]
-fn ends_with_status_1_past_the_limit(rt: HostRuntime) -> Result<(), Fail> {
-    let words = with_limit(rt.alloc(), "6")?;
-    let (status, output, errors) = invoked(rt.alloc(), Ok(words), b"user a\n");
-    assert_eq!(rt; status, 1);
-    assert!(rt; output.is_empty());
-    assert_eq!(rt; errors.as_slice(), b"qnxsh: input\n".as_slice());
-    Ok(())
-}
-
-#[test]
-fn ends_with_status_0_at_the_limit(rt: HostRuntime) -> Result<(), Fail> {
-    let words = with_limit(rt.alloc(), "6")?;
-    let (status, output, errors) = invoked(rt.alloc(), Ok(words), b"user a");
-    assert_eq!(rt; status, 0);
-    assert!(rt; output.is_empty());
-    assert!(rt; errors.is_empty());
-    Ok(())
-}
-
-#[test]
-fn ends_with_status_2_at_refused_words(rt: HostRuntime) -> Result<(), Fail> {
-    let words = with_limit(rt.alloc(), "0")?;
-    let (status, output, errors) = invoked(rt.alloc(), Ok(words), SCRIPT);
-    assert_eq!(rt; status, 2);
-    assert!(rt; output.is_empty());
-    assert_eq!(rt; errors.as_slice(), b"qnxsh: words\n".as_slice());
-    Ok(())
-}
-
-#[test]
-fn ends_with_status_2_at_words_that_are_no_text(rt: HostRuntime) {
-    let error = io::Error::from(ErrorKind::InvalidData);
-    let (status, output, errors) = invoked(rt.alloc(), Err(error), SCRIPT);
-    assert_eq!(rt; status, 2);
-    assert!(rt; output.is_empty());
-    assert_eq!(rt; errors.as_slice(), b"qnxsh: words\n".as_slice());
-}
-
-#[test]
-fn ends_with_status_4_where_words_find_no_memory(rt: HostRuntime) {
-    let error = io::Error::from(ErrorKind::OutOfMemory);
-    let (status, output, errors) = invoked(rt.alloc(), Err(error), SCRIPT);
-    assert_eq!(rt; status, 4);
-    assert!(rt; output.is_empty());
-    assert_eq!(rt; errors.as_slice(), b"qnxsh: memory\n".as_slice());
 }
 
 #[test]
 fn ends_with_status_3_at_a_bad_line(rt: HostRuntime) -> Result<(), Fail> {
-    let words = Ok(vec![in rt.alloc(); "qnxsh"]?);
-    let (status, output, errors) = invoked(rt.alloc(), words, b"user ann\nshow bob\n");
-    assert_eq!(rt; status, 3);
-    assert!(rt; output.is_empty());
-    assert_eq!(rt; errors.as_slice(), b"qnxsh: line 2\n".as_slice());
+    let words = vec![in rt.alloc(); "qnxsh"]?;
+    let script = b"user ann\nspawn ann 1 10\nshow ann\nshow bob";
+    assert!(rt; ends_with(rt.alloc(), Ok(words), script, 3, b"qnxsh: line 4\n"));
     Ok(())
+}
+
+/// Whether the shell ends so where the words could not be had.
+fn ends_at(alloc: Global, error: ErrorKind, status: u8, told: &[u8]) -> bool {
+    ends_with(alloc, Err(io::Error::from(error)), SCRIPT, status, told)
+}
+
+#[test]
+fn ends_where_words_are_not_had(rt: HostRuntime) {
+    assert!(rt; ends_at(rt.alloc(), ErrorKind::InvalidData, 2, b"qnxsh: words\n"));
+    assert!(rt; ends_at(rt.alloc(), ErrorKind::OutOfMemory, 4, b"qnxsh: memory\n"));
+}
+
+/// Whether the shell ends with status 1, and tells so, where the script's text goes to this output.
+fn fails_at<W: Write>(alloc: Global, output: &mut Watched<W>) -> Result<bool, AllocError> {
+    let mut script = SCRIPT;
+    let mut errors = kept(alloc);
+    let words = Ok(vec![in alloc; "qnxsh"]?);
+    let status = invoke(alloc, words, &mut script, output, &mut errors);
+    Ok(status == 1 && errors.into_inner().as_slice() == b"qnxsh: output\n".as_slice())
 }
 
 #[test]
 fn ends_with_status_1_at_a_write_that_fails(rt: HostRuntime) -> Result<(), Fail> {
     let writer = FailingWriter::new(rt.alloc(), 5, Some(ErrorKind::StorageFull));
     let mut output = Watched::new(writer);
-    let (status, errors) = invoked_to(rt.alloc(), &mut output)?;
-    assert_eq!(rt; status, 1);
-    assert_eq!(rt; output.into_inner().taken.as_slice(), &SHOWN[..5]);
-    assert_eq!(rt; errors.as_slice(), b"qnxsh: output\n".as_slice());
+    assert!(rt; fails_at(rt.alloc(), &mut output)?);
+    assert!(rt; output.into_inner().taken.as_slice() == &SHOWN[..5]);
     Ok(())
 }
 
@@ -117,22 +81,19 @@ fn ends_with_status_1_at_a_write_that_fails(rt: HostRuntime) -> Result<(), Fail>
 fn ends_with_status_1_at_a_flush_that_fails(rt: HostRuntime) -> Result<(), Fail> {
     let taken = Vec::new(rt.alloc());
     let mut output = Watched::new(FailingFlush { taken });
-    let (status, errors) = invoked_to(rt.alloc(), &mut output)?;
-    assert_eq!(rt; status, 1);
-    assert_eq!(rt; output.into_inner().taken.as_slice(), SHOWN);
-    assert_eq!(rt; errors.as_slice(), b"qnxsh: output\n".as_slice());
+    assert!(rt; fails_at(rt.alloc(), &mut output)?);
+    assert!(rt; output.into_inner().taken.as_slice() == SHOWN);
     Ok(())
 }
 
 #[test]
 fn keeps_its_status_where_the_errors_fail(rt: HostRuntime) -> Result<(), Fail> {
-    let words = with_limit(rt.alloc(), "0")?;
-    let mut input = SCRIPT;
+    let words = Ok(vec![in rt.alloc(); "qnxsh", "x"]?);
+    let mut script = SCRIPT;
     let mut output = kept(rt.alloc());
     let mut errors = Watched::new(FailingWriter::new(rt.alloc(), 3, None));
-    let status = invoke(rt.alloc(), Ok(words), &mut input, &mut output, &mut errors);
-    assert_eq!(rt; status, 2);
-    assert!(rt; output.into_inner().is_empty());
-    assert_eq!(rt; errors.into_inner().taken.as_slice(), b"qnx".as_slice());
+    let status = invoke(rt.alloc(), words, &mut script, &mut output, &mut errors);
+    assert!(rt; status == 2 && output.into_inner().is_empty());
+    assert!(rt; errors.into_inner().taken.as_slice() == b"qnx".as_slice());
     Ok(())
 }

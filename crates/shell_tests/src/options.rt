@@ -1,59 +1,59 @@
 //! What the words of the command line ask for.
 
-use qx_sh::limit::DEFAULT_LIMIT;
+use qx_sh::limit::{DEFAULT_LIMIT, Options};
 use qx_sh::options::{OptionsFault, options};
+use std::alloc::Global;
 use std::test::Fail;
 
-#[test]
-fn takes_the_default_without_an_option(rt: HostRuntime) -> Result<(), Fail> {
-    assert!(rt; options(rt.alloc(), &["qnxsh"])?.limit == DEFAULT_LIMIT);
-    assert!(rt; DEFAULT_LIMIT == 1_048_576);
-    assert!(rt; options(rt.alloc(), &["qnxsh", "--"])?.limit == DEFAULT_LIMIT);
-    Ok(())
+/// Whether the words ask for this limit.
+fn ask_for(alloc: Global, words: &[&str], limit: usize) -> bool {
+    match options(alloc, words) {
+        Ok(options) => options.limit == limit,
+        Err(_) => false,
+    }
 }
 
-#[test]
-fn reads_a_limit(rt: HostRuntime) -> Result<(), Fail> {
-    let alloc = rt.alloc();
-    assert!(rt; options(alloc, &["qnxsh", "--limit", "6"])?.limit == 6);
-    assert!(rt; options(alloc, &["qnxsh", "--limit=6"])?.limit == 6);
-    assert!(rt; options(alloc, &["qnxsh", "--limit", "1"])?.limit == 1);
-    assert!(rt; options(alloc, &["qnxsh", "--limit", "16777216"])?.limit == 16_777_216);
-    Ok(())
-}
-
-#[test]
-fn refuses_a_text_that_is_no_limit(rt: HostRuntime) {
-    let alloc = rt.alloc();
-    for text in [
-        "0",
-        "16777217",
-        "06",
-        "+6",
-        "",
-        "6 ",
-        "x",
-        "99999999999999999999",
-    ] {
-        let words = ["qnxsh", "--limit", text];
-        assert!(rt;
-            options(alloc, &words) == Err(OptionsFault::Words),
-            "at {text}"
-        );
+/// Whether the words are refused.
+fn are_refused(alloc: Global, words: &[&str]) -> bool {
+    match options(alloc, words) {
+        Err(OptionsFault::Words) => true,
+        _ => false,
     }
 }
 
 #[test]
+fn takes_the_default_without_an_option(rt: HostRuntime) {
+    assert!(rt; DEFAULT_LIMIT == 1_048_576);
+    assert!(rt; ask_for(rt.alloc(), &["qnxsh"], DEFAULT_LIMIT));
+    assert!(rt; ask_for(rt.alloc(), &["qnxsh", "--"], DEFAULT_LIMIT));
+}
+
+#[test]
+fn reads_a_limit(rt: HostRuntime) {
+    assert!(rt; ask_for(rt.alloc(), &["qnxsh", "--limit=6"], 6));
+    assert!(rt; ask_for(rt.alloc(), &["qnxsh", "--limit", "1"], 1));
+    assert!(rt; ask_for(rt.alloc(), &["qnxsh", "--limit", "16777216"], 16_777_216));
+}
+
+#[test]
+fn refuses_a_text_that_is_no_limit(rt: HostRuntime) {
+    for text in ["0", "16777217", "06", "+6", "", "6 ", "x"] {
+        assert!(rt;
+            are_refused(rt.alloc(), &["qnxsh", "--limit", text]),
+            "at {text}"
+        );
+    }
+    assert!(rt; Options::with_limit_text("99999999999999999999").is_none());
+}
+
+#[test]
 fn refuses_other_words(rt: HostRuntime) {
-    let alloc = rt.alloc();
-    let refused = Err(OptionsFault::Words);
-    assert!(rt; options(alloc, &["qnxsh", "--limit"]) == refused);
-    assert!(rt; options(alloc, &["qnxsh", "--limit", "6", "--limit", "7"]) == refused);
-    assert!(rt; options(alloc, &["qnxsh", "x"]) == refused);
-    assert!(rt; options(alloc, &["qnxsh", "--", "x"]) == refused);
-    assert!(rt; options(alloc, &["qnxsh", "--help"]) == refused);
-    assert!(rt; options(alloc, &["qnxsh", "-h"]) == refused);
-    assert!(rt; options(alloc, &["qnxsh", "--version"]) == refused);
+    assert!(rt; are_refused(rt.alloc(), &["qnxsh", "--limit"]));
+    assert!(rt; are_refused(rt.alloc(), &["qnxsh", "--limit=6", "--limit=7"]));
+    assert!(rt; are_refused(rt.alloc(), &["qnxsh", "--", "x"]));
+    for word in ["x", "--help", "-h", "--version"] {
+        assert!(rt; are_refused(rt.alloc(), &["qnxsh", word]), "at {word}");
+    }
 }
 
 #[test]

@@ -1,5 +1,0 @@
-use Rattle.qx_lists.specs.Table.{ContainsList}
-use Rattle.list_tests.proofs.memory.push_values.Given as goal
-
-abbrev pub invariant-values : goal.invariant-values
-invariant-values l = ContainsList l.table l.list

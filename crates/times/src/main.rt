@@ -1,0 +1,27 @@
+//! Does one thing so many times: a clock outside measures it. With no words it does a little of each.
+#![tactic(auto)]
+
+mod lists;
+mod worlds;
+
+use anyhow::bail;
+use std::env;
+
+fn main(rt: HostRuntime) -> anyhow::Result<()> {
+    let alloc = rt.alloc();
+    let words: Vec<String> = env::args(&rt)?.collect(alloc)?;
+    match words.as_slice() {
+        [_] => {
+            lists::make_calls(alloc, "put", 10, 10)?;
+            let answered = worlds::take_steps(alloc, "line", 4, 200, 1000)?;
+            println!(rt; "{answered}")?;
+        }
+        [_, subject, rest @ ..] if subject.as_str() == "list" => lists::on_words(alloc, rest)?,
+        [_, subject, rest @ ..] if subject.as_str() == "world" => {
+            let answered = worlds::on_words(alloc, rest)?;
+            println!(rt; "{answered}")?;
+        }
+        _ => bail!("the first word is list or world"),
+    }
+    Ok(())
+}
