@@ -2,7 +2,7 @@
 
 ghost use Rattle.std.specs.Prelude.{◌<◌};
 
-use crate::plain::Plain;
+use plain_machine::Plain;
 use qx_machine::State;
 use qx_types::{Bytes, Coid, Manager, OFlags, Prio, Proc, Request, Step, Thread, User, Worker};
 use std::alloc::{AllocError, Global};
@@ -55,33 +55,55 @@ pub fn next_step(
     plain: &Plain,
     busy: bool,
 ) -> Result<Step, AllocError> {
-    Ok(match next_kind(dice, busy) {
-        Kind::Spawn => Step::Spawn {
-            user: next_user(dice),
-            threads: next_count(dice),
-            prio: next_prio(dice),
-        },
-        Kind::Call => {
-            let thread = ready_thread(dice, plain);
-            let request = next_request(alloc, dice, thread.proc.user)?;
-            Step::Call { thread, request }
-        }
-        Kind::TakeReply => Step::TakeReply {
-            thread: answered_thread(dice, plain),
-        },
-        Kind::SetPrio => Step::SetPrio {
-            thread: next_thread(dice),
-            prio: next_prio(dice),
-        },
-        Kind::Receive => Step::Receive {
-            worker: next_worker(dice, plain, false),
-            manager: next_manager(dice),
-        },
-        Kind::Perform => Step::Perform {
-            worker: next_worker(dice, plain, true),
-            moment: u64::from(dice.below(200)),
-        },
-    })
+    match next_kind(dice, busy) {
+        Kind::Spawn => Ok(next_spawn(dice)),
+        Kind::Call => next_call(alloc, dice, plain),
+        Kind::TakeReply => Ok(next_take_reply(dice, plain)),
+        Kind::SetPrio => Ok(next_set_prio(dice)),
+        Kind::Receive => Ok(next_receive(dice, plain)),
+        Kind::Perform => Ok(next_perform(dice, plain)),
+    }
+}
+
+fn next_spawn(dice: &mut Dice) -> Step {
+    Step::Spawn {
+        user: next_user(dice),
+        threads: next_count(dice),
+        prio: next_prio(dice),
+    }
+}
+
+fn next_call(alloc: Global, dice: &mut Dice, plain: &Plain) -> Result<Step, AllocError> {
+    let thread = ready_thread(dice, plain);
+    let request = next_request(alloc, dice, thread.proc.user)?;
+    Ok(Step::Call { thread, request })
+}
+
+fn next_take_reply(dice: &mut Dice, plain: &Plain) -> Step {
+    Step::TakeReply {
+        thread: answered_thread(dice, plain),
+    }
+}
+
+fn next_set_prio(dice: &mut Dice) -> Step {
+    Step::SetPrio {
+        thread: next_thread(dice),
+        prio: next_prio(dice),
+    }
+}
+
+fn next_receive(dice: &mut Dice, plain: &Plain) -> Step {
+    Step::Receive {
+        worker: next_worker(dice, plain, false),
+        manager: next_manager(dice),
+    }
+}
+
+fn next_perform(dice: &mut Dice, plain: &Plain) -> Step {
+    Step::Perform {
+        worker: next_worker(dice, plain, true),
+        moment: u64::from(dice.below(200)),
+    }
 }
 
 fn next_kind(dice: &mut Dice, busy: bool) -> Kind {
@@ -211,18 +233,23 @@ fn next_manager(dice: &mut Dice) -> Manager {
 
 /// An open most often, for more connections and blocks than are closed.
 fn next_request(alloc: Global, dice: &mut Dice, user: User) -> Result<Request, AllocError> {
-    Ok(match dice.below(8) {
-        0 => Request::Close {
+    match dice.below(8) {
+        0 => Ok(Request::Close {
             coid: next_connection(dice),
-        },
-        1 => Request::Fstat {
+        }),
+        1 => Ok(Request::Fstat {
             coid: next_connection(dice),
-        },
-        _ => Request::OpenPath {
-            path: Bytes::from_slice(alloc, next_path(dice, user).as_bytes())?,
-            flags: next_flags(dice),
-            mode: next_mode(dice),
-        },
+        }),
+        _ => next_open(alloc, dice, user),
+    }
+}
+
+fn next_open(alloc: Global, dice: &mut Dice, user: User) -> Result<Request, AllocError> {
+    let path = Bytes::from_slice(alloc, next_path(dice, user).as_bytes())?;
+    Ok(Request::OpenPath {
+        path,
+        flags: next_flags(dice),
+        mode: next_mode(dice),
     })
 }
 

@@ -2,17 +2,16 @@
 #![tactic(auto)]
 
 mod choice;
-mod plain;
 mod tally;
 
 use anyhow::bail;
 use choice::{Dice, next_step};
-use plain::Plain;
+use plain_machine::Plain;
 use qx_machine::State;
-use qx_types::{Bytes, Config, Manager, Outcome, Proc, Step, Thread, User, Worker};
+use qx_types::{Bytes, Config, Manager, Outcome, Proc, Request, Step, Thread, User, Worker};
 use qx_world::{PerformFault, Work, WorkRef, World};
 use std::alloc::Global;
-use std::{env, io};
+use std::env;
 use tally::Tally;
 
 /// Steps from one busy time to the next, and how many of them are busy.
@@ -20,25 +19,38 @@ const ROUND: u32 = 192;
 
 const BUSY: u32 = 80;
 
+/// So many items have to stand in the line at some time.
+const LONG: usize = 100;
+
 fn main(rt: HostRuntime) -> anyhow::Result<()> {
     let words: Vec<String> = env::args(&rt)?.collect(rt.alloc())?;
     let [_, count] = words.as_slice() else {
         bail!("give the number of steps");
     };
     let count: u32 = count.parse()?;
-    let tally = compare(rt.alloc(), count)?;
-    let mut output = io::writer(&rt);
-    tally.print(&mut output)?;
+    compare(rt.alloc(), count)?;
+    println!(rt; "{count} steps, and each outcome came")?;
     Ok(())
 }
 
-/// Takes so many steps in both. A difference is an error.
-fn compare(alloc: Global, count: u32) -> anyhow::Result<Tally> {
+/// Takes so many steps in both. A difference is an error, and so is an outcome that did not come.
+fn compare(alloc: Global, count: u32) -> anyhow::Result<()> {
     let mut plain = Plain::new(alloc, three_users(alloc)?);
     let mut world = World::new(alloc, three_users(alloc)?)?;
-    let mut tally = Tally::new(alloc);
+    let mut tally = Tally::new();
     take_steps(alloc, &mut world, &mut plain, &mut tally, count)?;
-    Ok(tally)
+    judge(&tally)
+}
+
+/// An outcome that did not come is an error, and so is a line that was always short.
+fn judge(tally: &Tally) -> anyhow::Result<()> {
+    if let Some((word, error)) = tally.missing() {
+        bail!("no outcome was {word} {error}");
+    }
+    if tally.longest() < LONG {
+        bail!("the line held no more than {} items", tally.longest());
+    }
+    Ok(())
 }
 
 fn take_steps(
@@ -52,7 +64,9 @@ fn take_steps(
     for number in 0..count {
         let step = next_step(alloc, &mut dice, plain, number % ROUND < BUSY)?;
         let outcome = take_both(world, plain, &step)?;
-        tally.count(&outcome, plain.waiting(Manager::Ram))?;
+        if !tally.mark(&outcome, plain.waiting(Manager::Ram)) {
+            bail!("{step:?}: {outcome:?}");
+        }
     }
     if !no_others(world, plain) {
         bail!("a thread is there that was not started");
@@ -88,27 +102,37 @@ fn three_users(alloc: Global) -> anyhow::Result<Config> {
 
 /// Takes a step in the world; a perform by the work that the plain rows say is held.
 fn take(world: &mut World, plain: &Plain, step: &Step) -> anyhow::Result<Outcome> {
-    Ok(match step {
+    match step {
         Step::Spawn {
             user,
             threads,
             prio,
-        } => world.spawn(*user, *threads, *prio)?,
-        Step::Call { thread, request } => match world.call(*thread, request) {
-            Ok(outcome) => outcome,
-            Err(_) => bail!("out of memory"),
-        },
-        Step::TakeReply { thread } => world.take_reply(*thread),
-        Step::SetPrio { thread, prio } => world.set_prio(*thread, *prio),
-        Step::Receive { worker, manager } => world.receive(*worker, *manager),
-        Step::Perform { worker, moment } => {
-            let work = match plain.held(*worker) {
-                Some(message) => Work::Message(message),
-                None => Work::Pulse,
-            };
-            world.perform(*worker, &work, *moment)?
-        }
-    })
+        } => Ok(world.spawn(*user, *threads, *prio)?),
+        Step::Call { thread, request } => call(world, *thread, request),
+        Step::TakeReply { thread } => Ok(world.take_reply(*thread)),
+        Step::SetPrio { thread, prio } => Ok(world.set_prio(*thread, *prio)),
+        Step::Receive { worker, manager } => Ok(world.receive(*worker, *manager)),
+        Step::Perform { worker, moment } => Ok(world.perform(
+            *worker,
+            &held_work(plain, *worker),
+            *moment,
+        )?),
+    }
+}
+
+fn call(world: &mut World, thread: Thread, request: &Request) -> anyhow::Result<Outcome> {
+    match world.call(thread, request) {
+        Ok(outcome) => Ok(outcome),
+        Err(_) => bail!("out of memory"),
+    }
+}
+
+/// The work that the plain rows say a worker holds. Where it holds nothing, any work will do.
+fn held_work(plain: &Plain, worker: Worker) -> Work {
+    match plain.held(worker) {
+        Some(message) => Work::Message(message),
+        None => Work::Pulse,
+    }
 }
 
 /// Before a perform of a message, tries one of a pulse, which is not what the worker holds.
@@ -143,17 +167,19 @@ fn reads_agree(world: &World, plain: &Plain) -> bool {
 /// Whether each worker holds the same, and no other number holds anything.
 fn workers_agree(world: &World, plain: &Plain) -> bool {
     for number in 0..4 {
-        let worker = Worker(number);
-        let agrees = match (world.held(worker), plain.held(worker)) {
-            (Some(WorkRef::Message(held)), Some(message)) => *held == message,
-            (None, None) => !world.holds(worker),
-            _ => false,
-        };
-        if !agrees {
+        if !worker_agrees(world, plain, Worker(number)) {
             return false;
         }
     }
     true
+}
+
+fn worker_agrees(world: &World, plain: &Plain, worker: Worker) -> bool {
+    match world.held(worker) {
+        Some(WorkRef::Message(held)) => plain.held(worker) == Some(*held),
+        Some(WorkRef::Pulse) => false,
+        None => plain.held(worker).is_none() && !world.holds(worker),
+    }
 }
 
 /// Whether no thread but the started ones is answered or blocked.

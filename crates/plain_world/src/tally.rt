@@ -1,66 +1,80 @@
-//! How often each outcome came.
+//! Which outcomes came.
 
 use qx_types::Outcome;
-use std::alloc::{AllocError, Global};
-use std::io;
-use std::io::Write;
 
-/// How often each outcome came, in the order in which they came first, and how long the line was.
+/// Each outcome that the steps have to come to, and its error. None other may come.
+const OUTCOMES: [(&str, &str); 18] = [
+    ("spawned", ""),
+    ("refused", "EINVAL"),
+    ("refused", "ENOENT"),
+    ("refused", "EBADF"),
+    ("refused", "EMFILE"),
+    ("refused", "EAGAIN"),
+    ("done", ""),
+    ("sent", ""),
+    ("reply", ""),
+    ("reply with bytes", ""),
+    ("error", "EBADF"),
+    ("error", "ENFILE"),
+    ("wrongstate", ""),
+    ("took", ""),
+    ("idle", ""),
+    ("busy", ""),
+    ("handled", ""),
+    ("nothing", ""),
+];
+
+/// Which of the outcomes came, and how long the line was.
 #[derive(Drop)]
 pub struct Tally {
-    rows: Vec<TallyRow>,
+    came: [bool; 18],
     longest: usize,
 }
 
-#[derive(Drop)]
-struct TallyRow {
-    word: &'static str,
-    error: &'static str,
-    count: u64,
-}
-
 impl Tally {
-    pub fn new(alloc: Global) -> Tally {
+    pub fn new() -> Tally {
         Tally {
-            rows: Vec::new(alloc),
+            came: [false; 18],
             longest: 0,
         }
     }
 
-    /// Counts an outcome, after which so many items wait.
-    pub fn count(&mut self, outcome: &Outcome, waiting: usize) -> Result<(), AllocError> {
+    /// Marks an outcome, after which so many items wait. Whether it is one of those that may come.
+    pub fn mark(&mut self, outcome: &Outcome, waiting: usize) -> bool {
         self.longest = self.longest.max(waiting);
-        self.count_words(outcome_word(outcome), error_word(outcome))
+        self.mark_words(outcome_word(outcome), error_word(outcome))
     }
 
-    fn count_words(&mut self, word: &'static str, error: &'static str) -> Result<(), AllocError> {
-        for row in self.rows.iter_mut() {
-            if row.word == word && row.error == error {
-                row.count = row.count.saturating_add(1);
-                return Ok(());
+    fn mark_words(&mut self, word: &str, error: &str) -> bool {
+        for (row, came) in OUTCOMES.iter().zip(self.came.iter_mut()) {
+            if row.0 == word && row.1 == error {
+                *came = true;
+                return true;
             }
         }
-        self.rows.push(TallyRow {
-            word,
-            error,
-            count: 1,
-        })?;
-        Ok(())
+        false
     }
 
-    /// Prints a line for each outcome.
-    pub fn print<W: Write>(&self, output: &mut W) -> io::Result<()> {
-        for row in self.rows.iter() {
-            writeln!(output, "{}{} {}", row.word, row.error, row.count)?;
+    /// An outcome that did not come.
+    pub fn missing(&self) -> Option<(&'static str, &'static str)> {
+        for (row, came) in OUTCOMES.iter().zip(self.came.iter()) {
+            if !*came {
+                return Some(*row);
+            }
         }
-        writeln!(output, "longest line {}", self.longest)
+        None
+    }
+
+    /// The most items that the line held.
+    pub fn longest(&self) -> usize {
+        self.longest
     }
 }
 
 fn outcome_word(outcome: &Outcome) -> &'static str {
     match outcome {
         Outcome::Spawned(_) => "spawned",
-        Outcome::Refused(_) => "refused ",
+        Outcome::Refused(_) => "refused",
         Outcome::Done => "done",
         Outcome::Sent => "sent",
         Outcome::Reply(_, bytes) => {
@@ -70,7 +84,7 @@ fn outcome_word(outcome: &Outcome) -> &'static str {
                 "reply with bytes"
             }
         }
-        Outcome::Failed(_) => "error ",
+        Outcome::Failed(_) => "error",
         Outcome::Pulse(..) => "pulse",
         Outcome::NoPulse => "no pulse",
         Outcome::WrongState => "wrongstate",

@@ -8,4 +8,6 @@ mod nodes;
 #[cfg(test)]
 mod paths;
 #[cfg(test)]
-mod steps;
+mod same;
+#[cfg(test)]
+mod script;

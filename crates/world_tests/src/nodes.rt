@@ -7,7 +7,6 @@ use all_memory::take_all_memory;
 use qx_chan::Channel;
 use qx_types::{Manager, Prio, Proc, Thread, User};
 use std::alloc::{AllocError, Global};
-use std::test::Fail;
 
 /// A channel of one user, with the nodes of the first thread of the user's first process.
 fn with_thread(alloc: Global, thread: Thread) -> Result<Channel, AllocError>
@@ -48,7 +47,7 @@ fn takes_without_memory(
 }
 
 #[test]
-fn a_disconnect_node_comes_back(rt: HostRuntime) -> Result<(), Fail> {
+fn a_disconnect_node_comes_back(rt: HostRuntime) -> Result<(), AllocError> {
     let proc = Proc {
         user: User(1),
         num: 1,

@@ -1,4 +1,5 @@
 //! The rules of the machine over plain vectors, with no number of a row being its place.
+#![tactic(auto)]
 
 use qx_machine::{Message, Over, Sent, State};
 use qx_types::{
@@ -81,13 +82,18 @@ impl Plain {
         if self.config.name(user).is_none() {
             return Ok(Outcome::WrongState);
         }
-        if !(1..=4).contains(&threads) || !is_prio(prio) {
+        if threads == 0 || threads > 4 || !is_prio(prio) {
             return Ok(Outcome::Refused(Errno::EINVAL));
         }
         let Some(num) = self.free_process(user) else {
             return Ok(Outcome::Refused(Errno::EAGAIN));
         };
-        let proc = Proc { user, num };
+        self.start(Proc { user, num }, threads, prio)?;
+        Ok(Outcome::Spawned(num))
+    }
+
+    /// Starts a process with its threads.
+    fn start(&mut self, proc: Proc, threads: u8, prio: Prio) -> Result<(), AllocError> {
         self.processes.push(proc)?;
         for tid in 1..=threads {
             self.threads.push(Row {
@@ -97,7 +103,7 @@ impl Plain {
                 calls: 0,
             })?;
         }
-        Ok(Outcome::Spawned(num))
+        Ok(())
     }
 
     fn call(&mut self, thread: Thread, request: &Request) -> Result<Outcome, AllocError> {
@@ -114,10 +120,17 @@ impl Plain {
         let Some(calls) = row.calls.checked_add(1) else {
             return Ok(Outcome::Refused(Errno::EAGAIN));
         };
-        let sent = match self.message(thread, prio, request) {
-            Ok(sent) => sent,
-            Err(error) => return Ok(Outcome::Refused(error)),
-        };
+        match self.message(thread, prio, request) {
+            Ok(sent) => {
+                self.send(thread, sent, calls)?;
+                Ok(Outcome::Sent)
+            }
+            Err(error) => Ok(Outcome::Refused(error)),
+        }
+    }
+
+    /// Sends a message as a thread's call of that number.
+    fn send(&mut self, thread: Thread, sent: Sent, calls: u64) -> Result<(), AllocError> {
         if let Over::New(coid) = sent.over {
             self.connections.push(Connection {
                 proc: thread.proc,
@@ -125,16 +138,16 @@ impl Plain {
                 block: None,
             })?;
         }
-        let item = Queued { thread, prio };
-        match sent.manager {
-            Manager::Ram => line_up(&mut self.ram, item)?,
-            Manager::Pipe => line_up(&mut self.pipe, item)?,
-        }
+        let item = Queued {
+            thread,
+            prio: sent.prio,
+        };
+        line_up(self.line_mut(sent.manager), item)?;
         if let Some(row) = self.row_mut(thread) {
             row.calls = calls;
             row.state = State::Queued(sent);
         }
-        Ok(Outcome::Sent)
+        Ok(())
     }
 
     /// The message that a request is sent as. All connections are at the RAM manager.
@@ -202,18 +215,12 @@ impl Plain {
         if self.hand(worker).is_some() {
             return Ok(Outcome::Busy);
         }
-        let first = match manager {
-            Manager::Ram => first_out(&mut self.ram),
-            Manager::Pipe => first_out(&mut self.pipe),
-        };
-        let Some(thread) = first else {
+        let Some(thread) = first_out(self.line_mut(manager)) else {
             return Ok(Outcome::Idle);
         };
         self.hands.push((worker, thread))?;
-        if let Some(row) = self.row_mut(thread)
-            && let State::Queued(sent) = &row.state
-        {
-            row.state = State::Taken(*sent);
+        if let Some(sent) = self.queued(thread) {
+            self.set_state(thread, State::Taken(sent));
         }
         Ok(Outcome::Took(Item::Message(thread)))
     }
@@ -228,9 +235,7 @@ impl Plain {
         self.hands.retain(|(holder, _)| *holder != worker);
         if let Some(sent) = self.taken(thread) {
             let answer = self.answer(thread, sent)?;
-            if let Some(row) = self.row_mut(thread) {
-                row.state = State::Answered(answer);
-            }
+            self.set_state(thread, State::Answered(answer));
         }
         Ok(Outcome::Handled)
     }
@@ -297,6 +302,27 @@ impl Plain {
         self.threads.iter_mut().find(|row| row.thread == thread)
     }
 
+    fn set_state(&mut self, thread: Thread, state: State) {
+        if let Some(row) = self.row_mut(thread) {
+            row.state = state;
+        }
+    }
+
+    fn line_mut(&mut self, manager: Manager) -> &mut Vec<Queued> {
+        match manager {
+            Manager::Ram => &mut self.ram,
+            Manager::Pipe => &mut self.pipe,
+        }
+    }
+
+    /// The message of a thread that stands in a line.
+    fn queued(&self, thread: Thread) -> Option<Sent> {
+        match &self.row(thread)?.state {
+            State::Queued(sent) => Some(*sent),
+            State::Ready | State::Taken(_) | State::Answered(_) => None,
+        }
+    }
+
     /// The message of a thread that a worker took.
     fn taken(&self, thread: Thread) -> Option<Sent> {
         match &self.row(thread)?.state {
@@ -306,7 +332,7 @@ impl Plain {
     }
 
     fn is_worker(&self, worker: Worker) -> bool {
-        (1..=self.config.workers()).contains(&worker.0)
+        0 < worker.0 && worker.0 <= self.config.workers()
     }
 
     fn hand(&self, worker: Worker) -> Option<Thread> {
@@ -365,7 +391,7 @@ impl Plain {
 
 /// Whether the number is one of a priority.
 fn is_prio(prio: Prio) -> bool {
-    (1..=63).contains(&prio.0)
+    0 < prio.0 && prio.0 <= 63
 }
 
 /// Whether an open asks for reading alone, and for a mode that there is.

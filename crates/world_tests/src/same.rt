@@ -1,0 +1,77 @@
+//! Whether two traces are the same, as far as can be seen of them.
+
+use crate::paths::first_thread;
+use qx_machine::{Entry, Message, Seen};
+use qx_types::{Manager, NoMemory, User, Worker};
+use qx_world::{Traced, WorkRef, World};
+
+/// Whether the stored steps with their outcomes, what each worker holds, which users' first threads are answered and
+/// blocked, how many items wait in each line, and each user's transcript are the same.
+pub(crate) fn is_same(one: &Traced, other: &Traced) -> Result<bool, NoMemory> {
+    Ok(
+        has_same_entries(one.entries(), other.entries())
+            && is_same_world(one.world(), other.world())
+            && has_same_transcript(one, other, User(1))?
+            && has_same_transcript(one, other, User(2))?,
+    )
+}
+
+fn has_same_entries(one: &[Entry], other: &[Entry]) -> bool {
+    for (entry, other) in one.iter().zip(other.iter()) {
+        if !is_same_entry(entry, other) {
+            return false;
+        }
+    }
+    one.len() == other.len()
+}
+
+fn is_same_entry(one: &Entry, other: &Entry) -> bool {
+    one.step == other.step && one.outcome == other.outcome
+}
+
+fn is_same_world(one: &World, other: &World) -> bool {
+    has_same_worker(one, other, Worker(1))
+        && has_same_worker(one, other, Worker(2))
+        && has_same_thread(one, other, User(1))
+        && has_same_thread(one, other, User(2))
+        && one.waiting(Manager::Ram) == other.waiting(Manager::Ram)
+        && one.waiting(Manager::Pipe) == other.waiting(Manager::Pipe)
+}
+
+fn has_same_worker(one: &World, other: &World, worker: Worker) -> bool {
+    one.holds(worker) == other.holds(worker) && message_of(one, worker) == message_of(other, worker)
+}
+
+/// The message that a worker holds.
+fn message_of(world: &World, worker: Worker) -> Option<Message> {
+    match world.held(worker)? {
+        WorkRef::Message(message) => Some(*message),
+        WorkRef::Pulse => None,
+    }
+}
+
+/// Whether the first thread of a user's first process is answered and blocked in both or in neither.
+fn has_same_thread(one: &World, other: &World, user: User) -> bool {
+    let thread = first_thread(user);
+    one.answered(thread) == other.answered(thread) && one.blocked(thread) == other.blocked(thread)
+}
+
+/// Whether a user's processes received the same.
+pub(crate) fn has_same_transcript(
+    one: &Traced,
+    other: &Traced,
+    user: User,
+) -> Result<bool, NoMemory> {
+    let received = one.transcript(user)?;
+    let other = other.transcript(user)?;
+    Ok(is_same_received(&received, &other))
+}
+
+fn is_same_received(one: &[Seen], other: &[Seen]) -> bool {
+    for (seen, other) in one.iter().zip(other.iter()) {
+        if seen.actor != other.actor || seen.outcome != other.outcome {
+            return false;
+        }
+    }
+    one.len() == other.len()
+}

@@ -1,0 +1,92 @@
+//! Steps, read from lines of a script.
+
+use qx_script::{Command, Script, parse};
+use qx_types::{Config, NoMemory, Step};
+use qx_world::Traced;
+use std::alloc::Global;
+use std::process::Abort;
+
+/// Two users, ann and bob, and two workers.
+const USERS: &str = "user ann\nuser bob\nworkers 2\n";
+
+/// The users' lines and these, read.
+fn read(alloc: Global, lines: &str) -> Result<Script, NoMemory> {
+    let mut text = Vec::new(alloc);
+    text.extend_from_slice(USERS.as_bytes())?;
+    text.extend_from_slice(lines.as_bytes())?;
+    parse(alloc, &text)
+}
+
+/// Two users, ann and bob, and two workers.
+pub(crate) fn config(rt: &impl Abort, alloc: Global) -> Result<Config, NoMemory> {
+    match read(alloc, "")? {
+        Script::Good(config, _) => Ok(config),
+        Script::Bad(_) => panic!(rt; "a bad line"),
+    }
+}
+
+/// The steps of lines of which each takes one.
+pub(crate) fn steps(rt: &impl Abort, alloc: Global, lines: &str) -> Result<Vec<Step>, NoMemory> {
+    match read(alloc, lines)? {
+        Script::Good(_, commands) => steps_of(rt, alloc, commands),
+        Script::Bad(_) => panic!(rt; "a bad line"),
+    }
+}
+
+fn steps_of(rt: &impl Abort, alloc: Global, commands: Vec<Command>) -> Result<Vec<Step>, NoMemory> {
+    let mut steps = Vec::new(alloc);
+    for command in commands {
+        match command {
+            Command::Take(step) => steps.push(step)?,
+            _ => panic!(rt; "a line that is not one step"),
+        }
+    }
+    Ok(steps)
+}
+
+/// A trace at boot.
+pub(crate) fn booted(rt: &impl Abort, alloc: Global) -> Result<Traced, NoMemory> {
+    Traced::new(alloc, config(rt, alloc)?)
+}
+
+/// A trace that took the steps of lines.
+pub(crate) fn ran(rt: &impl Abort, alloc: Global, lines: &str) -> Result<Traced, NoMemory> {
+    let mut traced = booted(rt, alloc)?;
+    run(rt, alloc, &mut traced, lines)?;
+    Ok(traced)
+}
+
+/// Takes the steps of lines.
+pub(crate) fn run(
+    rt: &impl Abort,
+    alloc: Global,
+    traced: &mut Traced,
+    lines: &str,
+) -> Result<(), NoMemory> {
+    let steps = steps(rt, alloc, lines)?;
+    store_all(traced, &steps)
+}
+
+/// A trace that took steps, with no room for one more where they are four or more.
+pub(crate) fn filled(rt: &impl Abort, alloc: Global, steps: &[Step]) -> Result<Traced, NoMemory> {
+    let mut traced = booted(rt, alloc)?;
+    traced.reserve(steps.len())?;
+    store_all(&mut traced, steps)?;
+    Ok(traced)
+}
+
+/// Takes a copy of each step. That of one with no path wants no memory.
+pub(crate) fn store_all(traced: &mut Traced, steps: &[Step]) -> Result<(), NoMemory> {
+    for step in steps {
+        store(traced, step.clone()?)?;
+    }
+    Ok(())
+}
+
+/// Takes a step.
+pub(crate) fn store(traced: &mut Traced, step: Step) -> Result<(), NoMemory> {
+    match traced.store(step) {
+        Ok(()) => Ok(()),
+        Err(_) => Err(NoMemory),
+    }
+}
