@@ -2,6 +2,7 @@
 #![tactic(auto)]
 
 mod lists;
+mod messages;
 mod worlds;
 
 use anyhow::bail;
@@ -15,13 +16,19 @@ fn main(rt: HostRuntime) -> anyhow::Result<()> {
             lists::make_calls(alloc, "put", 10, 10)?;
             let answered = worlds::take_steps(alloc, "line", 4, 200, 1000)?;
             println!(rt; "{answered}")?;
+            let bytes = messages::make_calls(alloc, "read", "open", 20, 1000)?;
+            println!(rt; "{bytes}")?;
         }
         [_, subject, rest @ ..] if subject.as_str() == "list" => lists::on_words(alloc, rest)?,
         [_, subject, rest @ ..] if subject.as_str() == "world" => {
             let answered = worlds::on_words(alloc, rest)?;
             println!(rt; "{answered}")?;
         }
-        _ => bail!("the first word is list or world"),
+        [_, subject, rest @ ..] if subject.as_str() == "message" => {
+            let bytes = messages::on_words(alloc, rest)?;
+            println!(rt; "{bytes}")?;
+        }
+        _ => bail!("the first word is list, world or message"),
     }
     Ok(())
 }

@@ -1,5 +1,4 @@
-//! Encodes or reads one message, so many times, and prints how many bytes that were: a clock outside measures it.
-#![tactic(auto)]
+//! One message encoded or read, so many times.
 
 ghost use Rattle.std.specs.Prelude.{IsTrue};
 ghost use Rattle.qx_wire.specs.Table.{in_ranges};
@@ -8,28 +7,35 @@ use anyhow::bail;
 use qx_types::{Bytes, OFlags};
 use qx_wire::{BorrowedBytes, Meaning, Message, Parsed, Rest, encode, in_ranges};
 use std::alloc::{AllocError, Global};
-use std::env;
 
-fn main(rt: HostRuntime) -> anyhow::Result<()> {
-    let words: Vec<String> = env::args(&rt)?.collect(rt.alloc())?;
-    let [_, calls, kind, len, rounds] = words.as_slice() else {
+/// The words are the calls, a message, its bytes and the rounds.
+pub fn on_words(alloc: Global, words: &[String]) -> anyhow::Result<u64> {
+    let [calls, kind, len, rounds] = words else {
         bail!("give the calls, a message, its bytes and the rounds");
     };
-    let text = components(rt.alloc(), len.parse()?)?;
-    let message = message_of(kind.as_str(), &text);
+    make_calls(alloc, calls, kind, len.parse()?, rounds.parse()?)
+}
+
+/// Encodes or reads a message, so many times, and tells how many bytes that were.
+pub fn make_calls(
+    alloc: Global,
+    calls: &str,
+    kind: &str,
+    len: usize,
+    rounds: u32,
+) -> anyhow::Result<u64> {
+    let text = components(alloc, len)?;
+    let message = message_of(kind, &text);
     if !in_ranges(&message) {
         bail!("the message is out of its ranges");
     }
-    let rounds: u32 = rounds.parse()?;
-    let Ok(spelling) = encode(rt.alloc(), &message) else {
+    let Ok(spelling) = encode(alloc, &message) else {
         bail!("no memory");
     };
-    let total = match calls.as_str() {
-        "encode" => encoded(rt.alloc(), &message, rounds),
+    Ok(match calls {
+        "encode" => encoded(alloc, &message, rounds),
         _ => read(spelling, rounds),
-    };
-    println!(rt; "{total}")?;
-    Ok(())
+    })
 }
 
 /// Components of 64 letters, of so many bytes together with the slashes.
