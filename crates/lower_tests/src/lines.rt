@@ -1,4 +1,4 @@
-//! A line goes as a sorted vector.
+//! Calls of a line, one after another.
 
 ghost use Rattle.std.specs.Prelude.{IfOk};
 ghost use Rattle.qx_lines.specs.Line.{IsInLine, IsLineOf};
@@ -7,8 +7,7 @@ use crate::nodes::Sent;
 use qx_lines::Line;
 use qx_lists::Table;
 use qx_types::Prio;
-use std::alloc::{AllocError, AllocFailed};
-use std::cmp::Reverse;
+use std::alloc::AllocFailed;
 use std::test::Fail;
 
 // Makes a node for the value, and puts it into the line.
@@ -23,47 +22,24 @@ fn send(table: &mut Table<Sent>, line: &mut Line, value: Sent) -> Result<usize, 
     Ok(node)
 }
 
-// Whether the node is the first of the line, which is taken.
+// Whether the highest priority goes first and equal ones by age, and whether an item that is taken out is gone.
 #[tactic(auto, using(qx_lines::proofs::LineFacts::line_facts))]
-fn gives(table: &mut Table<Sent>, line: &mut Line, node: usize) -> bool
+fn goes_by_priority_and_age(table: &mut Table<Sent>, line: &mut Line) -> Result<bool, Fail>
     requires { IsLineOf (λ sent. sent.prio.0) table.old line.old }
-    ensures { IsLineOf (λ sent. sent.prio.0) table.new line.new }
 {
-    let first = line.first(table);
-    line.take(table) == Some(node) && first == Some(node)
-}
-
-// Puts a node behind all of its priority or a higher one.
-fn put_sorted(nodes: &mut Vec<(usize, u8)>, node: usize, prio: u8) -> Result<(), AllocError> {
-    nodes.push((node, prio))?;
-    nodes.sort_by_key(|sent| Reverse(sent.1))
+    let older = send(table, line, Sent { prio: Prio(10) })?;
+    let younger = send(table, line, Sent { prio: Prio(10) })?;
+    let urgent = send(table, line, Sent { prio: Prio(63) })?;
+    let is_first = line.first(table) == Some(urgent) && line.len() == 3;
+    line.remove(table, urgent);
+    let taken = [line.take(table), line.take(table), line.take(table)];
+    Ok(is_first && taken == [Some(older), Some(younger), None])
 }
 
 #[test]
-fn goes_as_a_sorted_vector(rt: HostRuntime) -> Result<(), Fail> {
+fn a_line_goes_by_priority_and_age(rt: HostRuntime) -> Result<(), Fail> {
     let mut table = Table::new(rt.alloc());
     let mut line = Line::new(&mut table)?;
-    let mut expected = Vec::new(rt.alloc());
-    let mut seed: u32 = 1;
-    'steps: for _ in 0..200 {
-        seed = seed.wrapping_mul(1_103_515_245).wrapping_add(12_345);
-        let prio = ((seed >> 16) % 4 + 1) as u8;
-        let node = send(&mut table, &mut line, Sent { prio: Prio(prio) })?;
-        let choice = (seed >> 20) % 3;
-        if choice == 0 {
-            line.remove(&mut table, node);
-        } else {
-            put_sorted(&mut expected, node, prio)?;
-        }
-        if choice == 1 && !expected.is_empty() {
-            let (first, _) = expected.remove(0);
-            assert!(rt; gives(&mut table, &mut line, first));
-        }
-        assert!(rt; line.len() == expected.len());
-    }
-    'rest: for (node, _) in &expected {
-        assert!(rt; gives(&mut table, &mut line, *node));
-    }
-    assert!(rt; line.take(&mut table).is_none());
+    assert!(rt; goes_by_priority_and_age(&mut table, &mut line)?);
     Ok(())
 }
