@@ -32,7 +32,7 @@ CanNameUser users user = (1 ≤ user.0) × (user.0 ≤ length users)
 abbrev pub CanNameThread : List (List ℕ) → Thread → Type 0
 CanNameThread users thread = CanNameUser users thread.proc.user × (thread.proc.num ≤ greatest_byte) × (thread.tid ≤ greatest_byte)
 
--- a number without a sign is at most the greatest one, which has 64 bits at most
+-- `ANumber` has no sign and is at most the greatest one, which takes 64 bits at most
 pub data Kind : Type 0 where
   AName : Kind
   AUser : Kind
