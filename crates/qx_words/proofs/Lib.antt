@@ -1,7 +1,10 @@
 pub mod Flags
 pub mod Numbers
 pub mod PlainWords
+pub mod ReadBytes
+pub mod ReadFixedWords
 pub mod ReadKinds
+pub mod ReadOffsets
 pub mod ReadValues
 pub mod ReadWords
 pub mod UserNames

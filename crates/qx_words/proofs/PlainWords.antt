@@ -7,6 +7,7 @@ use Rattle.std.proofs.lemmas.Bool.Decides.{nat_tests}
 use Rattle.std.proofs.lemmas.List.Elements.{All-cons, All-nil}
 use Rattle.std.proofs.lemmas.List.Folds.{list_all-append}
 use Rattle.std.proofs.lemmas.List.Splits.{slice_split_at, slice_split_none}
+use Rattle.hex.specs.Hex.{is_hex_digit}
 use Rattle.qx_types.specs.Configuration.{is_letter_or_digit}
 use Rattle.qx_words.specs.Kinds.{is_word, is_word_byte}
 use Rattle.qx_words.specs.Words.{words_of}
@@ -65,6 +66,9 @@ words_again (word ∷ second ∷ words) all =
 
 pub digit_in_word : (byte : ℕ) → is_ascii_digit byte ≡ true → is_word_byte byte ≡ true
 digit_in_word byte digit = grind (arith, nat_tests)
+
+pub hex_digit_in_word : (byte : ℕ) → is_hex_digit byte ≡ true → is_word_byte byte ≡ true
+hex_digit_in_word byte digit = grind (arith, nat_tests)
 
 pub name_byte_in_word : (byte : ℕ) → is_letter_or_digit byte ≡ true → is_word_byte byte ≡ true
 name_byte_in_word byte is = grind (arith, nat_tests)

@@ -26,7 +26,7 @@ use Rattle.qx_words.proofs.PlainWords.{all_joined, all_weaker, and_true, both_tr
 
 -- numbers
 
-digits : (n : ℕ) → n < 2 ^ 64 → list_all is_ascii_digit (decimal n) ≡ true
+pub digits : (n : ℕ) → n < 2 ^ 64 → list_all is_ascii_digit (decimal n) ≡ true
 digits n small = digits_decimal own n small
 
 some_begin : (word : List ℕ) → 0 < length word → 48 < get_or word 0 0 → begins_well word ≡ true
@@ -52,7 +52,7 @@ number_again greatest n within fits =
     (and_true (is_numeral (decimal n)) _ (and_true (list_all is_ascii_digit (decimal n)) _ (digits n small) (begins n small)) below)
     ∙ ap Some value
 
-some_length : (n : ℕ) → 0 < n → not (eqb n 0) ≡ true
+pub some_length : (n : ℕ) → 0 < n → not (eqb n 0) ≡ true
 some_length n some = grind (arith, nat_tests)
 
 pub number_is_word : (n : ℕ) → n < 2 ^ 64 → is_word (decimal n) ≡ true

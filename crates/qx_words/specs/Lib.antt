@@ -1,3 +1,4 @@
+pub mod FixedWords
 pub mod Kinds
 pub mod Words
 pub mod WordText

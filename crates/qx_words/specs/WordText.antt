@@ -1,10 +1,8 @@
--- How users, processes, threads, bytes, flags, modes and managers are printed.
+-- How users, processes, threads, bytes, flags and modes are printed.
 use Rattle.std.specs.Prelude.{ℕ, ◌+◌, ◌/◌, ◌%◌, ◌==◌, Bool, false, not, List, [], ◌∷◌, ◌++◌, Option, Some, None, codes, decimal, bit_and, filter}
 use Rattle.hex.specs.Hex.{encode_lower}
 use Rattle.qx_types.specs.Configuration.{Configuration, name_of}
 use Rattle.qx_types.specs.declared.flags.OFlags.{OFlags}
-use Rattle.qx_types.specs.declared.names.Manager.{Manager}
-use Rattle.qx_types.specs.declared.names.Manager.TheVariants.{Ram, Pipe}
 use Rattle.qx_types.specs.declared.names.Proc.{Proc}
 use Rattle.qx_types.specs.declared.names.Thread.{Thread}
 use Rattle.qx_words.specs.Words.{flag_of}
@@ -44,7 +42,3 @@ last_octal_digit number = 48 + number % 8
 -- the last three octal digits, which are all that a mode of at most 0777 has
 unfoldable pub mode_text : ℕ → List ℕ
 mode_text mode = last_octal_digit (mode / 64) ∷ last_octal_digit (mode / 8) ∷ last_octal_digit mode ∷ []
-
-abbrev pub manager_text : Manager → List ℕ
-manager_text Ram = codes "ram"
-manager_text Pipe = codes "pipe"

@@ -1,14 +1,14 @@
 -- The words of a script and the values that they name.
-use Rattle.std.specs.Prelude.{ℕ, ◌+◌, ◌*◌, ◌-◌, ◌==◌, ◌&&◌, Bool, true, false, List, [], ◌∷◌, Option, Some, None, length, take, drop, nat_le, if◌then◌else◌, filter, not, codes, option_map, bit_and, bit_or, position}
+use Rattle.std.specs.Prelude.{ℕ, ◌+◌, ◌*◌, ◌-◌, ◌^◌, ◌==◌, ◌&&◌, Bool, true, false, List, [], ◌∷◌, Option, Some, None, length, take, drop, nat_le, neg_ℤ, pos, slice_get, ℤ, if◌then◌else◌, filter, not, codes, option_map, bit_and, bit_or, position}
 use Rattle.std.specs.Char.{is_ascii_digit}
 use Rattle.std.specs.List.{slice_split, list_all}
 use Rattle.std.specs.Option.{option_and_then}
+use Rattle.std.specs.Result.{result_ok}
 use Rattle.std.specs.Str.{bytes_eq}
-use Rattle.std.specs.Str.Parse.{digits_value}
+use Rattle.std.specs.Str.Parse.{digits_value, starts_with_minus}
+use Rattle.hex.specs.Hex.{decode_of, decode_sized}
 use Rattle.qx_types.specs.Configuration.{is_user_name}
 use Rattle.qx_types.specs.declared.flags.OFlags.{OFlags}
-use Rattle.qx_types.specs.declared.names.Manager.{Manager}
-use Rattle.qx_types.specs.declared.names.Manager.TheVariants.{Ram, Pipe}
 use Rattle.qx_types.specs.declared.names.Thread.{Thread}
 use Rattle.qx_types.specs.declared.names.User.{User}
 
@@ -45,12 +45,27 @@ greatest_byte = 255
 abbrev pub byte_of : List ℕ → Option ℕ
 byte_of word = number_of greatest_byte word
 
+abbrev pub greatest_of_two_bytes : ℕ
+greatest_of_two_bytes = 65535
+
+abbrev pub greatest_of_four_bytes : ℕ
+greatest_of_four_bytes = 4294967295
+
 abbrev pub greatest_moment : ℕ
 greatest_moment = 18446744073709551615
 
 -- a moment
 abbrev pub moment_of : List ℕ → Option ℕ
 moment_of word = number_of greatest_moment word
+
+abbrev pub negative : ℕ → ℤ
+negative number = neg_ℤ (pos number)
+
+-- a number of 64 bits with a sign: behind a `-` one of 0 to 2 ^ 63, so that `-0` is 0, or else one below 2 ^ 63
+unfoldable pub offset_of : List ℕ → Option ℤ
+offset_of word =
+    if starts_with_minus word then option_map negative (number_of (2 ^ 63) (drop 1 word))
+    else option_map pos (number_of (2 ^ 63 - 1) word)
 
 -- a name that a user may have
 abbrev pub name_of : List ℕ → Option (List ℕ)
@@ -124,6 +139,10 @@ mode_of word = do
   low ← octal_of digits.2
   Some (high * 64 + middle * 8 + low)
 
--- `ram` or `pipe`
-unfoldable pub manager_of : List ℕ → Option Manager
-manager_of word = if bytes_eq word (codes "ram") then Some Ram else if bytes_eq word (codes "pipe") then Some Pipe else None
+-- hexadecimal digits in pairs, in either case, or `-` for no bytes
+unfoldable pub bytes_of : List ℕ → Option (List ℕ)
+bytes_of word = if bytes_eq word (codes "-") then Some [] else result_ok (decode_of word)
+
+-- one byte as two hexadecimal digits
+unfoldable pub hex_byte_of : List ℕ → Option ℕ
+hex_byte_of word = result_ok (decode_sized word 1) >>= λ bytes. slice_get bytes 0

@@ -1,11 +1,15 @@
 //! The text of words.
 
 ghost use Rattle.std.specs.Prelude.{◌≡◌, ◌++◌, OnOk, decimal, filter};
-ghost use Rattle.qx_words.specs.WordText.{bytes_text, flags_text, is_given, last_octal_digit, manager_text, mode_text, process_text, thread_text, user_text};
+ghost use Rattle.std.specs.Fmt.{signed_decimal};
+ghost use Rattle.qx_words.specs.FixedWords.{action_text, conditions_text, manager_text, whence_text};
+ghost use Rattle.qx_words.specs.WordText.{bytes_text, flags_text, is_given, last_octal_digit, mode_text, process_text, thread_text, user_text};
 
 use crate::words::flag;
 use itoa::Buffer;
-use qx_types::{Bytes, Config, Manager, NoMemory, OFlags, Proc, Thread, User};
+use qx_types::{
+    Bytes, Conds, Config, Manager, NoMemory, NotifyAction, OFlags, Proc, Thread, User, Whence,
+};
 use std::alloc::Global;
 
 /// A number in decimal digits.
@@ -14,6 +18,14 @@ pub fn push_number(text: &mut Vec<u8>, number: u64) -> Result<(), NoMemory>
 {
     let mut buffer = Buffer::new();
     Ok(text.extend_from_slice(buffer.format(number).as_bytes())?)
+}
+
+/// A number in decimal digits, with a `-` if it is below zero.
+pub fn push_offset(text: &mut Vec<u8>, offset: i64) -> Result<(), NoMemory>
+    ensures ok { OnOk result (text.new.items ≡ text.old.items ++ signed_decimal offset) }
+{
+    let mut buffer = Buffer::new();
+    Ok(text.extend_from_slice(buffer.format(offset).as_bytes())?)
 }
 
 /// A user's name.
@@ -66,6 +78,39 @@ pub fn push_manager(text: &mut Vec<u8>, manager: Manager) -> Result<(), NoMemory
     match manager {
         Manager::Ram => Ok(text.extend_from_slice(b"ram")?),
         Manager::Pipe => Ok(text.extend_from_slice(b"pipe")?),
+    }
+}
+
+/// Where an offset counts from.
+pub fn push_whence(text: &mut Vec<u8>, whence: Whence) -> Result<(), NoMemory>
+    ensures ok { OnOk result (text.new.items ≡ text.old.items ++ whence_text whence) }
+{
+    match whence {
+        Whence::Set => Ok(text.extend_from_slice(b"set")?),
+        Whence::Current => Ok(text.extend_from_slice(b"cur")?),
+        Whence::End => Ok(text.extend_from_slice(b"end")?),
+    }
+}
+
+/// What a notification is to do.
+pub fn push_action(text: &mut Vec<u8>, action: NotifyAction) -> Result<(), NoMemory>
+    ensures ok { OnOk result (text.new.items ≡ text.old.items ++ action_text action) }
+{
+    match action {
+        NotifyAction::Poll => Ok(text.extend_from_slice(b"poll")?),
+        NotifyAction::PollArm => Ok(text.extend_from_slice(b"pollarm")?),
+        NotifyAction::TranArm => Ok(text.extend_from_slice(b"tranarm")?),
+    }
+}
+
+/// The letters of conditions.
+pub fn push_conditions(text: &mut Vec<u8>, conditions: Conds) -> Result<(), NoMemory>
+    ensures ok { OnOk result (text.new.items ≡ text.old.items ++ conditions_text conditions) }
+{
+    match conditions.0 {
+        1 => Ok(text.extend_from_slice(b"i")?),
+        2 => Ok(text.extend_from_slice(b"o")?),
+        _ => Ok(text.extend_from_slice(b"io")?),
     }
 }
 

@@ -1,11 +1,13 @@
-ghost use Rattle.std.specs.Prelude.{true, ◌≡◌, ◌==◌, ◌<◌, ◌≤◌, IfOk, IfSome, length, map, option_map, position};
+ghost use Rattle.std.specs.Prelude.{true, ◌≡◌, ◌==◌, ◌<◌, ◌≤◌, ◌^◌, IfOk, IfSome, length, map, option_map, position};
 ghost use Rattle.std.specs.Char.{is_ascii_digit};
 ghost use Rattle.std.specs.List.{list_all};
 ghost use Rattle.qx_types.specs.Configuration.{is_user_name};
-ghost use Rattle.qx_words.specs.Words.{byte_of, flag_of, flags_after, flags_of, is_numeral, lines_of, manager_of, mode_of, moment_of, name_of, number_of, octal_of, around_dot, thread_of, with_flag, words_of};
+ghost use Rattle.qx_words.specs.Words.{byte_of, flag_of, flags_after, flags_of, greatest_of_four_bytes, greatest_of_two_bytes, is_numeral, lines_of, mode_of, moment_of, name_of, negative, number_of, octal_of, offset_of, around_dot, thread_of, with_flag, words_of};
 
+pub use crate::fixed_words::{action, conditions, manager, whence};
+pub use crate::hexadecimal::{bytes, hex_byte};
 use crate::users::Users;
-use qx_types::{Config, Manager, OFlags, Proc, Thread};
+use qx_types::{Config, OFlags, Proc, Thread};
 use std::alloc::{AllocError, Global};
 
 /// The lines of a text.
@@ -109,6 +111,45 @@ pub fn moment(word: &[u8]) -> Option<u64>
     number(word, u64::MAX)
 }
 
+/// A number of two bytes.
+pub fn two_byte_number(word: &[u8]) -> Option<u16>
+    ensures number { result ≡ number_of greatest_of_two_bytes word.now }
+{
+    let number = number(word, u16::MAX as u64)?;
+    Some(number as u16)
+}
+
+/// A number of four bytes.
+pub fn four_byte_number(word: &[u8]) -> Option<u32>
+    ensures number { result ≡ number_of greatest_of_four_bytes word.now }
+{
+    let number = number(word, u32::MAX as u64)?;
+    Some(number as u32)
+}
+
+/// A number of 64 bits with a sign.
+#[tactic(auto, unfolding(crate::specs::Words::offset_of))]
+pub fn offset(word: &[u8]) -> Option<i64>
+    ensures offset { result ≡ offset_of word.now }
+{
+    match word {
+        [b'-', digits @ ..] => Some(negative(number(digits, 1 << 63)?)),
+        _ => Some(number(word, i64::MAX as u64)? as i64),
+    }
+}
+
+/// The negative of a number.
+fn negative(number: u64) -> i64
+    requires fits { number ≤ 2 ^ 63 }
+    ensures negative { result ≡ negative number }
+{
+    if number == 1 << 63 {
+        i64::MIN
+    } else {
+        -(number as i64)
+    }
+}
+
 /// The place of the first dot.
 fn place_of_dot(word: &[u8]) -> Option<usize>
     ensures first { result ≡ position (λ byte. byte == 46) word.now }
@@ -207,18 +248,4 @@ pub fn mode(word: &[u8]) -> Option<u16>
     let middle = octal(*middle)?;
     let low = octal(*low)?;
     Some(high * 64 + middle * 8 + low)
-}
-
-/// A manager.
-#[tactic(auto, unfolding(crate::specs::Words::manager_of))]
-pub fn manager(word: &[u8]) -> Option<Manager>
-    ensures manager { result ≡ manager_of word.now }
-{
-    if word == b"ram".as_slice() {
-        Some(Manager::Ram)
-    } else if word == b"pipe".as_slice() {
-        Some(Manager::Pipe)
-    } else {
-        None
-    }
 }
