@@ -1,11 +1,11 @@
-//! The first path, two users, and each call of the world once.
+//! Two users, and each call of a trace and of a world.
 
 use crate::same::has_same_transcript;
-use crate::script::{booted, config, ran, run, steps};
-use qx_machine::{Entry, Message, Seen};
+use crate::script::{booted, config, ran, run};
+use qx_machine::{Entry, Message};
 use qx_types::{
-    Actor, Bytes, Errno, Item, Manager, NoMemory, OFlags, Outcome, Prio, Proc, Request, Step,
-    Thread, User, Worker,
+    Bytes, Item, Manager, NoMemory, OFlags, Outcome, Prio, Proc, Request, Step, Thread, User,
+    Worker,
 };
 use qx_world::{PerformFault, Traced, Work, WorkRef, World};
 use std::alloc::Global;
@@ -19,104 +19,6 @@ pub(crate) fn first_thread(user: User) -> Thread {
     Thread { proc, tid: 1 }
 }
 
-/// An open, a close, another open and an fstat, each served and answered.
-const FIRST_PATH: &str = "\
-    spawn ann 1 10\n\
-    open ann.1.1 /ann r 000\n\
-    receive 1 ram\n\
-    perform 1 5\n\
-    reply ann.1.1\n\
-    close ann.1.1 3\n\
-    receive 1 ram\n\
-    perform 1 6\n\
-    reply ann.1.1\n\
-    open ann.1.1 /ann r 000\n\
-    receive 1 ram\n\
-    perform 1 7\n\
-    reply ann.1.1\n\
-    fstat ann.1.1 3\n\
-    receive 1 ram\n\
-    perform 1 8\n\
-    reply ann.1.1\n";
-
-/// The status of ann's root: inode 1, a directory, mode 0700, one link, ann, and no size or times.
-const STATUS: &[u8] = b"\x01\0\0\0\x02\0\xc0\x01\x01\0\0\0\x01\0\0\0\
-    \0\0\0\0\0\0\0\0\0\0\0\0\0\0\0\0\0\0\0\0\0\0\0\0";
-
-/// The statuses of the replies that steps give as they are taken.
-fn statuses(alloc: Global, traced: &mut Traced, steps: &[Step]) -> Result<Vec<u64>, NoMemory> {
-    let mut statuses = Vec::new(alloc);
-    for step in steps {
-        if let Some(status) = status_of(traced, step.clone()?)? {
-            statuses.push(status)?;
-        }
-    }
-    Ok(statuses)
-}
-
-/// The status of the reply that a step gives, if it gives one.
-fn status_of(traced: &mut Traced, step: Step) -> Result<Option<u64>, NoMemory> {
-    match traced.step(step) {
-        Ok(Outcome::Reply(status, _)) => Ok(Some(*status)),
-        Ok(_) => Ok(None),
-        Err(_) => Err(NoMemory),
-    }
-}
-
-/// Whether four entries are a call of ann, its receive, its perform and its reply.
-fn is_served(entries: &[Entry]) -> bool {
-    let [called, received, performed, replied] = entries else {
-        return false;
-    };
-    matches!(&called.outcome, Outcome::Sent)
-        && took(&received.outcome, User(1))
-        && matches!(&performed.outcome, Outcome::Handled)
-        && matches!(&replied.outcome, Outcome::Reply(..))
-}
-
-/// Whether a worker took the message of a user's first thread.
-fn took(outcome: &Outcome, user: User) -> bool {
-    match outcome {
-        Outcome::Took(Item::Message(thread)) => *thread == first_thread(user),
-        _ => false,
-    }
-}
-
-/// Whether the first entry is a spawn, and each four after it a call that is served.
-fn are_served(entries: &[Entry]) -> bool {
-    let Some((spawned, calls)) = entries.split_first() else {
-        return false;
-    };
-    matches!(&spawned.outcome, Outcome::Spawned(1)) && calls.chunks(4).all(is_served)
-}
-
-/// Whether a reply has the bytes of ann's status.
-fn tells_status(outcome: &Outcome) -> bool {
-    match outcome {
-        Outcome::Reply(_, content) => content.as_slice() == STATUS,
-        _ => false,
-    }
-}
-
-fn run_the_first_path(rt: &impl Abort, alloc: Global, traced: &mut Traced) -> Result<(), NoMemory> {
-    let steps = steps(rt, alloc, FIRST_PATH)?;
-    let statuses = statuses(alloc, traced, &steps)?;
-    assert!(rt; statuses.as_slice() == [3, 0, 3, 0].as_slice());
-    assert_eq!(rt; traced.entries().len(), 17);
-    assert!(rt; are_served(traced.entries()));
-    match traced.entries().last() {
-        Some(entry) => assert!(rt; tells_status(&entry.outcome)),
-        None => panic!(rt; "no entry"),
-    }
-    Ok(())
-}
-
-#[test]
-fn runs_the_first_path(rt: HostRuntime) -> Result<(), NoMemory> {
-    let mut traced = booted(&rt, rt.alloc())?;
-    run_the_first_path(&rt, rt.alloc(), &mut traced)
-}
-
 /// Two users open ann's root while the worker's hand is full for one receive.
 const TWO_USERS: &str = "\
     spawn bob 1 10\n\
@@ -128,64 +30,6 @@ const TWO_USERS: &str = "\
     perform 1 5\n\
     reply ann.1.1\n\
     reply bob.1.1\n";
-
-/// Whether three outcomes came to a user's first process, the first of them by its spawn.
-fn is_of_first_process(received: &[Seen], user: User) -> bool {
-    let [spawned, called, replied] = received else {
-        return false;
-    };
-    let thread = Actor::OfThread(first_thread(user));
-    matches!(&spawned.outcome, Outcome::Spawned(1))
-        && spawned.actor == Actor::OfUser(user)
-        && called.actor == thread
-        && replied.actor == thread
-}
-
-/// Whether an outcome is the reply of an open: connection 3, and no bytes.
-fn opens_third(outcome: &Outcome) -> bool {
-    match outcome {
-        Outcome::Reply(3, content) => content.is_empty(),
-        _ => false,
-    }
-}
-
-/// Whether the call was sent, and opened connection 3.
-fn was_opened(received: &[Seen]) -> bool {
-    match received {
-        [_, called, replied] => is_sent(&called.outcome) && opens_third(&replied.outcome),
-        _ => false,
-    }
-}
-
-fn is_sent(outcome: &Outcome) -> bool {
-    matches!(outcome, Outcome::Sent)
-}
-
-/// Whether the call was refused, so that there was no reply.
-fn was_refused(received: &[Seen]) -> bool {
-    match received {
-        [_, called, replied] => is_absent(&called.outcome) && is_unanswered(&replied.outcome),
-        _ => false,
-    }
-}
-
-fn is_absent(outcome: &Outcome) -> bool {
-    matches!(outcome, Outcome::Refused(Errno::ENOENT))
-}
-
-fn is_unanswered(outcome: &Outcome) -> bool {
-    matches!(outcome, Outcome::WrongState)
-}
-
-#[test]
-fn tells_each_user_its_own(rt: HostRuntime) -> Result<(), NoMemory> {
-    let traced = ran(&rt, rt.alloc(), TWO_USERS)?;
-    let ann = traced.transcript(User(1))?;
-    assert!(rt; is_of_first_process(&ann, User(1)) && was_opened(&ann));
-    let bob = traced.transcript(User(2))?;
-    assert!(rt; is_of_first_process(&bob, User(2)) && was_refused(&bob));
-    Ok(())
-}
 
 /// Whether five steps are left for ann, and give her the same.
 fn is_left_anew(traced: &Traced) -> Result<bool, NoMemory> {
@@ -300,6 +144,26 @@ fn open(alloc: Global) -> Result<Request, NoMemory> {
         flags: OFlags::READ,
         mode: 0,
     })
+}
+
+fn is_sent(outcome: &Outcome) -> bool {
+    matches!(outcome, Outcome::Sent)
+}
+
+/// Whether a worker took the message of a user's first thread.
+fn took(outcome: &Outcome, user: User) -> bool {
+    match outcome {
+        Outcome::Took(Item::Message(thread)) => *thread == first_thread(user),
+        _ => false,
+    }
+}
+
+/// Whether an outcome is the reply of an open: connection 3, and no bytes.
+fn opens_third(outcome: &Outcome) -> bool {
+    match outcome {
+        Outcome::Reply(3, content) => content.is_empty(),
+        _ => false,
+    }
 }
 
 /// Bob's process is started and calls.
