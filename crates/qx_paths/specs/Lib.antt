@@ -1,0 +1,3 @@
+pub mod Mounts
+pub mod Paths
+pub mod Prefixes
