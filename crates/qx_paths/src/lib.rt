@@ -1,6 +1,7 @@
 //! Paths and mounts: what a path's bytes are as components, and which mount of a user a path leads to.
 #![tactic(auto)]
 
+pub mod laws;
 pub mod mount;
 pub mod mounts;
 pub mod path;
@@ -8,5 +9,5 @@ pub mod resolved;
 
 pub use mount::Mount;
 pub use mounts::{MountFault, Mounts};
+pub use path::{Components, Path, read_path};
 pub use resolved::Resolved;
-pub use path::{read_path, Components, Path};

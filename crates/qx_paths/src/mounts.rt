@@ -91,7 +91,12 @@ impl Mounts {
 
     /// Attaches a manager at a path, under the next number (C Library Reference: `resmgr_attach`). `Refused` as `fault`
     /// says, `NoMemory` where that says nothing; nothing changes then.
-    pub fn add(&mut self, alloc: Global, path: &Path<'_>, manager: Manager) -> Result<(), MountFault>
+    pub fn add(
+        &mut self,
+        alloc: Global,
+        path: &Path<'_>,
+        manager: Manager,
+    ) -> Result<(), MountFault>
         ensures free { OnOk result (mount_fault self.old path.now ≡ None) }
         ensures mounted { OnOk result (self.new ≡ mounted self.old path.now manager) }
         ensures refused { IfErr result (IsMountError (mount_fault self.old path.now)) }
@@ -118,7 +123,12 @@ impl Mounts {
     /// Where a path leads the user with that name and these mounts, among the users with these names. EACCES for a path
     /// without components and under another user's name, ENOENT under nobody's; else the mount of the longest prefix
     /// (C Library Reference: `open`; that the user is looked at first is this profile).
-    pub fn resolve<'a>(&self, names: &[Bytes], own: &[u8], path: &Path<'a>) -> Result<Resolved<'a>, Errno>
+    pub fn resolve<'a>(
+        &self,
+        names: &[Bytes],
+        own: &[u8],
+        path: &Path<'a>,
+    ) -> Result<Resolved<'a>, Errno>
         ensures resolved { result ≡ resolve names.now own.now self.now path.now }
     {
         if let Some(errno) = top_fault(names, own, path) {
