@@ -1,5 +1,5 @@
 -- What a path that was read has, and reading it again from its components.
-use Rattle.std.proofs.Common.{◌≡◌, ℕ, ◌+◌, ◌≤◌, Bool, true, false, ◌&&◌, eqb, List, [], ◌∷◌, ◌++◌, length, take, drop, Option, None, Some, refl, ap, sym, subst, ◌∙◌, arith}
+use Rattle.std.proofs.Common.{append_assoc, ◌≡◌, ℕ, ◌+◌, ◌≤◌, Bool, true, false, ◌&&◌, eqb, List, [], ◌∷◌, ◌++◌, length, take, drop, Option, None, Some, refl, ap, sym, subst, ◌∙◌, arith}
 use Rattle.std.specs.Prelude.{IfOk, Result, Ok, Err, if◌then◌else◌, filter, nat_lt}
 use Rattle.std.specs.List.{list_all, slice_split}
 use Rattle.std.proofs.lemmas.Bool.{eqb-true, le-leb, le-ltb, ltb-false}
@@ -11,7 +11,7 @@ use Rattle.qx_types.specs.declared.errno.Errno.TheVariants.{EINVAL, ENAMETOOLONG
 use Rattle.qx_types.specs.declared.limits.TheConstants.Limits.{PATH}
 use Rattle.qx_wire.specs.Rests.{is_component, is_rest, joined}
 use Rattle.qx_wire.proofs.RestLemmas.{components_joined, components_some}
-use Rattle.qx_paths.specs.Paths.{begins_with_slash, first_fault, is_named, path_components, read_path, unless}
+use Rattle.qx_paths.specs.Paths.{begins_with_slash, first_fault, is_named, IsShortPath, path_components, read_path, unless}
 use Rattle.qx_paths.proofs.PathLemmas.{both_true, faultless, skip_slash}
 
 abbrev slash : ℕ → Bool
@@ -93,6 +93,15 @@ rests bytes names n e =
     let parted : (list_all is_component (take n names) && list_all is_component (drop n names)) ≡ true = sym (list_all-append is_component (take n names) (drop n names)) ∙ ap (list_all is_component) (take-append-drop n names) ∙ faultless names r.faultless in
     let good = (both_true (list_all is_component (take n names)) (list_all is_component (drop n names)) parted).1 in
     rw (le-leb (length (joined (drop n names))) PATH short, good) refl
+
+pub good_rest : (bytes : List ℕ) → IsShortPath bytes → is_rest (path_components bytes) ≡ true
+good_rest bytes path =
+    let short : length (joined (path_components bytes)) ≤ PATH = omega (arith, path.short, joined_within (path_components bytes) (length bytes) (weight_components bytes)) in
+    rw (le-leb (length (joined (path_components bytes))) PATH short, path.good) refl
+
+pub joined_more : (text name : List ℕ) (names : List (List ℕ)) → joined (((text ++ 47 ∷ []) ++ name) ∷ names) ≡ joined (text ∷ name ∷ names)
+joined_more text name [] = append_assoc text (47 ∷ []) name
+joined_more text name (next ∷ names) = rw (append_assoc text (47 ∷ []) name) (append_assoc text (47 ∷ name) (47 ∷ joined (next ∷ names)))
 
 -- ---- reading again
 

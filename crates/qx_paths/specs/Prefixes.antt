@@ -23,3 +23,8 @@ is_all (Some (name ∷ rest)) = false
 -- whether a mount is at that path
 abbrev pub is_at : List (List ℕ) → MountPoint → Bool
 is_at path mount = is_all (behind path mount.prefix)
+
+-- whether a path is a user's name or below it
+abbrev pub is_under : List ℕ → List (List ℕ) → Bool
+is_under own [] = false
+is_under own (first ∷ path) = bytes_eq first own

@@ -1,10 +1,12 @@
-ghost use Rattle.std.specs.Prelude.{◌≡◌, ◌<◌, ◌≤◌, ◌==◌, ◌∷◌, false, length, position, IfSome};
+ghost use Rattle.std.specs.Prelude.{◌≡◌, ◌<◌, ◌≤◌, ◌==◌, ◌∷◌, false, length, position, true, IfOk, IfSome};
 ghost use Rattle.std.specs.Option.{option_map};
-ghost use Rattle.qx_paths.specs.Prefixes.{behind};
+ghost use Rattle.qx_wire.specs.Rests.{is_rest, joined};
+ghost use Rattle.qx_paths.specs.Prefixes.{behind, is_under};
 ghost use Rattle.qx_paths.specs.Paths.{begins_with_slash, component_fault, first_fault, path_components, read_path, walked};
 
-use qx_types::{Bytes, Errno, Limits};
+use qx_types::{Bytes, Errno, Limits, NoMemory};
 use qx_wire::rest::is_component;
+use std::alloc::Global;
 use std::marker::Model;
 
 /// A path that was read, which contracts see as its components, or what such a path has behind its first components. The
@@ -75,6 +77,41 @@ impl<'a> Path<'a> {
     {
         let left = left_behind(self.bytes, prefix)?;
         Some(Path { bytes: left })
+    }
+
+    /// The components with one `/` between each two, as they stand in a message.
+    #[tactic(auto, using(crate::proofs::ReadLemmas::joined_more))]
+    pub fn joined(&self, alloc: Global) -> Result<Bytes, NoMemory>
+        ensures joined { IfOk result (λ bytes. bytes ≡ joined self.now) }
+    {
+        let mut walk = self.components();
+        let Some(first) = walk.next() else {
+            return Ok(Bytes::new(alloc));
+        };
+        let mut text = Vec::from_slice(alloc, first)?;
+        while let Some(component) = walk.next() {
+            text.push(b'/')?;
+            text.extend_from_slice(component)?;
+        }
+        Ok(Bytes::from_vec(text))
+    }
+
+    /// Does nothing: a path's components are a rest that may stand in a message.
+    pub fn know(&self)
+        ensures rest { is_rest self.now ≡ true }
+    {
+        let _ = &self.bytes;
+    }
+
+    /// Whether the path is a user's name or below it.
+    pub fn is_under(&self, name: &[u8]) -> bool
+        ensures under { result ≡ is_under name.now self.now }
+    {
+        let mut walk = self.components();
+        match walk.next() {
+            None => false,
+            Some(first) => first == name,
+        }
     }
 
     /// Whether the path has no component.
