@@ -18,6 +18,8 @@ impl Limits {
     pub const LAST_CONNECTION: usize = 66;
     /// Server connections of a user at one manager.
     pub const SERVERS: usize = 64;
+    /// Mounts of a user, the top included.
+    pub const MOUNTS: usize = 8;
     /// Open blocks of a user.
     pub const BLOCKS: usize = 256;
     /// The greatest priority.

@@ -1,0 +1,125 @@
+//! Where a path leads: by the user's own mounts and the names of users.
+
+use qx_paths::{Mounts, read_path};
+use qx_types::{Bytes, Errno, Manager};
+use std::alloc::{AllocError, Global};
+use std::test::Fail;
+
+/// The number of the mount to which a path leads, and how many components the rest has.
+fn leads(
+    mounts: &Mounts,
+    names: &[Bytes],
+    own: &[u8],
+    path: &[u8],
+) -> Result<(usize, usize), Errno> {
+    let place = mounts.resolve(names, own, &read_path(path)?)?;
+    Ok((place.number, place.rest.components().count()))
+}
+
+/// The names of ann and bob.
+fn two_names(alloc: Global) -> Result<Vec<Bytes>, AllocError> {
+    let mut names = Vec::new(alloc);
+    names.push(Bytes::from_slice(alloc, b"ann")?)?;
+    names.push(Bytes::from_slice(alloc, b"bob")?)?;
+    Ok(names)
+}
+
+/// Mounts a manager at a path; whether it was.
+fn mounts_at(alloc: Global, mounts: &mut Mounts, path: &str) -> bool {
+    match read_path(path.as_bytes()) {
+        Ok(path) => mounts.add(alloc, &path, Manager::Pipe).is_ok(),
+        Err(_) => false,
+    }
+}
+
+/// Whether paths lead ann to the mounts /ann, /ann/m and /ann/m/n, the longest that fits.
+fn leads_to_the_longest(mounts: &Mounts, names: &[Bytes]) -> bool {
+    for (path, number, rest) in [
+        ("/ann", 0, 0),
+        ("/ann/x/y", 0, 2),
+        ("/ann/mm", 0, 1),
+        ("/ann/m", 1, 0),
+        ("//ann//m//x/", 1, 1),
+        ("/ann/m/nn", 1, 1),
+        ("/ann/m/n/x", 2, 1),
+    ] {
+        if leads(mounts, names, b"ann", path.as_bytes()) != Ok((number, rest)) {
+            return false;
+        }
+    }
+    true
+}
+
+/// Whether paths under another's name, nobody's and none are refused.
+fn refuses_others(mounts: &Mounts, names: &[Bytes]) -> bool {
+    for (path, errno) in [
+        ("/", Errno::EACCES),
+        ("/bob", Errno::EACCES),
+        ("/bob/m", Errno::EACCES),
+        ("/cid", Errno::ENOENT),
+        ("/an", Errno::ENOENT),
+        ("/annm", Errno::ENOENT),
+    ] {
+        if leads(mounts, names, b"ann", path.as_bytes()) != Err(errno) {
+            return false;
+        }
+    }
+    true
+}
+
+#[test]
+fn a_path_leads_to_the_longest_prefix(rt: HostRuntime) -> Result<(), Fail> {
+    let names = two_names(rt.alloc())?;
+    let mut mounts = Mounts::boot(rt.alloc(), b"ann")?;
+    assert!(rt; mounts_at(rt.alloc(), &mut mounts, "/ann/m"));
+    assert!(rt; mounts_at(rt.alloc(), &mut mounts, "/ann/m/n"));
+    assert!(rt; leads_to_the_longest(&mounts, &names));
+    assert!(rt; refuses_others(&mounts, &names));
+    Ok(())
+}
+
+/// So many letters.
+fn letters(alloc: Global, count: u8) -> Result<Vec<u8>, AllocError> {
+    let mut letters = Vec::new(alloc);
+    for _ in 0..count {
+        letters.push(b'a')?;
+    }
+    Ok(letters)
+}
+
+/// The names of 16 users, of 1 letter and more.
+fn many_names(alloc: Global) -> Result<Vec<Bytes>, AllocError> {
+    let mut names = Vec::new(alloc);
+    for count in 1..17 {
+        names.push(Bytes::from_vec(letters(alloc, count)?))?;
+    }
+    Ok(names)
+}
+
+/// Whether a path of one component of so many letters leads only the user of that name somewhere, and is nobody's where
+/// no user has it.
+fn is_told_apart(alloc: Global, names: &[Bytes], own: u8, count: u8) -> Result<bool, Fail> {
+    let name = letters(alloc, own)?;
+    let mounts = Mounts::boot(alloc, &name)?;
+    let mut path = Vec::from_slice(alloc, b"/")?;
+    path.extend_from_slice(&letters(alloc, count)?)?;
+    let wanted = if own == count {
+        Ok((0, 0))
+    } else if count <= 16 {
+        Err(Errno::EACCES)
+    } else {
+        Err(Errno::ENOENT)
+    };
+    Ok(leads(&mounts, names, &name, &path) == wanted)
+}
+
+#[test]
+fn names_are_told_apart(rt: HostRuntime) -> Result<(), Fail> {
+    let names = many_names(rt.alloc())?;
+    for own in 1..17 {
+        for count in 1..18 {
+            assert!(rt; is_told_apart(rt.alloc(), &names, own, count)?);
+        }
+    }
+    Ok(())
+}

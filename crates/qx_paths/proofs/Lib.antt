@@ -1,0 +1,3 @@
+pub mod MountLemmas
+pub mod PathLemmas
+pub mod ReadLemmas

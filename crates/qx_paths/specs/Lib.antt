@@ -1,0 +1,4 @@
+pub mod Laws
+pub mod Mounts
+pub mod Paths
+pub mod Prefixes

@@ -1,0 +1,76 @@
+ghost use Rattle.std.specs.Prelude.{◌≡◌, ◌∷◌, [], IfOk, length};
+ghost use Rattle.qx_paths.specs.Prefixes.{behind, is_at};
+
+use crate::path::Path;
+use qx_types::{Bytes, Manager, NoMemory};
+use std::alloc::Global;
+use std::marker::Model;
+
+/// A manager and the components at which it is attached (C Library Reference: `resmgr_attach`).
+#[derive(Debug, Drop)]
+pub struct Mount {
+    prefix: Vec<Bytes>,
+    manager: Manager,
+}
+
+impl Model for Mount {
+    ghost use Rattle.qx_paths.specs.Prefixes.{MountPoint};
+
+    ghost Value = { MountPoint };
+
+    ghost view = { λ m. record { prefix = m.prefix.items; manager = m.manager } };
+}
+
+impl Mount {
+    /// A manager attached at the components of a path, of which it keeps a copy.
+    pub fn new(alloc: Global, path: &Path<'_>, manager: Manager) -> Result<Mount, NoMemory>
+        ensures mount { IfOk result (λ mount. mount ≡ record { prefix = path.now; manager = manager }) }
+    {
+        let mut prefix = Vec::new(alloc);
+        let mut walk = path.components();
+        while let Some(component) = walk.next() {
+            prefix.push(Bytes::from_slice(alloc, component)?)?;
+        }
+        Ok(Mount { prefix, manager })
+    }
+
+    /// A manager attached at one component, a user's name.
+    pub fn top(alloc: Global, name: &[u8], manager: Manager) -> Result<Mount, NoMemory>
+        ensures mount { IfOk result (λ mount. mount ≡ record { prefix = name.now ∷ []; manager = manager }) }
+    {
+        let mut prefix = Vec::new(alloc);
+        prefix.push(Bytes::from_slice(alloc, name)?)?;
+        Ok(Mount { prefix, manager })
+    }
+
+    /// The manager.
+    pub fn manager(&self) -> Manager
+        ensures manager { result ≡ self.now.manager }
+    {
+        self.manager
+    }
+
+    /// How many components there are.
+    pub fn depth(&self) -> usize
+        ensures depth { result ≡ length self.now.prefix }
+    {
+        self.prefix.len()
+    }
+
+    /// What a path has behind the components, if it begins with them.
+    pub fn behind<'a>(&self, path: &Path<'a>) -> Option<Path<'a>>
+        ensures behind { result ≡ behind path.now self.now.prefix }
+    {
+        path.behind(&self.prefix)
+    }
+
+    /// Whether a path is just the components.
+    pub fn is_at(&self, path: &Path<'_>) -> bool
+        ensures at { result ≡ is_at path.now self.now }
+    {
+        match self.behind(path) {
+            Some(rest) => rest.is_empty(),
+            None => false,
+        }
+    }
+}
