@@ -1,13 +1,22 @@
 //! What bytes are as a path: how many components, or the error that is judged first.
 
-use qx_paths::read_path;
+use qx_paths::{Components, read_path};
 use qx_types::Errno;
 use std::alloc::{AllocError, Global};
 use std::test::Fail;
 
+/// How many components a walk has before it.
+pub fn walked(walk: Components<'_>) -> u16 {
+    let mut count: u16 = 0;
+    for _ in walk {
+        count = count.saturating_add(1);
+    }
+    count
+}
+
 /// How many components a path has.
-fn count(bytes: &[u8]) -> Result<usize, Errno> {
-    Ok(read_path(bytes)?.components().count())
+fn count(bytes: &[u8]) -> Result<u16, Errno> {
+    Ok(walked(read_path(bytes)?.components()))
 }
 
 /// `/ann`, and for each length a component of so many letters.
@@ -23,7 +32,7 @@ fn path_of(alloc: Global, lengths: &[u8]) -> Result<Vec<u8>, AllocError> {
 }
 
 /// How many components a path of `/ann` and components of such lengths has.
-fn count_of(alloc: Global, lengths: &[u8]) -> Result<Result<usize, Errno>, AllocError> {
+fn count_of(alloc: Global, lengths: &[u8]) -> Result<Result<u16, Errno>, AllocError> {
     Ok(count(&path_of(alloc, lengths)?))
 }
 

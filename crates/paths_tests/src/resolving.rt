@@ -1,19 +1,15 @@
 //! Where a path leads: by the user's own mounts and the names of users.
 
+use crate::reading::walked;
 use qx_paths::{Mounts, read_path};
-use qx_types::{Bytes, Errno, Manager};
+use qx_types::{Bytes, Errno, Manager, NoMemory};
 use std::alloc::{AllocError, Global};
 use std::test::Fail;
 
 /// The number of the mount to which a path leads, and how many components the rest has.
-fn leads(
-    mounts: &Mounts,
-    names: &[Bytes],
-    own: &[u8],
-    path: &[u8],
-) -> Result<(usize, usize), Errno> {
+fn leads(mounts: &Mounts, names: &[Bytes], own: &[u8], path: &[u8]) -> Result<(usize, u16), Errno> {
     let place = mounts.resolve(names, own, &read_path(path)?)?;
-    Ok((place.number, place.rest.components().count()))
+    Ok((place.number, walked(place.rest.components())))
 }
 
 /// The names of ann and bob.
@@ -75,6 +71,55 @@ fn a_path_leads_to_the_longest_prefix(rt: HostRuntime) -> Result<(), Fail> {
     assert!(rt; mounts_at(rt.alloc(), &mut mounts, "/ann/m/n"));
     assert!(rt; leads_to_the_longest(&mounts, &names));
     assert!(rt; refuses_others(&mounts, &names));
+    Ok(())
+}
+
+/// The rest of ann's path, joined.
+fn joined_rest(
+    alloc: Global,
+    mounts: &Mounts,
+    path: &[u8],
+) -> Result<Result<Bytes, Errno>, NoMemory> {
+    let path = match read_path(path) {
+        Ok(path) => path,
+        Err(errno) => return Ok(Err(errno)),
+    };
+    match mounts.resolve(&[], b"ann", &path) {
+        Ok(place) => Ok(Ok(place.rest.joined(alloc)?)),
+        Err(errno) => Ok(Err(errno)),
+    }
+}
+
+#[test]
+fn a_rest_is_joined_by_one_slash(rt: HostRuntime) -> Result<(), Fail> {
+    let mounts = Mounts::boot(rt.alloc(), b"ann")?;
+    for (path, rest) in [
+        ("/ann", ""),
+        ("/ann/", ""),
+        ("//ann//x/", "x"),
+        ("/ann/x//y", "x/y"),
+    ] {
+        let wanted = Ok(Bytes::from_slice(rt.alloc(), rest.as_bytes())?);
+        assert!(rt; joined_rest(rt.alloc(), &mounts, path.as_bytes())? == wanted);
+    }
+    Ok(())
+}
+
+/// Whether a mount of a number is of the pipe manager and has two components.
+fn is_pipe_mount(mounts: &Mounts, number: usize) -> bool {
+    match mounts.get(number) {
+        Some(mount) => mount.manager() == Manager::Pipe && mount.depth() == 2,
+        None => false,
+    }
+}
+
+#[test]
+fn mounts_are_told_by_number(rt: HostRuntime) -> Result<(), Fail> {
+    let mut mounts = Mounts::boot(rt.alloc(), b"ann")?;
+    assert!(rt; mounts_at(rt.alloc(), &mut mounts, "/ann/m"));
+    assert!(rt;
+        is_pipe_mount(&mounts, 1) && !is_pipe_mount(&mounts, 0) && !is_pipe_mount(&mounts, 2)
+    );
     Ok(())
 }
 

@@ -11,7 +11,7 @@ is_named [] = false
 is_named (byte ∷ bytes) = true
 
 -- what stands before, between and after the slashes, where that is not empty (System Architecture: pathname management;
--- that several slashes are one is the C Library Reference's)
+-- that empty names are left out is this profile)
 unfoldable pub path_components : List ℕ → List (List ℕ)
 path_components bytes = filter is_named (slice_split (λ byte. byte == 47) bytes)
 
