@@ -3,7 +3,7 @@ use Rattle.std.specs.Prelude.{ℕ, List, [], ◌∷◌, ◌++◌}
 use Rattle.qx_types.specs.declared.names.Manager.TheVariants.{Ram}
 use Rattle.qx_types.specs.declared.names.Thread.{Thread}
 use Rattle.qx_types.specs.declared.names.Worker.{Worker}
-use Rattle.qx_types.specs.declared.step.Request.{Request}
+use Rattle.qx_types.specs.declared.request.Request.{Request}
 use Rattle.qx_types.specs.declared.step.Step.{Step}
 use Rattle.qx_types.specs.declared.step.Step.TheVariants.{Call, Receive, Perform}
 

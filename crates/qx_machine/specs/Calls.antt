@@ -8,8 +8,8 @@ use Rattle.qx_types.specs.declared.names.Manager.{Manager}
 use Rattle.qx_types.specs.declared.names.Manager.TheVariants.{Ram}
 use Rattle.qx_types.specs.declared.outcome.Outcome.{Outcome}
 use Rattle.qx_types.specs.declared.outcome.Outcome.TheVariants.{Refused, WrongState}
-use Rattle.qx_types.specs.declared.step.Request.{Request}
-use Rattle.qx_types.specs.declared.step.Request.TheVariants as request
+use Rattle.qx_types.specs.declared.request.Request.{Request}
+use Rattle.qx_types.specs.declared.request.Request.TheVariants as request
 use Rattle.qx_machine.specs.declared.rows.Connection.{Connection}
 use Rattle.qx_machine.specs.declared.rows.Message.{Message}
 use Rattle.qx_machine.specs.declared.rows.Message.TheVariants.{Open, Close, Fstat}

@@ -6,8 +6,8 @@ use Rattle.qx_types.specs.declared.names.Manager.TheVariants.{Ram}
 use Rattle.qx_types.specs.declared.names.Thread.{Thread}
 use Rattle.qx_types.specs.declared.outcome.Outcome.{Outcome}
 use Rattle.qx_types.specs.declared.outcome.Outcome.TheVariants.{Spawned, Sent, Reply, Took, Handled}
-use Rattle.qx_types.specs.declared.step.Request.{Request}
-use Rattle.qx_types.specs.declared.step.Request.TheVariants.{OpenPath, Close, Fstat}
+use Rattle.qx_types.specs.declared.request.Request.{Request}
+use Rattle.qx_types.specs.declared.request.Request.TheVariants.{OpenPath, Close, Fstat}
 use Rattle.qx_types.specs.declared.step.Step.{Step}
 use Rattle.qx_types.specs.declared.step.Step.TheVariants.{Spawn, Call, TakeReply, Receive, Perform}
 use Rattle.qx_machine.specs.Runs.{Run}

@@ -2,7 +2,7 @@
 use Rattle.std.proofs.Common.{◌≡◌, ◌∙◌, ℕ, Bool, true, false, cond, List, ◌∷◌, Some, ap, refl, arith}
 use Rattle.std.specs.Prelude.{option_map}
 use Rattle.qx_types.specs.Configuration.{Configuration, IsConfiguration}
-use Rattle.qx_types.specs.declared.step.Request.TheVariants.{OpenPath, Close, Fstat}
+use Rattle.qx_types.specs.declared.request.Request.TheVariants.{OpenPath, Close, Fstat}
 use Rattle.qx_types.specs.declared.step.Step.{Step}
 use Rattle.qx_types.specs.declared.step.Step.TheVariants.{Spawn, Call, TakeReply, SetPrio, Receive, Perform}
 use Rattle.qx_script.specs.declared.command.Command.TheVariants.{Take}

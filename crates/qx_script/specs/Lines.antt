@@ -2,8 +2,8 @@
 use Rattle.std.specs.Prelude.{ℕ, List, [], ◌∷◌, Option, Some, None, if◌then◌else◌, codes, option_map}
 use Rattle.std.specs.Str.{bytes_eq}
 use Rattle.qx_types.specs.declared.names.Thread.{Thread}
-use Rattle.qx_types.specs.declared.step.Request.{Request}
-use Rattle.qx_types.specs.declared.step.Request.TheVariants.{OpenPath, Close, Fstat}
+use Rattle.qx_types.specs.declared.request.Request.{Request}
+use Rattle.qx_types.specs.declared.request.Request.TheVariants.{OpenPath, Close, Fstat}
 use Rattle.qx_types.specs.declared.step.Step.{Step}
 use Rattle.qx_types.specs.declared.step.Step.TheVariants.{Spawn, Call, TakeReply, SetPrio, Receive, Perform}
 use Rattle.qx_script.specs.declared.command.Command.{Command}

@@ -3,7 +3,7 @@
 ghost use Rattle.std.specs.Prelude.{◌≡◌, ◌++◌, ◌∷◌, [], OnOk, codes, decimal};
 ghost use Rattle.std.specs.List.{join_with_byte};
 ghost use Rattle.qx_types.specs.Configuration.{Configuration};
-ghost use Rattle.qx_types.specs.declared.step.Request.{Request};
+ghost use Rattle.qx_types.specs.declared.request.Request.{Request};
 ghost use Rattle.qx_types.specs.declared.step.Step.{Step};
 ghost use Rattle.qx_script.specs.StepText.{step_text};
 ghost use Rattle.qx_words.specs.WordText.{flags_text, mode_text};

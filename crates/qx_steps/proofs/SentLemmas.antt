@@ -10,7 +10,7 @@ use Rattle.qx_types.specs.declared.names.Manager.TheVariants.{Ram}
 use Rattle.qx_types.specs.declared.names.Thread.{Thread}
 use Rattle.qx_types.specs.declared.outcome.Outcome.{Outcome}
 use Rattle.qx_types.specs.declared.outcome.Outcome.TheVariants.{Refused, WrongState}
-use Rattle.qx_types.specs.declared.step.Request.{Request}
+use Rattle.qx_types.specs.declared.request.Request.{Request}
 use Rattle.qx_machine.specs.declared.rows.Over.{Over}
 use Rattle.qx_machine.specs.declared.rows.Over.TheVariants.{New, Existing}
 use Rattle.qx_machine.specs.declared.rows.Sent.{Sent}

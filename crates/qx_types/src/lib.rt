@@ -9,6 +9,7 @@ pub mod limits;
 pub mod names;
 pub mod nodes;
 pub mod outcome;
+pub mod request;
 pub mod step;
 
 pub use config::Config;
@@ -20,4 +21,5 @@ pub use names::{Actor, Coid, Item, Manager, Prio, Proc, Thread, User, Worker};
 pub use nodes::{Ranked, Waiter};
 pub use outcome::{Answer, Outcome};
 pub use qx_bytes::Bytes;
-pub use step::{Request, Step};
+pub use request::Request;
+pub use step::Step;

@@ -34,6 +34,8 @@ impl Limits {
     pub const TRANSFER: usize = 4096;
     /// Bytes of a message's body.
     pub const BODY: usize = 4160;
+    /// Bytes of a message, of which its header has 8.
+    pub const MESSAGE: usize = 4168;
     /// The greatest code of a pulse.
     pub const PULSE_CODE: u8 = 127;
     /// The greatest value of a pulse, below 2^28.

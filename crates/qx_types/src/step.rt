@@ -1,29 +1,9 @@
 ghost use Rattle.std.specs.Prelude.{◌≡◌};
 ghost use Rattle.qx_types.specs.Step.{actor_of, is_client_step};
 
-use crate::flags::OFlags;
-use crate::names::{Actor, Coid, Manager, Prio, Thread, User, Worker};
-use qx_bytes::Bytes;
+use crate::names::{Actor, Manager, Prio, Thread, User, Worker};
+use crate::request::Request;
 use std::alloc::AllocError;
-
-/// What a client asks of a resource manager.
-#[derive(Debug, Drop, PartialEq, Eq)]
-pub enum Request {
-    /// Opens a name (C Library Reference: `open`). The mode has at most the bits 0777.
-    OpenPath {
-        path: Bytes,
-        flags: OFlags,
-        mode: u16,
-    },
-    /// Closes a connection (C Library Reference: `close`).
-    Close {
-        coid: Coid,
-    },
-    /// Asks for the status of what a connection has open (C Library Reference: `fstat`).
-    Fstat {
-        coid: Coid,
-    },
-}
 
 /// One step of the system, taken by a client or by a worker.
 #[derive(Debug, Drop, PartialEq, Eq)]
@@ -65,22 +45,6 @@ impl Step {
 }
 
 // Written out and not derived, so that its contract says outright that the copy is equal.
-impl Clone for Request {
-    ghost is_clone = { λ original copy. copy ≡ original };
-
-    fn clone(&self) -> Result<Request, AllocError> {
-        Ok(match self {
-            Request::OpenPath { path, flags, mode } => Request::OpenPath {
-                path: path.clone()?,
-                flags: *flags,
-                mode: *mode,
-            },
-            Request::Close { coid } => Request::Close { coid: *coid },
-            Request::Fstat { coid } => Request::Fstat { coid: *coid },
-        })
-    }
-}
-
 impl Clone for Step {
     ghost is_clone = { λ original copy. copy ≡ original };
 
