@@ -13,10 +13,10 @@ use Rattle.qx_types.specs.declared.step.Step.{Step}
 use Rattle.qx_types.specs.declared.step.Step.TheVariants.{Spawn, Call, TakeReply, SetPrio}
 use Rattle.qx_machine.specs.declared.rows.OwnItem.{OwnItem}
 use Rattle.qx_machine.specs.declared.rows.OwnItem.TheVariants as item
-use Rattle.qx_machine.specs.declared.rows.Sent as sent
 use Rattle.qx_machine.specs.declared.rows.State.{State}
 use Rattle.qx_machine.specs.declared.rows.State.TheVariants.{Answered}
-use Rattle.qx_machine.specs.Calls.{sent_of}
+use Rattle.qx_machine.specs.declared.rows.Target.{Target}
+use Rattle.qx_machine.specs.Calls.{bytes_of, content_of, target_of}
 use Rattle.qx_machine.specs.Judgements.{◌>>=◌, found, need}
 use Rattle.qx_machine.specs.Parts.{Part, Change, Put, thread_at, with_process, with_thread_of}
 use Rattle.qx_machine.specs.Processes.{Process, new_process, with_queued, ranked_thread, ready_thread}
@@ -48,21 +48,21 @@ spawn part threads prio = do
 abbrev pub own_path : Configuration → ℕ → List ℕ
 own_path config user = 47 ∷ unwrap_or (name_of config user) []
 
--- what a call of a thread sends
-abbrev pub sent_by : List ℕ → Part → Thread → Request → Result sent.Sent Outcome
-sent_by path part thread request = do
+-- where a call of a thread goes
+abbrev pub target_by : List ℕ → Part → Thread → Request → Result Target Outcome
+target_by path part thread request = do
   process ← found (row_at part.processes thread.proc.num) WrongState
   row ← found (row_at process.threads thread.tid) WrongState
-  sent_of path part.processes process row request
+  target_of path part.processes process row request
 
 -- the message goes into its manager's line with its thread's priority (System Architecture: the channel's line of messages)
 abbrev pub call : List ℕ → Part → Thread → Request → Result ClientStep Outcome
 call path part thread request = do
-  sent ← sent_by path part thread request
+  target ← target_by path part thread request
   Ok (record {
     outcome = Sent;
-    part = with_process thread.proc.num (with_queued thread.tid sent) part;
-    changes = Put sent.manager (item.Message thread.proc.num thread.tid) sent.prio.0 ∷ [];
+    part = with_process thread.proc.num (with_queued thread.tid (record { target = target; bytes = bytes_of (content_of request) })) part;
+    changes = Put target.manager (item.Message thread.proc.num thread.tid) target.prio.0 ∷ [];
   })
 
 abbrev pub outcome_of : Answer → Outcome

@@ -100,4 +100,4 @@ ranked_thread prio row = record row { prio = record { 0 = prio } }
 
 -- a message of a thread goes out
 abbrev pub with_queued : ℕ → Sent → Process → Process
-with_queued thread sent process = with_over thread sent.manager sent.over (with_thread thread (queued_thread sent) process)
+with_queued thread sent process = with_over thread sent.target.manager sent.target.over (with_thread thread (queued_thread sent) process)

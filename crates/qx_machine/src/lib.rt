@@ -6,6 +6,6 @@ pub mod laws;
 pub mod rows;
 
 pub use rows::{
-    Attribute, Block, Connection, Entry, Held, Kind, Message, Opened, Over, OwnItem, Queued, Seen,
+    Attribute, Block, Connection, Content, Entry, Held, Kind, Opened, Over, OwnItem, Queued, Seen,
     Sent, ServerConnection, State, Target, ThreadRow,
 };

@@ -1,15 +1,11 @@
-use qx_types::{Actor, Answer, Coid, Manager, OFlags, Outcome, Prio, Step, User};
+use qx_types::{Actor, Answer, Bytes, Coid, Manager, Outcome, Prio, Step, User};
+use qx_wire::{BorrowedBytes, Message};
 
-/// A message to a resource manager (C Library Reference: `MsgSend`; Writing a Resource Manager: connect and I/O
-/// messages).
-#[derive(Clone, Copy, Debug, PartialEq, Eq)]
-pub enum Message {
-    /// Opens the root of the user's mount.
-    Open { flags: OFlags, mode: u16 },
-    /// Closes the connection that it comes over.
-    Close,
-    /// Asks for the status of what the connection has open.
-    Fstat,
+/// What a call sends (C Library Reference: `MsgSend`): a message of the table, or bytes as they are.
+#[derive(Debug, Drop)]
+pub enum Content<'a> {
+    Spelled(Message<'a>),
+    Raw(BorrowedBytes<'a>),
 }
 
 /// What a message goes over: a connection that its call makes, one that is there, or a side connection, which has no
@@ -21,20 +17,19 @@ pub enum Over {
     Side,
 }
 
-/// Where a call goes: to which manager, and over what.
+/// Where a message goes: to which manager, over what, and with which priority.
 #[derive(Clone, Copy, Debug, PartialEq, Eq)]
 pub struct Target {
     pub manager: Manager,
     pub over: Over,
+    pub prio: Prio,
 }
 
-/// A message and what its channel keeps beside it: its manager, what it goes over, and its priority.
-#[derive(Clone, Copy, Debug, PartialEq, Eq)]
+/// A message: its bytes, and where it went, which its channel keeps beside them.
+#[derive(Debug, Drop, PartialEq, Eq)]
 pub struct Sent {
-    pub manager: Manager,
-    pub over: Over,
-    pub prio: Prio,
-    pub message: Message,
+    pub target: Target,
+    pub bytes: Bytes,
 }
 
 /// What a thread is doing (System Architecture: the SEND-blocked and REPLY-blocked states).
