@@ -160,13 +160,14 @@ impl Process {
     /// Reference: `MsgSend`).
     pub fn send(&mut self, thread: u8, sent: Sent, room: Room)
         requires call { CanCall (row_at self.old.threads thread) }
-        requires number { HasNumber sent.over }
+        requires number { HasNumber sent.target.over }
         ensures process { self.new ≡ machine.with_queued thread sent self.old }
     {
+        let target = sent.target;
         if let Some(cell) = self.thread_mut(thread) {
             cell.send(sent, room);
         }
-        self.connect(thread, sent.manager, sent.over);
+        self.connect(thread, target.manager, target.over);
     }
 
     /// A blocked thread gets a reply; what was attached for its message alone goes (C Library Reference: `MsgReply`).

@@ -67,9 +67,10 @@ impl ThreadCell {
     pub fn take(&mut self)
         ensures row { self.new ≡ taken_thread self.old }
     {
-        if let State::Queued(sent) = self.row.state {
-            self.row.state = State::Taken(sent);
-        }
+        self.row.state = match mem::replace(&mut self.row.state, State::Ready) {
+            State::Queued(sent) => State::Taken(sent),
+            state => state,
+        };
     }
 
     /// The thread gets a reply (C Library Reference: `MsgReply`).
