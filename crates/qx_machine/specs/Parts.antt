@@ -9,11 +9,15 @@ use Rattle.qx_machine.specs.declared.rows.ThreadRow.{ThreadRow}
 use Rattle.qx_machine.specs.Processes.{Process, with_thread}
 use Rattle.qx_machine.specs.Rows.{row_at, with_row}
 
--- the root of the user's mount, and processes and open blocks from 1
-pub record Part : Type 0 where
+-- what the managers keep for a user: the root of the user's mount, and open blocks from 1
+pub record Resources : Type 0 where
   pub root : Attribute
-  pub processes : List (Option Process)
   pub blocks : List (Option Block)
+
+-- a user's processes from 1, and resources
+pub record Part : Type 0 where
+  pub processes : List (Option Process)
+  pub resources : Resources
 
 -- what a step changes in a manager's line: an item of the user is put there, or one is removed where it stands
 pub data Change : Type 0 where

@@ -5,6 +5,8 @@ use Rattle.qx_types.specs.declared.names.Manager.{Manager}
 use Rattle.qx_types.specs.declared.names.TheConstants.Manager.{COUNT}
 use Rattle.qx_types.specs.declared.outcome.Answer.{Answer}
 use Rattle.qx_machine.specs.declared.rows.Connection.{Connection}
+use Rattle.qx_machine.specs.declared.rows.Effect.{Effect}
+use Rattle.qx_machine.specs.declared.rows.Effect.TheVariants.{Keeps, Opens, Closes}
 use Rattle.qx_machine.specs.declared.rows.Over.{Over}
 use Rattle.qx_machine.specs.declared.rows.Over.TheVariants.{New, Existing, Side}
 use Rattle.qx_machine.specs.declared.rows.Sent.{Sent}
@@ -53,6 +55,12 @@ with_side thread side process = with_servers (record process { sides = slice_set
 -- a connection has its open control block
 abbrev pub with_block : ℕ → ℕ → Process → Process
 with_block coid block process = record process { connections = with_row process.connections coid (λ connection. record connection { block = Some block }) }
+
+-- what a message that is done does to the connection that it came over
+abbrev pub after_effect : Effect → Process → Process
+after_effect Keeps process = process
+after_effect (Opens coid block) process = with_block coid.0 block process
+after_effect (Closes coid) process = without_connection coid.0 process
 
 -- one of the threads changes
 abbrev pub with_thread : ℕ → (ThreadRow → ThreadRow) → Process → Process

@@ -12,7 +12,7 @@ use Rattle.qx_machine.specs.Processes.{taken_thread, with_thread}
 
 -- the rows of a user at boot
 unfoldable pub boot_part : Configuration → ℕ → Part
-boot_part config user = record { root = root_attribute user; processes = None ∷ []; blocks = None ∷ [] }
+boot_part config user = record { processes = None ∷ []; resources = record { root = root_attribute user; blocks = None ∷ [] } }
 
 -- a client's step, from its user's rows and the items of that user in workers' hands
 unfoldable pub client : Configuration → ℕ → List OwnItem → Part → Step → ClientStep

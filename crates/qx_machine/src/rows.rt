@@ -71,6 +71,16 @@ pub struct Block {
     pub inode: u32,
 }
 
+/// What a message does to the connection that it came over, once it is done.
+#[derive(Clone, Copy, Debug, PartialEq, Eq)]
+pub enum Effect {
+    Keeps,
+    /// The connection has its open control block.
+    Opens { coid: Coid, block: u16 },
+    /// The connection goes.
+    Closes(Coid),
+}
+
 /// What a message's connection has open: the connection, and its open control block with its number.
 #[derive(Clone, Copy, Debug, PartialEq, Eq)]
 pub struct Opened {

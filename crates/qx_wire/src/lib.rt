@@ -12,7 +12,7 @@ pub mod writing;
 
 pub use borrowed::BorrowedBytes;
 pub use message::{Meaning, Message};
-pub use parsed::Parsed;
+pub use parsed::{Parsed, meaning};
 pub use ranges::in_ranges;
 pub use rest::{Components, Rest};
 pub use writing::encode;

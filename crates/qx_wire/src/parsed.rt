@@ -34,7 +34,7 @@ impl Parsed {
     pub fn read(bytes: Bytes) -> Parsed
         ensures bytes { result ≡ bytes }
     {
-        let is_malformed = matches!(judged(cut(bytes.as_slice())), Meaning::Malformed);
+        let is_malformed = matches!(meaning(bytes.as_slice()), Meaning::Malformed);
         Parsed {
             bytes,
             is_malformed,
@@ -67,4 +67,12 @@ impl Parsed {
             cut(self.bytes.as_slice())
         }
     }
+}
+
+/// What bytes mean that are not kept. `Parsed` is for those whose meaning is asked for more than once.
+#[tactic(auto, unfolding(crate::specs::Reading::meaning))]
+pub fn meaning(bytes: &[u8]) -> Meaning<'_>
+    ensures meaning { result ≡ meaning bytes.now }
+{
+    judged(cut(bytes))
 }
