@@ -4,6 +4,7 @@ use Rattle.qx_types.specs.declared.names.Manager.{Manager}
 use Rattle.qx_types.specs.declared.names.Thread.{Thread}
 use Rattle.qx_machine.specs.declared.rows.Attribute.{Attribute}
 use Rattle.qx_machine.specs.declared.rows.Block.{Block}
+use Rattle.qx_machine.specs.declared.rows.Connection.{Connection}
 use Rattle.qx_machine.specs.declared.rows.OwnItem.{OwnItem}
 use Rattle.qx_machine.specs.declared.rows.ThreadRow.{ThreadRow}
 use Rattle.qx_machine.specs.Processes.{Process, with_thread}
@@ -27,6 +28,10 @@ pub data Change : Type 0 where
 abbrev pub thread_of : ℕ → Option Process → Option ThreadRow
 thread_of thread None = None
 thread_of thread (Some process) = row_at process.threads thread
+
+abbrev pub connection_of : ℕ → Option Process → Option Connection
+connection_of coid None = None
+connection_of coid (Some process) = row_at process.connections coid
 
 -- a thread's row, by the number of its process and its own
 abbrev pub thread_at : Part → ℕ → ℕ → Option ThreadRow

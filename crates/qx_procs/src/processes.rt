@@ -9,8 +9,7 @@ ghost use Rattle.qx_machine.specs.Clients as clients;
 ghost use Rattle.qx_machine.specs.Processes.{with_connection, without_connection, with_side};
 ghost use Rattle.qx_machine.specs.Rows.{row_at, with_row};
 ghost use Rattle.qx_procs.specs.Calls.{spawn_outcome, spawned, done_or, after_or, with_prio, new_coid, with_new_side};
-ghost use Rattle.qx_machine.specs.Parts.{thread_of};
-ghost use Rattle.qx_machine.specs.Performing.{connection_of};
+ghost use Rattle.qx_machine.specs.Parts.{connection_of, thread_of};
 ghost use Rattle.qx_process.specs.Reads.{IsPriority};
 
 use qx_machine::{Connection, ThreadRow};
