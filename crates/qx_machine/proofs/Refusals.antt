@@ -1,25 +1,28 @@
 -- What a step that is refused leaves as it was: everything.
 use Rattle.std.proofs.Common.{◌≡◌, ℕ, List, [], ◌∷◌, Bool, true, false, refl, sym, ap, ◌∙◌}
 use Rattle.std.specs.Prelude.{⊤, Option, Some, None, Result, Ok, Err, slice_set, if◌then◌else◌}
-use Rattle.std.proofs.lemmas.Bool.{false≢true}
+use Rattle.std.proofs.lemmas.Bool.{cond_both, false≢true}
 use Rattle.qx_types.specs.Configuration.{Configuration}
 use Rattle.qx_types.specs.declared.names.Actor.{Actor}
+use Rattle.qx_types.specs.declared.names.Thread.{Thread}
 use Rattle.qx_types.specs.declared.names.Manager.{Manager}
 use Rattle.qx_types.specs.declared.outcome.Answer.{Answer}
 use Rattle.qx_types.specs.declared.outcome.Answer.TheVariants as answer
 use Rattle.qx_types.specs.declared.outcome.Outcome.{Outcome}
 use Rattle.qx_types.specs.declared.outcome.Outcome.TheVariants.{WrongState}
 use Rattle.qx_types.specs.declared.step.Step.{Step}
-use Rattle.qx_types.specs.declared.step.Step.TheVariants.{Spawn, Call, TakeReply, SetPrio, Receive, Perform}
+use Rattle.qx_types.specs.declared.step.Step.TheVariants.{Spawn, Call, TakeReply, SetPrio, Interrupt, Receive, Perform}
 use Rattle.qx_machine.specs.declared.rows.Held.{Held}
 use Rattle.qx_machine.specs.declared.rows.OwnItem.{OwnItem}
+use Rattle.qx_machine.specs.declared.rows.State.{State}
+use Rattle.qx_machine.specs.declared.rows.State.TheVariants.{Queued as queued, Taken}
 use Rattle.qx_machine.specs.declared.rows.Queued.{Queued}
 use Rattle.qx_machine.specs.Judgements.{◌>>=◌}
 use Rattle.qx_machine.specs.Laws.{is_refusal}
 use Rattle.qx_machine.specs.Machine.{World, step_end, client_step, is_worker, line_of, own_held, perform_hand, receive_hand, receive_line, server_step, step, step_of, same_world}
 use Rattle.qx_types.specs.Step.{actor_of, user_of}
 use Rattle.qx_machine.specs.Rows.{row_at}
-use Rattle.qx_machine.specs.Clients.{ClientStep, client_given, or_unchanged, outcome_of}
+use Rattle.qx_machine.specs.Clients.{ClientStep, client_given, interrupt_in, or_unchanged, outcome_of}
 use Rattle.qx_machine.specs.Parts.{Part}
 use Rattle.qx_machine.specs.Users.{client, settle}
 use Rattle.qx_machine.proofs.Places.{set-row_at}
@@ -43,11 +46,17 @@ answer_goes : (given : Answer) → is_refusal (outcome_of given) ≡ false
 answer_goes (answer.Reply status bytes) = refl
 answer_goes (answer.Failed error) = refl
 
+interrupt_goes : (part : Part) (thread : Thread) (call : ℕ) (state : State) → Goes (Ok (interrupt_in part thread call state))
+interrupt_goes part thread call (queued sent) = record { goes = refl }
+interrupt_goes part thread call (Taken sent) = cond_both {A = ClientStep} sent.is_asked _ _ (λ given. Goes (Ok given)) (λ asked. record { goes = refl }) (λ unasked. record { goes = refl })
+interrupt_goes part thread call _ = record { goes = refl }
+
 given_goes : (config : Configuration) (user : ℕ) (held : List OwnItem) (part : Part) (e : Step) → Goes (client_given config user held part e)
 given_goes config user held part (Spawn of threads prio) = search (goes_on, done_goes)
 given_goes config user held part (Call thread request) = search (goes_on, done_goes)
 given_goes config user held part (TakeReply thread) = search (goes_on, done_goes, answer_goes)
 given_goes config user held part (SetPrio thread prio) = search (goes_on, done_goes)
+given_goes config user held part (Interrupt thread) = search (goes_on, interrupt_goes)
 given_goes config user held part _ = record { goes = tt }
 
 unchanged_stays : (part : Part) (given : Result ClientStep Outcome) → Goes given → is_refusal (or_unchanged part given).outcome ≡ true → or_unchanged part given ≡ or_unchanged part (Err (or_unchanged part given).outcome)

@@ -1,25 +1,28 @@
 -- What a client's step does to the rows of its user.
-use Rattle.std.specs.Prelude.{ℕ, Bool, List, [], ◌∷◌, ◌&&◌, Option, Some, None, Result, Ok, Err, nat_le, unwrap_or}
+use Rattle.std.specs.Prelude.{ℕ, Bool, false, if◌then◌else◌, List, [], ◌∷◌, ◌&&◌, Option, Some, None, Result, Ok, Err, nat_le, unwrap_or}
 use Rattle.qx_types.specs.Configuration.{Configuration, name_of}
-use Rattle.qx_types.specs.declared.errno.Errno.TheVariants.{EAGAIN, EINVAL}
+use Rattle.qx_types.specs.declared.errno.Errno.TheVariants.{EAGAIN, EINTR, EINVAL}
 use Rattle.qx_types.specs.declared.limits.TheConstants.Limits.{PRIORITY, PROCESSES, THREADS}
 use Rattle.qx_types.specs.declared.names.Thread.{Thread}
 use Rattle.qx_types.specs.declared.outcome.Answer.{Answer}
 use Rattle.qx_types.specs.declared.outcome.Answer.TheVariants as answer
 use Rattle.qx_types.specs.declared.outcome.Outcome.{Outcome}
-use Rattle.qx_types.specs.declared.outcome.Outcome.TheVariants.{Spawned, Refused, Done, Sent, Reply, Failed, WrongState}
+use Rattle.qx_types.specs.declared.outcome.Outcome.TheVariants as outcome
+use Rattle.qx_types.specs.declared.outcome.Outcome.TheVariants.{Spawned, Refused, Done, Reply, Failed, WrongState}
 use Rattle.qx_types.specs.declared.request.Request.{Request}
 use Rattle.qx_types.specs.declared.step.Step.{Step}
-use Rattle.qx_types.specs.declared.step.Step.TheVariants.{Spawn, Call, TakeReply, SetPrio}
+use Rattle.qx_types.specs.declared.step.Step.TheVariants.{Spawn, Call, TakeReply, SetPrio, Interrupt}
 use Rattle.qx_machine.specs.declared.rows.OwnItem.{OwnItem}
 use Rattle.qx_machine.specs.declared.rows.OwnItem.TheVariants as item
+use Rattle.qx_machine.specs.declared.rows.Sent.{Sent}
 use Rattle.qx_machine.specs.declared.rows.State.{State}
-use Rattle.qx_machine.specs.declared.rows.State.TheVariants.{Answered}
+use Rattle.qx_machine.specs.declared.rows.State.TheVariants.{Queued, Taken, Answered}
 use Rattle.qx_machine.specs.declared.rows.Target.{Target}
 use Rattle.qx_machine.specs.Calls.{bytes_of, content_of, target_of}
 use Rattle.qx_machine.specs.Judgements.{◌>>=◌, found, need}
-use Rattle.qx_machine.specs.Parts.{Part, Change, Put, thread_at, with_process, with_thread_of}
-use Rattle.qx_machine.specs.Processes.{Process, new_process, with_queued, ranked_thread, ready_thread}
+use Rattle.qx_machine.specs.Parts.{Part, Change, Put, Remove, thread_at, with_process, with_thread_of}
+use Rattle.qx_machine.specs.Performing.{after_answer}
+use Rattle.qx_machine.specs.Processes.{Process, asked_thread, new_process, with_queued, ranked_thread, ready_thread}
 use Rattle.qx_machine.specs.Rows.{lowest_from, put_row, row_at}
 
 -- what a client's step gives
@@ -60,8 +63,8 @@ abbrev pub call : List ℕ → Part → Thread → Request → Result ClientStep
 call path part thread request = do
   target ← target_by path part thread request
   Ok (record {
-    outcome = Sent;
-    part = with_process thread.proc.num (with_queued thread.tid (record { target = target; bytes = bytes_of (content_of request) })) part;
+    outcome = outcome.Sent;
+    part = with_process thread.proc.num (with_queued thread.tid (record { target = target; is_asked = false; bytes = bytes_of (content_of request) })) part;
     changes = Put target.manager (item.Message thread.proc.num thread.tid) target.prio.0 ∷ [];
   })
 
@@ -87,12 +90,45 @@ set_prio part thread prio = do
   valid ← need (is_prio prio) (Refused EINVAL)
   Ok (record { outcome = Done; part = with_thread_of thread (ranked_thread prio) part; changes = [] })
 
+-- an interrupt of a thread whose message stands in a line: the message goes, the thread is answered EINTR, and what its call attached
+-- goes too (C Library Reference: MsgSend, EINTR)
+abbrev pub dismiss : Part → Thread → Sent → ClientStep
+dismiss part thread sent = record {
+  outcome = Done;
+  part = after_answer part thread.proc.num thread.tid sent.target.over (Err EINTR);
+  changes = Remove sent.target.manager (item.Message thread.proc.num thread.tid) ∷ [];
+}
+
+-- of one whose message was received: the message is marked, and a pulse asks its manager to unblock the thread from the call, with the
+-- message's priority (C Library Reference: ChannelCreate, _NTO_CHF_UNBLOCK; the pulse's priority is this profile); once a call
+abbrev pub ask_unblock : Part → Thread → ℕ → Sent → ClientStep
+ask_unblock part thread call sent = record {
+  outcome = Done;
+  part = with_thread_of thread asked_thread part;
+  changes = Put sent.target.manager (item.Unblock thread.proc.num thread.tid call) sent.target.prio.0 ∷ [];
+}
+
+-- of one that waits for nothing
+abbrev pub leave : Part → ClientStep
+leave part = record { outcome = Done; part = part; changes = [] }
+
+abbrev pub interrupt_in : Part → Thread → ℕ → State → ClientStep
+interrupt_in part thread call (Queued sent) = dismiss part thread sent
+interrupt_in part thread call (Taken sent) = if sent.is_asked then leave part else ask_unblock part thread call sent
+interrupt_in part thread call _ = leave part
+
+abbrev pub interrupt : Part → Thread → Result ClientStep Outcome
+interrupt part thread = do
+  row ← found (thread_at part thread.proc.num thread.tid) WrongState
+  Ok (interrupt_in part thread row.calls row.state)
+
 -- what a client's step gives, or the outcome of one that changes nothing
 abbrev pub client_given : Configuration → ℕ → List OwnItem → Part → Step → Result ClientStep Outcome
 client_given config user held part (Spawn of_user threads prio) = spawn part threads prio.0
 client_given config user held part (Call thread request) = call (own_path config user) part thread request
 client_given config user held part (TakeReply thread) = take_reply part thread
 client_given config user held part (SetPrio thread prio) = set_prio part thread prio.0
+client_given config user held part (Interrupt thread) = interrupt part thread
 client_given config user held part _ = Err WrongState
 
 -- a step that is refused changes nothing

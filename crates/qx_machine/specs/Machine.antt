@@ -1,5 +1,5 @@
 -- The machine: the rows of all users, the lines and the workers, and what each step does to them.
-use Rattle.std.specs.Prelude.{ℕ, ◌+◌, ◌==◌, ◌&&◌, Bool, List, [], ◌∷◌, Option, Some, None, nat_le, if◌then◌else◌, slice_set, filter, map, option_map, replicate}
+use Rattle.std.specs.Prelude.{ℕ, ◌+◌, ◌==◌, ◌&&◌, Bool, false, List, [], ◌∷◌, Option, Some, None, nat_le, if◌then◌else◌, slice_set, filter, map, option_map, replicate}
 use Rattle.qx_types.specs.Configuration.{Configuration}
 use Rattle.qx_types.specs.Managers.{manager_number}
 use Rattle.qx_types.specs.Step.{actor_of, user_of}
@@ -8,13 +8,14 @@ use Rattle.qx_types.specs.declared.names.Actor.{Actor}
 use Rattle.qx_types.specs.declared.names.Item.{Item}
 use Rattle.qx_types.specs.declared.names.Item.TheVariants as public
 use Rattle.qx_types.specs.declared.names.Manager.{Manager}
+use Rattle.qx_types.specs.declared.names.Thread.{Thread}
 use Rattle.qx_types.specs.declared.outcome.Outcome.{Outcome}
 use Rattle.qx_types.specs.declared.outcome.Outcome.TheVariants.{WrongState, Took, Idle, Busy, Handled, Nothing}
 use Rattle.qx_types.specs.declared.step.Step.{Step}
 use Rattle.qx_types.specs.declared.step.Step.TheVariants.{Receive, Perform}
 use Rattle.qx_machine.specs.declared.rows.Held.{Held}
 use Rattle.qx_machine.specs.declared.rows.OwnItem.{OwnItem}
-use Rattle.qx_machine.specs.declared.rows.OwnItem.TheVariants.{Message}
+use Rattle.qx_machine.specs.declared.rows.OwnItem.TheVariants.{Message, Unblock}
 use Rattle.qx_machine.specs.declared.rows.Queued.{Queued}
 use Rattle.qx_machine.specs.Clients.{ClientStep}
 use Rattle.qx_machine.specs.Lines.{into, line_at, with_line}
@@ -51,6 +52,9 @@ boot config = record {
 
 abbrev pub is_same_item : OwnItem → OwnItem → Bool
 is_same_item (Message process thread) (Message other_process other_thread) = (process == other_process) && (thread == other_thread)
+is_same_item (Unblock process thread call) (Unblock other_process other_thread other_call) =
+    (process == other_process) && (thread == other_thread) && (call == other_call)
+is_same_item _ _ = false
 
 -- the place of an item in a line's order
 abbrev pub rank : Queued → ℕ
@@ -117,9 +121,13 @@ with_taken w worker first rest manager = record w {
   hands = slice_set w.hands worker (Some (record { user = first.user; item = first.item }));
 }
 
--- the item as it is shown
+abbrev pub named_thread : ℕ → ℕ → ℕ → Thread
+named_thread user process thread = record { proc = record { user = record { 0 = user }; num = process }; tid = thread }
+
+-- the item as it is shown; of an unblock pulse, the thread
 abbrev pub shown_item : ℕ → OwnItem → Item
-shown_item user (Message process thread) = public.Message (record { proc = record { user = record { 0 = user }; num = process }; tid = thread })
+shown_item user (Message process thread) = public.Message (named_thread user process thread)
+shown_item user (Unblock process thread call) = public.Unblock (named_thread user process thread)
 
 -- the first item goes into the worker's hand
 abbrev pub received_part : World → Queued → Option Part → World

@@ -1,5 +1,5 @@
 -- What a message that a worker holds does to the rows of its user.
-use Rattle.std.specs.Prelude.{ℕ, Bool, true, false, ◌==◌, List, [], Option, Some, None, Result, Ok, Err, length, nat_le, slice_set}
+use Rattle.std.specs.Prelude.{ℕ, Bool, true, false, ◌==◌, List, [], ◌∷◌, Option, Some, None, Result, Ok, Err, length, nat_le, slice_set}
 use Rattle.qx_types.specs.Managers.{manager_number}
 use Rattle.qx_types.specs.declared.errno.Errno.{Errno}
 use Rattle.qx_types.specs.declared.errno.Errno.TheVariants.{EBADF, EINVAL, ENFILE, ENOENT, ENOSYS}
@@ -19,6 +19,7 @@ use Rattle.qx_machine.specs.declared.rows.Effect.{Effect}
 use Rattle.qx_machine.specs.declared.rows.Effect.TheVariants.{Keeps, Opens, Closes}
 use Rattle.qx_machine.specs.declared.rows.Opened.{Opened}
 use Rattle.qx_machine.specs.declared.rows.Over.{Over}
+use Rattle.qx_machine.specs.declared.rows.OwnItem.TheVariants as item
 use Rattle.qx_machine.specs.declared.rows.Over.TheVariants.{New, Existing, Side}
 use Rattle.qx_machine.specs.declared.rows.Sent.{Sent}
 use Rattle.qx_machine.specs.declared.rows.State.{State}
@@ -26,7 +27,7 @@ use Rattle.qx_machine.specs.declared.rows.State.TheVariants.{Taken}
 use Rattle.qx_machine.specs.declared.rows.Target.{Target}
 use Rattle.qx_machine.specs.Attributes.{root_inode, stat_bytes}
 use Rattle.qx_machine.specs.Judgements.{◌>>=◌, found, need}
-use Rattle.qx_machine.specs.Parts.{Part, Change, Resources, with_process}
+use Rattle.qx_machine.specs.Parts.{Part, Change, Remove, Resources, with_process}
 use Rattle.qx_machine.specs.Processes.{Process, after_effect, after_error, after_reply, answered_thread, with_thread}
 use Rattle.qx_machine.specs.Rows.{row_at, lowest_from, put_row}
 use Rattle.qx_machine.specs.Servers.{is_numbered}
@@ -150,15 +151,19 @@ abbrev pub taken_in : State → Option Sent
 taken_in (Taken sent) = Some sent
 taken_in _ = None
 
--- only a message that was received and not answered is performed
-abbrev pub after_message : Part → ℕ → ℕ → Result Part Outcome
-after_message part number thread = do
+-- only a message that was received and not answered is performed; its answer takes an unblock pulse of its call out of the line, if one
+-- stands there
+abbrev pub serve_message : Part → ℕ → ℕ → Result Served Outcome
+serve_message part number thread = do
   process ← found (row_at part.processes number) WrongState
   row ← found (row_at process.threads thread) WrongState
   sent ← found (taken_in row.state) WrongState
-  Ok (after_answer part number thread sent.target.over (deed_of part.resources process sent.target (meaning sent.bytes)))
+  Ok (record {
+    part = after_answer part number thread sent.target.over (deed_of part.resources process sent.target (meaning sent.bytes));
+    changes = Remove sent.target.manager (item.Unblock number thread row.calls) ∷ [];
+  })
 
 -- else nothing is done
-abbrev pub or_kept : Part → Result Part Outcome → Part
-or_kept part (Ok after) = after
-or_kept part (Err outcome) = part
+abbrev pub or_kept : Part → Result Served Outcome → Served
+or_kept part (Ok given) = given
+or_kept part (Err outcome) = record { part = part; changes = [] }

@@ -1,5 +1,5 @@
 -- Processes with their threads and connections, and how these change.
-use Rattle.std.specs.Prelude.{ℕ, ◌+◌, List, [], ◌∷◌, Option, Some, None, replicate, slice_set}
+use Rattle.std.specs.Prelude.{ℕ, true, ◌+◌, List, [], ◌∷◌, Option, Some, None, replicate, slice_set}
 use Rattle.qx_types.specs.declared.limits.TheConstants.Limits.{FIRST_CONNECTION, THREADS}
 use Rattle.qx_types.specs.declared.names.Manager.{Manager}
 use Rattle.qx_types.specs.declared.names.TheConstants.Manager.{COUNT}
@@ -93,6 +93,14 @@ taken_state state = state
 
 abbrev pub taken_thread : ThreadRow → ThreadRow
 taken_thread row = record row { state = taken_state row.state }
+
+-- what becomes of a thread's state when its message, which was received, is asked to unblock it
+abbrev pub asked_state : State → State
+asked_state (Taken sent) = Taken (record sent { is_asked = true })
+asked_state state = state
+
+abbrev pub asked_thread : ThreadRow → ThreadRow
+asked_thread row = record row { state = asked_state row.state }
 
 -- a thread that has its answer
 abbrev pub answered_thread : Answer → ThreadRow → ThreadRow

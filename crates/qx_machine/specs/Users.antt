@@ -3,11 +3,11 @@ use Rattle.std.specs.Prelude.{ℕ, List, [], ◌∷◌, None}
 use Rattle.qx_types.specs.Configuration.{Configuration}
 use Rattle.qx_types.specs.declared.step.Step.{Step}
 use Rattle.qx_machine.specs.declared.rows.OwnItem.{OwnItem}
-use Rattle.qx_machine.specs.declared.rows.OwnItem.TheVariants.{Message}
+use Rattle.qx_machine.specs.declared.rows.OwnItem.TheVariants.{Message, Unblock}
 use Rattle.qx_machine.specs.Attributes.{root_attribute}
 use Rattle.qx_machine.specs.Clients.{ClientStep, client_given, or_unchanged}
 use Rattle.qx_machine.specs.Parts.{Part, with_process}
-use Rattle.qx_machine.specs.Performing.{Served, or_kept, after_message}
+use Rattle.qx_machine.specs.Performing.{Served, or_kept, serve_message}
 use Rattle.qx_machine.specs.Processes.{taken_thread, with_thread}
 
 -- the rows of a user at boot
@@ -21,10 +21,12 @@ client config user held part e = or_unchanged part (client_given config user hel
 -- an item of the user goes from a line into a worker's hand
 unfoldable pub take : Part → OwnItem → Part
 take part (Message process thread) = with_process process (with_thread thread taken_thread) part
+take part (Unblock process thread call) = part
 
--- what a worker does with an item that it holds, at a moment
+-- what a worker does with an item that it holds, at a moment; an unblock pulse is for a call that waits, and none waits yet
 unfoldable pub serve : Configuration → ℕ → List OwnItem → Part → OwnItem → ℕ → Served
-serve config user held part (Message process thread) moment = record { part = or_kept part (after_message part process thread); changes = [] }
+serve config user held part (Message process thread) moment = or_kept part (serve_message part process thread)
+serve config user held part (Unblock process thread call) moment = record { part = part; changes = [] }
 
 -- what the end of each step of a user settles, from the rows before it; nothing is left to settle yet
 unfoldable pub settle : Part → List OwnItem → Part → Part

@@ -25,10 +25,12 @@ pub struct Target {
     pub prio: Prio,
 }
 
-/// A message: its bytes, and where it went, which its channel keeps beside them.
+/// A message: its bytes, and what its channel keeps beside them: where it went, and whether it was asked to unblock its
+/// thread.
 #[derive(Debug, Drop, PartialEq, Eq)]
 pub struct Sent {
     pub target: Target,
+    pub is_asked: bool,
     pub bytes: Bytes,
 }
 
@@ -114,6 +116,8 @@ pub struct Attribute {
 pub enum OwnItem {
     /// The message that a thread of a process sent.
     Message { process: u8, thread: u8 },
+    /// The pulse that asks to unblock a thread of a process from the call of that number.
+    Unblock { process: u8, thread: u8, call: u64 },
 }
 
 /// An item in a line, with its user and its priority.

@@ -17,6 +17,9 @@ pub enum Step {
     /// Gives a thread another priority; a message that it sent keeps the one that it was sent with (C Library
     /// Reference: `SchedSet`).
     SetPrio { thread: Thread, prio: Prio },
+    /// Asks to unblock a thread from its call (System Architecture: the pulse that asks a server to unblock a client;
+    /// C Library Reference: `MsgSend`, EINTR).
+    Interrupt { thread: Thread },
     /// Takes the first item of a manager's line (C Library Reference: `MsgReceive`).
     Receive { worker: Worker, manager: Manager },
     /// Does what the worker holds, at a moment that becomes the times of what it changes.
@@ -30,8 +33,10 @@ impl Step {
     {
         match self {
             Step::Spawn { user, .. } => Some(Actor::OfUser(*user)),
-            Step::Call { thread, .. } | Step::TakeReply { thread } | Step::SetPrio { thread, .. } =>
-                Some(Actor::OfThread(*thread)),
+            Step::Call { thread, .. }
+            | Step::TakeReply { thread }
+            | Step::SetPrio { thread, .. }
+            | Step::Interrupt { thread } => Some(Actor::OfThread(*thread)),
             Step::Receive { .. } | Step::Perform { .. } => None,
         }
     }
@@ -68,6 +73,7 @@ impl Clone for Step {
                 thread: *thread,
                 prio: *prio,
             },
+            Step::Interrupt { thread } => Step::Interrupt { thread: *thread },
             Step::Receive { worker, manager } => Step::Receive {
                 worker: *worker,
                 manager: *manager,
