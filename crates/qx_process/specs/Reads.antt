@@ -6,6 +6,7 @@ use Rattle.qx_machine.specs.declared.rows.Over.{Over}
 use Rattle.qx_machine.specs.declared.rows.Over.TheVariants.{New}
 use Rattle.qx_machine.specs.declared.rows.State.{State}
 use Rattle.qx_machine.specs.declared.rows.State.TheVariants.{Queued, Taken}
+use Rattle.qx_machine.specs.declared.rows.Target.{Target}
 use Rattle.qx_machine.specs.declared.rows.ThreadRow.{ThreadRow}
 use Rattle.qx_machine.specs.Processes.{Process}
 use Rattle.qx_machine.specs.Rows.{row_at}
@@ -29,7 +30,21 @@ CanCall (Some row) = row.calls < CALLS
 abbrev pub IsPriority : ℕ → Type 0
 IsPriority prio = (1 ≤ prio) × (prio ≤ PRIORITY)
 
+-- the message that a thread waits for has a priority of a thread
+abbrev pub WaitsRanked : State → Type 0
+WaitsRanked (Queued sent) = IsPriority sent.target.prio.0
+WaitsRanked (Taken sent) = IsPriority sent.target.prio.0
+WaitsRanked _ = ⊤
+
+-- a thread and the message that it waits for have priorities
+abbrev pub IsRanked : ThreadRow → Type 0
+IsRanked row = IsPriority row.prio.0 × WaitsRanked row.state
+
 -- a new connection has a number of the table
 abbrev pub HasNumber : Over → Type 0
 HasNumber (New coid) = coid.0 ≤ LAST_CONNECTION
 HasNumber _ = ⊤
+
+-- a message may go there: over a number of the table, with a priority
+abbrev pub CanGo : Target → Type 0
+CanGo target = HasNumber target.over × IsPriority target.prio.0

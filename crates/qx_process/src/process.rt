@@ -8,7 +8,7 @@ ghost use Rattle.qx_machine.specs.Processes.{answered_thread, with_thread};
 ghost use Rattle.qx_machine.specs.Rows.{row_at, lowest_from};
 ghost use Rattle.qx_machine.specs.Servers.{is_attached};
 ghost use Rattle.qx_process.specs.declared.room.TheConstants.{REPLY_BYTES};
-ghost use Rattle.qx_process.specs.Reads.{is_thread_blocked, CanCall, HasNumber, IsPriority};
+ghost use Rattle.qx_process.specs.Reads.{is_thread_blocked, CanCall, CanGo, HasNumber, IsPriority, IsRanked};
 
 use crate::connections::{self, Connections};
 use crate::places;
@@ -62,7 +62,7 @@ impl Process {
     /// A thread's row; none where it is not there.
     pub fn thread(&self, thread: u8) -> Option<&ThreadRow>
         ensures row { option_copied result ≡ row_at self.now.threads thread }
-        ensures priority { IfSome result (λ row. IsPriority row.now.prio.0) }
+        ensures priorities { IfSome result (λ row. IsRanked row.now) }
     {
         threads::thread_row(&self.threads, thread)
     }
@@ -160,7 +160,7 @@ impl Process {
     /// Reference: `MsgSend`).
     pub fn send(&mut self, thread: u8, sent: Sent, room: Room)
         requires call { CanCall (row_at self.old.threads thread) }
-        requires number { HasNumber sent.target.over }
+        requires target { CanGo sent.target }
         ensures process { self.new ≡ machine.with_queued thread sent self.old }
     {
         let target = sent.target;

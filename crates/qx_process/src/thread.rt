@@ -1,9 +1,9 @@
 ghost use Rattle.std.specs.Prelude.{◌≡◌, ◌≤◌, ◌<◌, length, IsTrue, MatchOption};
 ghost use Rattle.qx_types.specs.declared.limits.TheConstants.Limits.{CALLS};
 ghost use Rattle.qx_machine.specs.Clients.{answer_in};
-ghost use Rattle.qx_machine.specs.Processes.{new_thread, queued_thread, taken_thread, answered_thread, ready_thread, ranked_thread};
+ghost use Rattle.qx_machine.specs.Processes.{asked_thread, new_thread, queued_thread, taken_thread, answered_thread, ready_thread, ranked_thread};
 ghost use Rattle.qx_process.specs.declared.room.TheConstants.{REPLY_BYTES};
-ghost use Rattle.qx_process.specs.Reads.{is_blocked, IsPriority};
+ghost use Rattle.qx_process.specs.Reads.{is_blocked, IsPriority, IsRanked};
 
 use crate::room::Room;
 use qx_machine::{Sent, State, ThreadRow};
@@ -21,13 +21,13 @@ pub struct ThreadCell {
 impl Model for ThreadCell {
     ghost use Rattle.std.specs.Prelude.{IsTrue, IsSome};
     ghost use Rattle.qx_machine.specs.declared.rows.ThreadRow.{ThreadRow};
-    ghost use Rattle.qx_process.specs.Reads.{is_blocked, IsPriority};
+    ghost use Rattle.qx_process.specs.Reads.{is_blocked, IsRanked};
 
     ghost Value = { ThreadRow };
 
     ghost view = { λ c. c.row };
 
-    ghost invariant = { λ c. (IsTrue (is_blocked c.row.state) → IsSome c.room) × IsPriority c.row.prio.0 };
+    ghost invariant = { λ c. (IsTrue (is_blocked c.row.state) → IsSome c.room) × IsRanked c.row };
 }
 
 impl ThreadCell {
@@ -47,7 +47,7 @@ impl ThreadCell {
     /// The thread's row.
     pub fn row(&self) -> &ThreadRow
         ensures row { result.now ≡ self.now }
-        ensures priority { IsPriority result.now.prio.0 }
+        ensures priorities { IsRanked result.now }
     {
         &self.row
     }
@@ -56,6 +56,7 @@ impl ThreadCell {
     /// `MsgSend`).
     pub fn send(&mut self, sent: Sent, room: Room)
         requires countable { self.old.calls < CALLS }
+        requires priority { IsPriority sent.target.prio.0 }
         ensures row { self.new ≡ queued_thread sent self.old }
     {
         self.row.state = State::Queued(sent);
@@ -71,6 +72,16 @@ impl ThreadCell {
             State::Queued(sent) => State::Taken(sent),
             state => state,
         };
+    }
+
+    /// The thread's message, which was received, is asked to unblock it (C Library Reference: `ChannelCreate`,
+    /// `_NTO_CHF_UNBLOCK`).
+    pub fn ask_unblock(&mut self)
+        ensures row { self.new ≡ asked_thread self.old }
+    {
+        if let State::Taken(sent) = &mut self.row.state {
+            sent.is_asked = true;
+        }
     }
 
     /// The thread gets a reply (C Library Reference: `MsgReply`).

@@ -5,7 +5,7 @@ ghost use Rattle.std.specs.Option.{option_copied};
 ghost use Rattle.qx_types.specs.declared.limits.TheConstants.Limits.{THREADS};
 ghost use Rattle.qx_machine.specs.Processes.{new_thread};
 ghost use Rattle.qx_machine.specs.Rows.{row_at};
-ghost use Rattle.qx_process.specs.Reads.{IsPriority};
+ghost use Rattle.qx_process.specs.Reads.{IsPriority, IsRanked};
 
 use crate::places;
 use crate::thread::ThreadCell;
@@ -36,7 +36,7 @@ pub fn new_threads(count: u8, prio: Prio) -> Threads
 /// A thread's row.
 pub fn thread_row(threads: &Threads, thread: u8) -> Option<&ThreadRow>
     ensures row { option_copied result ≡ row_at threads.now.items thread }
-    ensures priority { IfSome result (λ row. IsPriority row.now.prio.0) }
+    ensures priorities { IfSome result (λ row. IsRanked row.now) }
 {
     match places::row(threads.as_slice(), thread as usize) {
         Some(cell) => Some(cell.row()),

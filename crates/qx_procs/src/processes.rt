@@ -10,7 +10,7 @@ ghost use Rattle.qx_machine.specs.Processes.{with_connection, without_connection
 ghost use Rattle.qx_machine.specs.Rows.{row_at, with_row};
 ghost use Rattle.qx_procs.specs.Calls.{spawn_outcome, spawned, done_or, after_or, with_prio, new_coid, with_new_side};
 ghost use Rattle.qx_machine.specs.Parts.{connection_of, thread_of};
-ghost use Rattle.qx_process.specs.Reads.{IsPriority};
+ghost use Rattle.qx_process.specs.Reads.{IsRanked};
 
 use qx_machine::{Connection, ThreadRow};
 use qx_process::{Process, ThreadCell, places};
@@ -65,7 +65,7 @@ impl Processes {
     /// A thread's row; none where it is not there.
     pub fn thread(&self, process: u8, thread: u8) -> Option<&ThreadRow>
         ensures row { option_copied result ≡ thread_of thread (row_at self.now process) }
-        ensures priority { IfSome result (λ row. IsPriority row.now.prio.0) }
+        ensures priorities { IfSome result (λ row. IsRanked row.now) }
     {
         self.process(process)?.thread(thread)
     }
