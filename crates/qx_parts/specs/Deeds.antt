@@ -5,18 +5,28 @@ use Rattle.qx_wire.specs.declared.message.Meaning.{Meaning}
 use Rattle.qx_wire.specs.declared.message.Meaning.TheVariants.{Known}
 use Rattle.qx_wire.specs.declared.message.Message.TheVariants.{Open}
 use Rattle.qx_wire.specs.Reading.{meaning}
+use Rattle.qx_machine.specs.declared.rows.Opened.{Opened}
 use Rattle.qx_machine.specs.declared.rows.OwnItem.{OwnItem}
 use Rattle.qx_machine.specs.declared.rows.OwnItem.TheVariants as item
 use Rattle.qx_machine.specs.declared.rows.Sent.{Sent}
+use Rattle.qx_machine.specs.declared.rows.Target.{Target}
 use Rattle.qx_machine.specs.declared.rows.ThreadRow.{ThreadRow}
+use Rattle.qx_machine.specs.Judgements.{◌>>=◌}
 use Rattle.qx_machine.specs.Parts.{Part, Resources, thread_at}
-use Rattle.qx_machine.specs.Performing.{Deed, or_kept, after_message, taken_in}
+use Rattle.qx_machine.specs.Performing.{Deed, or_kept, after_message, opened_by, taken_in}
+use Rattle.qx_machine.specs.Processes.{Process}
 use Rattle.qx_parts.specs.declared.resources.Done.{Done}
 
 -- what is done, with the resources that it leaves
 abbrev pub deed_with : Resources → Result Done Errno → Result Deed Errno
 deed_with resources (Ok done) = Ok (record { status = done.status; bytes = done.bytes.items; resources = resources; effect = done.effect })
 deed_with resources (Err error) = Err error
+
+-- what a function does with what a message's connection has open
+abbrev pub used_deed : (Resources → Opened → Result Deed Errno) → Resources → Process → Target → Result Deed Errno
+used_deed function resources process target = do
+  opened ← opened_by resources process target
+  function resources opened
 
 -- a user's rows once an item of it is done
 abbrev pub served_part : Part → OwnItem → Part

@@ -91,6 +91,7 @@ fn content_of(request: &Request) -> Content<'_>
 }
 
 /// What the path of a mount's root has behind the mount: nothing.
+#[tactic(auto, unfolding(qx_wire::specs::Rests::components_of))]
 fn root<'a>() -> Rest<'a>
     ensures { result ≡ [] }
 {

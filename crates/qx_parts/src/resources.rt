@@ -2,11 +2,10 @@
 
 ghost use Rattle.std.specs.Prelude.{◌≡◌, [], ◌∷◌, None, IsFalse, IsOk, IfOk, OnErr};
 ghost use Rattle.qx_machine.specs.Attributes.{root_attribute};
-ghost use Rattle.qx_machine.specs.Judgements.{◌>>=◌};
 ghost use Rattle.qx_machine.specs.Performing as performing;
 ghost use Rattle.qx_machine.specs.Performing.{close_deed, deed_of, fstat_deed, manager_deed, open_deed, stat_deed};
 ghost use Rattle.qx_wire.specs.declared.message.Meaning.TheVariants.{Known};
-ghost use Rattle.qx_parts.specs.Deeds.{deed_with, wants_memory};
+ghost use Rattle.qx_parts.specs.Deeds.{deed_with, used_deed, wants_memory};
 
 use crate::status::{Status, stat_bytes};
 use arrayvec::ArrayVec;
@@ -156,7 +155,7 @@ impl Resources {
 
     /// Takes a connection and its block away (C Library Reference: `close`).
     fn close(&mut self, process: &Process, target: Target) -> Result<Done, Errno>
-        ensures done { deed_with self.new result ≡ (performing.opened_by self.old process.now target >>= close_deed self.old) }
+        ensures done { deed_with self.new result ≡ used_deed close_deed self.old process.now target }
         ensures kept { OnErr result (self.new ≡ self.old) }
     {
         let opened = self.opened_by(process, target)?;
@@ -170,7 +169,7 @@ impl Resources {
 
     /// Tells the status of what is open (C Library Reference: `fstat`).
     fn fstat(&self, process: &Process, target: Target) -> Result<Done, Errno>
-        ensures { deed_with self.now result ≡ (performing.opened_by self.now process.now target >>= fstat_deed self.now) }
+        ensures { deed_with self.now result ≡ used_deed fstat_deed self.now process.now target }
     {
         let opened = self.opened_by(process, target)?;
         Ok(Done {
