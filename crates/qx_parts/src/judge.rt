@@ -1,28 +1,31 @@
 //! How a call of a thread is judged, by the rows of its user.
 
-ghost use Rattle.std.specs.Prelude.{◌≡◌, ◌∷◌, IfOk};
+ghost use Rattle.std.specs.Prelude.{◌≡◌, ◌∷◌, ◌&&◌, nat_le, IsTrue, IfOk};
 ghost use Rattle.std.specs.Str.{bytes_eq};
+ghost use Rattle.qx_types.specs.declared.limits.TheConstants.Limits.{FIRST_CONNECTION, LAST_CONNECTION};
 ghost use Rattle.qx_machine.specs.Calls as calls;
-ghost use Rattle.qx_machine.specs.Rows.{row_at};
+ghost use Rattle.qx_machine.specs.Calls.{address, can_send, content_of, in_ranges};
 ghost use Rattle.qx_process.specs.Reads.{IsPriority};
-ghost use Rattle.qx_machine.specs.Calls.{address, in_ranges, message_of, target_at, target_over};
+ghost use Rattle.qx_parts.specs.Reads.{IsConnection};
 
-use qx_machine::{Message, Over, Sent, State, Target, ThreadRow};
+use crate::content::is_in_ranges;
+use qx_machine::{Connection, Over, State, Target, ThreadRow};
 use qx_process::Process;
 use qx_procs::Processes;
-use qx_types::{Coid, Errno, Limits, Manager, OFlags, Outcome, Request};
+use qx_types::{Coid, Errno, Limits, Manager, Outcome, Prio, Request};
 
-/// What a thread's call sends, or the outcome of one that sends nothing.
-pub fn sent_of(
+/// Where a thread's call goes, or the outcome of one that sends nothing. What is judged so can be sent.
+pub fn target_of(
     processes: &Processes,
     process: &Process,
     row: &ThreadRow,
     name: &[u8],
     request: &Request,
-) -> Result<Sent, Outcome>
+) -> Result<Target, Outcome>
     requires { IsPriority row.now.prio.0 }
-    ensures priority { IfOk result (λ sent. IsPriority sent.prio.0) }
-    ensures sent { result ≡ calls.sent_of (47 ∷ name.now) processes.now process.now row.now request.now }
+    ensures priority { IfOk result (λ target. IsPriority target.prio.0) }
+    ensures sendable { IfOk result (λ _. IsTrue (can_send (content_of request.now))) }
+    ensures target { result ≡ calls.target_of (47 ∷ name.now) processes.now process.now row.now request.now }
 {
     let State::Ready = &row.state else {
         return Err(Outcome::WrongState);
@@ -33,90 +36,122 @@ pub fn sent_of(
     if row.calls >= Limits::CALLS {
         return Err(Outcome::Refused(Errno::EAGAIN));
     }
-    let target = target_of(processes, process, name, request)?;
-    Ok(Sent {
-        manager: target.manager,
-        over: target.over,
-        prio: row.prio,
-        message: message_in(request),
-    })
+    target_at(processes, process, name, row.prio, request)
 }
 
-/// To which manager a request goes, and over what.
-fn target_of(
+/// To which manager a message goes, and over what.
+fn target_at(
     processes: &Processes,
     process: &Process,
     name: &[u8],
+    prio: Prio,
     request: &Request,
 ) -> Result<Target, Outcome>
-    ensures { result ≡ target_at (47 ∷ name.now) processes.now process.now (address request.now) }
+    ensures priority { IfOk result (λ target. target.prio ≡ prio) }
+    ensures sendable { IsTrue (in_ranges request.now) → IfOk result (λ _. IsTrue (can_send (content_of request.now))) }
+    ensures target { result ≡ calls.target_at (47 ∷ name.now) processes.now process.now prio (address request.now) }
 {
     match request {
-        Request::OpenPath { path, .. } => new_target(processes, process, name, path.as_slice()),
-        Request::Close { coid } | Request::Fstat { coid } => used_target(process, *coid),
+        Request::OpenPath { path, .. } => {
+            open_target(processes, process, name, prio, path.as_slice())
+        }
+        Request::StatPath { path } | Request::Unlink { path } | Request::Mkdir { path, .. } => {
+            side_target(processes, process, name, prio, path.as_slice())
+        }
+        Request::Dup { coid } => Ok(Target {
+            manager: connection_at(process, *coid)?.manager,
+            over: Over::New(Coid(free_connection(process)?)),
+            prio,
+        }),
+        Request::Read { coid, .. }
+        | Request::Write { coid, .. }
+        | Request::Close { coid }
+        | Request::Seek { coid, .. }
+        | Request::Fstat { coid }
+        | Request::List { coid, .. }
+        | Request::Chmod { coid, .. }
+        | Request::Notify { coid, .. }
+        | Request::Raw { coid, .. } => Ok(Target {
+            manager: connection_at(process, *coid)?.manager,
+            over: Over::Existing(*coid),
+            prio,
+        }),
     }
 }
 
 /// The root of the user's mount, over the lowest free connection.
-fn new_target(
+fn open_target(
     processes: &Processes,
     process: &Process,
     name: &[u8],
+    prio: Prio,
     path: &[u8],
 ) -> Result<Target, Outcome>
-    ensures { result ≡ target_at (47 ∷ name.now) processes.now process.now (calls.Opens path.now) }
+    ensures priority { IfOk result (λ target. target.prio ≡ prio) }
+    ensures target { result ≡ calls.target_at (47 ∷ name.now) processes.now process.now prio (calls.Opens path.now) }
 {
     if !is_own_path(name, path) {
         return Err(Outcome::Refused(Errno::ENOENT));
     }
-    let number = process.free_connection();
-    if number > Limits::LAST_CONNECTION {
-        return Err(Outcome::Refused(Errno::EMFILE));
+    let coid = Coid(free_connection(process)?);
+    if !processes.can_serve(process, Manager::Ram) {
+        return Err(Outcome::Refused(Errno::EAGAIN));
+    }
+    Ok(Target {
+        manager: Manager::Ram,
+        over: Over::New(coid),
+        prio,
+    })
+}
+
+/// The root of the user's mount, over a side connection.
+fn side_target(
+    processes: &Processes,
+    process: &Process,
+    name: &[u8],
+    prio: Prio,
+    path: &[u8],
+) -> Result<Target, Outcome>
+    ensures priority { IfOk result (λ target. target.prio ≡ prio) }
+    ensures target { result ≡ calls.target_at (47 ∷ name.now) processes.now process.now prio (calls.Looks path.now) }
+{
+    if !is_own_path(name, path) {
+        return Err(Outcome::Refused(Errno::ENOENT));
     }
     if !processes.can_serve(process, Manager::Ram) {
         return Err(Outcome::Refused(Errno::EAGAIN));
     }
     Ok(Target {
         manager: Manager::Ram,
-        over: Over::New(Coid(number as u8)),
+        over: Over::Side,
+        prio,
     })
 }
 
-/// The manager of a connection that is there.
-fn used_target(process: &Process, coid: Coid) -> Result<Target, Outcome>
-    ensures { result ≡ target_over coid.0 (row_at process.now.connections coid.0) }
+/// A connection that is there, which has a number from 3 to 66.
+fn connection_at(process: &Process, coid: Coid) -> Result<Connection, Outcome>
+    ensures number { IfOk result (λ _. IsConnection coid.0) }
+    ensures connection { result ≡ calls.connection_at coid.0 process.now }
 {
-    let Some(connection) = process.conn_of(coid) else {
+    let number = usize::from(coid.0);
+    if number < Limits::FIRST_CONNECTION || number > Limits::LAST_CONNECTION {
         return Err(Outcome::Refused(Errno::EBADF));
-    };
-    Ok(Target {
-        manager: connection.manager,
-        over: Over::Existing(coid),
-    })
-}
-
-/// The message that a request becomes.
-fn message_in(request: &Request) -> Message
-    ensures { result ≡ message_of request.now }
-{
-    match request {
-        Request::OpenPath { flags, mode, .. } => Message::Open {
-            flags: *flags,
-            mode: *mode,
-        },
-        Request::Close { .. } => Message::Close,
-        Request::Fstat { .. } => Message::Fstat,
+    }
+    match process.conn_of(coid) {
+        Some(connection) => Ok(*connection),
+        None => Err(Outcome::Refused(Errno::EBADF)),
     }
 }
 
-/// Whether each field of a request is in its range.
-fn is_in_ranges(request: &Request) -> bool
-    ensures { result ≡ in_ranges request.now }
+/// The number of a connection that is free.
+fn free_connection(process: &Process) -> Result<u8, Outcome>
+    ensures { result ≡ calls.free_connection process.now }
 {
-    match request {
-        Request::OpenPath { flags, mode, .. } => *flags == OFlags::READ && *mode <= Limits::MODE,
-        _ => true,
+    let number = process.free_connection();
+    if number > Limits::LAST_CONNECTION {
+        return Err(Outcome::Refused(Errno::EMFILE));
     }
+    Ok(number as u8)
 }
 
 /// Whether a path is a slash and the name.

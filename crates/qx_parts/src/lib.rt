@@ -1,10 +1,13 @@
 //! All rows of one user, and the rows of all users.
 #![tactic(auto)]
 
+pub mod content;
 mod judge;
 pub mod part;
 pub mod parts;
+pub mod resources;
 mod status;
 
+pub use content::encoded;
 pub use part::Part;
 pub use parts::Parts;

@@ -1,43 +1,36 @@
 //! All rows of one user.
 
-ghost use Rattle.std.specs.Prelude.{◌≡◌, ℕ, ◌∷◌, ◌<◌, IsTrue, IsFalse, IsOk, IfOk, OnOk, OnErr, [], length};
-ghost use Rattle.std.specs.Option.{option_copied, option_copied_mut};
-ghost use Rattle.std.specs.Borrow.{sem};
+ghost use Rattle.std.specs.Prelude.{◌≡◌, ◌∷◌, ◌<◌, IsTrue, IsFalse, IsOk, IfOk, IfSome, OnOk, OnErr, length};
+ghost use Rattle.std.specs.Option.{option_copied};
 ghost use Rattle.qx_types.specs.Configuration.{Configuration};
+ghost use Rattle.qx_wire.specs.Reading as reading;
+ghost use Rattle.qx_machine.specs.Calls.{can_send, content_of};
 ghost use Rattle.qx_machine.specs.Clients as clients;
 ghost use Rattle.qx_machine.specs.Clients.{or_unchanged};
 ghost use Rattle.qx_machine.specs.Parts.{thread_at, with_process};
-ghost use Rattle.qx_machine.specs.Performing.{after_answer, close_deed, deed_at, open_deed, used_deed};
-ghost use Rattle.qx_machine.specs.Performing as performing;
-ghost use Rattle.qx_machine.specs.declared.rows.Message.TheVariants.{Fstat};
-ghost use Rattle.qx_machine.specs.Processes.{with_queued};
+ghost use Rattle.qx_machine.specs.Performing.{after_answer};
+ghost use Rattle.qx_machine.specs.Processes.{after_effect, with_queued};
 ghost use Rattle.qx_machine.specs.Rows.{row_at};
 ghost use Rattle.qx_machine.specs.Users as users;
 ghost use Rattle.qx_process.specs.Reads.{is_thread_blocked, IsPriority};
-ghost use Rattle.qx_parts.specs.Deeds.{deed_with, served_part, taken_of, wants_memory, wants_memory_item};
+ghost use Rattle.qx_parts.specs.Deeds.{deed_with, served_part, taken_item, taken_of, wants_memory_item, IsReadOf};
 ghost use Rattle.qx_parts.specs.Reads.{CanSend};
 
 use crate::judge;
-use crate::status::{Status, stat_bytes};
-use arrayvec::ArrayVec;
-use qx_machine::{
-    Attribute, Block, Connection, Kind, Message, Opened, Over, OwnItem, Sent, State, ThreadRow,
-};
-use qx_process::{Process, Room, places};
+use crate::resources::{Done, Resources};
+use qx_machine::{Effect, Over, OwnItem, Sent, State, Target, ThreadRow};
+use qx_process::{Process, Room};
 use qx_procs::Processes;
-use qx_types::{Answer, Coid, Errno, Limits, Manager, Outcome, Prio, Request, Thread, User};
+use qx_types::{Answer, Bytes, Errno, Outcome, Prio, Request, Thread, User};
+use qx_wire::{Meaning, Parsed, meaning};
 use std::alloc::{AllocError, Global};
 use std::marker::Model;
 
-/// The number of a mount's root.
-pub const ROOT_INODE: u32 = 1;
-
-/// All rows of one user: the root of the user's mount, and processes and open blocks from 1.
+/// All rows of one user: processes from 1, and resources.
 #[derive(Drop)]
 pub struct Part {
-    root: Attribute,
     processes: Processes,
-    blocks: Vec<Option<Block>>,
+    resources: Resources,
 }
 
 impl Model for Part {
@@ -45,37 +38,18 @@ impl Model for Part {
 
     ghost Value = { parts.Part };
 
-    ghost view = { λ p. record { root = p.root; processes = p.processes; blocks = p.blocks.items } };
-}
-
-/// What a message came to: the status and the bytes of its reply.
-#[derive(Drop)]
-pub struct Reply {
-    pub status: u64,
-    pub bytes: Status,
+    ghost view = { λ p. record { processes = p.processes; resources = p.resources } };
 }
 
 impl Part {
-    ghost use Rattle.qx_parts.specs.Lends.{lends_process};
-
     /// A user's rows at boot.
     #[tactic(auto, unfolding(qx_machine::specs::Users::boot_part))]
     pub fn boot(alloc: Global, user: User) -> Result<Self, AllocError>
         ensures { IfOk result (λ part. (config : Configuration) → part ≡ users.boot_part config user.0) }
     {
-        let root = Attribute {
-            kind: Kind::Directory,
-            mode: 0o700,
-            links: 1,
-            owner: user.0 as u32,
-            size: 0,
-            mtime: 0,
-            ctime: 0,
-        };
         Ok(Part {
-            root,
             processes: Processes::new(alloc)?,
-            blocks: places::empty(alloc)?,
+            resources: Resources::boot(alloc, user)?,
         })
     }
 
@@ -84,14 +58,6 @@ impl Part {
         ensures { option_copied result ≡ row_at self.now.processes process }
     {
         self.processes.process(process)
-    }
-
-    /// A process, for writing.
-    fn process_mut(&mut self, process: u8) -> Option<&mut Process>
-        ensures* writes_back { sem 𝓛 (lends_process self.entry process result) }
-        ensures row { option_copied_mut result ≡ row_at self.old.processes process }
-    {
-        self.processes.process_mut(process)
     }
 
     /// A thread's row.
@@ -118,10 +84,12 @@ impl Part {
         self.processes.spawn(threads, prio)
     }
 
-    /// What a call of a thread sends, or the outcome of one that sends nothing; the name is the user's.
-    pub fn judge(&self, name: &[u8], thread: Thread, request: &Request) -> Result<Sent, Outcome>
-        ensures priority { IfOk result (λ sent. IsPriority sent.prio.0) }
-        ensures sent { result ≡ clients.sent_by (47 ∷ name.now) self.now thread request.now }
+    /// Where a call of a thread goes, or the outcome of one that sends nothing; the name is the user's. What is judged so
+    /// can be sent.
+    pub fn judge(&self, name: &[u8], thread: Thread, request: &Request) -> Result<Target, Outcome>
+        ensures priority { IfOk result (λ target. IsPriority target.prio.0) }
+        ensures sendable { IfOk result (λ _. IsTrue (can_send (content_of request.now))) }
+        ensures target { result ≡ clients.target_by (47 ∷ name.now) self.now thread request.now }
     {
         let Some(process) = self.processes.process(thread.proc.num) else {
             return Err(Outcome::WrongState);
@@ -129,15 +97,16 @@ impl Part {
         let Some(row) = process.thread(thread.tid) else {
             return Err(Outcome::WrongState);
         };
-        judge::sent_of(&self.processes, process, row, name, request)
+        judge::target_of(&self.processes, process, row, name, request)
     }
 
     /// A message of a thread goes out.
+    #[tactic(auto, using(qx_procs::proofs::LendLemmas::row_lends))]
     pub fn send(&mut self, thread: Thread, sent: Sent, room: Room)
-        requires { CanSend (thread_at self.old thread.proc.num thread.tid) sent.over }
+        requires { CanSend (thread_at self.old thread.proc.num thread.tid) sent.target.over }
         ensures { self.new ≡ with_process thread.proc.num (with_queued thread.tid sent) self.old }
     {
-        if let Some(process) = self.process_mut(thread.proc.num) {
+        if let Some(process) = self.processes.process_mut(thread.proc.num) {
             process.send(thread.tid, sent, room);
         }
     }
@@ -177,144 +146,75 @@ impl Part {
         }
     }
 
-    /// Does what a worker holds.
-    pub fn serve(&mut self, item: OwnItem) -> Result<(), AllocError>
+    /// Does what a worker holds. Its message is read here if it was not before.
+    pub fn serve(&mut self, item: OwnItem, read: Option<&Parsed>) -> Result<(), AllocError>
+        requires read { IsReadOf (option_copied read) (taken_item self.old item) }
         ensures ok { OnOk result (self.new ≡ served_part self.old item) }
         ensures err { OnErr result (self.new ≡ self.old) }
         ensures sure { IsFalse (wants_memory_item self.old item) → IsOk result }
     {
         let OwnItem::Message { process, thread } = item;
-        let Some(sent) = self.taken(process, thread) else {
+        let Some(row) = self.processes.process(process) else {
             return Ok(());
         };
-        let given = self.perform(process, sent)?;
-        self.answer(process, thread, sent, given);
+        let Some(sent) = taken(row, thread) else {
+            return Ok(());
+        };
+        let over = sent.target.over;
+        let meaning = meaning_of(&sent.bytes, read);
+        let given = self.resources.perform(row, sent.target, meaning)?;
+        self.answer(process, thread, over, given);
         Ok(())
     }
 
-    /// The message of a thread, if it was received and is not answered.
-    fn taken(&self, process: u8, thread: u8) -> Option<Sent>
-        ensures { result ≡ taken_of (thread_at self.now process thread) }
-    {
-        match self.thread(process, thread)?.state {
-            State::Taken(sent) => Some(sent),
-            _ => None,
-        }
-    }
-
-    /// Does what a message of a process asks its manager for.
-    fn perform(&mut self, process: u8, sent: Sent) -> Result<Result<Reply, Errno>, AllocError>
-        ensures ok { IfOk result (λ given. deed_with self.new given ≡ deed_at self.old process sent sent.manager) }
-        ensures threads { IfOk result (λ given. (thread : ℕ) → thread_at self.new process thread ≡ thread_at self.old process thread) }
-        ensures kept { IfOk result (λ given. OnErr given (self.new ≡ self.old)) }
-        ensures err { OnErr result (self.new ≡ self.old) }
-        ensures sure { IsFalse (wants_memory sent.message) → IsOk result }
-    {
-        let Manager::Ram = sent.manager else {
-            return Ok(Err(Errno::ENOSYS));
-        };
-        match sent.message {
-            Message::Open { .. } => self.open(process, sent),
-            Message::Close => Ok(self.close(process, sent)),
-            Message::Fstat => Ok(self.fstat(process, sent)),
-        }
-    }
-
-    /// Opens the root over a new connection (C Library Reference: `open`).
+    /// Answers a message of a thread (C Library Reference: `MsgReply`, `MsgError`).
     #[tactic(auto, using(qx_procs::proofs::LendLemmas::row_lends))]
-    fn open(&mut self, process: u8, sent: Sent) -> Result<Result<Reply, Errno>, AllocError>
-        ensures done { IfOk result (λ given. deed_with self.new given ≡ open_deed self.old process sent) }
-        ensures threads { IfOk result (λ given. (thread : ℕ) → thread_at self.new process thread ≡ thread_at self.old process thread) }
-        ensures kept { IfOk result (λ given. OnErr given (self.new ≡ self.old)) }
-        ensures err { OnErr result (self.new ≡ self.old) }
-    {
-        let Over::New(coid) = sent.over else {
-            return Ok(Err(Errno::EINVAL));
-        };
-        let number = places::lowest_free(self.blocks.as_slice(), 1);
-        if number > Limits::BLOCKS {
-            return Ok(Err(Errno::ENFILE));
-        }
-        places::put(&mut self.blocks, number, Block { inode: ROOT_INODE })?;
-        if let Some(row) = self.process_mut(process) {
-            row.set_block(coid, number as u16);
-        }
-        Ok(Ok(empty_reply(coid.0 as u64)))
-    }
-
-    /// Takes a connection and its block away (C Library Reference: `close`).
-    fn close(&mut self, process: u8, sent: Sent) -> Result<Reply, Errno>
-        ensures done { deed_with self.new result ≡ close_deed self.old process sent }
-        ensures threads { (thread : ℕ) → thread_at self.new process thread ≡ thread_at self.old process thread }
-        ensures kept { OnErr result (self.new ≡ self.old) }
-    {
-        let opened = self.opened_by(process, sent)?;
-        places::free(&mut self.blocks, opened.number as usize);
-        if let Some(row) = self.process_mut(process) {
-            row.detach(opened.coid);
-        }
-        Ok(empty_reply(0))
-    }
-
-    /// Tells the status of what is open (C Library Reference: `fstat`).
-    fn fstat(&self, process: u8, sent: Sent) -> Result<Reply, Errno>
-        ensures { deed_with self.now result ≡ used_deed self.now process sent Fstat }
-    {
-        let opened = self.opened_by(process, sent)?;
-        Ok(Reply {
-            status: 0,
-            bytes: stat_bytes(opened.block.inode, &self.root),
-        })
-    }
-
-    /// What the connection of a message has open.
-    fn opened_by(&self, process: u8, sent: Sent) -> Result<Opened, Errno>
-        ensures { result ≡ performing.opened_by self.now process sent }
-    {
-        let Over::Existing(coid) = sent.over else {
-            return Err(Errno::EINVAL);
-        };
-        let Some(connection) = self.processes.conn_of(process, coid) else {
-            return Err(Errno::EBADF);
-        };
-        if connection.manager.number() != sent.manager.number() {
-            return Err(Errno::EBADF);
-        }
-        let Some(number) = connection.block else {
-            return Err(Errno::EBADF);
-        };
-        let Some(block) = places::row(self.blocks.as_slice(), number as usize) else {
-            return Err(Errno::EBADF);
-        };
-        Ok(Opened {
-            coid,
-            number,
-            block: *block,
-        })
-    }
-
-    /// Answers a message of a thread.
-    fn answer(&mut self, process: u8, thread: u8, sent: Sent, given: Result<Reply, Errno>)
+    fn answer(&mut self, process: u8, thread: u8, over: Over, given: Result<Done, Errno>)
         requires { IsTrue (is_thread_blocked (thread_at self.old process thread)) }
-        ensures { self.new ≡ after_answer self.old process thread sent (deed_with self.old given) }
+        ensures { self.new ≡ after_answer self.old process thread over (deed_with self.old.resources given) }
     {
-        let Some(row) = self.process_mut(process) else {
+        let Some(row) = self.processes.process_mut(process) else {
             return;
         };
         match given {
-            Ok(reply) => row.reply(thread, sent.over, reply.status, reply.bytes.as_slice()),
-            Err(error) => row.fail(thread, sent.over, error),
+            Ok(done) => {
+                apply(row, done.effect);
+                row.reply(thread, over, done.status, done.bytes.as_slice());
+            }
+            Err(error) => row.fail(thread, over, error),
         }
     }
 }
 
-/// A reply of no bytes.
-fn empty_reply(status: u64) -> Reply
-    ensures status { result.status ≡ status }
-    ensures bytes { result.bytes.items ≡ [] }
+/// The message of a thread, if it was received and is not answered.
+fn taken(process: &Process, thread: u8) -> Option<&Sent>
+    ensures { option_copied result ≡ taken_of (row_at process.now.threads thread) }
 {
-    Reply {
-        status,
-        bytes: ArrayVec::new(),
+    match &process.thread(thread)?.state {
+        State::Taken(sent) => Some(sent),
+        _ => None,
+    }
+}
+
+/// What the bytes of a message mean, which may have been read before.
+fn meaning_of<'a>(bytes: &'a Bytes, read: Option<&'a Parsed>) -> Meaning<'a>
+    requires { IfSome read (λ read. read.now ≡ bytes.now) }
+    ensures { result ≡ reading.meaning bytes.now }
+{
+    match read {
+        Some(read) => read.meaning(),
+        None => meaning(bytes.as_slice()),
+    }
+}
+
+/// What a message does to the connection that it came over.
+fn apply(process: &mut Process, effect: Effect)
+    ensures threads { process.new.threads ≡ process.old.threads }
+    ensures process { process.new ≡ after_effect effect process.old }
+{
+    match effect {
+        Effect::Keeps => {}
+        Effect::Opens { coid, block } => process.set_block(coid, block),
+        Effect::Closes(coid) => process.detach(coid),
     }
 }

@@ -9,13 +9,14 @@ ghost use Rattle.qx_machine.specs.Parts.{with_process};
 ghost use Rattle.qx_machine.specs.Processes.{with_queued};
 ghost use Rattle.qx_machine.specs.Rows.{row_at, with_row};
 ghost use Rattle.qx_machine.specs.Users as users;
-ghost use Rattle.qx_parts.specs.Deeds.{served_part, wants_memory_of};
+ghost use Rattle.qx_parts.specs.Deeds.{served_part, taken_item_of, wants_memory_of, IsReadOf};
 ghost use Rattle.qx_parts.specs.Reads.{CanSend, HasPlace, process_of, thread_row};
 
 use crate::part::Part;
 use qx_machine::{OwnItem, Sent, ThreadRow};
 use qx_process::{Process, Room, places};
 use qx_types::{Outcome, Prio, Proc, Thread, User};
+use qx_wire::Parsed;
 use std::alloc::{AllocError, Global};
 use std::marker::Model;
 
@@ -105,7 +106,7 @@ impl Parts {
     /// A message of a thread goes out.
     #[tactic(auto, using(qx_procs::proofs::LendLemmas::row_lends))]
     pub fn send(&mut self, thread: Thread, sent: Sent, room: Room)
-        requires { CanSend (thread_row self.old thread) sent.over }
+        requires { CanSend (thread_row self.old thread) sent.target.over }
         ensures { self.new ≡ with_row self.old thread.proc.user.0 (with_process thread.proc.num (with_queued thread.tid sent)) }
     {
         if let Some(part) = self.part_mut(thread.proc.user) {
@@ -123,15 +124,21 @@ impl Parts {
         }
     }
 
-    /// Does what a worker holds of a user.
+    /// Does what a worker holds of a user. Its message is read here if it was not before.
     #[tactic(auto, using(qx_procs::proofs::LendLemmas::row_lends))]
-    pub fn serve(&mut self, user: User, item: OwnItem) -> Result<(), AllocError>
+    pub fn serve(
+        &mut self,
+        user: User,
+        item: OwnItem,
+        read: Option<&Parsed>,
+    ) -> Result<(), AllocError>
+        requires read { IsReadOf (option_copied read) (taken_item_of item (row_at self.old user.0)) }
         ensures ok { OnOk result (self.new ≡ with_row self.old user.0 (λ part. served_part part item)) }
         ensures err { OnErr result (self.new ≡ self.old) }
         ensures sure { IsFalse (wants_memory_of item (row_at self.old user.0)) → IsOk result }
     {
         match self.part_mut(user) {
-            Some(part) => part.serve(item),
+            Some(part) => part.serve(item, read),
             None => Ok(()),
         }
     }

@@ -1,0 +1,99 @@
+//! What a call sends, and its bytes.
+
+ghost use Rattle.std.specs.Prelude.{◌≡◌, [], IsTrue, IfOk};
+ghost use Rattle.qx_machine.specs.Calls as calls;
+ghost use Rattle.qx_machine.specs.Calls.{bytes_of, can_send, content_of, in_ranges};
+
+use qx_machine::Content;
+use qx_types::{Bytes, Limits, NoMemory, OFlags, Request};
+use qx_wire::{BorrowedBytes, Message, Rest, encode};
+use std::alloc::Global;
+
+/// The bytes that a request sends: the spelling of its message, or a copy of its bytes (C Library Reference: `MsgSend`).
+pub fn encoded(alloc: Global, request: &Request) -> Result<Bytes, NoMemory>
+    requires sendable { IsTrue (can_send (content_of request.now)) }
+    ensures bytes { IfOk result (λ bytes. bytes ≡ bytes_of (content_of request.now)) }
+{
+    match content_of(request) {
+        Content::Spelled(message) => encode(alloc, &message),
+        Content::Raw(bytes) => Ok(Bytes::from_slice(alloc, bytes.as_slice())?),
+    }
+}
+
+/// Whether each field of a request is in its range; the connection of a dup is judged by whether it is there.
+pub fn is_in_ranges(request: &Request) -> bool
+    ensures ranges { result ≡ in_ranges request.now }
+{
+    match request {
+        Request::Dup { .. } => true,
+        Request::OpenPath { flags, .. } if *flags != OFlags::READ => false,
+        _ => can_send(&content_of(request)),
+    }
+}
+
+/// Whether what is sent can be spelled, and is no longer than a message may be.
+fn can_send(content: &Content<'_>) -> bool
+    ensures { result ≡ can_send content.now }
+{
+    match content {
+        Content::Spelled(message) => qx_wire::in_ranges(message),
+        Content::Raw(bytes) => bytes.as_slice().len() <= Limits::MESSAGE,
+    }
+}
+
+/// What a request sends; of a path, what is behind its mount.
+fn content_of(request: &Request) -> Content<'_>
+    ensures { result ≡ calls.content_of request.now }
+{
+    Content::Spelled(match request {
+        Request::OpenPath { flags, mode, .. } => Message::Open {
+            flags: *flags,
+            mode: *mode,
+            rest: root(),
+        },
+        Request::StatPath { .. } => Message::Stat { rest: root() },
+        Request::Unlink { .. } => Message::Unlink { rest: root() },
+        Request::Mkdir { mode, .. } => Message::Mknod {
+            mode: *mode,
+            rest: root(),
+        },
+        Request::Read { count, .. } => Message::Read { count: *count },
+        Request::Write { bytes, .. } => Message::Write {
+            bytes: BorrowedBytes::new(bytes.as_slice()),
+        },
+        Request::Close { .. } => Message::Close,
+        Request::Dup { coid } => Message::Dup { old: *coid },
+        Request::Seek { whence, by, .. } => Message::Lseek {
+            whence: *whence,
+            offset: *by,
+        },
+        Request::Fstat { .. } => Message::Fstat,
+        Request::List { after, .. } => Message::List {
+            after: BorrowedBytes::new(after.as_slice()),
+        },
+        Request::Chmod { mode, .. } => Message::Chmod { mode: *mode },
+        Request::Notify {
+            action,
+            conds,
+            code,
+            value,
+            ..
+        } => Message::Notify {
+            action: *action,
+            conditions: *conds,
+            code: *code,
+            value: *value,
+        },
+        Request::Raw { bytes, .. } => {
+            return Content::Raw(BorrowedBytes::new(bytes.as_slice()));
+        }
+    })
+}
+
+/// What the path of a mount's root has behind the mount: nothing.
+#[tactic(auto, unfolding(qx_wire::specs::Rests::components_of))]
+fn root<'a>() -> Rest<'a>
+    ensures { result ≡ [] }
+{
+    Rest::new(b"".as_slice())
+}
