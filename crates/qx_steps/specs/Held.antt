@@ -1,5 +1,5 @@
 -- What a worker holds, as the work that it has to do.
-use Rattle.std.specs.Prelude.{◌≢◌, ℕ, Bool, false, Option, Some, None, if◌then◌else◌}
+use Rattle.std.specs.Prelude.{◌≡◌, ◌≢◌, ⊤, ℕ, List, Bool, false, Option, Some, None, if◌then◌else◌}
 use Rattle.qx_machine.specs.declared.rows.Held.{Held}
 use Rattle.qx_machine.specs.declared.rows.OwnItem.{OwnItem}
 use Rattle.qx_machine.specs.declared.rows.OwnItem.TheVariants as item
@@ -15,12 +15,13 @@ use Rattle.qx_steps.specs.declared.work.WorkRef.TheVariants as lent
 
 abbrev pub work_of_sent : Option Sent → Option Work
 work_of_sent None = None
-work_of_sent (Some sent) = Some (work.Message sent.message)
+work_of_sent (Some sent) = Some (work.Message sent.bytes)
 
--- the work of an item of a user: the content of a received message
+-- the work of an item of a user: the bytes of a received message, or a pulse
 abbrev pub work_of : OwnItem → Option Part → Option Work
-work_of own None = None
+work_of (item.Message process thread) None = None
 work_of (item.Message process thread) (Some part) = work_of_sent (taken_of (thread_at part process thread))
+work_of (item.Unblock process thread call) there = Some work.Pulse
 
 abbrev pub work_in_hand : World → Option Held → Option Work
 work_in_hand w None = None
@@ -32,13 +33,18 @@ held_work w worker = if is_worker w.config worker then work_in_hand w (row_at w.
 
 -- the work that is lent
 abbrev pub work_now : WorkRef → Work
-work_now (lent.Message message) = work.Message message.now
+work_now (lent.Message bytes) = work.Message bytes.now
 work_now lent.Pulse = work.Pulse
 
 -- something is held that the work is not
 abbrev pub IsStale : Option Work → Work → Type 0
 IsStale None given = ⊥
 IsStale (Some held) given = held ≢ given
+
+-- a message that was read before is the one that is held
+abbrev pub IsReadFor : Option (List ℕ) → Option Work → Type 0
+IsReadFor (Some bytes) (Some held) = held ≡ work.Message bytes
+IsReadFor _ _ = ⊤
 
 -- doing what is held may want memory
 abbrev pub hand_wants_memory : World → Option Held → Bool
@@ -47,3 +53,8 @@ hand_wants_memory w (Some held) = wants_memory_of held.item (row_at w.parts held
 
 abbrev pub holds_wanting : World → ℕ → Bool
 holds_wanting w worker = hand_wants_memory w (row_at w.hands worker)
+
+-- the bytes of the message that is to be done
+abbrev pub bytes_in : Work → Option (List ℕ)
+bytes_in (work.Message bytes) = Some bytes
+bytes_in work.Pulse = None

@@ -1,26 +1,29 @@
 //! The disconnect nodes of server connections, which come and go with what a process has attached.
 
-ghost use Rattle.std.specs.Prelude.{◌≡◌, OnOk, OnErr, slice_get};
+ghost use Rattle.std.specs.Prelude.{◌≡◌, ◌≤◌, slice_get};
 ghost use Rattle.qx_types.specs.Managers.{manager_number, managers};
 ghost use Rattle.qx_chan.specs.Channel.{HasThread};
 ghost use Rattle.qx_parts.specs.Reads.{process_of};
 ghost use Rattle.qx_steps.specs.Kept.{attached_at, settled, settled_number, with_attached};
 
 use qx_chan::Channel;
-use qx_machine::{Over, Sent};
+use qx_machine::{Over, Target};
 use qx_parts::Parts;
 use qx_types::{Manager, Proc};
-use std::alloc::AllocError;
 
-/// A process has a disconnect node at the manager of a message from now on, if its call attaches what it goes over.
-pub fn attach(channel: &mut Channel, proc: Proc, sent: Sent) -> Result<(), AllocError>
-    requires { HasThread channel.old proc }
-    ensures ok { OnOk result (channel.new ≡ with_attached channel.old proc sent.manager sent.over) }
-    ensures err { OnErr result (channel.new ≡ channel.old) }
+/// A process has a disconnect node at the manager of a message from now on, if its call attaches what it goes over. There
+/// is room for one.
+pub fn attach(channel: &mut Channel, proc: Proc, target: Target)
+    requires started { HasThread channel.old proc }
+    requires room { 1 ≤ channel.old.room }
+    ensures { channel.new ≡ with_attached channel.old proc target.manager target.over }
 {
-    match sent.over {
-        Over::Existing(_) => Ok(()),
-        Over::New(_) | Over::Side => channel.add_server(proc, sent.manager),
+    if let Over::Existing(_) = target.over {
+        return;
+    }
+    match channel.add_server(proc, target.manager) {
+        Ok(()) => {}
+        Err(_) => unreachable!(),
     }
 }
 

@@ -1,20 +1,36 @@
-use qx_machine::Message;
-use qx_types::NoMemory;
+ghost use Rattle.std.specs.Prelude.{◌≡◌};
+ghost use Rattle.std.specs.Option.{option_copied};
+ghost use Rattle.qx_steps.specs.Held.{bytes_in};
+
+use qx_types::{Bytes, NoMemory};
+use qx_wire::Parsed;
 use thiserror::Error;
 
 /// What a worker is to do with the item that it holds.
-#[derive(Clone, Copy, Debug, PartialEq, Eq)]
+#[derive(Debug, Drop)]
 pub enum Work {
-    /// A message, with its content.
-    Message(Message),
+    /// A message, whose bytes were read.
+    Message(Parsed),
     Pulse,
+}
+
+impl Work {
+    /// The message, with what its bytes mean; none of a pulse.
+    pub fn message(&self) -> Option<&Parsed>
+        ensures { option_copied result ≡ bytes_in self.now }
+    {
+        match self {
+            Work::Message(message) => Some(message),
+            Work::Pulse => None,
+        }
+    }
 }
 
 /// What a worker holds, lent.
 #[derive(Clone, Copy, Debug)]
 pub enum WorkRef<'a> {
-    /// The content of a message.
-    Message(&'a Message),
+    /// The bytes of a message.
+    Message(&'a Bytes),
     Pulse,
 }
 

@@ -5,27 +5,28 @@ ghost use Rattle.std.specs.Option.{option_copied};
 ghost use Rattle.qx_machine.specs.Clients as clients;
 ghost use Rattle.qx_machine.specs.Laws.{is_refusal};
 ghost use Rattle.qx_machine.specs.Machine as machine;
-ghost use Rattle.qx_machine.specs.Processes as processes;
+ghost use Rattle.qx_machine.specs.Calls.{can_send, content_of};
 ghost use Rattle.qx_machine.specs.Rows.{row_at};
 ghost use Rattle.qx_chan.specs.Channel.{sender_of};
 ghost use Rattle.qx_process.specs.Reads.{is_thread_blocked, IsPriority};
-ghost use Rattle.qx_parts.specs.Reads.{CanSend, process_of, thread_row};
-ghost use Rattle.qx_steps.specs.Calls.{after_sending, after_start, sent_in, spawn_number_in};
-ghost use Rattle.qx_steps.specs.Held.{hand_wants_memory, held_work, holds_wanting, work_now, IsStale};
-ghost use Rattle.qx_steps.specs.Kept.{IsFree};
-ghost use Rattle.qx_steps.specs.Reads.{is_thread_answered, IsReady};
-ghost use Rattle.qx_steps.specs.Workers.{after_serving};
+ghost use Rattle.qx_parts.specs.Deeds.{IsReadOf, taken_item_of};
+ghost use Rattle.qx_parts.specs.Reads.{CanSend, thread_row};
+ghost use Rattle.qx_steps.specs.Calls.{after_asking, after_dismissal, after_sending, after_start, spawn_number_in, target_in};
+ghost use Rattle.qx_steps.specs.Held.{hand_wants_memory, held_work, holds_wanting, work_now, IsReadFor, IsStale};
+ghost use Rattle.qx_steps.specs.Reads.{is_thread_answered, IsQueuedTo, IsReady, IsUnasked};
+ghost use Rattle.qx_steps.specs.Workers.{after_serving, answered_call};
 
 use crate::servers;
 use crate::work::{PerformFault, Work, WorkRef};
 use qx_chan::Channel;
-use qx_machine::{Held, OwnItem, Queued, Sent, State};
-use qx_parts::{Part, Parts};
-use qx_process::{Room, places};
+use qx_machine::{Held, OwnItem, Queued, Sent, State, Target};
+use qx_parts::{Part, Parts, encoded};
+use qx_process::places;
 use qx_types::{
-    Bytes, Config, Item, Manager, NoMemory, Outcome, Prio, Proc, Request, Step, Thread, User,
-    Worker,
+    Bytes, Config, Errno, Item, Manager, NoMemory, Outcome, Prio, Proc, Request, Step, Thread,
+    User, Worker,
 };
+use qx_wire::Parsed;
 use std::alloc::{AllocError, Global};
 use std::marker::Model;
 
@@ -132,11 +133,57 @@ impl World {
         part.set_prio(thread, prio)
     }
 
+    /// Asks to unblock a thread (System Architecture: the unblock pulse; C Library Reference: `MsgSend`, EINTR). A thread
+    /// whose message stands in a line is answered EINTR, and the message goes, with what its call attached. One whose
+    /// message was received stays blocked, and its manager gets an unblock pulse, once a call. `WrongState` where the
+    /// thread is not there; nothing happens where it waits for nothing.
+    #[tactic(auto, using(crate::proofs::InterruptLemmas::interrupt_steps))]
+    pub fn interrupt(&mut self, thread: Thread) -> Outcome
+        ensures outcome { result ≡ (machine.step self.old (Step.Interrupt thread)).outcome }
+        ensures world { self.new ≡ (machine.step self.old (Step.Interrupt thread)).world }
+    {
+        let Some(row) = self.parts.thread(thread) else {
+            return Outcome::WrongState;
+        };
+        match &row.state {
+            State::Queued(sent) => {
+                let target = sent.target;
+                self.dismiss(thread, target);
+            }
+            State::Taken(sent) if !sent.is_asked => {
+                let (target, call) = (sent.target, row.calls);
+                self.ask_unblock(thread, target, call);
+            }
+            _ => {}
+        }
+        Outcome::Done
+    }
+
+    /// A thread's message leaves its line, and the thread is answered EINTR.
+    fn dismiss(&mut self, thread: Thread, target: Target)
+        requires queued { IsQueuedTo target (thread_row self.old.parts thread) }
+        ensures { self.new ≡ after_dismissal self.old thread target }
+    {
+        self.channel.withdraw(target.manager, thread);
+        self.parts.fail(thread, target.over, Errno::EINTR);
+        servers::settle(&mut self.channel, &self.parts, thread.proc);
+    }
+
+    /// A thread's received message is marked, and an unblock pulse goes into its line.
+    fn ask_unblock(&mut self, thread: Thread, target: Target, call: u64)
+        requires unasked { IsUnasked target call (thread_row self.old.parts thread) }
+        requires priority { IsPriority target.prio.0 }
+        ensures { self.new ≡ after_asking self.old thread call target }
+    {
+        self.channel.ask_unblock(target.manager, thread, call, target.prio);
+        self.parts.ask_unblock(thread);
+    }
+
     /// A client's request goes as a message into its manager's line, and the thread is blocked (C Library Reference:
     /// `MsgSend`). `WrongState` where the thread is not there or not ready; then EINVAL for fields out of their ranges,
-    /// EAGAIN where the thread's calls are used up, ENOENT for a path other than the user's own root, EMFILE where no
-    /// connection is free, EAGAIN where the user has all its server connections at the manager, EBADF where there is no
-    /// such connection. A call that is refused wants no memory.
+    /// EAGAIN where the thread's calls are used up; for a path, ENOENT where it is not the user's own root; for a
+    /// connection, EBADF where it is not there; EMFILE where no connection is free for a new one; EAGAIN where the user
+    /// has all its server connections at the manager. A call that is refused wants no memory.
     pub fn call(&mut self, thread: Thread, request: &Request) -> Result<Outcome, NoMemory>
         ensures outcome { IfOk result (λ outcome. outcome ≡ (machine.step self.old (Step.Call thread request.now)).outcome) }
         ensures world { OnOk result (self.new ≡ (machine.step self.old (Step.Call thread request.now)).world) }
@@ -144,7 +191,12 @@ impl World {
         ensures err { OnErr result (self.new ≡ self.old) }
     {
         match self.judge(thread, request) {
-            Ok(sent) => {
+            Ok(target) => {
+                let sent = Sent {
+                    target,
+                    is_asked: false,
+                    bytes: encoded(self.alloc, request)?,
+                };
                 self.send(thread, sent)?;
                 Ok(Outcome::Sent)
             }
@@ -152,10 +204,11 @@ impl World {
         }
     }
 
-    /// What a call sends, or the outcome of one that sends nothing.
-    fn judge(&self, thread: Thread, request: &Request) -> Result<Sent, Outcome>
-        ensures priority { IfOk result (λ sent. IsPriority sent.prio.0) }
-        ensures sent { result ≡ sent_in self.now thread request.now }
+    /// Where a call goes, or the outcome of one that goes nowhere.
+    fn judge(&self, thread: Thread, request: &Request) -> Result<Target, Outcome>
+        ensures priority { IfOk result (λ target. IsPriority target.prio.0) }
+        ensures sendable { IfOk result (λ _. IsTrue (can_send (content_of request.now))) }
+        ensures target { result ≡ target_in self.now thread request.now }
     {
         let user = thread.proc.user;
         match self.parts.part(user) {
@@ -164,20 +217,21 @@ impl World {
         }
     }
 
-    /// A message goes into its manager's line, and its thread is blocked.
+    /// A message goes into its manager's line, and its thread is blocked: the memory that it wants first, then its rows,
+    /// its nodes and its place in the line.
     #[tactic(auto, unfolding(qx_machine::specs::Users::settle))]
     fn send(&mut self, thread: Thread, sent: Sent) -> Result<(), NoMemory>
-        requires sendable { CanSend (thread_row self.old.parts thread) sent.over }
+        requires sendable { CanSend (thread_row self.old.parts thread) sent.target }
         requires ready { IsReady (thread_row self.old.parts thread) }
-        requires free { (process : processes.Process) → process_of self.old.parts thread.proc ≡ Some process → IsFree thread.tid sent.over process }
-        requires priority { IsPriority sent.prio.0 }
         ensures ok { OnOk result (self.new ≡ after_sending self.old thread sent) }
         ensures err { OnErr result (self.new ≡ self.old) }
     {
-        let room = Room::new(self.alloc)?;
-        servers::attach(&mut self.channel, thread.proc, sent)?;
-        self.channel.put(sent.manager, thread, sent.prio);
-        self.parts.send(thread, sent, room);
+        let target = sent.target;
+        self.channel.reserve(1)?;
+        self.parts.send(self.alloc, thread, sent)?;
+        servers::attach(&mut self.channel, thread.proc, target);
+        self.channel.send(target.manager, thread, target.prio);
+        servers::settle(&mut self.channel, &self.parts, thread.proc);
         Ok(())
     }
 
@@ -208,7 +262,7 @@ impl World {
         if self.hand(worker).is_some() {
             return Outcome::Busy;
         }
-        let Some(first) = self.channel.take(manager) else {
+        let Some(first) = self.channel.receive(manager) else {
             return Outcome::Idle;
         };
         hold_in(&mut self.hands, worker, first);
@@ -218,38 +272,17 @@ impl World {
 
     /// A worker does what it holds (C Library Reference: `MsgReply`, `MsgError`), at a moment that becomes the times of
     /// what it changes. `WrongState` where there is no such worker, `Nothing` where it holds nothing.
-    #[tactic(auto, using(crate::proofs::WorkerLemmas::perform_steps))]
     pub fn perform_held(&mut self, worker: Worker, moment: u64) -> Result<Outcome, NoMemory>
         ensures outcome { IfOk result (λ outcome. outcome ≡ (machine.step self.old (Step.Perform worker moment)).outcome) }
         ensures world { OnOk result (self.new ≡ (machine.step self.old (Step.Perform worker moment)).world) }
         ensures err { OnErr result (self.new ≡ self.old) }
         ensures sure { IsFalse (holds_wanting self.old worker.0) → IsOk result }
     {
-        if !self.is_worker(worker) {
-            return Ok(Outcome::WrongState);
-        }
-        let Some(held) = self.hand(worker) else {
-            return Ok(Outcome::Nothing);
-        };
-        self.serve(worker, held)?;
-        Ok(Outcome::Handled)
-    }
-
-    /// Does an item that a worker holds, and empties the hand.
-    #[tactic(auto, unfolding(qx_machine::specs::Users::settle, qx_machine::specs::Users::serve))]
-    fn serve(&mut self, worker: Worker, held: Held) -> Result<(), NoMemory>
-        ensures ok { OnOk result (self.new ≡ after_serving self.old worker.0 held) }
-        ensures err { OnErr result (self.new ≡ self.old) }
-        ensures sure { IsFalse (hand_wants_memory self.old (Some held)) → IsOk result }
-    {
-        self.parts.serve(held.user, held.item)?;
-        servers::settle(&mut self.channel, &self.parts, sender(held).proc);
-        places::free(&mut self.hands, worker.0 as usize);
-        Ok(())
+        self.perform_item(worker, None, moment)
     }
 
     /// Does what `perform_held` does, if what the worker holds is the work at hand, else answers `Stale`. For a worker that
-    /// read its item before and comes back with it.
+    /// read its item before and comes back with it; its bytes are not read again.
     pub fn perform(
         &mut self,
         worker: Worker,
@@ -265,7 +298,69 @@ impl World {
         if self.is_stale(worker, work) {
             return Err(PerformFault::Stale);
         }
-        Ok(self.perform_held(worker, moment)?)
+        Ok(self.perform_item(worker, work.message(), moment)?)
+    }
+
+    /// Does what a worker holds; if that is a message, it may have been read before.
+    #[tactic(auto, using(crate::proofs::WorkerLemmas::perform_steps))]
+    fn perform_item(
+        &mut self,
+        worker: Worker,
+        read: Option<&Parsed>,
+        moment: u64,
+    ) -> Result<Outcome, NoMemory>
+        requires read { IsReadFor (option_copied read) (held_work self.old worker.0) }
+        ensures outcome { IfOk result (λ outcome. outcome ≡ (machine.step self.old (Step.Perform worker moment)).outcome) }
+        ensures world { OnOk result (self.new ≡ (machine.step self.old (Step.Perform worker moment)).world) }
+        ensures err { OnErr result (self.new ≡ self.old) }
+        ensures sure { IsFalse (holds_wanting self.old worker.0) → IsOk result }
+    {
+        if !self.is_worker(worker) {
+            return Ok(Outcome::WrongState);
+        }
+        let Some(held) = self.hand(worker) else {
+            return Ok(Outcome::Nothing);
+        };
+        self.serve(worker, held, read)?;
+        Ok(Outcome::Handled)
+    }
+
+    /// Does an item that a worker holds, and empties the hand. An answer takes a queued unblock pulse of its call out of
+    /// the line.
+    #[tactic(auto, unfolding(qx_machine::specs::Users::settle, qx_machine::specs::Users::serve))]
+    fn serve(
+        &mut self,
+        worker: Worker,
+        held: Held,
+        read: Option<&Parsed>,
+    ) -> Result<(), NoMemory>
+        requires read { IsReadOf (option_copied read) (taken_item_of held.item (row_at self.old.parts held.user.0)) }
+        ensures ok { OnOk result (self.new ≡ after_serving self.old worker.0 held) }
+        ensures err { OnErr result (self.new ≡ self.old) }
+        ensures sure { IsFalse (hand_wants_memory self.old (Some held)) → IsOk result }
+    {
+        let answered = self.answered_call(held);
+        self.parts.serve(held.user, held.item, read)?;
+        if let Some((manager, call)) = answered {
+            self.channel.reply(manager, named_thread(held.user, held.item), call);
+        }
+        servers::settle(&mut self.channel, &self.parts, named_thread(held.user, held.item).proc);
+        places::free(&mut self.hands, worker.0 as usize);
+        Ok(())
+    }
+
+    /// The call that doing an item answers: to which manager it went, and its number.
+    fn answered_call(&self, held: Held) -> Option<(Manager, u64)>
+        ensures { result ≡ answered_call held.item (row_at self.now.parts held.user.0) }
+    {
+        let OwnItem::Message { process, thread } = held.item else {
+            return None;
+        };
+        let row = self.parts.part(held.user)?.thread(process, thread)?;
+        match &row.state {
+            State::Taken(sent) => Some((sent.target.manager, row.calls)),
+            _ => None,
+        }
     }
 
     /// Whether something is held that the work is not.
@@ -278,8 +373,7 @@ impl World {
         }
     }
 
-    /// What a worker holds: the content of a message, or a pulse. None where there is no such worker or it holds
-    /// nothing.
+    /// What a worker holds: the bytes of a message, or a pulse. None where there is no such worker or it holds nothing.
     pub fn held(&self, worker: Worker) -> Option<WorkRef<'_>>
         ensures { option_map work_now result ≡ held_work self.now worker.0 }
     {
@@ -287,9 +381,12 @@ impl World {
             return None;
         }
         let held = self.hand(worker)?;
-        let row = self.parts.thread(sender(held))?;
+        let OwnItem::Message { process, thread } = held.item else {
+            return Some(WorkRef::Pulse);
+        };
+        let row = self.parts.part(held.user)?.thread(process, thread)?;
         match &row.state {
-            State::Taken(sent) => Some(WorkRef::Message(&sent.message)),
+            State::Taken(sent) => Some(WorkRef::Message(&sent.bytes)),
             _ => None,
         }
     }
@@ -424,27 +521,26 @@ fn name_bytes(name: Option<&Bytes>) -> &[u8]
     }
 }
 
-/// The thread whose message a worker holds.
-fn sender(held: Held) -> Thread
-    ensures { result ≡ sender_of held.user.0 held.item }
+/// The thread that an item names.
+fn named_thread(user: User, item: OwnItem) -> Thread
+    ensures { result ≡ sender_of user.0 item }
 {
-    let OwnItem::Message { process, thread } = held.item;
-    let proc = Proc {
-        user: held.user,
-        num: process,
-    };
-    Thread { proc, tid: thread }
+    match item {
+        OwnItem::Message { process, thread } | OwnItem::Unblock { process, thread, .. } => Thread {
+            proc: Proc { user, num: process },
+            tid: thread,
+        },
+    }
 }
 
 /// An item as it is shown.
 fn shown_item(user: User, item: OwnItem) -> Item
     ensures { result ≡ machine.shown_item user.0 item }
 {
-    let OwnItem::Message { process, thread } = item;
-    Item::Message(Thread {
-        proc: Proc { user, num: process },
-        tid: thread,
-    })
+    match item {
+        OwnItem::Message { .. } => Item::Message(named_thread(user, item)),
+        OwnItem::Unblock { .. } => Item::Unblock(named_thread(user, item)),
+    }
 }
 
 /// Whether the work is what is lent.
@@ -452,7 +548,7 @@ fn is_same_work(held: WorkRef<'_>, work: &Work) -> bool
     ensures { IsTrue result ↔ (work_now held.entry ≡ work.now) }
 {
     match (held, work) {
-        (WorkRef::Message(message), Work::Message(given)) => message == given,
+        (WorkRef::Message(bytes), Work::Message(given)) => bytes == given.bytes(),
         (WorkRef::Pulse, Work::Pulse) => true,
         (WorkRef::Message(_), Work::Pulse) | (WorkRef::Pulse, Work::Message(_)) => false,
     }
