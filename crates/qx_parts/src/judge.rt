@@ -87,8 +87,7 @@ fn open_target(
     prio: Prio,
     path: &[u8],
 ) -> Result<Target, Outcome>
-    ensures priority { IfOk result (λ target. target.prio ≡ prio) }
-    ensures target { result ≡ calls.target_at (47 ∷ name.now) processes.now process.now prio (calls.Opens path.now) }
+    ensures { result ≡ calls.target_at (47 ∷ name.now) processes.now process.now prio (calls.Opens path.now) }
 {
     if !is_own_path(name, path) {
         return Err(Outcome::Refused(Errno::ENOENT));
@@ -112,8 +111,7 @@ fn side_target(
     prio: Prio,
     path: &[u8],
 ) -> Result<Target, Outcome>
-    ensures priority { IfOk result (λ target. target.prio ≡ prio) }
-    ensures target { result ≡ calls.target_at (47 ∷ name.now) processes.now process.now prio (calls.Looks path.now) }
+    ensures { result ≡ calls.target_at (47 ∷ name.now) processes.now process.now prio (calls.Looks path.now) }
 {
     if !is_own_path(name, path) {
         return Err(Outcome::Refused(Errno::ENOENT));

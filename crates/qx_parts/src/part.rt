@@ -168,7 +168,6 @@ impl Part {
     }
 
     /// Answers a message of a thread (C Library Reference: `MsgReply`, `MsgError`).
-    #[tactic(auto, using(qx_procs::proofs::LendLemmas::row_lends))]
     fn answer(&mut self, process: u8, thread: u8, over: Over, given: Result<Done, Errno>)
         requires { IsTrue (is_thread_blocked (thread_at self.old process thread)) }
         ensures { self.new ≡ after_answer self.old process thread over (deed_with self.old.resources given) }
