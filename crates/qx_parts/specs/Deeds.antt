@@ -13,7 +13,7 @@ use Rattle.qx_machine.specs.declared.rows.Target.{Target}
 use Rattle.qx_machine.specs.declared.rows.ThreadRow.{ThreadRow}
 use Rattle.qx_machine.specs.Judgements.{◌>>=◌}
 use Rattle.qx_machine.specs.Parts.{Part, Resources, thread_at}
-use Rattle.qx_machine.specs.Performing.{Deed, or_kept, after_message, opened_by, taken_in}
+use Rattle.qx_machine.specs.Performing.{Deed, or_kept, opened_by, serve_message, taken_in}
 use Rattle.qx_machine.specs.Processes.{Process}
 use Rattle.qx_parts.specs.declared.resources.Done.{Done}
 
@@ -30,7 +30,8 @@ used_deed function resources process target = do
 
 -- a user's rows once an item of it is done
 abbrev pub served_part : Part → OwnItem → Part
-served_part part (item.Message process thread) = or_kept part (after_message part process thread)
+served_part part (item.Message process thread) = (or_kept part (serve_message part process thread)).part
+served_part part (item.Unblock process thread call) = part
 
 -- the message that was received and is not answered
 abbrev pub taken_of : Option ThreadRow → Option Sent
@@ -40,6 +41,7 @@ taken_of (Some row) = taken_in row.state
 -- the message of an item that was received and is not answered
 abbrev pub taken_item : Part → OwnItem → Option Sent
 taken_item part (item.Message process thread) = taken_of (thread_at part process thread)
+taken_item part (item.Unblock process thread call) = None
 
 abbrev pub taken_item_of : OwnItem → Option Part → Option Sent
 taken_item_of item None = None

@@ -3,12 +3,12 @@ use Rattle.std.specs.Prelude.{ℕ, ◌<◌, ◌≤◌, List, Option, Some, None,
 use Rattle.qx_types.specs.declared.limits.TheConstants.Limits.{FIRST_CONNECTION, LAST_CONNECTION}
 use Rattle.qx_types.specs.declared.names.Proc.{Proc}
 use Rattle.qx_types.specs.declared.names.Thread.{Thread}
-use Rattle.qx_machine.specs.declared.rows.Over.{Over}
+use Rattle.qx_machine.specs.declared.rows.Target.{Target}
 use Rattle.qx_machine.specs.declared.rows.ThreadRow.{ThreadRow}
 use Rattle.qx_machine.specs.Parts.{Part, thread_of}
 use Rattle.qx_machine.specs.Processes.{Process}
 use Rattle.qx_machine.specs.Rows.{row_at}
-use Rattle.qx_process.specs.Reads.{CanCall, HasNumber}
+use Rattle.qx_process.specs.Reads.{CanCall, CanGo}
 
 abbrev pub process_in : ℕ → Option Part → Option Process
 process_in number None = None
@@ -22,9 +22,9 @@ process_of parts proc = process_in proc.num (row_at parts proc.user.0)
 abbrev pub thread_row : List (Option Part) → Thread → Option ThreadRow
 thread_row parts thread = thread_of thread.tid (process_of parts thread.proc)
 
--- the thread's calls can be counted once more, and the message has what it goes over
-abbrev pub CanSend : Option ThreadRow → Over → Type 0
-CanSend row over = CanCall row × HasNumber over
+-- the thread's calls can be counted once more, and the message can go there
+abbrev pub CanSend : Option ThreadRow → Target → Type 0
+CanSend row target = CanCall row × CanGo target
 
 -- the table of a user's processes has a place for each number below the next one
 abbrev pub HasPlace : Option Part → Type 0

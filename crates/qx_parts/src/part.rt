@@ -1,15 +1,15 @@
 //! All rows of one user.
 
-ghost use Rattle.std.specs.Prelude.{◌≡◌, ◌∷◌, ◌<◌, IsTrue, IsFalse, IsOk, IfOk, IfSome, OnOk, OnErr, length};
+ghost use Rattle.std.specs.Prelude.{◌≡◌, ◌∷◌, ◌<◌, IsTrue, IsFalse, IsOk, IfOk, IfSome, OnOk, OnErr, Err, length};
 ghost use Rattle.std.specs.Option.{option_copied};
 ghost use Rattle.qx_types.specs.Configuration.{Configuration};
 ghost use Rattle.qx_wire.specs.Reading as reading;
 ghost use Rattle.qx_machine.specs.Calls.{can_send, content_of};
 ghost use Rattle.qx_machine.specs.Clients as clients;
 ghost use Rattle.qx_machine.specs.Clients.{or_unchanged};
-ghost use Rattle.qx_machine.specs.Parts.{thread_at, with_process};
+ghost use Rattle.qx_machine.specs.Parts.{thread_at, with_process, with_thread_of};
 ghost use Rattle.qx_machine.specs.Performing.{after_answer};
-ghost use Rattle.qx_machine.specs.Processes.{after_effect, with_queued};
+ghost use Rattle.qx_machine.specs.Processes.{after_effect, asked_thread, with_queued};
 ghost use Rattle.qx_machine.specs.Rows.{row_at};
 ghost use Rattle.qx_machine.specs.Users as users;
 ghost use Rattle.qx_process.specs.Reads.{is_thread_blocked, IsPriority};
@@ -102,12 +102,36 @@ impl Part {
 
     /// A message of a thread goes out.
     #[tactic(auto, using(qx_procs::proofs::LendLemmas::row_lends))]
-    pub fn send(&mut self, thread: Thread, sent: Sent, room: Room)
-        requires { CanSend (thread_at self.old thread.proc.num thread.tid) sent.target.over }
-        ensures { self.new ≡ with_process thread.proc.num (with_queued thread.tid sent) self.old }
+    pub fn send(&mut self, alloc: Global, thread: Thread, sent: Sent) -> Result<(), AllocError>
+        requires { CanSend (thread_at self.old thread.proc.num thread.tid) sent.target }
+        ensures ok { OnOk result (self.new ≡ with_process thread.proc.num (with_queued thread.tid sent) self.old) }
+        ensures err { OnErr result (self.new ≡ self.old) }
     {
+        let room = Room::new(alloc)?;
         if let Some(process) = self.processes.process_mut(thread.proc.num) {
             process.send(thread.tid, sent, room);
+        }
+        Ok(())
+    }
+
+    /// A blocked thread gets an error, which gives back what its call attached (C Library Reference: `MsgError`).
+    #[tactic(auto, using(qx_procs::proofs::LendLemmas::row_lends))]
+    pub fn fail(&mut self, thread: Thread, over: Over, error: Errno)
+        requires { IsTrue (is_thread_blocked (thread_at self.old thread.proc.num thread.tid)) }
+        ensures { self.new ≡ after_answer self.old thread.proc.num thread.tid over (Err error) }
+    {
+        if let Some(process) = self.processes.process_mut(thread.proc.num) {
+            process.fail(thread.tid, over, error);
+        }
+    }
+
+    /// A thread's message, which was received, is asked to unblock it.
+    #[tactic(auto, using(crate::proofs::LentRows::thread_lends))]
+    pub fn ask_unblock(&mut self, thread: Thread)
+        ensures { self.new ≡ with_thread_of thread asked_thread self.old }
+    {
+        if let Some(cell) = self.processes.thread_mut(thread.proc.num, thread.tid) {
+            cell.ask_unblock();
         }
     }
 
@@ -140,7 +164,9 @@ impl Part {
     pub fn take(&mut self, item: OwnItem)
         ensures { self.new ≡ users.take self.old item }
     {
-        let OwnItem::Message { process, thread } = item;
+        let OwnItem::Message { process, thread } = item else {
+            return;
+        };
         if let Some(cell) = self.processes.thread_mut(process, thread) {
             cell.take();
         }
@@ -153,7 +179,9 @@ impl Part {
         ensures err { OnErr result (self.new ≡ self.old) }
         ensures sure { IsFalse (wants_memory_item self.old item) → IsOk result }
     {
-        let OwnItem::Message { process, thread } = item;
+        let OwnItem::Message { process, thread } = item else {
+            return Ok(());
+        };
         let Some(row) = self.processes.process(process) else {
             return Ok(());
         };

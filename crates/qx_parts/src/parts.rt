@@ -1,21 +1,23 @@
 //! The rows of all users, from 1: a place for each number.
 
-ghost use Rattle.std.specs.Prelude.{◌≡◌, ◌∷◌, ◌++◌, [], None, Some, IsFalse, IsOk, IfOk, OnOk, OnErr};
+ghost use Rattle.std.specs.Prelude.{◌≡◌, ◌∷◌, ◌++◌, [], None, Some, IsFalse, IsTrue, IsOk, IfOk, OnOk, OnErr, Err};
 ghost use Rattle.std.specs.Option.{option_copied, option_copied_mut};
 ghost use Rattle.std.specs.Borrow.{sem};
 ghost use Rattle.qx_machine.specs.Clients as clients;
 ghost use Rattle.qx_machine.specs.Clients.{or_unchanged};
-ghost use Rattle.qx_machine.specs.Parts.{with_process};
-ghost use Rattle.qx_machine.specs.Processes.{with_queued};
+ghost use Rattle.qx_machine.specs.Parts.{with_process, with_thread_of};
+ghost use Rattle.qx_machine.specs.Performing.{after_answer};
+ghost use Rattle.qx_machine.specs.Processes.{asked_thread, with_queued};
 ghost use Rattle.qx_machine.specs.Rows.{row_at, with_row};
 ghost use Rattle.qx_machine.specs.Users as users;
+ghost use Rattle.qx_process.specs.Reads.{is_thread_blocked};
 ghost use Rattle.qx_parts.specs.Deeds.{served_part, taken_item_of, wants_memory_of, IsReadOf};
 ghost use Rattle.qx_parts.specs.Reads.{CanSend, HasPlace, process_of, thread_row};
 
 use crate::part::Part;
-use qx_machine::{OwnItem, Sent, ThreadRow};
-use qx_process::{Process, Room, places};
-use qx_types::{Outcome, Prio, Proc, Thread, User};
+use qx_machine::{Over, OwnItem, Sent, ThreadRow};
+use qx_process::{Process, places};
+use qx_types::{Errno, Outcome, Prio, Proc, Thread, User};
 use qx_wire::Parsed;
 use std::alloc::{AllocError, Global};
 use std::marker::Model;
@@ -105,12 +107,35 @@ impl Parts {
 
     /// A message of a thread goes out.
     #[tactic(auto, using(qx_procs::proofs::LendLemmas::row_lends))]
-    pub fn send(&mut self, thread: Thread, sent: Sent, room: Room)
-        requires { CanSend (thread_row self.old thread) sent.target.over }
-        ensures { self.new ≡ with_row self.old thread.proc.user.0 (with_process thread.proc.num (with_queued thread.tid sent)) }
+    pub fn send(&mut self, alloc: Global, thread: Thread, sent: Sent) -> Result<(), AllocError>
+        requires { CanSend (thread_row self.old thread) sent.target }
+        ensures ok { OnOk result (self.new ≡ with_row self.old thread.proc.user.0 (with_process thread.proc.num (with_queued thread.tid sent))) }
+        ensures err { OnErr result (self.new ≡ self.old) }
+    {
+        match self.part_mut(thread.proc.user) {
+            Some(part) => part.send(alloc, thread, sent),
+            None => Ok(()),
+        }
+    }
+
+    /// A blocked thread gets an error, which gives back what its call attached.
+    #[tactic(auto, using(qx_procs::proofs::LendLemmas::row_lends))]
+    pub fn fail(&mut self, thread: Thread, over: Over, error: Errno)
+        requires { IsTrue (is_thread_blocked (thread_row self.old thread)) }
+        ensures { self.new ≡ with_row self.old thread.proc.user.0 (λ part. after_answer part thread.proc.num thread.tid over (Err error)) }
     {
         if let Some(part) = self.part_mut(thread.proc.user) {
-            part.send(thread, sent, room);
+            part.fail(thread, over, error);
+        }
+    }
+
+    /// A thread's message, which was received, is asked to unblock it.
+    #[tactic(auto, using(qx_procs::proofs::LendLemmas::row_lends))]
+    pub fn ask_unblock(&mut self, thread: Thread)
+        ensures { self.new ≡ with_row self.old thread.proc.user.0 (with_thread_of thread asked_thread) }
+    {
+        if let Some(part) = self.part_mut(thread.proc.user) {
+            part.ask_unblock(thread);
         }
     }
 
