@@ -1,7 +1,8 @@
 -- What contracts see of a channel, and what its calls make of it.
-use Rattle.std.specs.Prelude.{ℕ, zero, suc, ◌+◌, ◌-◌, ◌==◌, ◌&&◌, ◌||◌, if◌then◌else◌, nat_le, refl, IsTrue, Bool, false, List, [], ◌∷◌, replicate}
+use Rattle.std.specs.Prelude.{◌≡◌, ℕ, zero, suc, ◌+◌, ◌-◌, ◌==◌, ◌&&◌, if◌then◌else◌, nat_le, refl, tt, Unit, IsTrue, Bool, false, List, [], ◌∷◌, Option, Some, None, is_some, replicate}
 use Rattle.std.specs.Coded.{Coded, code_by, coded×, coded_ℕ, coded_list}
 use Rattle.std.specs.FinSet as set
+use Rattle.std.specs.Option.{option_or}
 use Rattle.std.specs.Ordering.{nat_cmp, on, then_cmp}
 use Rattle.std.specs.declared.cmp.Ordering.{Ordering}
 use Rattle.qx_types.specs.contracts.names.Proc as proc_row
@@ -63,10 +64,15 @@ with_channel_line c number change = record c { lines = with_line c.lines number 
 abbrev pub message_of : Thread → ℕ → Queued
 message_of thread prio = queued_item thread.proc.user.0 (item.Message thread.proc.num thread.tid) prio
 
+-- an unblock pulse of a thread as it stands in a line: it names the call that the thread is to be unblocked from
+abbrev pub unblock_of : Thread → ℕ → ℕ → Queued
+unblock_of thread call prio = queued_item thread.proc.user.0 (item.Unblock thread.proc.num thread.tid call) prio
+
 abbrev pub sender_of : ℕ → OwnItem → Thread
 sender_of user (item.Message process thread) = record { proc = record { user = record { 0 = user }; num = process }; tid = thread }
+sender_of user (item.Unblock process thread call) = record { proc = record { user = record { 0 = user }; num = process }; tid = thread }
 
--- the thread that sent a queued message
+-- the thread that an item is of: the one that sent a message, or the one that a pulse asks to unblock
 abbrev pub sender : Queued → Thread
 sender entry = sender_of entry.user.0 entry.item
 
@@ -81,10 +87,38 @@ is_thread_of proc threads other = (proc.user.0 == other.proc.user.0) && (proc.nu
 abbrev pub is_same_server : Proc → ℕ → Proc → ℕ → Bool
 is_same_server proc number other at = (proc.user.0 == other.user.0) && (proc.num == other.num) && (number == at)
 
+-- what an item has, where it is of the thread and has such a thing
+abbrev pub told : {A : Type 0} → (OwnItem → Option A) → Thread → Queued → Option A
+told part thread entry = if is_same_thread (sender entry) thread then part entry.item else None
+
+-- what the first item of the thread has that has such a thing
+abbrev pub first_told : {A : Type 0} → (OwnItem → Option A) → Thread → List Queued → Option A
+first_told part thread [] = None
+first_told part thread (first ∷ line) = option_or (told part thread first) (first_told part thread line)
+
+abbrev pub message_in : OwnItem → Option Unit
+message_in (item.Message process thread) = Some tt
+message_in (item.Unblock process thread call) = None
+
+abbrev pub call_in : OwnItem → Option ℕ
+call_in (item.Message process thread) = None
+call_in (item.Unblock process thread call) = Some call
+
 -- a message of the thread stands in the line
 abbrev pub stands : List Queued → Thread → Bool
-stands [] thread = false
-stands (first ∷ line) thread = is_same_thread (sender first) thread || stands line thread
+stands line thread = is_some (first_told message_in thread line)
+
+-- the call that the first unblock pulse of the thread in the line names
+abbrev pub unblock_call : List Queued → Thread → Option ℕ
+unblock_call line thread = first_told call_in thread line
+
+abbrev pub no_other : OwnItem → Thread → List Queued → Type 0
+no_other (item.Message process thread) sender line = stands line sender ≡ false
+no_other (item.Unblock process thread call) sender line = unblock_call line sender ≡ None
+
+-- no item of the same thread and kind stands in the line
+abbrev pub IsGone : Queued → List Queued → Type 0
+IsGone entry line = no_other entry.item (sender entry) line
 
 -- the thread has nodes
 abbrev pub has_thread : Channel → Thread → Bool

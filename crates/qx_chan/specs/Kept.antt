@@ -1,15 +1,16 @@
 -- How the lines and the nodes stand in the table. No public clause of the channel cites this module.
-use Rattle.std.specs.Prelude.{◌≡◌, ◌⊎◌, ℕ, Contains, List, Option, Some, drop, map, option_map, slice_get, unwrap_or}
+use Rattle.std.specs.Prelude.{◌≡◌, ◌⊎◌, ℕ, ◌==◌, Bool, false, Contains, List, Option, None, Some, is_some, map, option_map, slice_get, unwrap_or}
 use Rattle.std.specs.FinMap as maps
 use Rattle.qx_types.specs.declared.names.Thread.{Thread}
 use Rattle.qx_lists.specs.Table.{Table, ContainsNode, IsIn}
 use Rattle.qx_lines.specs.declared.Line.{Line}
 use Rattle.qx_lines.specs.Line.{IsLineOf, IsOwn, nodes_in}
+use Rattle.qx_machine.specs.declared.rows.OwnItem.{OwnItem}
 use Rattle.qx_machine.specs.declared.rows.OwnItem.TheVariants as item
 use Rattle.qx_machine.specs.declared.rows.Queued.{Queued}
-use Rattle.qx_machine.specs.Lines.{into}
+use Rattle.qx_machine.specs.Lines.{into, line_at}
 use Rattle.qx_machine.specs.Machine.{queued_item, rank}
-use Rattle.qx_chan.specs.Channel.{sender}
+use Rattle.qx_chan.specs.Channel.{sender, unblock_call}
 use Rattle.qx_chan.specs.Nodes.{Disconnect, Message, Owner, Unblock}
 
 abbrev pub nobodys : Queued
@@ -27,22 +28,39 @@ entries table line = map (entry_at table) (nodes_in table line)
 abbrev pub list_at : List Line → ℕ → Option ℕ
 list_at lines number = option_map (λ line. line.list) (slice_get lines number)
 
--- the thread whose message a node stands for: its owner's, and of a disconnect node that of no thread
-abbrev pub named : Owner → Thread
-named (Message thread) = thread
-named (Unblock thread) = thread
-named (Disconnect proc number) = record { proc = proc; tid = 0 }
+abbrev pub owner_in : Thread → OwnItem → Owner
+owner_in thread (item.Message process number) = Message thread
+owner_in thread (item.Unblock process number call) = Unblock thread
+
+-- into whose node an item is put
+abbrev pub owner_of : Queued → Owner
+owner_of entry = owner_in (sender entry) entry.item
+
+-- whose items a node stands for: its owner's, and a disconnect node for a message of no thread
+abbrev pub named : Owner → Owner
+named (Message thread) = Message thread
+named (Unblock thread) = Unblock thread
+named (Disconnect proc number) = Message (record { proc = proc; tid = 0 })
 
 -- the lines are lists of the table, each its own; each node of the table is exactly one owner's, and stands for an item of that owner; and
--- nodes of threads' messages alone stand in lists, which are the lines'
+-- nodes of messages and of unblock pulses alone stand in lists, which are the lines'
 pub record Kept (table : Table Queued) (lines : List Line) (node_of : Owner → Option ℕ) : Type 0 where
   pub line : (number : ℕ) (line : Line) → slice_get lines number ≡ Some line → IsLineOf rank table line
   pub apart : (one other list : ℕ) → list_at lines one ≡ Some list → list_at lines other ≡ Some list → one ≡ other
   pub there : (owner : Owner) (node : ℕ) → node_of owner ≡ Some node → ContainsNode table node
-  pub names : (owner : Owner) (node : ℕ) → node_of owner ≡ Some node → sender (entry_at table node) ≡ named owner
+  pub names : (owner : Owner) (node : ℕ) → node_of owner ≡ Some node → owner_of (entry_at table node) ≡ named owner
   pub owned : (node : ℕ) → ContainsNode table node → (owner : Owner) × (node_of owner ≡ Some node)
   pub once : (owner other : Owner) (node : ℕ) → node_of owner ≡ Some node → node_of other ≡ Some node → other ≡ owner
-  pub listed : (list node : ℕ) → IsIn table list node → ((number : ℕ) × (list_at lines number ≡ Some list)) × ((thread : Thread) × (node_of (Message thread) ≡ Some node))
+  pub listed : (list node : ℕ) → IsIn table list node → ((number : ℕ) × (list_at lines number ≡ Some list)) × (node_of (owner_of (entry_at table node)) ≡ Some node)
+
+-- the line of that number is the one of these
+abbrev pub is_at : ℕ → Option ℕ → Bool
+is_at number None = false
+is_at number (Some other) = number == other
+
+-- an unblock pulse of a thread stands in one line at most, and it is told in which
+abbrev pub IsTold : List (List Queued) → (Thread → Option ℕ) → Type 0
+IsTold lines asked = (thread : Thread) (number : ℕ) → is_some (unblock_call (line_at lines number) thread) ≡ is_at number (asked thread)
 
 -- a free node was put into a line, and stands for an item
 pub record PutIn (old new : Table Queued) (before after : Line) (node : ℕ) (entry : Queued) : Type 0 where
@@ -54,10 +72,10 @@ pub record PutIn (old new : Table Queued) (before after : Line) (node : ℕ) (en
   pub lists : (list : ℕ) → (IsOwn before list → ⊥) → maps.get new.lists list ≡ maps.get old.lists list
   pub own : after.list ≡ before.list
 
--- the first node of a line, if there is one, left it
-pub record TakenOut (old new : Table Queued) (before after : Line) : Type 0 where
+-- nodes left a line
+pub record TakenOut (old new : Table Queued) (before after : Line) (change : List ℕ → List ℕ) : Type 0 where
   pub line : IsLineOf rank new after
-  pub nodes : nodes_in new after ≡ drop 1 (nodes_in old before)
+  pub nodes : nodes_in new after ≡ change (nodes_in old before)
   pub values : new.values ≡ old.values
   pub room : new.room ≡ old.room
   pub lists : (list : ℕ) → (IsOwn before list → ⊥) → maps.get new.lists list ≡ maps.get old.lists list

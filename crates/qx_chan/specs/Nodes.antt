@@ -1,10 +1,11 @@
 -- The nodes that are kept for threads and for server connections. No public clause of the channel cites this module.
 use Rattle.std.specs.FinSet as set
-use Rattle.std.specs.Prelude.{ℕ, suc, ◌+◌, [], ◌∷◌, ◌++◌, List, Option, Some, None, get_or, option_map, slice_set, replicate}
+use Rattle.std.specs.Prelude.{◌≡◌, ◌≢◌, ℕ, suc, ◌+◌, [], ◌∷◌, ◌++◌, List, Option, Some, None, get_or, length, option_map, slice_set, replicate}
 use Rattle.qx_types.specs.declared.limits.TheConstants.Limits.{PROCESSES, THREADS}
 use Rattle.qx_types.specs.declared.names.Proc.{Proc}
 use Rattle.qx_types.specs.declared.names.TheConstants.Manager.{COUNT}
 use Rattle.qx_types.specs.declared.names.Thread.{Thread}
+use Rattle.qx_types.specs.Managers.{manager_number}
 use Rattle.qx_machine.specs.Rows.{row_at}
 use Rattle.qx_chan.specs.declared.nodes.ThreadNodes.{ThreadNodes}
 use Rattle.qx_chan.specs.declared.nodes.ProcessNodes.{ProcessNodes}
@@ -67,6 +68,14 @@ node_of nodes (Message thread) = option_map (λ own. own.message) (nodes_at node
 node_of nodes (Unblock thread) = option_map (λ own. own.unblock) (nodes_at nodes thread)
 node_of nodes (Disconnect proc number) = disconnect_at nodes proc number
 
+abbrev pub asked_in : Option ThreadNodes → Option ℕ
+asked_in None = None
+asked_in (Some own) = option_map manager_number own.asked
+
+-- in which line an unblock pulse of the thread stands
+abbrev pub asked_at : List UserNodes → Thread → Option ℕ
+asked_at nodes thread = asked_in (nodes_at nodes thread)
+
 -- what stands in numbered places, each told by its number
 abbrev pub numbered : {A K : Type 0} → (ℕ → A → List K) → ℕ → List A → List K
 numbered told number [] = []
@@ -92,3 +101,12 @@ threads_of nodes = set.from_list (keys_in (λ proc tid. record { proc = proc; ti
 -- the server connections that have disconnect nodes
 unfoldable pub servers_of : List UserNodes → set.FinSet server_cmp
 servers_of nodes = set.from_list (keys_in (λ proc number. (proc, number)) (λ own. own.servers) nodes)
+
+-- the same nodes, where the pulse of one thread stands in another line, or in none
+pub record Asked (old new : List UserNodes) (thread : Thread) (asked : Option ℕ) : Type 0 where
+  pub nodes : (owner : Owner) → node_of new owner ≡ node_of old owner
+  pub asked : asked_at new thread ≡ asked
+  pub others : (other : Thread) → other ≢ thread → asked_at new other ≡ asked_at old other
+  pub threads : threads_of new ≡ threads_of old
+  pub servers : servers_of new ≡ servers_of old
+  pub users : length new ≡ length old

@@ -1,15 +1,17 @@
 //! The managers' lines over one table of nodes, in which the nodes of all users' threads and server connections stand.
 
-ghost use Rattle.std.specs.Prelude.{◌≡◌, ℕ, ◌-◌, ◌*◌, ◌<◌, ◌≤◌, false, length, drop, slice_get, max, IfOk, IsOk, OnOk, OnErr, IfSome, IsTrue, None};
+ghost use Rattle.std.specs.Prelude.{◌≡◌, ℕ, ◌-◌, ◌*◌, ◌<◌, ◌≤◌, false, length, drop, slice_get, max, IfOk, IsOk, OnOk, OnErr, IfSome, IsTrue, None, Some};
 ghost use Rattle.std.specs.FinMap as maps;
 ghost use Rattle.qx_types.specs.Managers.{manager_number};
 ghost use Rattle.qx_types.specs.declared.limits.TheConstants.Limits.{PRIORITY, PROCESSES, THREADS};
-ghost use Rattle.qx_lists.specs.Table.{ContainsNode, IsFree, IsIn, with_value};
-ghost use Rattle.qx_lines.specs.Line.{IsLineOf};
+ghost use Rattle.qx_lists.specs.Table.{ContainsNode, IsFree, IsIn, with_value, without};
+ghost use Rattle.qx_lines.specs.Line.{IsInLine, IsLineOf};
 ghost use Rattle.qx_machine.specs.Lines.{into};
 ghost use Rattle.qx_machine.specs.Machine as machine;
-ghost use Rattle.qx_chan.specs.Channel.{HasThread, channel_line, has_server, has_thread, message_of, no_channel, sender, stands, with_channel_line, with_process, with_server, with_thread, without_server};
-ghost use Rattle.qx_chan.specs.Kept.{PutIn, TakenOut, entries};
+ghost use Rattle.qx_machine.specs.declared.rows.OwnItem.TheVariants as item;
+ghost use Rattle.qx_chan.specs.Channel.{HasThread, IsGone, call_in, channel_line, has_server, has_thread, message_of, no_channel, stands, unblock_call, unblock_of, with_channel_line, with_process, with_server, with_thread, without_server};
+ghost use Rattle.qx_chan.specs.Kept.{PutIn, TakenOut, entries, entry_at, owner_of};
+ghost use Rattle.qx_chan.specs.Nodes.{Unblock};
 
 use crate::nodes::{Nodes, ThreadNodes};
 use crate::waiting::Waiting;
@@ -32,8 +34,8 @@ impl Model for Channel {
     ghost use Rattle.std.specs.Prelude.{◌≡◌, length, map};
     ghost use Rattle.qx_types.specs.declared.names.TheConstants.Manager.{COUNT};
     ghost use Rattle.qx_chan.specs.Channel as words;
-    ghost use Rattle.qx_chan.specs.Kept.{Kept, entries};
-    ghost use Rattle.qx_chan.specs.Nodes.{node_of, servers_of, threads_of};
+    ghost use Rattle.qx_chan.specs.Kept.{IsTold, Kept, entries};
+    ghost use Rattle.qx_chan.specs.Nodes.{asked_at, node_of, servers_of, threads_of};
 
     ghost Value = { words.Channel };
 
@@ -41,7 +43,7 @@ impl Model for Channel {
 
     ghost view = { λ c. record { lines = map (entries c.table) c.lines.items; threads = threads_of c.nodes; servers = servers_of c.nodes; users = length c.nodes; room = c.table.room } };
 
-    ghost invariant = { λ c. (length c.lines.items ≡ COUNT) × Kept c.table c.lines.items (node_of c.nodes) };
+    ghost invariant = { λ c. (length c.lines.items ≡ COUNT) × Kept c.table c.lines.items (node_of c.nodes) × IsTold (map (entries c.table) c.lines.items) (asked_at c.nodes) };
 }
 
 impl Channel {
@@ -64,13 +66,13 @@ impl Channel {
         })
     }
 
-    /// Puts a thread's message, which stands in no line, into a line.
-    pub fn put(&mut self, manager: Manager, thread: Thread, prio: Prio)
+    /// Puts a thread's message, which stands in no line, into a line (C Library Reference: `MsgSend`).
+    pub fn send(&mut self, manager: Manager, thread: Thread, prio: Prio)
         requires own { IsTrue (has_thread self.old thread) }
         requires idle { (number : ℕ) → stands (channel_line self.old number) thread ≡ false }
         requires lowest { 1 ≤ prio.0 }
         requires highest { prio.0 ≤ PRIORITY }
-        ensures put { self.new ≡ with_channel_line self.old (manager_number manager) (λ line. into machine.rank line (message_of thread prio.0)) }
+        ensures sent { self.new ≡ with_channel_line self.old (manager_number manager) (λ line. into machine.rank line (message_of thread prio.0)) }
     {
         let Some(own) = self.nodes.at(thread) else {
             unreachable!();
@@ -84,14 +86,92 @@ impl Channel {
         );
     }
 
-    /// Takes the first item of a line.
-    pub fn take(&mut self, manager: Manager) -> Option<Queued>
+    /// Takes the first item of a line, a message or an unblock pulse (C Library Reference: `MsgReceive`).
+    pub fn receive(&mut self, manager: Manager) -> Option<Queued>
         ensures first { result ≡ slice_get (channel_line self.old (manager_number manager)) 0 }
         ensures rest { self.new ≡ with_channel_line self.old (manager_number manager) (drop 1) }
-        ensures gone { IfSome result (λ first. stands (drop 1 (channel_line self.old (manager_number manager))) (sender first) ≡ false) }
+        ensures gone { IfSome result (λ first. IsGone first (drop 1 (channel_line self.old (manager_number manager)))) }
     {
         self.table.know();
-        take_out(&mut self.table, &mut self.lines[manager.number()])
+        let first = take_out(&mut self.table, &mut self.lines[manager.number()])?;
+        if let OwnItem::Unblock {
+            process, thread, ..
+        } = first.item
+        {
+            let proc = Proc {
+                user: first.user,
+                num: process,
+            };
+            self.nodes.set_asked(Thread { proc, tid: thread }, None);
+        }
+        Some(first)
+    }
+
+    /// Puts the pulse that asks to unblock a thread from a call, where none of the thread stands in a line (C Library
+    /// Reference: `ChannelCreate`, `_NTO_CHF_UNBLOCK`).
+    pub fn ask_unblock(&mut self, manager: Manager, thread: Thread, call: u64, prio: Prio)
+        requires own { IsTrue (has_thread self.old thread) }
+        requires idle { (number : ℕ) → unblock_call (channel_line self.old number) thread ≡ None }
+        requires lowest { 1 ≤ prio.0 }
+        requires highest { prio.0 ≤ PRIORITY }
+        ensures asked { self.new ≡ with_channel_line self.old (manager_number manager) (λ line. into machine.rank line (unblock_of thread call prio.0)) }
+    {
+        let Some(own) = self.nodes.at(thread) else {
+            unreachable!();
+        };
+        let waiting = Waiting::new(queued_unblock(thread, call, prio));
+        put_in(
+            &mut self.table,
+            &mut self.lines[manager.number()],
+            own.unblock,
+            waiting,
+        );
+        self.nodes.set_asked(thread, Some(manager));
+    }
+
+    /// Takes a thread's message out of the line that it stands in, as a call ends early (C Library Reference: `MsgSend`,
+    /// `EINTR`).
+    pub fn withdraw(&mut self, manager: Manager, thread: Thread)
+        requires stands { IsTrue (stands (channel_line self.old (manager_number manager)) thread) }
+        ensures withdrawn { self.new ≡ with_channel_line self.old (manager_number manager) (machine.line_without thread.proc.user.0 (item.Message thread.proc.num thread.tid)) }
+        ensures gone { stands (machine.line_without thread.proc.user.0 (item.Message thread.proc.num thread.tid) (channel_line self.old (manager_number manager))) thread ≡ false }
+    {
+        let Some(own) = self.nodes.at(thread) else {
+            unreachable!();
+        };
+        self.table.know();
+        remove(
+            &mut self.table,
+            &mut self.lines[manager.number()],
+            own.message,
+        );
+    }
+
+    /// Takes the pulse that asks to unblock a thread from a call out of the line, if it stands there, as the call is
+    /// answered (C Library Reference: `MsgReply`).
+    pub fn reply(&mut self, manager: Manager, thread: Thread, call: u64)
+        ensures replied { self.new ≡ with_channel_line self.old (manager_number manager) (machine.line_without thread.proc.user.0 (item.Unblock thread.proc.num thread.tid call)) }
+        ensures gone { unblock_call (channel_line self.old (manager_number manager)) thread ≡ Some call → unblock_call (machine.line_without thread.proc.user.0 (item.Unblock thread.proc.num thread.tid call) (channel_line self.old (manager_number manager))) thread ≡ None }
+    {
+        let Some(own) = self.nodes.at(thread) else {
+            return;
+        };
+        let Some(asked) = own.asked else {
+            return;
+        };
+        if asked.number() != manager.number() {
+            return;
+        }
+        if asked_call(&self.table, own.unblock) != call {
+            return;
+        }
+        self.table.know();
+        remove(
+            &mut self.table,
+            &mut self.lines[manager.number()],
+            own.unblock,
+        );
+        self.nodes.set_asked(thread, None);
     }
 
     /// The first item of a line.
@@ -133,8 +213,16 @@ impl Channel {
         self.table.know();
         let message = new_node(&mut self.table, Waiting::new(queued_message(thread, prio)));
         self.table.know();
-        let unblock = new_node(&mut self.table, Waiting::new(queued_message(thread, prio)));
-        self.nodes.set(thread, ThreadNodes { message, unblock });
+        let unblock = new_node(&mut self.table, Waiting::new(queued_unblock(thread, 0, prio)));
+        let asked = None;
+        self.nodes.set(
+            thread,
+            ThreadNodes {
+                message,
+                unblock,
+                asked,
+            },
+        );
     }
 
     /// Makes the nodes of a process' threads, for which there is room, and none of which has any.
@@ -203,6 +291,21 @@ fn queued_message(thread: Thread, prio: Prio) -> Queued
     }
 }
 
+/// The pulse that asks to unblock a thread from a call, as it stands in a line.
+fn queued_unblock(thread: Thread, call: u64, prio: Prio) -> Queued
+    ensures pulse { result ≡ unblock_of thread call prio.0 }
+{
+    Queued {
+        user: thread.proc.user,
+        item: OwnItem::Unblock {
+            process: thread.proc.num,
+            thread: thread.tid,
+            call,
+        },
+        prio,
+    }
+}
+
 /// Makes a node, for which there is room.
 fn new_node(table: &mut Table<Waiting>, waiting: Waiting) -> usize
     requires room { 0 < table.old.room }
@@ -237,11 +340,32 @@ fn put_in(table: &mut Table<Waiting>, line: &mut Line, node: usize, waiting: Wai
 fn take_out(table: &mut Table<Waiting>, line: &mut Line) -> Option<Queued>
     requires line { IsLineOf machine.rank table.old line.old }
     requires there { (list node : ℕ) → IsIn table.old list node → ContainsNode table.old node }
-    ensures out { TakenOut table.old table.new line.old line.new }
+    ensures out { TakenOut table.old table.new line.old line.new (drop 1) }
     ensures first { result ≡ slice_get (entries table.old line.old) 0 }
 {
     let node = line.take(table)?;
     Some(table.value(node).queued())
+}
+
+/// Takes a node out of its line.
+fn remove(table: &mut Table<Waiting>, line: &mut Line, node: usize)
+    requires line { IsLineOf machine.rank table.old line.old }
+    requires in_line { IsInLine table.old line.old node }
+    ensures out { TakenOut table.old table.new line.old line.new (without node) }
+{
+    line.remove(table, node);
+}
+
+/// The call that the pulse of a node names.
+fn asked_call(table: &Table<Waiting>, node: usize) -> u64
+    requires there { ContainsNode table.now node }
+    requires pulse { (thread : Thread) × (owner_of (entry_at table.now node) ≡ Unblock thread) }
+    ensures call { call_in (entry_at table.now node).item ≡ Some result }
+{
+    match table.value(node).queued().item {
+        OwnItem::Unblock { call, .. } => call,
+        OwnItem::Message { .. } => unreachable!(),
+    }
 }
 
 /// What the first node of a line stands for.

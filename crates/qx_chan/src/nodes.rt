@@ -1,20 +1,22 @@
 //! The nodes of all threads and of all server connections: made with them, so that a message and a pulse take none.
 
-ghost use Rattle.std.specs.Prelude.{◌≡◌, ◌≢◌, ◌<◌, ◌≤◌, length, IfOk, Some};
+ghost use Rattle.std.specs.Prelude.{◌≡◌, ◌≢◌, ◌<◌, ◌≤◌, length, is_some, option_map, IfOk, IfSome, IsTrue, Some};
 ghost use Rattle.qx_types.specs.Managers.{manager_number};
 ghost use Rattle.qx_types.specs.declared.limits.TheConstants.Limits.{PROCESSES, THREADS};
 ghost use Rattle.qx_machine.specs.Rows.{row_at};
-ghost use Rattle.qx_chan.specs.Nodes.{disconnect_at, no_nodes, no_process, nodes_at, process_at, process_in, servers_with, threads_with, user_with, with_disconnect_at, with_nodes_at};
+ghost use Rattle.qx_chan.specs.Nodes.{Asked, disconnect_at, no_nodes, no_process, nodes_at, process_at, process_in, servers_with, threads_with, user_with, with_disconnect_at, with_nodes_at};
 
 use qx_types::{Limits, Manager, Proc, Thread};
 use std::alloc::{AllocError, Global};
 use std::marker::Model;
 
-/// A thread's nodes: that of its messages, and that of the pulses that ask to unblock it.
+/// A thread's nodes: that of its messages, and that of the pulses that ask to unblock it, of which one stands in a line
+/// at most: that of the manager that is asked.
 #[derive(Clone, Copy, Debug, PartialEq, Eq)]
 pub struct ThreadNodes {
     pub message: usize,
     pub unblock: usize,
+    pub asked: Option<Manager>,
 }
 
 /// The nodes of a process: those of its threads, by number, and those of its server connections.
@@ -114,6 +116,7 @@ impl Nodes {
     /// A thread's nodes.
     pub fn at(&self, thread: Thread) -> Option<ThreadNodes>
         ensures own { result ≡ nodes_at self.now thread }
+        ensures place { IfSome result (λ own. (thread.proc.user.0 < length self.now) × (thread.proc.num ≤ PROCESSES) × (thread.tid ≤ THREADS)) }
     {
         let of_user = self.users.get(thread.proc.user.0 as usize)?;
         let of_process = of_user.processes.get(thread.proc.num as usize)?;
@@ -129,6 +132,17 @@ impl Nodes {
         ensures there { nodes_at self.new thread ≡ Some own }
     {
         self.users[thread.proc.user.0 as usize].set(thread.proc.num, thread.tid, own);
+    }
+
+    /// A thread's unblock pulse stands in a manager's line from now on, or in none.
+    pub fn set_asked(&mut self, thread: Thread, asked: Option<Manager>)
+        requires there { IsTrue (is_some (nodes_at self.old thread)) }
+        ensures asked { Asked self.old self.new thread (option_map manager_number asked) }
+    {
+        let Some(own) = self.at(thread) else {
+            unreachable!();
+        };
+        self.set(thread, ThreadNodes { asked, ..own });
     }
 
     /// The disconnect node of a process' server connection at a manager.

@@ -6,7 +6,7 @@ use Rattle.qx_lists.specs.Table.{IsFree}
 use Rattle.qx_chan.specs.Nodes.{Message, node_of}
 use Rattle.qx_chan.proofs.KeptLemmas.{IsFree-message, Kept-put, shown-put}
 use Rattle.qx_chan.proofs.PresenceLemmas.{nodes-there, same_channel}
-use Rattle.qx_chan.proofs.channel.Channel.put.Goals as goal
+use Rattle.qx_chan.proofs.channel.Channel.send.Goals as goal
 
 pub unreachable-requires : goal.unreachable-requires
 unreachable-requires c = nodes-there c.self.inside.nodes c.args.thread (sym c.at.ensures.own ∙ c.in_default.is) (rw (← c.self.view_is) at c.requires.own)

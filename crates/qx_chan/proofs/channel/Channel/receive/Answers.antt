@@ -4,7 +4,7 @@ use Rattle.std.proofs.lemmas.Option.{slice_get_read}
 use Rattle.qx_types.specs.declared.names.TheConstants.Manager.{COUNT}
 use Rattle.qx_chan.proofs.KeptLemmas.{Kept-taken, gone-if, line_at-shown, shown-taken}
 use Rattle.qx_chan.proofs.PresenceLemmas.{same_channel}
-use Rattle.qx_chan.proofs.channel.Channel.take.Goals as goal
+use Rattle.qx_chan.proofs.channel.Channel.receive.Goals as goal
 
 pub take_out-requires-clause-line : goal.take_out-requires-clause-line
 take_out-requires-clause-line c = c.self.invariant.1.line c.number.result c.index_mut.result.now (slice_get_read c.self.inside.lines.items COUNT c.number.result c.index_mut.result.now (sym c.self.invariant.0) c.number.ensures.few c.index_mut.ensures.value)
