@@ -266,7 +266,14 @@ fn chmod(users: &Users, words: &[&[u8]]) -> Option<(Thread, Request)>
 fn notify(users: &Users, words: &[&[u8]]) -> Option<(Thread, Request)>
     ensures call { result ≡ read notify_line users.now (map (λ word. word.now) words.now) }
 {
-    let [thread_word, coid_word, action_word, conditions_word, code_word, value_word] = words
+    let [
+        thread_word,
+        coid_word,
+        action_word,
+        conditions_word,
+        code_word,
+        value_word,
+    ] = words
     else {
         return None;
     };
@@ -288,11 +295,7 @@ fn notify(users: &Users, words: &[&[u8]]) -> Option<(Thread, Request)>
 }
 
 /// `raw THREAD CONNECTION BYTES`
-fn raw(
-    alloc: Global,
-    users: &Users,
-    words: &[&[u8]],
-) -> Result<Option<(Thread, Request)>, NoMemory>
+fn raw(alloc: Global, users: &Users, words: &[&[u8]]) -> Result<Option<(Thread, Request)>, NoMemory>
     ensures call { IfOk result (λ call. call ≡ read raw_line users.now (map (λ word. word.now) words.now)) }
 {
     let Some((thread, coid, bytes)) = over_with_bytes(alloc, users, words)? else {

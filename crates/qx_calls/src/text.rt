@@ -211,12 +211,7 @@ fn push_close(
 }
 
 #[tactic(auto, unfolding(crate::specs::Calls::call_text))]
-fn push_dup(
-    text: &mut Vec<u8>,
-    config: &Config,
-    thread: Thread,
-    coid: Coid,
-) -> Result<(), NoMemory>
+fn push_dup(text: &mut Vec<u8>, config: &Config, thread: Thread, coid: Coid) -> Result<(), NoMemory>
     ensures ok { OnOk result (text.new.items ≡ text.old.items ++ call_text config.now thread (Request.Dup coid)) }
 {
     push_over(text, config, b"dup", thread, coid)

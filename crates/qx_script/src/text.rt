@@ -26,9 +26,7 @@ pub fn push_step(
             threads,
             prio,
         } => push_spawn(text, config, *user, *threads, *prio),
-        Step::Call { thread, request } => {
-            push_call_step(alloc, text, config, *thread, request)
-        }
+        Step::Call { thread, request } => { push_call_step(alloc, text, config, *thread, request) }
         Step::TakeReply { thread } => push_reply(text, config, *thread),
         Step::SetPrio { thread, prio } => push_prio(text, config, *thread, *prio),
         Step::Receive { worker, manager } => push_receive(text, *worker, *manager),
