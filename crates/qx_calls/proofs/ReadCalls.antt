@@ -43,51 +43,33 @@ names_after users None can = tt
 names_after users (Some []) can = tt
 names_after users (Some (byte ∷ bytes)) can = can
 
+infixr 10 ◌and◌
+◌and◌ : {A B : Type 0} → A → B → A × B
+first and rest = (first, rest)
+
 -- what a line asks for is said by the same words, but for those two
 at_path_make : (users : List (List ℕ)) → Makes users (CanSayCall users) lines_at_path
-at_path_make users = (
-  λ values can. (can.0, can),
-  (
-    λ values can. (can.0, can),
-    (
-      λ values can. (can.0, can),
-      (λ values can. (can.0, can), tt),
-    ),
-  ),
-)
+at_path_make users =
+    (λ values can. (can.0, can))
+    and (λ values can. (can.0, can))
+    and (λ values can. (can.0, can))
+    and (λ values can. (can.0, can))
+    and tt
 
 over_make : (users : List (List ℕ)) → Makes users (CanSayCall users) lines_over
-over_make users = (
-  λ values can. (can.0, can),
-  (
-    λ values can. (can.0, can),
-    (
-      λ values can. (can.0, (can.0, (can.1.0, (filled users values.1.1.0 values.1.1.1.0 can.1.1.1.0, tt)))),
-      (
-        λ values can. (can.0, can),
-        (
-          λ values can. (can.0, can),
-          (
-            λ values can. (can.0, can),
-            (
-              λ values can. (can.0, can),
-              (
-                λ values can. (can.0, (can.0, (can.1.0, names_after users values.1.1 can.1.1))),
-                (
-                  λ values can. (can.0, can),
-                  (
-                    λ values can. (can.0, can),
-                    (λ values can. (can.0, can), tt),
-                  ),
-                ),
-              ),
-            ),
-          ),
-        ),
-      ),
-    ),
-  ),
-)
+over_make users =
+    (λ values can. (can.0, can))
+    and (λ values can. (can.0, can))
+    and (λ values can. (can.0, (can.0, (can.1.0, (filled users values.1.1.0 values.1.1.1.0 can.1.1.1.0, tt)))))
+    and (λ values can. (can.0, can))
+    and (λ values can. (can.0, can))
+    and (λ values can. (can.0, can))
+    and (λ values can. (can.0, can))
+    and (λ values can. (can.0, (can.0, (can.1.0, names_after users values.1.1 can.1.1))))
+    and (λ values can. (can.0, can))
+    and (λ values can. (can.0, can))
+    and (λ values can. (can.0, can))
+    and tt
 
 call_over_within : (users : List (List ℕ)) (name : List ℕ) (words : List (List ℕ)) (call : Thread × Request) → list_all is_word words ≡ true
     → call_over_of users name words ≡ Some call → CanSayCall users call

@@ -13,6 +13,9 @@ use qx_words::words::{
 };
 use std::alloc::Global;
 
+/// Who calls and for what.
+pub type Call = (Thread, Request);
+
 /// A thread and its connection.
 fn over(users: &Users, thread_word: &[u8], coid_word: &[u8]) -> Option<(Thread, Coid)>
     ensures found { result ≡ read_words (AThread then AByte then end) (λ thread number. (thread, connection number)) users.now (thread_word.now ∷ coid_word.now ∷ []) }
@@ -71,11 +74,7 @@ fn at_path(
 }
 
 /// `open THREAD PATH FLAGS MODE`
-fn open(
-    alloc: Global,
-    users: &Users,
-    words: &[&[u8]],
-) -> Result<Option<(Thread, Request)>, NoMemory>
+fn open(alloc: Global, users: &Users, words: &[&[u8]]) -> Result<Option<Call>, NoMemory>
     ensures call { IfOk result (λ call. call ≡ read open_line users.now (map (λ word. word.now) words.now)) }
 {
     let [thread_word, path, flags_word, mode_word] = words else {
@@ -95,11 +94,7 @@ fn open(
 }
 
 /// `stat THREAD PATH`
-fn stat(
-    alloc: Global,
-    users: &Users,
-    words: &[&[u8]],
-) -> Result<Option<(Thread, Request)>, NoMemory>
+fn stat(alloc: Global, users: &Users, words: &[&[u8]]) -> Result<Option<Call>, NoMemory>
     ensures call { IfOk result (λ call. call ≡ read stat_line users.now (map (λ word. word.now) words.now)) }
 {
     let Some((thread, path)) = at_path(alloc, users, words)? else {
@@ -109,11 +104,7 @@ fn stat(
 }
 
 /// `unlink THREAD PATH`
-fn unlink(
-    alloc: Global,
-    users: &Users,
-    words: &[&[u8]],
-) -> Result<Option<(Thread, Request)>, NoMemory>
+fn unlink(alloc: Global, users: &Users, words: &[&[u8]]) -> Result<Option<Call>, NoMemory>
     ensures call { IfOk result (λ call. call ≡ read unlink_line users.now (map (λ word. word.now) words.now)) }
 {
     let Some((thread, path)) = at_path(alloc, users, words)? else {
@@ -123,11 +114,7 @@ fn unlink(
 }
 
 /// `mkdir THREAD PATH MODE`
-fn mkdir(
-    alloc: Global,
-    users: &Users,
-    words: &[&[u8]],
-) -> Result<Option<(Thread, Request)>, NoMemory>
+fn mkdir(alloc: Global, users: &Users, words: &[&[u8]]) -> Result<Option<Call>, NoMemory>
     ensures call { IfOk result (λ call. call ≡ read mkdir_line users.now (map (λ word. word.now) words.now)) }
 {
     let [thread_word, path, mode_word] = words else {
@@ -144,7 +131,7 @@ fn mkdir(
 }
 
 /// `read THREAD CONNECTION COUNT`
-fn read(users: &Users, words: &[&[u8]]) -> Option<(Thread, Request)>
+fn read(users: &Users, words: &[&[u8]]) -> Option<Call>
     ensures call { result ≡ read read_line users.now (map (λ word. word.now) words.now) }
 {
     let [thread_word, coid_word, count_word] = words else {
@@ -156,11 +143,7 @@ fn read(users: &Users, words: &[&[u8]]) -> Option<(Thread, Request)>
 }
 
 /// `write THREAD CONNECTION BYTES`
-fn write(
-    alloc: Global,
-    users: &Users,
-    words: &[&[u8]],
-) -> Result<Option<(Thread, Request)>, NoMemory>
+fn write(alloc: Global, users: &Users, words: &[&[u8]]) -> Result<Option<Call>, NoMemory>
     ensures call { IfOk result (λ call. call ≡ read write_line users.now (map (λ word. word.now) words.now)) }
 {
     let Some((thread, coid, bytes)) = over_with_bytes(alloc, users, words)? else {
@@ -170,11 +153,7 @@ fn write(
 }
 
 /// `fill THREAD CONNECTION COUNT BYTE`: a write of so many times that byte.
-fn fill(
-    alloc: Global,
-    users: &Users,
-    words: &[&[u8]],
-) -> Result<Option<(Thread, Request)>, NoMemory>
+fn fill(alloc: Global, users: &Users, words: &[&[u8]]) -> Result<Option<Call>, NoMemory>
     ensures call { IfOk result (λ call. call ≡ read fill_line users.now (map (λ word. word.now) words.now)) }
 {
     let [thread_word, coid_word, count_word, byte_word] = words else {
@@ -194,7 +173,7 @@ fn fill(
 }
 
 /// `close THREAD CONNECTION`
-fn close(users: &Users, words: &[&[u8]]) -> Option<(Thread, Request)>
+fn close(users: &Users, words: &[&[u8]]) -> Option<Call>
     ensures call { result ≡ read close_line users.now (map (λ word. word.now) words.now) }
 {
     let (thread, coid) = over_alone(users, words)?;
@@ -202,7 +181,7 @@ fn close(users: &Users, words: &[&[u8]]) -> Option<(Thread, Request)>
 }
 
 /// `dup THREAD CONNECTION`
-fn dup(users: &Users, words: &[&[u8]]) -> Option<(Thread, Request)>
+fn dup(users: &Users, words: &[&[u8]]) -> Option<Call>
     ensures call { result ≡ read dup_line users.now (map (λ word. word.now) words.now) }
 {
     let (thread, coid) = over_alone(users, words)?;
@@ -210,7 +189,7 @@ fn dup(users: &Users, words: &[&[u8]]) -> Option<(Thread, Request)>
 }
 
 /// `seek THREAD CONNECTION set|cur|end OFFSET`
-fn seek(users: &Users, words: &[&[u8]]) -> Option<(Thread, Request)>
+fn seek(users: &Users, words: &[&[u8]]) -> Option<Call>
     ensures call { result ≡ read seek_line users.now (map (λ word. word.now) words.now) }
 {
     let [thread_word, coid_word, whence_word, by_word] = words else {
@@ -223,7 +202,7 @@ fn seek(users: &Users, words: &[&[u8]]) -> Option<(Thread, Request)>
 }
 
 /// `fstat THREAD CONNECTION`
-fn fstat(users: &Users, words: &[&[u8]]) -> Option<(Thread, Request)>
+fn fstat(users: &Users, words: &[&[u8]]) -> Option<Call>
     ensures call { result ≡ read fstat_line users.now (map (λ word. word.now) words.now) }
 {
     let (thread, coid) = over_alone(users, words)?;
@@ -231,11 +210,7 @@ fn fstat(users: &Users, words: &[&[u8]]) -> Option<(Thread, Request)>
 }
 
 /// `list THREAD CONNECTION`, and a name or none: the names behind that one, or the first ones.
-fn list(
-    alloc: Global,
-    users: &Users,
-    words: &[&[u8]],
-) -> Result<Option<(Thread, Request)>, NoMemory>
+fn list(alloc: Global, users: &Users, words: &[&[u8]]) -> Result<Option<Call>, NoMemory>
     ensures call { IfOk result (λ call. call ≡ read list_line users.now (map (λ word. word.now) words.now)) }
 {
     let (thread_word, coid_word, after) = match words {
@@ -251,7 +226,7 @@ fn list(
 }
 
 /// `chmod THREAD CONNECTION MODE`
-fn chmod(users: &Users, words: &[&[u8]]) -> Option<(Thread, Request)>
+fn chmod(users: &Users, words: &[&[u8]]) -> Option<Call>
     ensures call { result ≡ read chmod_line users.now (map (λ word. word.now) words.now) }
 {
     let [thread_word, coid_word, mode_word] = words else {
@@ -263,7 +238,7 @@ fn chmod(users: &Users, words: &[&[u8]]) -> Option<(Thread, Request)>
 }
 
 /// `notify THREAD CONNECTION poll|pollarm|tranarm CONDITIONS CODE VALUE`
-fn notify(users: &Users, words: &[&[u8]]) -> Option<(Thread, Request)>
+fn notify(users: &Users, words: &[&[u8]]) -> Option<Call>
     ensures call { result ≡ read notify_line users.now (map (λ word. word.now) words.now) }
 {
     let [
@@ -295,7 +270,7 @@ fn notify(users: &Users, words: &[&[u8]]) -> Option<(Thread, Request)>
 }
 
 /// `raw THREAD CONNECTION BYTES`
-fn raw(alloc: Global, users: &Users, words: &[&[u8]]) -> Result<Option<(Thread, Request)>, NoMemory>
+fn raw(alloc: Global, users: &Users, words: &[&[u8]]) -> Result<Option<Call>, NoMemory>
     ensures call { IfOk result (λ call. call ≡ read raw_line users.now (map (λ word. word.now) words.now)) }
 {
     let Some((thread, coid, bytes)) = over_with_bytes(alloc, users, words)? else {
@@ -311,7 +286,7 @@ fn call_over(
     users: &Users,
     name: &[u8],
     words: &[&[u8]],
-) -> Result<Option<(Thread, Request)>, NoMemory>
+) -> Result<Option<Call>, NoMemory>
     ensures call { IfOk result (λ call. call ≡ call_over_of users.now name.now (map (λ word. word.now) words.now)) }
 {
     if name == b"read".as_slice() {
@@ -348,7 +323,7 @@ pub fn call(
     users: &Users,
     name: &[u8],
     words: &[&[u8]],
-) -> Result<Option<(Thread, Request)>, NoMemory>
+) -> Result<Option<Call>, NoMemory>
     ensures call { IfOk result (λ call. call ≡ call_of users.now name.now (map (λ word. word.now) words.now)) }
 {
     if name == b"open".as_slice() {
