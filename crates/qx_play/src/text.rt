@@ -45,7 +45,7 @@ fn push_entry(
 {
     push_number(text, number)?;
     text.extend_from_slice(b" ")?;
-    push_step(text, config, &entry.step)?;
+    push_step(alloc, text, config, &entry.step)?;
     text.extend_from_slice(b" -> ")?;
     push_outcome(alloc, text, config, &entry.outcome)?;
     text.extend_from_slice(b"\n")?;

@@ -2,26 +2,35 @@
 use Rattle.std.proofs.Common.{◌≡◌, ◌∙◌, ℕ, Bool, true, false, cond, List, ◌∷◌, Some, ap, refl, arith}
 use Rattle.std.specs.Prelude.{option_map}
 use Rattle.qx_types.specs.Configuration.{Configuration, IsConfiguration}
-use Rattle.qx_types.specs.declared.request.Request.TheVariants.{OpenPath, Close, Fstat}
+use Rattle.qx_types.specs.declared.names.Thread.{Thread}
+use Rattle.qx_types.specs.declared.request.Request.{Request}
 use Rattle.qx_types.specs.declared.step.Step.{Step}
 use Rattle.qx_types.specs.declared.step.Step.TheVariants.{Spawn, Call, TakeReply, SetPrio, Receive, Perform}
 use Rattle.qx_script.specs.declared.command.Command.TheVariants.{Take}
-use Rattle.qx_script.specs.Forms.{line_text, words_for, words_said}
-use Rattle.qx_script.specs.Lines.{CanSay, call_of, call_step, close_line, command_of, fstat_line, open_line, perform_line, prio_line, receive_line, reply_line, spawn_line, step_of, step_said}
+use Rattle.qx_calls.specs.Calls.{call_of, call_said}
+use Rattle.qx_calls.specs.Forms.{line_text, words_for, words_said}
+use Rattle.qx_script.specs.Lines.{CanSay, call_step, command_of, perform_line, prio_line, receive_line, reply_line, spawn_line, step_of, step_said}
 use Rattle.qx_script.specs.Script.{Reading, after_line, after_words, is_skipped, with_command}
 use Rattle.qx_script.specs.StepText.{step_text}
 use Rattle.qx_words.specs.Kinds.{is_word}
 use Rattle.qx_words.specs.Words.{words_of}
-use Rattle.qx_script.proofs.ReadForms.{line_again, text_in_words}
+use Rattle.qx_calls.proofs.ReadCalls.{call_again}
+use Rattle.qx_calls.proofs.ReadForms.{line_again, text_in_words}
+
+-- the first word of a call's line is that of no line of another step
+reads_call : (users : List (List ℕ)) (thread : Thread) (request : Request) (words : List (List ℕ))
+    → step_of users (call_said thread request).name words ≡ option_map call_step (call_of users (call_said thread request).name words)
+unfolding step_of
+reads_call users thread request words = grind arith
 
 -- a step's line is read as that step
 again : (config : Configuration) (step : Step) → IsConfiguration config.users config.workers → CanSay config.users step
     → step_of config.users (step_said step).name (words_for (step_said step).form config (step_said step).values) ≡ Some step
-unfolding step_of call_of
+unfolding step_of
 again config (Spawn user threads prio) valid can = line_again spawn_line config (user, (threads, (prio.0, tt))) valid can
-again config (Call thread (OpenPath path flags mode)) valid can = ap (option_map call_step) (line_again open_line config (thread, (path, (flags, (mode, tt)))) valid can)
-again config (Call thread (Close coid)) valid can = ap (option_map call_step) (line_again close_line config (thread, (coid.0, tt)) valid can)
-again config (Call thread (Fstat coid)) valid can = ap (option_map call_step) (line_again fstat_line config (thread, (coid.0, tt)) valid can)
+again config (Call thread request) valid can =
+    reads_call config.users thread request (words_for (call_said thread request).form config (call_said thread request).values)
+    ∙ ap (option_map call_step) (call_again config thread request valid can)
 again config (TakeReply thread) valid can = line_again reply_line config (thread, tt) valid can
 again config (SetPrio thread prio) valid can = line_again prio_line config (thread, (prio.0, tt)) valid can
 again config (Receive worker manager) valid can = line_again receive_line config (worker.0, (manager, tt)) valid can

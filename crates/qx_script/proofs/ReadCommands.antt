@@ -3,23 +3,20 @@ use Rattle.std.proofs.Common.{◌≡◌, ℕ, ◌≤◌, true, List, [], ◌∷�
 use Rattle.std.specs.Prelude.{codes}
 use Rattle.std.specs.List.{list_all}
 use Rattle.std.specs.Str.{bytes_eq}
-use Rattle.qx_types.specs.declared.names.Thread.{Thread}
-use Rattle.qx_types.specs.declared.request.Request.{Request}
 use Rattle.qx_types.specs.declared.step.Step.{Step}
 use Rattle.qx_script.specs.declared.command.Command.{Command}
 use Rattle.qx_script.specs.declared.command.Command.TheVariants.{Take, Serve, Do, Show, Trace}
-use Rattle.qx_words.specs.Kinds.{CanNameThread, is_word}
-use Rattle.qx_script.specs.Lines.{CanSay, call_lines, call_of, call_step, command_lines, command_of, do_of, step_lines, step_of}
+use Rattle.qx_calls.specs.Calls.{CanSayCall, call_of}
+use Rattle.qx_calls.proofs.ReadCalls.{call_within}
+use Rattle.qx_words.specs.Kinds.{is_word}
+use Rattle.qx_script.specs.Lines.{CanSay, call_step, command_lines, command_of, do_of, step_lines, step_of}
 use Rattle.qx_words.specs.Words.{greatest_moment, moment_of}
 use Rattle.qx_words.proofs.PlainWords.{both_true}
-use Rattle.qx_script.proofs.ReadForms.{Makes, by_name, one_of_within}
+use Rattle.qx_calls.proofs.ReadForms.{Makes, by_name, one_of_within}
 use Rattle.qx_words.proofs.ReadValues.{bind_some, mapped, number_within, of_some}
 
 abbrev pub IsMoment : ℕ → Type 0
 IsMoment moment = moment ≤ greatest_moment
-
-abbrev pub CanSayCall : List (List ℕ) → Thread × Request → Type 0
-CanSayCall users call = CanNameThread users call.0 × CanSay users (call_step call)
 
 -- a command of numbers, names and words that a line can say
 abbrev pub CanSayCommand : List (List ℕ) → Command → Type 0
@@ -29,18 +26,11 @@ CanSayCommand users (Do moment thread request) = IsMoment moment × CanSayCall u
 CanSayCommand users (Show user) = Unit {0}
 CanSayCommand users Trace = Unit {0}
 
-calls_make : (users : List (List ℕ)) → Makes users (CanSayCall users) call_lines
-calls_make users = grind arith
-
 steps_make : (users : List (List ℕ)) → Makes users (CanSay users) step_lines
 steps_make users = grind arith
 
 commands_make : (users : List (List ℕ)) → Makes users (CanSayCommand users) command_lines
 commands_make users = grind arith
-
-call_within : (users : List (List ℕ)) (name : List ℕ) (words : List (List ℕ)) (call : Thread × Request) → list_all is_word words ≡ true → call_of users name words ≡ Some call → CanSayCall users call
-unfolding call_of
-call_within users name words call all is = one_of_within (CanSayCall users) call_lines _ users name words call all (calls_make users) (λ none. cc) is
 
 step_within : (users : List (List ℕ)) (name : List ℕ) (words : List (List ℕ)) (step : Step) → list_all is_word words ≡ true → step_of users name words ≡ Some step → CanSay users step
 unfolding step_of

@@ -9,14 +9,14 @@ use Rattle.std.proofs.lemmas.Option.{cond_some}
 use Rattle.qx_types.specs.Configuration.{Configuration, IsConfiguration, is_user_name}
 use Rattle.qx_types.specs.declared.limits.TheConstants.Limits.{USERS, WORKERS}
 use Rattle.qx_script.specs.declared.command.Command.{Command}
-use Rattle.qx_script.specs.Forms.{read}
+use Rattle.qx_calls.specs.Forms.{read}
 use Rattle.qx_script.specs.Lines.{command_of, user_line, workers_line}
 use Rattle.qx_words.specs.Kinds.{is_word}
 use Rattle.qx_script.specs.Script.{Bad, Good, Reading, Script, after_line, after_user, after_words, after_workers, is_before_commands, is_new_user, is_skipped, script, script_from, unread, with_command, with_user, with_workers}
 use Rattle.qx_words.specs.Words.{lines_of, words_of}
 use Rattle.qx_words.proofs.PlainWords.{both_true}
 use Rattle.qx_script.proofs.ReadCommands.{CanSayCommand, command_within}
-use Rattle.qx_script.proofs.ReadForms.{by_name, line_within}
+use Rattle.qx_calls.proofs.ReadForms.{by_name, line_within}
 use Rattle.qx_words.proofs.ReadValues.{bind_some, is_in_line, lines_are_lines, mapped, of_some, words_are_words}
 use Rattle.qx_words.proofs.UserNames as names
 

@@ -15,7 +15,7 @@ use Rattle.qx_types.specs.declared.limits.TheConstants.Limits.{USERS, WORKERS}
 use Rattle.qx_types.specs.declared.step.Step.{Step}
 use Rattle.qx_script.specs.declared.command.Command.{Command}
 use Rattle.qx_script.specs.declared.command.Command.TheVariants.{Take}
-use Rattle.qx_script.specs.Forms.{CanBeSaid, Saying, line_text, words_said}
+use Rattle.qx_calls.specs.Forms.{CanBeSaid, Saying, line_text, words_said}
 use Rattle.qx_script.specs.Lines.{CanSay, step_said, user_line, workers_line}
 use Rattle.qx_script.specs.Replay.{replay_lines, replay_text, user_said, workers_said}
 use Rattle.qx_script.specs.Script.{Bad, Good, Reading, Script, after_line, after_words, is_new_user, script, script_from, unread, with_command, with_user, with_workers}
@@ -24,7 +24,7 @@ use Rattle.qx_words.specs.Kinds.{is_word, is_word_byte}
 use Rattle.qx_words.specs.Words.{greatest_byte, lines_of, ◌>>=◌}
 use Rattle.qx_words.proofs.PlainWords.{all_joined, all_weaker, and_true, both_true, none_passes}
 use Rattle.qx_script.proofs.ReadBack.{line_in_words, name_is_word, read_back}
-use Rattle.qx_script.proofs.ReadForms.{are_words, line_again, text_in_words}
+use Rattle.qx_calls.proofs.ReadForms.{are_words, line_again, text_in_words}
 use Rattle.qx_words.proofs.ReadValues.{is_in_line}
 use Rattle.qx_words.proofs.ReadWords.{chosen, is_false}
 

@@ -3,13 +3,13 @@ use Rattle.std.specs.Prelude.{ℕ, List, [], ◌∷◌, Option, Some, None, if�
 use Rattle.std.specs.Str.{bytes_eq}
 use Rattle.qx_types.specs.declared.names.Thread.{Thread}
 use Rattle.qx_types.specs.declared.request.Request.{Request}
-use Rattle.qx_types.specs.declared.request.Request.TheVariants.{OpenPath, Close, Fstat}
 use Rattle.qx_types.specs.declared.step.Step.{Step}
 use Rattle.qx_types.specs.declared.step.Step.TheVariants.{Spawn, Call, TakeReply, SetPrio, Receive, Perform}
 use Rattle.qx_script.specs.declared.command.Command.{Command}
 use Rattle.qx_script.specs.declared.command.Command.TheVariants.{Take, Serve, Do, Show, Trace}
-use Rattle.qx_script.specs.Forms.{◌then◌, end, Line, Saying, CanBeSaid, by, read_one_of}
-use Rattle.qx_words.specs.Kinds.{AName, AUser, AThread, AByte, AMoment, APath, SomeFlags, AMode, AManager}
+use Rattle.qx_calls.specs.Calls.{call_of, call_said}
+use Rattle.qx_calls.specs.Forms.{◌then◌, end, Line, Saying, CanBeSaid, by, read_one_of}
+use Rattle.qx_words.specs.Kinds.{AName, AUser, AThread, AByte, AMoment, AManager}
 use Rattle.qx_words.specs.Words.{◌>>=◌, moment_of}
 
 -- who uses the system, and how many workers serve it
@@ -19,29 +19,6 @@ user_line = record { name = codes "user"; form = AName then end; made = λ name.
 
 abbrev pub workers_line : Line ℕ
 workers_line = record { name = codes "workers"; form = AByte then end; made = λ workers. workers }
-
--- calls
-
-abbrev pub open_line : Line (Thread × Request)
-open_line = record {
-  name = codes "open";
-  form = AThread then APath then SomeFlags then AMode then end;
-  made = λ thread path flags mode. (thread, OpenPath path flags mode);
-}
-
-abbrev pub close_line : Line (Thread × Request)
-close_line = record { name = codes "close"; form = AThread then AByte then end; made = λ thread coid. (thread, Close (record { 0 = coid })) }
-
-abbrev pub fstat_line : Line (Thread × Request)
-fstat_line = record { name = codes "fstat"; form = AThread then AByte then end; made = λ thread coid. (thread, Fstat (record { 0 = coid })) }
-
-abbrev pub call_lines : List (Line (Thread × Request))
-call_lines = open_line ∷ close_line ∷ fstat_line ∷ []
-
-abbrev pub call_said : Thread → Request → Saying
-call_said thread (OpenPath path flags mode) = by open_line (thread, (path, (flags, (mode, tt))))
-call_said thread (Close coid) = by close_line (thread, (coid.0, tt))
-call_said thread (Fstat coid) = by fstat_line (thread, (coid.0, tt))
 
 -- steps
 
@@ -89,10 +66,7 @@ trace_line = record { name = codes "trace"; form = end; made = Trace }
 abbrev pub command_lines : List (Line Command)
 command_lines = serve_line ∷ show_line ∷ trace_line ∷ []
 
--- who calls and for what
-unfoldable pub call_of : List (List ℕ) → List ℕ → List (List ℕ) → Option (Thread × Request)
-call_of users name words = read_one_of call_lines None users name words
-
+-- the step that makes a call
 abbrev pub call_step : Thread × Request → Step
 call_step call = Call call.0 call.1
 

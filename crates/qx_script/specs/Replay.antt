@@ -3,7 +3,7 @@ use Rattle.std.specs.Prelude.{ℕ, List, ◌∷◌, ◌++◌, map}
 use Rattle.std.specs.List.{join_with_byte}
 use Rattle.qx_types.specs.Configuration.{Configuration}
 use Rattle.qx_types.specs.declared.step.Step.{Step}
-use Rattle.qx_script.specs.Forms.{Saying, by, line_text}
+use Rattle.qx_calls.specs.Forms.{Saying, by, line_text}
 use Rattle.qx_script.specs.Lines.{user_line, workers_line}
 use Rattle.qx_script.specs.StepText.{step_text}
 

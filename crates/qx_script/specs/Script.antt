@@ -7,7 +7,7 @@ use Rattle.qx_types.specs.declared.limits.TheConstants.Limits.{USERS, WORKERS}
 use Rattle.qx_script.specs.declared.command.Command.{Command}
 use Rattle.qx_script.specs.declared.script.Script as code
 use Rattle.qx_script.specs.declared.script.Script.TheVariants as variant
-use Rattle.qx_script.specs.Forms.{read}
+use Rattle.qx_calls.specs.Forms.{read}
 use Rattle.qx_script.specs.Lines.{command_of, user_line, workers_line}
 use Rattle.qx_words.specs.Words.{◌>>=◌, lines_of, words_of}
 

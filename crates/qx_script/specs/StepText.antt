@@ -2,7 +2,7 @@
 use Rattle.std.specs.Prelude.{ℕ, List}
 use Rattle.qx_types.specs.Configuration.{Configuration}
 use Rattle.qx_types.specs.declared.step.Step.{Step}
-use Rattle.qx_script.specs.Forms.{line_text}
+use Rattle.qx_calls.specs.Forms.{line_text}
 use Rattle.qx_script.specs.Lines.{step_said}
 
 unfoldable pub step_text : Configuration → Step → List ℕ

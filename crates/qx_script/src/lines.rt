@@ -1,12 +1,13 @@
 ghost use Rattle.std.specs.Prelude.{◌≡◌, ℕ, IfOk, IfSome, List, map, option_map, true};
 ghost use Rattle.qx_types.specs.Configuration.{is_user_name};
-ghost use Rattle.qx_script.specs.Forms.{read};
-ghost use Rattle.qx_script.specs.Lines.{call_of, close_line, command_of, do_of, fstat_line, open_line, perform_line, prio_line, receive_line, reply_line, serve_line, show_line, spawn_line, step_of, trace_line, user_line, workers_line};
+ghost use Rattle.qx_calls.specs.Forms.{read};
+ghost use Rattle.qx_script.specs.Lines.{command_of, do_of, perform_line, prio_line, receive_line, reply_line, serve_line, show_line, spawn_line, step_of, trace_line, user_line, workers_line};
 
 use crate::command::Command;
-use qx_types::{Bytes, Coid, NoMemory, Prio, Request, Step, Thread, Worker};
+use qx_calls::lines::call;
+use qx_types::{NoMemory, Prio, Step, Worker};
 use qx_words::Users;
-use qx_words::words::{byte, flags, manager, mode, moment, name, thread};
+use qx_words::words::{byte, manager, moment, name, thread};
 use std::alloc::Global;
 
 /// `user NAME`
@@ -45,54 +46,6 @@ fn spawn(users: &Users, words: &[&[u8]]) -> Option<Step>
         threads,
         prio: Prio(prio),
     })
-}
-
-/// `open THREAD PATH FLAGS MODE`
-fn open(
-    alloc: Global,
-    users: &Users,
-    words: &[&[u8]],
-) -> Result<Option<(Thread, Request)>, NoMemory>
-    ensures call { IfOk result (λ call. call ≡ read open_line users.now (map (λ word. word.now) words.now)) }
-{
-    let [thread_word, path, flags_word, mode_word] = words else {
-        return Ok(None);
-    };
-    let Some(thread) = thread(users, *thread_word) else {
-        return Ok(None);
-    };
-    let Some(flags) = flags(*flags_word) else {
-        return Ok(None);
-    };
-    let Some(mode) = mode(*mode_word) else {
-        return Ok(None);
-    };
-    let path = Bytes::from_slice(alloc, *path)?;
-    Ok(Some((thread, Request::OpenPath { path, flags, mode })))
-}
-
-/// `close THREAD CONNECTION`
-fn close(users: &Users, words: &[&[u8]]) -> Option<(Thread, Request)>
-    ensures call { result ≡ read close_line users.now (map (λ word. word.now) words.now) }
-{
-    let [thread_word, coid] = words else {
-        return None;
-    };
-    let thread = thread(users, *thread_word)?;
-    let coid = Coid(byte(*coid)?);
-    Some((thread, Request::Close { coid }))
-}
-
-/// `fstat THREAD CONNECTION`
-fn fstat(users: &Users, words: &[&[u8]]) -> Option<(Thread, Request)>
-    ensures call { result ≡ read fstat_line users.now (map (λ word. word.now) words.now) }
-{
-    let [thread_word, coid] = words else {
-        return None;
-    };
-    let thread = thread(users, *thread_word)?;
-    let coid = Coid(byte(*coid)?);
-    Some((thread, Request::Fstat { coid }))
 }
 
 /// `reply THREAD`
@@ -140,27 +93,6 @@ fn perform(words: &[&[u8]]) -> Option<Step>
     let worker = Worker(byte(*worker)?);
     let moment = moment(*moment_word)?;
     Some(Step::Perform { worker, moment })
-}
-
-/// Who calls and for what, by the call's first word.
-#[tactic(auto, unfolding(crate::specs::Lines::call_of))]
-fn call(
-    alloc: Global,
-    users: &Users,
-    name: &[u8],
-    words: &[&[u8]],
-) -> Result<Option<(Thread, Request)>, NoMemory>
-    ensures call { IfOk result (λ call. call ≡ call_of users.now name.now (map (λ word. word.now) words.now)) }
-{
-    if name == b"open".as_slice() {
-        open(alloc, users, words)
-    } else if name == b"close".as_slice() {
-        Ok(close(users, words))
-    } else if name == b"fstat".as_slice() {
-        Ok(fstat(users, words))
-    } else {
-        Ok(None)
-    }
 }
 
 /// A step, by its first word.

@@ -1,43 +1,60 @@
 -- Lines of words, each described once: how it is read, how it is printed, and what it can say.
-use Rattle.std.specs.Prelude.{ℕ, List, [], ◌∷◌, Option, Some, None, if◌then◌else◌}
+use Rattle.std.specs.Prelude.{ℕ, List, [], ◌∷◌, Option, Some, None, if◌then◌else◌, option_map}
 use Rattle.std.specs.List.{join_with_byte}
 use Rattle.std.specs.Str.{bytes_eq}
 use Rattle.qx_types.specs.Configuration.{Configuration}
 use Rattle.qx_words.specs.Kinds.{CanName, Kind, Value, value_of, value_text}
 use Rattle.qx_words.specs.Words.{◌>>=◌}
 
--- the words after a line's first
+-- the words after a line's first; the last of them may be one that can be left out
 infixr 10 ◌then◌
 pub data Form : Type 0 where
   end : Form
   ◌then◌ : Kind → Form → Form
+  at_most : Kind → Form
 
 abbrev pub Values : Form → Type 0
 Values end = Unit {0}
 Values (kind then form) = Value kind × Values form
+Values (at_most kind) = Option (Value kind)
 
 -- what makes an A of the values
 abbrev pub Made : Form → Type 0 → Type 0
 Made end A = A
 Made (kind then form) A = Value kind → Made form A
+Made (at_most kind) A = Option (Value kind) → A
 
 abbrev pub made_of : {A : Type 0} (form : Form) → Made form A → Values form → A
 made_of end made values = made
 made_of (kind then form) made values = made_of form (made values.0) values.1
+made_of (at_most kind) made values = made values
 
 abbrev pub read_words : {A : Type 0} (form : Form) → Made form A → List (List ℕ) → List (List ℕ) → Option A
 read_words end made users [] = Some made
 read_words end made users (word ∷ words) = None
 read_words (kind then form) made users [] = None
 read_words (kind then form) made users (word ∷ words) = value_of kind users word >>= λ value. read_words form (made value) users words
+read_words (at_most kind) made users [] = Some (made None)
+read_words (at_most kind) made users (word ∷ []) = option_map (λ value. made (Some value)) (value_of kind users word)
+read_words (at_most kind) made users (word ∷ other ∷ words) = None
 
 abbrev pub words_for : (form : Form) → Configuration → Values form → List (List ℕ)
 words_for end config values = []
 words_for (kind then form) config values = value_text kind config values.0 ∷ words_for form config values.1
+words_for (at_most kind) config None = []
+words_for (at_most kind) config (Some value) = value_text kind config value ∷ []
 
 abbrev pub CanBeWords : (form : Form) → List (List ℕ) → Values form → Type 0
 CanBeWords end users values = Unit {0}
 CanBeWords (kind then form) users values = CanName kind users values.0 × CanBeWords form users values.1
+CanBeWords (at_most kind) users None = Unit {0}
+CanBeWords (at_most kind) users (Some value) = CanName kind users value
+
+-- what makes a B of the values, by way of what makes an A of them
+abbrev pub made_into : {A B : Type 0} (form : Form) → (A → B) → Made form A → Made form B
+made_into end next made = next made
+made_into (kind then form) next made = λ value. made_into form next (made value)
+made_into (at_most kind) next made = λ value. next (made value)
 
 -- a line: its first word, the words after it, and what they make
 pub record Line (A : Type 0) : Type 0 where

@@ -1,14 +1,14 @@
 -- What is said by a line is read back, and what is read from a line can be said by it: once for all lines.
-use Rattle.std.proofs.Common.{◌≡◌, ℕ, Bool, true, false, cond, List, [], ◌∷◌, Option, Some, refl, subst}
+use Rattle.std.proofs.Common.{◌≡◌, ℕ, Bool, true, false, cond, List, [], ◌∷◌, Option, Some, None, refl, subst}
 use Rattle.std.specs.List.{list_all}
 use Rattle.std.specs.Str.{bytes_eq}
 use Rattle.qx_types.specs.Configuration.{Configuration, IsConfiguration}
-use Rattle.qx_script.specs.Forms.{CanBeSaid, CanBeWords, Form, Line, Made, Saying, Values, end, line_text, made_of, read, read_one_of, read_words, words_for, words_said, ◌then◌}
+use Rattle.qx_calls.specs.Forms.{CanBeSaid, CanBeWords, Form, Line, Made, Saying, Values, at_most, end, line_text, made_of, read, read_one_of, read_words, words_for, words_said, ◌then◌}
 use Rattle.qx_words.specs.Kinds.{is_word, value_of, value_text}
 use Rattle.qx_words.specs.Words.{words_of}
 use Rattle.qx_words.proofs.PlainWords.{and_true, both_true, words_again}
 use Rattle.qx_words.proofs.ReadKinds.{value_again, value_is_word, value_within}
-use Rattle.qx_words.proofs.ReadValues.{bind_some, of_some}
+use Rattle.qx_words.proofs.ReadValues.{bind_some, mapped, of_some}
 
 -- words after the first
 
@@ -17,12 +17,16 @@ form_again : {A : Type 0} (form : Form) (made : Made form A) (config : Configura
 form_again end made config values valid can = refl
 form_again (kind then form) made config values valid can =
     rw (value_again kind config values.0 valid can.0) (form_again form (made values.0) config values.1 valid can.1)
+form_again (at_most kind) made config None valid can = refl
+form_again (at_most kind) made config (Some value) valid can = rw (value_again kind config value valid can) refl
 
 are_words_for : (form : Form) (config : Configuration) (values : Values form) → IsConfiguration config.users config.workers → CanBeWords form config.users values
     → list_all is_word (words_for form config values) ≡ true
 are_words_for end config values valid can = refl
 are_words_for (kind then form) config values valid can =
     and_true (is_word (value_text kind config values.0)) _ (value_is_word kind config values.0 valid can.0) (are_words_for form config values.1 valid can.1)
+are_words_for (at_most kind) config None valid can = refl
+are_words_for (at_most kind) config (Some value) valid can = and_true (is_word (value_text kind config value)) true (value_is_word kind config value valid can) refl
 
 words_within : {A : Type 0} (form : Form) (made : Made form A) (users words : List (List ℕ)) (a : A) → list_all is_word words ≡ true
     → read_words form made users words ≡ Some a → (values : Values form) × CanBeWords form users values × (made_of form made values ≡ a)
@@ -34,6 +38,11 @@ words_within (kind then form) made users (word ∷ words) a all is =
     let value = bind_some (value_of kind users word) (λ value. read_words form (made value) users words) a is in
     let rest = words_within form (made value.0) users words a words_are.1 value.2 in
     ((value.0, rest.0), (value_within kind users word value.0 words_are.0 value.1, rest.1), rest.2)
+words_within (at_most kind) made users [] a all is = (None, tt, of_some (made None) a is)
+words_within (at_most kind) made users (word ∷ []) a all is =
+    let value = mapped (λ value. made (Some value)) (value_of kind users word) a is in
+    (Some value.0, value_within kind users word value.0 (both_true (is_word word) true all).0 value.1, value.2)
+words_within (at_most kind) made users (word ∷ other ∷ words) a all is = cc
 
 -- lines
 

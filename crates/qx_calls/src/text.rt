@@ -1,0 +1,337 @@
+//! Calls, each as the line of a script that makes it.
+
+ghost use Rattle.std.specs.Prelude.{◌≡◌, ◌++◌, ◌∷◌, [], OnOk, codes, decimal};
+ghost use Rattle.std.specs.Fmt.{signed_decimal};
+ghost use Rattle.std.specs.List.{join_with_byte};
+ghost use Rattle.qx_types.specs.declared.request.Request.{Request};
+ghost use Rattle.qx_calls.specs.Calls.{call_text};
+ghost use Rattle.qx_words.specs.FixedWords.{action_text, conditions_text, whence_text};
+ghost use Rattle.qx_words.specs.WordText.{bytes_text, thread_text};
+
+use qx_types::{
+    Bytes, Coid, Conds, Config, NoMemory, NotifyAction, OFlags, Request, Thread, Whence,
+};
+use qx_words::text::{
+    push_action, push_bytes, push_conditions, push_flags, push_mode, push_number, push_offset,
+    push_thread, push_whence,
+};
+use std::alloc::Global;
+
+/// The line that makes a call.
+pub fn push_call(
+    alloc: Global,
+    text: &mut Vec<u8>,
+    config: &Config,
+    thread: Thread,
+    request: &Request,
+) -> Result<(), NoMemory>
+    ensures ok { OnOk result (text.new.items ≡ text.old.items ++ call_text config.now thread request.now) }
+{
+    match request {
+        Request::OpenPath { path, flags, mode } => {
+            push_open(text, config, thread, path, *flags, *mode)
+        }
+        Request::StatPath { path } => push_stat(text, config, thread, path),
+        Request::Unlink { path } => push_unlink(text, config, thread, path),
+        Request::Mkdir { path, mode } => push_mkdir(text, config, thread, path, *mode),
+        Request::Read { coid, count } => push_read(text, config, thread, *coid, *count),
+        Request::Write { coid, bytes } => push_write(alloc, text, config, thread, *coid, bytes),
+        Request::Close { coid } => push_close(text, config, thread, *coid),
+        Request::Dup { coid } => push_dup(text, config, thread, *coid),
+        Request::Seek { coid, whence, by } => {
+            push_seek(text, config, thread, *coid, *whence, *by)
+        }
+        Request::Fstat { coid } => push_fstat(text, config, thread, *coid),
+        Request::List { coid, after } => push_list(text, config, thread, *coid, after),
+        Request::Chmod { coid, mode } => push_chmod(text, config, thread, *coid, *mode),
+        Request::Notify {
+            coid,
+            action,
+            conds,
+            code,
+            value,
+        } => push_notify(text, config, thread, *coid, *action, *conds, *code, *value),
+        Request::Raw { coid, bytes } => push_raw(alloc, text, config, thread, *coid, bytes),
+    }
+}
+
+/// A space and a number.
+fn push_next_number(text: &mut Vec<u8>, number: u64) -> Result<(), NoMemory>
+    ensures ok { OnOk result (text.new.items ≡ text.old.items ++ codes " " ++ decimal number) }
+{
+    text.extend_from_slice(b" ")?;
+    push_number(text, number)
+}
+
+/// A line's first word, a thread and a path.
+fn push_at_path(
+    text: &mut Vec<u8>,
+    config: &Config,
+    name: &[u8],
+    thread: Thread,
+    path: &Bytes,
+) -> Result<(), NoMemory>
+    ensures ok { OnOk result (text.new.items ≡ text.old.items ++ name.now ++ codes " " ++ thread_text config.now thread ++ codes " " ++ path.now) }
+{
+    text.extend_from_slice(name)?;
+    text.extend_from_slice(b" ")?;
+    push_thread(text, config, thread)?;
+    text.extend_from_slice(b" ")?;
+    Ok(text.extend_from_slice(path.as_slice())?)
+}
+
+/// A line's first word, a thread and its connection.
+fn push_over(
+    text: &mut Vec<u8>,
+    config: &Config,
+    name: &[u8],
+    thread: Thread,
+    coid: Coid,
+) -> Result<(), NoMemory>
+    ensures ok { OnOk result (text.new.items ≡ text.old.items ++ name.now ++ codes " " ++ thread_text config.now thread ++ codes " " ++ decimal coid.0) }
+{
+    text.extend_from_slice(name)?;
+    text.extend_from_slice(b" ")?;
+    push_thread(text, config, thread)?;
+    push_next_number(text, coid.0 as u64)
+}
+
+/// A line's first word, a thread, its connection and bytes.
+fn push_over_with_bytes(
+    alloc: Global,
+    text: &mut Vec<u8>,
+    config: &Config,
+    name: &[u8],
+    thread: Thread,
+    coid: Coid,
+    bytes: &Bytes,
+) -> Result<(), NoMemory>
+    ensures ok { OnOk result (text.new.items ≡ text.old.items ++ name.now ++ codes " " ++ thread_text config.now thread ++ codes " " ++ decimal coid.0 ++ codes " " ++ bytes_text bytes.now) }
+{
+    push_over(text, config, name, thread, coid)?;
+    text.extend_from_slice(b" ")?;
+    push_bytes(alloc, text, bytes)
+}
+
+#[tactic(auto, unfolding(crate::specs::Calls::call_text))]
+fn push_open(
+    text: &mut Vec<u8>,
+    config: &Config,
+    thread: Thread,
+    path: &Bytes,
+    flags: OFlags,
+    mode: u16,
+) -> Result<(), NoMemory>
+    ensures ok { OnOk result (text.new.items ≡ text.old.items ++ call_text config.now thread (Request.OpenPath path.now flags mode)) }
+{
+    push_at_path(text, config, b"open", thread, path)?;
+    text.extend_from_slice(b" ")?;
+    push_flags(text, flags)?;
+    text.extend_from_slice(b" ")?;
+    push_mode(text, mode)
+}
+
+#[tactic(auto, unfolding(crate::specs::Calls::call_text))]
+fn push_stat(
+    text: &mut Vec<u8>,
+    config: &Config,
+    thread: Thread,
+    path: &Bytes,
+) -> Result<(), NoMemory>
+    ensures ok { OnOk result (text.new.items ≡ text.old.items ++ call_text config.now thread (Request.StatPath path.now)) }
+{
+    push_at_path(text, config, b"stat", thread, path)
+}
+
+#[tactic(auto, unfolding(crate::specs::Calls::call_text))]
+fn push_unlink(
+    text: &mut Vec<u8>,
+    config: &Config,
+    thread: Thread,
+    path: &Bytes,
+) -> Result<(), NoMemory>
+    ensures ok { OnOk result (text.new.items ≡ text.old.items ++ call_text config.now thread (Request.Unlink path.now)) }
+{
+    push_at_path(text, config, b"unlink", thread, path)
+}
+
+#[tactic(auto, unfolding(crate::specs::Calls::call_text))]
+fn push_mkdir(
+    text: &mut Vec<u8>,
+    config: &Config,
+    thread: Thread,
+    path: &Bytes,
+    mode: u16,
+) -> Result<(), NoMemory>
+    ensures ok { OnOk result (text.new.items ≡ text.old.items ++ call_text config.now thread (Request.Mkdir path.now mode)) }
+{
+    push_at_path(text, config, b"mkdir", thread, path)?;
+    text.extend_from_slice(b" ")?;
+    push_mode(text, mode)
+}
+
+#[tactic(auto, unfolding(crate::specs::Calls::call_text))]
+fn push_read(
+    text: &mut Vec<u8>,
+    config: &Config,
+    thread: Thread,
+    coid: Coid,
+    count: u32,
+) -> Result<(), NoMemory>
+    ensures ok { OnOk result (text.new.items ≡ text.old.items ++ call_text config.now thread (Request.Read coid count)) }
+{
+    push_over(text, config, b"read", thread, coid)?;
+    push_next_number(text, count as u64)
+}
+
+#[tactic(auto, unfolding(crate::specs::Calls::call_text))]
+fn push_write(
+    alloc: Global,
+    text: &mut Vec<u8>,
+    config: &Config,
+    thread: Thread,
+    coid: Coid,
+    bytes: &Bytes,
+) -> Result<(), NoMemory>
+    ensures ok { OnOk result (text.new.items ≡ text.old.items ++ call_text config.now thread (Request.Write coid bytes.now)) }
+{
+    push_over_with_bytes(alloc, text, config, b"write", thread, coid, bytes)
+}
+
+#[tactic(auto, unfolding(crate::specs::Calls::call_text))]
+fn push_close(
+    text: &mut Vec<u8>,
+    config: &Config,
+    thread: Thread,
+    coid: Coid,
+) -> Result<(), NoMemory>
+    ensures ok { OnOk result (text.new.items ≡ text.old.items ++ call_text config.now thread (Request.Close coid)) }
+{
+    push_over(text, config, b"close", thread, coid)
+}
+
+#[tactic(auto, unfolding(crate::specs::Calls::call_text))]
+fn push_dup(text: &mut Vec<u8>, config: &Config, thread: Thread, coid: Coid) -> Result<(), NoMemory>
+    ensures ok { OnOk result (text.new.items ≡ text.old.items ++ call_text config.now thread (Request.Dup coid)) }
+{
+    push_over(text, config, b"dup", thread, coid)
+}
+
+#[tactic(auto, unfolding(crate::specs::Calls::call_text))]
+fn push_seek(
+    text: &mut Vec<u8>,
+    config: &Config,
+    thread: Thread,
+    coid: Coid,
+    whence: Whence,
+    by: i64,
+) -> Result<(), NoMemory>
+    ensures ok { OnOk result (text.new.items ≡ text.old.items ++ call_text config.now thread (Request.Seek coid whence by)) }
+{
+    push_over(text, config, b"seek", thread, coid)?;
+    push_place(text, whence, by)
+}
+
+/// A space, where an offset counts from, and the offset.
+fn push_place(text: &mut Vec<u8>, whence: Whence, by: i64) -> Result<(), NoMemory>
+    ensures ok { OnOk result (text.new.items ≡ text.old.items ++ codes " " ++ whence_text whence ++ codes " " ++ signed_decimal by) }
+{
+    text.extend_from_slice(b" ")?;
+    push_whence(text, whence)?;
+    text.extend_from_slice(b" ")?;
+    push_offset(text, by)
+}
+
+#[tactic(auto, unfolding(crate::specs::Calls::call_text))]
+fn push_fstat(
+    text: &mut Vec<u8>,
+    config: &Config,
+    thread: Thread,
+    coid: Coid,
+) -> Result<(), NoMemory>
+    ensures ok { OnOk result (text.new.items ≡ text.old.items ++ call_text config.now thread (Request.Fstat coid)) }
+{
+    push_over(text, config, b"fstat", thread, coid)
+}
+
+#[tactic(auto, unfolding(crate::specs::Calls::call_text))]
+fn push_list(
+    text: &mut Vec<u8>,
+    config: &Config,
+    thread: Thread,
+    coid: Coid,
+    after: &Bytes,
+) -> Result<(), NoMemory>
+    ensures ok { OnOk result (text.new.items ≡ text.old.items ++ call_text config.now thread (Request.List coid after.now)) }
+{
+    push_over(text, config, b"list", thread, coid)?;
+    if after.is_empty() {
+        return Ok(());
+    }
+    text.extend_from_slice(b" ")?;
+    Ok(text.extend_from_slice(after.as_slice())?)
+}
+
+#[tactic(auto, unfolding(crate::specs::Calls::call_text))]
+fn push_chmod(
+    text: &mut Vec<u8>,
+    config: &Config,
+    thread: Thread,
+    coid: Coid,
+    mode: u16,
+) -> Result<(), NoMemory>
+    ensures ok { OnOk result (text.new.items ≡ text.old.items ++ call_text config.now thread (Request.Chmod coid mode)) }
+{
+    push_over(text, config, b"chmod", thread, coid)?;
+    text.extend_from_slice(b" ")?;
+    push_mode(text, mode)
+}
+
+#[tactic(auto, unfolding(crate::specs::Calls::call_text))]
+fn push_notify(
+    text: &mut Vec<u8>,
+    config: &Config,
+    thread: Thread,
+    coid: Coid,
+    action: NotifyAction,
+    conds: Conds,
+    code: u8,
+    value: u32,
+) -> Result<(), NoMemory>
+    ensures ok { OnOk result (text.new.items ≡ text.old.items ++ call_text config.now thread (Request.Notify coid action conds code value)) }
+{
+    push_over(text, config, b"notify", thread, coid)?;
+    text.extend_from_slice(b" ")?;
+    push_wish(text, action, conds, code, value)
+}
+
+/// What a notification is to do, on which conditions, and the code and the value of its pulse.
+fn push_wish(
+    text: &mut Vec<u8>,
+    action: NotifyAction,
+    conds: Conds,
+    code: u8,
+    value: u32,
+) -> Result<(), NoMemory>
+    ensures ok { OnOk result (text.new.items ≡ text.old.items ++ join_with_byte 32 (action_text action ∷ conditions_text conds ∷ decimal code ∷ decimal value ∷ [])) }
+{
+    push_action(text, action)?;
+    text.extend_from_slice(b" ")?;
+    push_conditions(text, conds)?;
+    push_next_number(text, code as u64)?;
+    push_next_number(text, value as u64)
+}
+
+#[tactic(auto, unfolding(crate::specs::Calls::call_text))]
+fn push_raw(
+    alloc: Global,
+    text: &mut Vec<u8>,
+    config: &Config,
+    thread: Thread,
+    coid: Coid,
+    bytes: &Bytes,
+) -> Result<(), NoMemory>
+    ensures ok { OnOk result (text.new.items ≡ text.old.items ++ call_text config.now thread (Request.Raw coid bytes.now)) }
+{
+    push_over_with_bytes(alloc, text, config, b"raw", thread, coid, bytes)
+}
