@@ -1,7 +1,5 @@
 -- where a process is attached, as connections come and go
 mod AttachedLemmas
--- a message goes out
-mod KeptLemmas
 -- one process among all users' rows
 mod ProcessLemmas
 -- a message is received
@@ -10,8 +8,16 @@ mod ReceiveLemmas
 mod RowReads
 -- changes that lines and nodes are not told of
 mod SeenLemmas
+-- a message goes out
+mod SendLemmas
 -- a call that goes out
 mod SentLemmas
+-- disconnect nodes are settled
+mod SettleLemmas
+-- one thread's row changes, and one line
+mod ThreadLemmas
+-- a thread is interrupted
+mod InterruptLemmas
 -- a worker does what it holds
 mod ServeLemmas
 -- the rows of one more user at boot

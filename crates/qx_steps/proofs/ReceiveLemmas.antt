@@ -1,11 +1,10 @@
--- Rows, lines and nodes stand together still as a line's first message is received.
-use Rattle.std.proofs.Common.{◌≡◌, ◌≢◌, inl, inr, ℕ, zero, suc, ◌<◌, ◌∷◌, [], ◌||◌, Bool, true, false, List, Option, Some, None, drop, length, is_some, slice_get, refl, sym, ◌∙◌, ap}
-use Rattle.std.specs.Prelude.{◌==◌, option_map}
-use Rattle.std.proofs.lemmas.Bool.{cases_eq, eqb-true}
-use Rattle.std.proofs.lemmas.List.{length-set}
+-- Rows, lines and nodes stand together still as a line's first item is received.
+use Rattle.std.proofs.Common.{◌≡◌, ◌≢◌, ℕ, zero, suc, ◌∷◌, [], Bool, true, false, List, Option, Some, None, drop, slice_get, is_some, refl, sym, ◌∙◌, ap}
+use Rattle.std.specs.Prelude.{option_map}
+use Rattle.std.specs.Option.{option_or}
+use Rattle.std.proofs.lemmas.Bool.{eqb-true}
 use Rattle.qx_types.specs.Managers.{manager_number}
 use Rattle.qx_types.specs.declared.names.Manager.{Manager}
-use Rattle.qx_types.specs.declared.names.Proc.{Proc}
 use Rattle.qx_types.specs.declared.names.Thread.{Thread}
 use Rattle.qx_machine.specs.declared.rows.OwnItem.{OwnItem}
 use Rattle.qx_machine.specs.declared.rows.OwnItem.TheVariants as item
@@ -14,18 +13,17 @@ use Rattle.qx_machine.specs.declared.rows.State.{State}
 use Rattle.qx_machine.specs.declared.rows.State.TheVariants as state
 use Rattle.qx_machine.specs.declared.rows.ThreadRow.{ThreadRow}
 use Rattle.qx_machine.specs.Lines.{line_at, with_line}
-use Rattle.qx_machine.specs.Parts.{Part, thread_of}
+use Rattle.qx_machine.specs.Parts.{Part}
 use Rattle.qx_machine.specs.Processes.{Process, taken_state, taken_thread, with_thread}
 use Rattle.qx_machine.specs.Rows.{row_at, with_row}
 use Rattle.qx_machine.specs.Users.{take}
-use Rattle.qx_chan.specs.Channel.{Channel, is_same_thread, sender, sender_of, stands, with_channel_line}
+use Rattle.qx_process.proofs.RowLemmas.{set-row, with_row-none}
+use Rattle.qx_chan.specs.Channel.{Channel, IsGone, call_in, first_told, message_in, sender, sender_of, stands, told, unblock_call, with_channel_line}
 use Rattle.qx_parts.specs.Reads.{process_of, thread_row}
-use Rattle.qx_steps.specs.Kept.{Kept, attached_at, is_queued_at, stands_at}
-use Rattle.qx_chan.proofs.EntryLemmas.{is_same_thread-differs, is_same_thread-self, line_at-other, line_at-same}
-use Rattle.qx_chan.proofs.NodesLemmas.{same_or_not, same_proc}
-use Rattle.qx_steps.proofs.KeptLemmas.{eqb-differs, number-below}
-use Rattle.qx_steps.proofs.ProcessLemmas.{process_of-other, process_of-same}
-use Rattle.qx_steps.proofs.RowReads.{length-with_row, read-with_row, row_at-with_other, row_at-with_same}
+use Rattle.qx_steps.specs.Kept.{Kept, asked_at, is_asked_at, is_queued_at, stands_at}
+use Rattle.qx_chan.proofs.EntryLemmas.{is_same_thread-differs, is_same_thread-self}
+use Rattle.qx_steps.proofs.AttachedLemmas.{eqb-differs}
+use Rattle.qx_steps.proofs.ThreadLemmas.{Kept-changed, OneThread, Own, OwnLine, one_thread}
 
 pub first_of-line : (line : List Queued) (first : Queued) → Some first ≡ slice_get line 0 → line ≡ first ∷ drop 1 line
 first_of-line [] first is = cc
@@ -41,15 +39,15 @@ pub none_first : (line : List Queued) → None ≡ slice_get line 0 → line ≡
 none_first [] is = refl
 none_first (first ∷ line) is = let clash : None ≡ Some first = is in absurd (cc)
 
--- the processes of a user once an item was received
-take_processes : (part : Part) (user : ℕ) (own : OwnItem) → (take part own).processes ≡ with_row part.processes (sender_of user own).proc.num (with_thread (sender_of user own).tid taken_thread)
-unfolding take
-take_processes part user (item.Message process thread) = refl
+-- what the first item tells of others, and where it tells nothing
 
-pub sender-user : (user : ℕ) (own : OwnItem) → (sender_of user own).proc.user.0 ≡ user
-sender-user user (item.Message process thread) = refl
+told-other : {A : Type 0} (part : OwnItem → Option A) (first : Queued) (rest : List Queued) (other : Thread) → other ≢ sender first → first_told part other rest ≡ first_told part other (first ∷ rest)
+told-other part first rest other differs = rw (is_same_thread-differs (sender first) other (λ same. differs (sym same))) refl
 
--- a thread whose message stands somewhere, where it stands no more
+told-none : {A : Type 0} (part : OwnItem → Option A) (first : Queued) (rest : List Queued) → part first.item ≡ None → first_told part (sender first) rest ≡ first_told part (sender first) (first ∷ rest)
+told-none part first rest none = rw (is_same_thread-self (sender first), none) refl
+
+-- a thread whose message stands somewhere, and stands no more once it is taken
 gone_from : (row : Option ThreadRow) (number at : ℕ) → stands_at number row ≡ true → stands_at at (option_map taken_thread row) ≡ false
 gone_from None number at is = refl
 gone_from (Some row) number at is = by_state row.state is
@@ -60,108 +58,125 @@ gone_from (Some row) number at is = by_state row.state is
     by_state (state.Taken sent) is = refl
     by_state (state.Answered answer) is = refl
 
-stands_once : (row : Option ThreadRow) (number at : ℕ) → at ≢ number → stands_at number row ≡ true → stands_at at row ≡ false
+pub stands_once : (row : Option ThreadRow) (number at : ℕ) → at ≢ number → stands_at number row ≡ true → stands_at at row ≡ false
 stands_once None number at differs is = refl
 stands_once (Some row) number at differs is = by_state row.state is
   where
     by_state : (s : State) → is_queued_at number s ≡ true → is_queued_at at s ≡ false
     by_state state.Ready is = refl
-    by_state (state.Queued sent) is = eqb-differs (manager_number sent.manager) at (λ same. differs (sym same ∙ eqb-true (manager_number sent.manager) number is))
+    by_state (state.Queued sent) is = eqb-differs (manager_number sent.target.manager) at (λ same. differs (sym same ∙ eqb-true (manager_number sent.target.manager) number is))
     by_state (state.Taken sent) is = refl
     by_state (state.Answered answer) is = refl
 
-is_there : (row : Option ThreadRow) → is_some (option_map taken_thread row) ≡ is_some row
-is_there None = refl
-is_there (Some row) = refl
+-- a thread whose message stands in a line has no unblock pulse
+pub queued-unasked : (row : Option ThreadRow) (number : ℕ) → stands_at number row ≡ true → (at call : ℕ) → asked_at at call row ≡ true → ⊥
+queued-unasked None number is at call asked = cc
+queued-unasked (Some row) number is at call asked = by_state row.state is asked
+  where
+    by_state : (s : State) → is_queued_at number s ≡ true → is_asked_at at call row.calls s ≡ true → ⊥
+    by_state state.Ready is asked = cc
+    by_state (state.Queued sent) is asked = cc
+    by_state (state.Taken sent) is asked = cc
+    by_state (state.Answered answer) is asked = cc
 
-module _ (parts : List (Option Part)) (channel : Channel) (manager : Manager) (first : Queued) (rest : List Queued)
-    (line : line_at channel.lines (manager_number manager) ≡ first ∷ rest) (gone : stands rest (sender first) ≡ false) (kept : Kept parts channel) where
-  abbrev thread : Thread
-  thread = sender first
-
+module _ (parts : List (Option Part)) (channel : Channel) (manager : Manager) (user : ℕ) (prio : ℕ) (rest : List Queued) (kept : Kept parts channel) where
   abbrev number : ℕ
   number = manager_number manager
 
-  abbrev h : Part → Part
-  h part = take part first.item
+  abbrev entry : OwnItem → Queued
+  entry own = record { user = record { 0 = user }; item = own; prio = record { 0 = prio } }
 
-  abbrev new : List (Option Part)
-  new = with_row parts thread.proc.user.0 h
+  -- a message
+  module _ (process tid : ℕ) (line : line_at channel.lines number ≡ entry (item.Message process tid) ∷ rest) (gone : IsGone (entry (item.Message process tid)) rest) where
+    abbrev first : Queued
+    first = entry (item.Message process tid)
 
-  changes : (part : Part) → (h part).processes ≡ with_row part.processes thread.proc.num (with_thread thread.tid taken_thread)
-  changes part = take_processes part first.user.0 first.item
+    abbrev thread : Thread
+    thread = sender first
 
-  here : process_of new thread.proc ≡ option_map (with_thread thread.tid taken_thread) (process_of parts thread.proc)
-  here = process_of-same parts thread.proc h (with_thread thread.tid taken_thread) (λ part is. changes part)
+    abbrev h : Part → Part
+    h part = take part (item.Message process tid)
 
-  elsewhere : (other : Proc) → other ≢ thread.proc → process_of new other ≡ process_of parts other
-  elsewhere other differs = process_of-other parts thread.proc h (λ part is n apart. rw (changes part) (row_at-with_other part.processes thread.proc.num n (with_thread thread.tid taken_thread) apart)) other differs
+    changes : (part : Part) → (h part).processes ≡ with_row part.processes process (with_thread tid taken_thread)
+    unfolding take
+    changes part = refl
 
-  row_new : thread_row new thread ≡ option_map taken_thread (thread_row parts thread)
-  row_new = ap (thread_of thread.tid) here ∙ in_process (process_of parts thread.proc)
-    where
-      in_process : (o : Option Process) → thread_of thread.tid (option_map (with_thread thread.tid taken_thread) o) ≡ option_map taken_thread (thread_of thread.tid o)
-      in_process None = refl
-      in_process (Some x) = row_at-with_same x.threads thread.tid taken_thread
+    one : OneThread (with_row parts user h) parts thread (with_thread tid taken_thread) taken_thread
+    one = one_thread parts thread h (with_thread tid taken_thread) taken_thread (λ part is. changes part) (λ x. refl)
 
-  row_other : (other : Thread) → other ≢ thread → thread_row new other ≡ thread_row parts other
-  row_other other differs = elim (same_proc other.proc thread.proc) [
-    | inr apart ↦ ap (thread_of other.tid) (elsewhere other.proc apart)
-    | inl same ↦
-        let tid : other.tid ≢ thread.tid = λ equal. differs (λ i. record { proc = same i; tid = equal i }) in
-        rw (same, here) (in_process other.tid tid (process_of parts thread.proc))
-  ]
-    where
-      in_process : (tid : ℕ) → tid ≢ thread.tid → (o : Option Process) → thread_of tid (option_map (with_thread thread.tid taken_thread) o) ≡ thread_of tid o
-      in_process tid differs None = refl
-      in_process tid differs (Some x) = row_at-with_other x.threads thread.tid tid taken_thread differs
+    stood : stands_at number (thread_row parts thread) ≡ true
+    stood = sym (kept.lines thread number) ∙ rw (line, is_same_thread-self thread) refl
 
-  stood : stands_at number (thread_row parts thread) ≡ true
-  stood = sym (kept.lines thread number) ∙ rw (line, is_same_thread-self thread) refl
+    own : Own parts (with_row parts user h) channel thread (with_thread tid taken_thread) taken_thread one kept manager (drop 1)
+    own = record {
+      line = record {
+        stand = λ other differs. rw line (ap is_some (told-other message_in first rest other differs));
+        calls = λ other differs. rw line (told-other call_in first rest other differs);
+      };
+      stand = rw (line, one.own) (gone ∙ sym (gone_from (thread_row parts thread) number number stood));
+      stand_other = λ at differs. kept.lines thread at ∙ stands_once (thread_row parts thread) number at differs stood ∙ sym (rw one.own (gone_from (thread_row parts thread) number at stood));
+      calls = λ call is. absurd (none number call (rw line (sym (told-none call_in first rest refl) ∙ rw line at is)));
+      calls_other = λ at call differs is. absurd (none at call is);
+    }
+      where
+        none : (at call : ℕ) → unblock_call (line_at channel.lines at) thread ≡ Some call → ⊥
+        none at call is = queued-unasked (thread_row parts thread) number stood at call (kept.pulses thread at call is)
 
-  within : number < length channel.lines
-  within = rw kept.managers (number-below manager)
+    message-taken : Kept (with_row parts user h) (with_channel_line channel number (drop 1))
+    message-taken = Kept-changed parts (with_row parts user h) channel thread (with_thread tid taken_thread) taken_thread one kept manager (drop 1) own (λ x at. refl)
 
-  left : (other : Thread) (at : ℕ) → stands (line_at (with_channel_line channel number (drop 1)).lines at) other ≡ stands_at at (thread_row new other)
-  left other at = elim (cases_eq at number) [
-    | inl same ↦ rw (same, line_at-same channel.lines number (drop 1) within, line) (in_line other)
-    | inr differs ↦ rw (line_at-other channel.lines number (drop 1) at differs) (in_other other at differs)
-  ]
-    where
-      in_line : (other : Thread) → stands rest other ≡ stands_at number (thread_row new other)
-      in_line other = elim (same_or_not other thread) [
-        | inl same ↦ rw (same, row_new, gone_from (thread_row parts thread) number number stood) gone
-        | inr differs ↦
-            let not_first : is_same_thread thread other ≡ false = is_same_thread-differs thread other (λ same. differs (sym same)) in
-            let before : stands (first ∷ rest) other ≡ stands_at number (thread_row parts other) = rw line at (kept.lines other number) in
-            let later : stands rest other ≡ stands_at number (thread_row parts other) = rw not_first at before in
-            rw (row_other other differs) later
-      ]
+  -- an unblock pulse, which changes no row
+  module _ (process tid call : ℕ) (line : line_at channel.lines number ≡ entry (item.Unblock process tid call) ∷ rest) (gone : IsGone (entry (item.Unblock process tid call)) rest) where
+    abbrev pulse : Queued
+    pulse = entry (item.Unblock process tid call)
 
-      in_other : (other : Thread) (at : ℕ) → at ≢ number → stands (line_at channel.lines at) other ≡ stands_at at (thread_row new other)
-      in_other other at apart = kept.lines other at ∙ elim (same_or_not other thread) [
-        | inl same ↦ rw (same, row_new, gone_from (thread_row parts thread) number at stood) (stands_once (thread_row parts thread) number at apart stood)
-        | inr differs ↦ ap (stands_at at) (sym (row_other other differs))
-      ]
+    abbrev asked : Thread
+    asked = sender pulse
 
-  taken_at : Kept new (with_channel_line channel number (drop 1))
-  taken_at = record {
-    users = kept.users ∙ sym (length-with_row parts thread.proc.user.0 h);
-    managers = length-set _ number _ ∙ kept.managers;
-    threads = λ other. kept.threads other ∙ elim (same_or_not other thread) [
-      | inl same ↦ rw (same, row_new) (sym (is_there (thread_row parts thread)))
-      | inr differs ↦ ap is_some (sym (row_other other differs))
-    ];
-    lines = left;
-    servers = λ other at. kept.servers other at ∙ elim (same_proc other thread.proc) [
-      | inl same ↦ rw (same, here) (sym (as_before (manager_number at) (process_of parts thread.proc)))
-      | inr differs ↦ ap (attached_at (manager_number at)) (sym (elsewhere other differs))
-    ];
-  }
-    where
-      as_before : (at : ℕ) (o : Option Process) → attached_at at (option_map (with_thread thread.tid taken_thread) o) ≡ attached_at at o
-      as_before at None = refl
-      as_before at (Some x) = refl
+    abbrev same_part : Part → Part
+    same_part part = take part (item.Unblock process tid call)
 
-  pub Kept-taken : Kept (with_row parts first.user.0 (λ part. take part first.item)) (with_channel_line channel number (drop 1))
-  Kept-taken = rw (sender-user first.user.0 first.item) at taken_at
+    stays : (part : Part) → (same_part part).processes ≡ part.processes
+    unfolding take
+    stays part = refl
+
+    abbrev same_thread : ThreadRow → ThreadRow
+    same_thread row = row
+
+    with_same : {A : Type 0} (xs : List (Option A)) (n : ℕ) → xs ≡ with_row xs n (λ x. x)
+    with_same xs n = by_row (row_at xs n) refl
+      where
+        by_row : (o : Option A) → row_at xs n ≡ o → xs ≡ with_row xs n (λ x. x)
+        by_row None is = sym (with_row-none xs n (λ x. x) is)
+        by_row (Some x) is = sym (rw is (set-row xs n x is))
+
+    same_one : OneThread (with_row parts user same_part) parts asked (λ x. x) same_thread
+    same_one = one_thread parts asked same_part (λ x. x) same_thread (λ part is. stays part ∙ with_same part.processes process) (λ x. with_same x.threads tid)
+
+    same_row : (o : Option ThreadRow) → option_map same_thread o ≡ o
+    same_row None = refl
+    same_row (Some row) = refl
+
+    pulse_own : Own parts (with_row parts user same_part) channel asked (λ x. x) same_thread same_one kept manager (drop 1)
+    pulse_own = record {
+      line = record {
+        stand = λ other differs. rw line (ap is_some (told-other message_in pulse rest other differs));
+        calls = λ other differs. rw line (told-other call_in pulse rest other differs);
+      };
+      stand = rw line (ap is_some (told-none message_in pulse rest refl)) ∙ ap (λ l. stands l asked) (sym line) ∙ kept.lines asked number ∙ ap (stands_at number) (sym (same_row (thread_row parts asked)) ∙ sym same_one.own);
+      stand_other = λ at differs. kept.lines asked at ∙ ap (stands_at at) (sym (same_row (thread_row parts asked)) ∙ sym same_one.own);
+      calls = λ its is. let clash : None ≡ Some its = sym gone ∙ rw line at is in absurd (cc);
+      calls_other = λ at its differs is. ap (asked_at at its) (same_one.own ∙ same_row (thread_row parts asked)) ∙ kept.pulses asked at its is;
+    }
+
+    pulse-taken : Kept (with_row parts user same_part) (with_channel_line channel number (drop 1))
+    pulse-taken = Kept-changed parts (with_row parts user same_part) channel asked (λ x. x) same_thread same_one kept manager (drop 1) pulse_own (λ x at. refl)
+
+pub Kept-taken : (parts : List (Option Part)) (channel : Channel) (manager : Manager) (first : Queued) (rest : List Queued) → line_at channel.lines (manager_number manager) ≡ first ∷ rest → IsGone first rest → Kept parts channel
+    → Kept (with_row parts first.user.0 (λ part. take part first.item)) (with_channel_line channel (manager_number manager) (drop 1))
+Kept-taken parts channel manager first rest line gone kept = by_item first.item line gone
+  where
+    by_item : (own : OwnItem) → line_at channel.lines (manager_number manager) ≡ record { user = first.user; item = own; prio = first.prio } ∷ rest → IsGone (record { user = first.user; item = own; prio = first.prio }) rest
+        → Kept (with_row parts first.user.0 (λ part. take part own)) (with_channel_line channel (manager_number manager) (drop 1))
+    by_item (item.Message process tid) is gone = message-taken parts channel manager first.user.0 first.prio.0 rest kept process tid is gone
+    by_item (item.Unblock process tid call) is gone = pulse-taken parts channel manager first.user.0 first.prio.0 rest kept process tid call is gone

@@ -1,264 +1,308 @@
--- Rows, lines and nodes stand together still as a worker does what it holds.
-use Rattle.std.proofs.Common.{◌≡◌, ◌≢◌, inl, inr, ◌+◌, add-one, ℕ, zero, suc, ◌<◌, ◌∷◌, [], ◌++◌, ◌||◌, ◌&&◌, not, take, Bool, true, false, List, Option, Some, None, Result, Ok, Err, slice_get, length, is_some, refl, sym, ◌∙◌, ap}
-use Rattle.std.specs.Prelude.{nat_le, option_map}
-use Rattle.std.specs.FinSet as set
-use Rattle.std.specs.List.{list_any}
-use Rattle.std.proofs.lemmas.Bool.{cases_Bool, cond_both, eqb-true}
+-- Rows, lines and nodes stand together still as a thread is answered: as a worker does what it holds, or as its queued message goes.
+use Rattle.std.proofs.Common.{◌≡◌, ◌≢◌, inl, inr, ℕ, ◌∷◌, [], ◌&&◌, ◌==◌, Bool, true, false, List, Option, Some, None, Result, Ok, Err, refl, sym, ◌∙◌, ap}
+use Rattle.std.specs.Prelude.{option_map}
+use Rattle.std.proofs.lemmas.Bool.Decides.{eqb_tells}
 use Rattle.qx_types.specs.Managers.{manager_number, managers}
 use Rattle.qx_types.specs.declared.errno.Errno.{Errno}
-use Rattle.qx_types.specs.declared.limits.TheConstants.Limits.{BLOCKS}
 use Rattle.qx_types.specs.declared.names.Manager.{Manager}
-use Rattle.qx_types.specs.declared.names.Manager.TheVariants.{Ram}
 use Rattle.qx_types.specs.declared.names.Proc.{Proc}
+use Rattle.qx_types.specs.declared.names.Thread.{Thread}
 use Rattle.qx_types.specs.declared.outcome.Answer.{Answer}
 use Rattle.qx_types.specs.declared.outcome.Answer.TheVariants.{Reply, Failed}
+use Rattle.qx_wire.specs.Reading.{meaning}
+use Rattle.qx_machine.specs.declared.rows.Over.{Over}
 use Rattle.qx_machine.specs.declared.rows.OwnItem.{OwnItem}
 use Rattle.qx_machine.specs.declared.rows.OwnItem.TheVariants as item
-use Rattle.qx_machine.specs.declared.rows.Message.{Message}
-use Rattle.qx_machine.specs.declared.rows.Message.TheVariants.{Open, Close}
+use Rattle.qx_machine.specs.declared.rows.Queued.{Queued}
 use Rattle.qx_machine.specs.declared.rows.Sent.{Sent}
 use Rattle.qx_machine.specs.declared.rows.State.{State}
-use Rattle.qx_machine.specs.declared.rows.State.TheVariants.{Ready, Queued, Taken, Answered}
+use Rattle.qx_machine.specs.declared.rows.State.TheVariants.{Ready, Queued as queued, Taken, Answered}
+use Rattle.qx_machine.specs.declared.rows.Target.{Target}
 use Rattle.qx_machine.specs.declared.rows.ThreadRow.{ThreadRow}
-use Rattle.qx_machine.specs.Lines.{line_at}
-use Rattle.qx_machine.specs.Parts.{Part, thread_at, thread_of, with_process}
-use Rattle.qx_machine.specs.Performing.{Deed, after_answer, close_deed, deed_at, deed_of, new_coid, open_deed, opened_by, taken_in, use_of, used_deed}
-use Rattle.qx_machine.specs.Processes.{Process, answered_thread, without_connection, after_error, after_reply, with_block, with_thread}
-use Rattle.qx_machine.specs.Rows.{row_at, lowest_from, with_row}
-use Rattle.qx_machine.specs.Servers.{is_numbered}
-use Rattle.qx_chan.specs.Channel.{Channel, has_server, sender_of, stands, without_server}
+use Rattle.qx_machine.specs.Lines.{line_at, with_line}
+use Rattle.qx_machine.specs.Machine.{line_without}
+use Rattle.qx_machine.specs.Parts.{Part, thread_at, thread_of}
+use Rattle.qx_machine.specs.Performing.{Deed, after_answer, deed_of, taken_in}
+use Rattle.qx_machine.specs.Processes.{Process, after_effect, after_error, after_reply, answered_thread, with_thread}
+use Rattle.qx_machine.specs.Rows.{row_at, with_row}
+use Rattle.qx_process.proofs.RowLemmas.{set-row, with_row-none}
+use Rattle.qx_chan.specs.Channel.{Channel, has_server, sender_of, stands, unblock_call, with_channel_line}
 use Rattle.qx_parts.specs.Deeds.{served_part}
 use Rattle.qx_parts.specs.Reads.{process_in, process_of, thread_row}
-use Rattle.qx_steps.specs.Kept.{Kept, attached_at, is_queued_at, settled, settled_at, settled_number, stands_at}
-use Rattle.qx_chan.proofs.SetLemmas.{has-removed, is_same_server-differs}
-use Rattle.qx_chan.proofs.EntryLemmas.{or_true}
-use Rattle.qx_chan.proofs.NodesLemmas.{same_proc}
-use Rattle.qx_steps.proofs.AttachedLemmas.{attached-with_block, fewer-detached, fewer-given_back, fewer-let_go, is_listed, threads-given_back, threads-let_go}
-use Rattle.qx_steps.proofs.KeptLemmas.{same_server-self}
-use Rattle.qx_steps.proofs.ProcessLemmas.{process_of-other}
-use Rattle.qx_steps.proofs.ReceiveLemmas.{sender-user}
-use Rattle.qx_steps.proofs.RowReads.{length-with_row, option_cases, read-with_row, result_cases, row_at-with_other, row_at-with_same}
+use Rattle.qx_steps.specs.Kept.{Kept, asked_at, attached_at, is_asked_at, is_queued_at, settled, stands_at}
+use Rattle.qx_steps.specs.Workers.{answered_call, call_of, lines_answered}
+use Rattle.qx_chan.proofs.LineLemmas.{stands-without_message_other, stands-without_pulse, unblock_call-without_message, unblock_call-without_pulse_other, unblock_call-without_pulse_none}
+use Rattle.qx_steps.proofs.AttachedLemmas.{fewer-done, fewer-given_back, fewer-let_go, threads-done, threads-given_back, threads-let_go}
+use Rattle.qx_steps.proofs.ReceiveLemmas.{queued-unasked, stands_once}
+use Rattle.qx_steps.proofs.RowReads.{option_cases}
+use Rattle.qx_steps.proofs.SettleLemmas.{Kept-settled, Unsettled}
+use Rattle.qx_steps.proofs.ThreadLemmas.{OneThread, Own, OwnLine, Unsettled-changed, one_thread}
 
-and_true : (b : Bool) → (b && true) ≡ b
-and_true true = refl
-and_true false = refl
+-- an answer, as a change of the process
+abbrev answered : ℕ → Over → Result Deed Errno → Process → Process
+answered thread over (Ok deed) row = after_reply thread over (with_thread thread (answered_thread (Reply deed.status deed.bytes)) (after_effect deed.effect row))
+answered thread over (Err error) row = after_error thread over (with_thread thread (answered_thread (Failed error)) row)
 
--- a process that is attached nowhere where it was not, and whose threads stand where they stood; other processes are as before
-pub record Fewer (new old : List (Option Process)) (process : ℕ) : Type 0 where
-  pub threads : (n thread : ℕ) → is_some (thread_of thread (row_at new n)) ≡ is_some (thread_of thread (row_at old n))
-  pub lines : (n thread number : ℕ) → stands_at number (thread_of thread (row_at new n)) ≡ stands_at number (thread_of thread (row_at old n))
-  pub others : (n : ℕ) → n ≢ process → row_at new n ≡ row_at old n
-  pub attached : (number : ℕ) → attached_at number (row_at new process) ≡ true → attached_at number (row_at old process) ≡ true
+abbrev answer_of : Result Deed Errno → Answer
+answer_of (Ok deed) = Reply deed.status deed.bytes
+answer_of (Err error) = Failed error
 
-fewer_none : (rows : List (Option Process)) (process : ℕ) → Fewer rows rows process
-fewer_none rows process = record { threads = λ n t. refl; lines = λ n t k. refl; others = λ n differs. refl; attached = λ k is. is }
+answered-processes : (part : Part) (process thread : ℕ) (over : Over) (given : Result Deed Errno) → (after_answer part process thread over given).processes ≡ with_row part.processes process (answered thread over given)
+answered-processes part process thread over (Ok deed) = refl
+answered-processes part process thread over (Err error) = refl
 
-fewer_then : (new middle old : List (Option Process)) (process : ℕ) → Fewer new middle process → Fewer middle old process → Fewer new old process
-fewer_then new middle old process one other = record {
-  threads = λ n t. one.threads n t ∙ other.threads n t;
-  lines = λ n t k. one.lines n t k ∙ other.lines n t k;
-  others = λ n differs. one.others n differs ∙ other.others n differs;
-  attached = λ k is. other.attached k (one.attached k is);
-}
+answered-threads : (thread : ℕ) (over : Over) (given : Result Deed Errno) (x : Process) → (answered thread over given x).threads ≡ with_row x.threads thread (answered_thread (answer_of given))
+answered-threads thread over (Ok deed) x = threads-let_go thread over (with_thread thread (answered_thread (Reply deed.status deed.bytes)) (after_effect deed.effect x)) ∙ ap (λ t. with_row t thread (answered_thread (Reply deed.status deed.bytes))) (threads-done deed.effect x)
+answered-threads thread over (Err error) x = threads-given_back thread over (with_thread thread (answered_thread (Failed error)) x)
 
-fewer_with : (rows : List (Option Process)) (process : ℕ) (f : Process → Process)
-    → ((x : Process) → row_at rows process ≡ Some x → (t : ℕ) → is_some (row_at (f x).threads t) ≡ is_some (row_at x.threads t))
-    → ((x : Process) → row_at rows process ≡ Some x → (t k : ℕ) → stands_at k (row_at (f x).threads t) ≡ stands_at k (row_at x.threads t))
-    → ((x : Process) (k : ℕ) → attached_at k (Some (f x)) ≡ true → attached_at k (Some x) ≡ true)
-    → Fewer (with_row rows process f) rows process
-fewer_with rows process f threads lines attached = record {
-  threads = λ n t. read-with_row (λ o. is_some (thread_of t o)) rows process n f (λ x is. threads x is t);
-  lines = λ n t k. read-with_row (λ o. stands_at k (thread_of t o)) rows process n f (λ x is. lines x is t k);
-  others = λ n differs. row_at-with_other rows process n f differs;
-  attached = λ k is. by_row k (row_at rows process) (rw (row_at-with_same rows process f) at is);
-}
-  where
-    by_row : (k : ℕ) (o : Option Process) → attached_at k (option_map f o) ≡ true → attached_at k o ≡ true
-    by_row k None is = is
-    by_row k (Some x) is = attached x k is
+-- it attaches nothing
+answered-fewer : (thread : ℕ) (over : Over) (given : Result Deed Errno) (x : Process) (number : ℕ) → attached_at number (Some (answered thread over given x)) ≡ true → attached_at number (Some x) ≡ true
+answered-fewer thread over (Ok deed) x number is = fewer-done deed.effect x number (fewer-let_go thread over (with_thread thread (answered_thread (Reply deed.status deed.bytes)) (after_effect deed.effect x)) number is)
+answered-fewer thread over (Err error) x number is = fewer-given_back thread over (with_thread thread (answered_thread (Failed error)) x) number is
 
--- what a message does to the processes, but for the answer
+-- an answered thread stands nowhere and has no pulse
+answered_row : (answer : Answer) (row : Option ThreadRow) (number : ℕ) → stands_at number (option_map (answered_thread answer) row) ≡ false
+answered_row answer None number = refl
+answered_row answer (Some row) number = refl
 
-abbrev deed_part : Part → Result Deed Errno → Part
-deed_part part (Ok deed) = deed.part
-deed_part part (Err error) = part
+module _ (parts : List (Option Part)) (channel : Channel) (thread : Thread) (h : Part → Part) (over : Over) (given : Result Deed Errno) (kept : Kept parts channel)
+    (changes : (part : Part) → row_at parts thread.proc.user.0 ≡ Some part → (h part).processes ≡ with_row part.processes thread.proc.num (answered thread.tid over given))
+    (manager : Manager) (change : List Queued → List Queued) where
+  abbrev new : List (Option Part)
+  new = with_row parts thread.proc.user.0 h
 
-open_fewer : (part : Part) (process : ℕ) (sent : Sent) → Fewer (deed_part part (open_deed part process sent)).processes part.processes process
-open_fewer part process sent = elim (option_cases (new_coid sent.over)) [
-  | inl none ↦ rw none (fewer_none part.processes process)
-  | inr coid ↦ elim (cases_Bool (nat_le (lowest_from 1 part.blocks) BLOCKS)) [
-    | inr full ↦ rw (coid.1, full) (fewer_none part.processes process)
-    | inl free ↦ rw (coid.1, free) (fewer_with part.processes process (with_block coid.0 (lowest_from 1 part.blocks)) (λ x is t. refl) (λ x is t k. refl)
-        (λ x k is. sym (attached-with_block coid.0 (lowest_from 1 part.blocks) x k) ∙ is))
+  abbrev number : ℕ
+  number = manager_number manager
+
+  abbrev line : List Queued
+  line = line_at channel.lines number
+
+  one : OneThread new parts thread (answered thread.tid over given) (answered_thread (answer_of given))
+  one = one_thread parts thread h (answered thread.tid over given) (answered_thread (answer_of given)) changes (answered-threads thread.tid over given)
+
+  -- what the line tells, once the thread is answered
+  record Left : Type 0 where
+    line : OwnLine (change line) line thread
+    stand : stands (change line) thread ≡ false
+    stand_other : (at : ℕ) → at ≢ number → stands_at at (thread_row parts thread) ≡ false
+    calls : unblock_call (change line) thread ≡ None
+    calls_other : (at call : ℕ) → at ≢ number → unblock_call (line_at channel.lines at) thread ≡ Some call → ⊥
+
+  module _ (left : Left) where
+    own : Own parts new channel thread (answered thread.tid over given) (answered_thread (answer_of given)) one kept manager change
+    own = record {
+      line = left.line;
+      stand = left.stand ∙ sym (rw one.own (answered_row (answer_of given) (thread_row parts thread) number));
+      stand_other = λ at differs. kept.lines thread at ∙ left.stand_other at differs ∙ sym (rw one.own (answered_row (answer_of given) (thread_row parts thread) at));
+      calls = λ call is. let clash : None ≡ Some call = sym left.calls ∙ is in absurd (cc);
+      calls_other = λ at call differs is. absurd (left.calls_other at call differs is);
+    }
+
+    pub Kept-left : Kept new (settled thread.proc (process_of new thread.proc) managers (with_channel_line channel number change))
+    Kept-left = Kept-settled new (with_channel_line channel number change) thread.proc
+        (Unsettled-changed parts new channel thread (answered thread.tid over given) (answered_thread (answer_of given)) one kept manager change own
+          (with_channel_line channel number change) refl refl (λ t. refl) (λ other at differs. refl)
+          (λ m is. kept.servers thread.proc m ∙ as_before (manager_number m) (process_of parts thread.proc) is))
+      where
+        as_before : (at : ℕ) (o : Option Process) → attached_at at (option_map (answered thread.tid over given) o) ≡ true → attached_at at o ≡ true
+        as_before at None is = is
+        as_before at (Some x) is = answered-fewer thread.tid over given x at is
+
+-- ---- a queued message goes
+
+module _ (parts : List (Option Part)) (channel : Channel) (thread : Thread) (target : Target) (row : ThreadRow) (sent : Sent) (kept : Kept parts channel)
+    (there : thread_row parts thread ≡ Some row) (is : row.state ≡ queued sent) (to : sent.target ≡ target) where
+  abbrev drop_message : List Queued → List Queued
+  drop_message = line_without thread.proc.user.0 (item.Message thread.proc.num thread.tid)
+
+  at_target : stands_at (manager_number target.manager) (thread_row parts thread) ≡ true
+  at_target = rw (there, is, to) (eqb-self (manager_number target.manager))
+    where
+      eqb-self : (n : ℕ) → (n == n) ≡ true
+      eqb-self n = elim (eqb_tells n n) [
+        | inl same ↦ same.0
+        | inr differs ↦ absurd (differs.1 refl)
+      ]
+
+  -- it stands in the line
+  pub dismissed-stands : stands (line_at channel.lines (manager_number target.manager)) thread ≡ true
+  dismissed-stands = kept.lines thread (manager_number target.manager) ∙ at_target
+
+  pub Kept-dismissed : (error : Errno) → stands (drop_message (line_at channel.lines (manager_number target.manager))) thread ≡ false
+      → Kept (with_row parts thread.proc.user.0 (λ part. after_answer part thread.proc.num thread.tid target.over (Err error)))
+          (settled thread.proc (process_of (with_row parts thread.proc.user.0 (λ part. after_answer part thread.proc.num thread.tid target.over (Err error))) thread.proc) managers
+            (with_channel_line channel (manager_number target.manager) drop_message))
+  Kept-dismissed error gone = Kept-left parts channel thread (λ part. after_answer part thread.proc.num thread.tid target.over (Err error)) target.over (Err error) kept (λ part is. refl) target.manager drop_message
+      (record {
+        line = record {
+          stand = λ other differs. stands-without_message_other thread (line_at channel.lines (manager_number target.manager)) other differs;
+          calls = λ other differs. unblock_call-without_message thread (line_at channel.lines (manager_number target.manager)) other;
+        };
+        stand = gone;
+        stand_other = λ at differs. stands_once (thread_row parts thread) (manager_number target.manager) at differs at_target;
+        calls = unblock_call-without_message thread (line_at channel.lines (manager_number target.manager)) thread ∙ no_pulse (manager_number target.manager);
+        calls_other = λ at call differs its. queued-unasked (thread_row parts thread) (manager_number target.manager) at_target at call (kept.pulses thread at call its);
+      })
+    where
+      no_pulse : (at : ℕ) → unblock_call (line_at channel.lines at) thread ≡ None
+      no_pulse at = elim (option_cases (unblock_call (line_at channel.lines at) thread)) [
+        | inl none ↦ none
+        | inr call ↦ absurd (queued-unasked (thread_row parts thread) (manager_number target.manager) at_target at call.0 (kept.pulses thread at call.0 call.1))
+      ]
+
+-- ---- a worker does what it holds
+
+taken_is : (s : State) (sent : Sent) → taken_in s ≡ Some sent → s ≡ Taken sent
+taken_is Ready sent is = cc
+taken_is (queued other) sent is = cc
+taken_is (Taken other) sent is = let same : other ≡ sent = cc in rw same refl
+taken_is (Answered answer) sent is = cc
+
+and_last : (a b c : Bool) → (a && b && c) ≡ true → c ≡ true
+and_last true true c is = is
+and_last true false c is = cc
+and_last false b c is = cc
+
+and_middle : (a b c : Bool) → (a && b && c) ≡ true → b ≡ true
+and_middle true true c is = refl
+and_middle true false c is = cc
+and_middle false b c is = cc
+
+eqb-same : (n m : ℕ) → (n == m) ≡ true → n ≡ m
+eqb-same n m is = elim (eqb_tells n m) [
+  | inl same ↦ same.1
+  | inr differs ↦ let clash : false ≡ true = sym differs.0 ∙ is in absurd (cc)
+]
+
+module _ (parts : List (Option Part)) (channel : Channel) (thread : Thread) (h : Part → Part) (row : ThreadRow) (sent : Sent) (given : Result Deed Errno) (kept : Kept parts channel)
+    (there : thread_row parts thread ≡ Some row) (is : row.state ≡ Taken sent)
+    (changes : (part : Part) → row_at parts thread.proc.user.0 ≡ Some part → (h part).processes ≡ with_row part.processes thread.proc.num (answered thread.tid sent.target.over given)) where
+  abbrev its_number : ℕ
+  its_number = manager_number sent.target.manager
+
+  abbrev drop_pulse : List Queued → List Queued
+  drop_pulse = line_without thread.proc.user.0 (item.Unblock thread.proc.num thread.tid row.calls)
+
+  asked_is : (at call : ℕ) → unblock_call (line_at channel.lines at) thread ≡ Some call → (sent.is_asked && (its_number == at) && (row.calls == call)) ≡ true
+  asked_is at call its = rw (there, is) at (kept.pulses thread at call its)
+
+  pub Kept-answered : (unblock_call (line_at channel.lines its_number) thread ≡ Some row.calls → unblock_call (drop_pulse (line_at channel.lines its_number)) thread ≡ None)
+      → Kept (with_row parts thread.proc.user.0 h) (settled thread.proc (process_of (with_row parts thread.proc.user.0 h) thread.proc) managers (with_channel_line channel its_number drop_pulse))
+  Kept-answered gone = Kept-left parts channel thread h sent.target.over given kept changes sent.target.manager drop_pulse
+      (record {
+        line = record {
+          stand = λ other differs. stands-without_pulse thread row.calls (line_at channel.lines its_number) other;
+          calls = λ other differs. unblock_call-without_pulse_other thread row.calls (line_at channel.lines its_number) other differs;
+        };
+        stand = stands-without_pulse thread row.calls (line_at channel.lines its_number) thread ∙ kept.lines thread its_number ∙ rw (there, is) refl;
+        stand_other = λ at differs. rw (there, is) refl;
+        calls = no_call;
+        calls_other = λ at call differs its. differs (sym (eqb-same its_number at (and_middle sent.is_asked (its_number == at) (row.calls == call) (asked_is at call its))));
+      })
+    where
+      no_call : unblock_call (drop_pulse (line_at channel.lines its_number)) thread ≡ None
+      no_call = elim (option_cases (unblock_call (line_at channel.lines its_number) thread)) [
+        | inl none ↦ unblock_call-without_pulse_none thread row.calls (line_at channel.lines its_number) none
+        | inr call ↦
+            let same : row.calls ≡ call.0 = eqb-same row.calls call.0 (and_last sent.is_asked (its_number == its_number) (row.calls == call.0) (asked_is its_number call.0 call.1)) in
+            gone (call.1 ∙ ap Some (sym same))
+      ]
+
+-- the message of an item that is done was received, and is answered
+pub record Serves (parts : List (Option Part)) (user : ℕ) (own : OwnItem) (call : Manager × ℕ) : Type 0 where
+  pub process : ℕ
+  pub tid : ℕ
+  pub message : own ≡ item.Message process tid
+  pub row : ThreadRow
+  pub there : thread_row parts (sender_of user own) ≡ Some row
+  pub sent : Sent
+  pub taken : row.state ≡ Taken sent
+  pub its_call : call ≡ (sent.target.manager, row.calls)
+  pub given : Result Deed Errno
+  pub changes : (part : Part) → row_at parts user ≡ Some part → (served_part part own).processes ≡ with_row part.processes process (answered tid sent.target.over given)
+
+serves : (parts : List (Option Part)) (user : ℕ) (own : OwnItem) (call : Manager × ℕ) → answered_call own (row_at parts user) ≡ Some call → Serves parts user own call
+serves parts user (item.Unblock process tid of) call is = elim (option_cases (row_at parts user)) [
+  | inl none ↦ let clash : None ≡ Some call = rw none at is in absurd (cc)
+  | inr part ↦ let clash : None ≡ Some call = rw part.1 at is in absurd (cc)
+]
+serves parts user (item.Message process tid) call is = elim (option_cases (row_at parts user)) [
+  | inl none ↦ let clash : None ≡ Some call = rw none at is in absurd (cc)
+  | inr part ↦ elim (option_cases (row_at part.0.processes process)) [
+    | inl none ↦ let clash : None ≡ Some call = rw (part.1, none) at is in absurd (cc)
+    | inr x ↦ elim (option_cases (row_at x.0.threads tid)) [
+      | inl none ↦ let clash : None ≡ Some call = rw (part.1, x.1, none) at is in absurd (cc)
+      | inr row ↦ elim (option_cases (taken_in row.0.state)) [
+        | inl none ↦ let clash : None ≡ Some call = rw (part.1, x.1, row.1, none) at is in absurd (cc)
+        | inr sent ↦
+            let its : Some (sent.0.target.manager, row.0.calls) ≡ Some call = rw (part.1, x.1, row.1, sent.1) at is in
+            record {
+              process = process;
+              tid = tid;
+              message = refl;
+              row = row.0;
+              there = rw (part.1, x.1) row.1;
+              sent = sent.0;
+              taken = taken_is row.0.state sent.0 sent.1;
+              its_call = cc;
+              given = deed_of part.0.resources x.0 sent.0.target (meaning sent.0.bytes);
+              changes = λ other here.
+                let same : part.0 ≡ other = some_same part.0 other (sym part.1 ∙ here) in
+                rw (← same, x.1, row.1, sent.1) (answered-processes part.0 process tid sent.0.target.over (deed_of part.0.resources x.0 sent.0.target (meaning sent.0.bytes)));
+            }
+      ]
+    ]
   ]
 ]
+  where
+    some_same : (one other : Part) → Some one ≡ Some other → one ≡ other
+    some_same one other is = cc
 
-close_fewer : (part : Part) (process : ℕ) (sent : Sent) → Fewer (deed_part part (close_deed part process sent)).processes part.processes process
-close_fewer part process sent = elim (result_cases (opened_by part process sent)) [
-  | inr error ↦ rw error.1 (fewer_none part.processes process)
-  | inl opened ↦ rw opened.1 (fewer_with part.processes process (without_connection opened.0.coid.0) (λ x is t. refl) (λ x is t k. refl) (λ x k is. fewer-detached opened.0.coid.0 x k is))
-]
-
-used_fewer : (part : Part) (process : ℕ) (sent : Sent) (message : Message) → Fewer (deed_part part (used_deed part process sent message)).processes part.processes process
-used_fewer part process sent message = elim (option_cases (use_of message)) [
-  | inl none ↦ rw none (fewer_none part.processes process)
-  | inr function ↦ elim (result_cases (opened_by part process sent)) [
-    | inr error ↦ rw (function.1, error.1) (fewer_none part.processes process)
-    | inl opened ↦ elim (result_cases (function.0 part opened.0)) [
-      | inr error ↦ rw (function.1, opened.1, error.1) (fewer_none part.processes process)
-      | inl given ↦ rw (function.1, opened.1, given.1) (fewer_none part.processes process)
+-- nothing is done where no message is answered
+none_done : (part : Part) (own : OwnItem) → answered_call own (Some part) ≡ None → served_part part own ≡ part
+none_done part (item.Unblock process tid of) is = refl
+none_done part (item.Message process tid) is = elim (option_cases (row_at part.processes process)) [
+  | inl none ↦ rw none refl
+  | inr x ↦ elim (option_cases (row_at x.0.threads tid)) [
+    | inl none ↦ rw (x.1, none) refl
+    | inr row ↦ elim (option_cases (taken_in row.0.state)) [
+      | inl none ↦ rw (x.1, row.1, none) refl
+      | inr sent ↦ let clash : Some (sent.0.target.manager, row.0.calls) ≡ None = rw (x.1, row.1, sent.1) at is in absurd (cc)
     ]
   ]
 ]
 
-deed_fewer : (part : Part) (process : ℕ) (sent : Sent) (message : Message) → Fewer (deed_part part (deed_of part process sent message)).processes part.processes process
-deed_fewer part process sent (Open flags mode) = open_fewer part process sent
-deed_fewer part process sent Close = close_fewer part process sent
-deed_fewer part process sent message = used_fewer part process sent message
-
-at_fewer : (part : Part) (process : ℕ) (sent : Sent) (manager : Manager) → Fewer (deed_part part (deed_at part process sent manager)).processes part.processes process
-at_fewer part process sent Ram = deed_fewer part process sent sent.message
-at_fewer part process sent _ = fewer_none part.processes process
-
--- the answer of a thread whose message was received
-answer_fewer : (rows : List (Option Process)) (process thread : ℕ) (answer : Answer) (g : Process → Process) → ((k : ℕ) → stands_at k (thread_of thread (row_at rows process)) ≡ false)
-    → ((x : Process) → (g x).threads ≡ with_row x.threads thread (answered_thread answer)) → ((x : Process) (k : ℕ) → attached_at k (Some (g x)) ≡ true → attached_at k (Some x) ≡ true) → Fewer (with_row rows process g) rows process
-answer_fewer rows process thread answer g waits threads attached = fewer_with rows process g
-    (λ x is t. rw (threads x) (read-with_row is_some x.threads thread t (answered_thread answer) (λ row its. refl)))
-    (λ x is t k. rw (threads x) (read-with_row (stands_at k) x.threads thread t (answered_thread answer) (λ row its. sym (waiting x is row its k))))
-    attached
-  where
-    waiting : (x : Process) → row_at rows process ≡ Some x → (row : ThreadRow) → row_at x.threads thread ≡ Some row → (k : ℕ) → is_queued_at k row.state ≡ false
-    waiting x is row its k = rw (is, its) at (waits k)
-
-answered_fewer : (part : Part) (process thread : ℕ) (sent : Sent) (given : Result Deed Errno) → ((k : ℕ) → stands_at k (thread_of thread (row_at part.processes process)) ≡ false)
-    → Fewer (deed_part part given).processes part.processes process → Fewer (after_answer part process thread sent given).processes part.processes process
-answered_fewer part process thread sent (Ok deed) waits done = fewer_then _ deed.part.processes part.processes process
-    (answer_fewer deed.part.processes process thread (Reply deed.status deed.bytes) (λ row. after_reply thread sent.over (with_thread thread (answered_thread (Reply deed.status deed.bytes)) row))
-    (λ k. done.lines process thread k ∙ waits k)
-    (λ x. threads-let_go thread sent.over (with_thread thread (answered_thread (Reply deed.status deed.bytes)) x))
-    (λ x k is. fewer-let_go thread sent.over (with_thread thread (answered_thread (Reply deed.status deed.bytes)) x) k is))
-    done
-answered_fewer part process thread sent (Err error) waits done =
-    answer_fewer part.processes process thread (Failed error) (λ row. after_error thread sent.over (with_thread thread (answered_thread (Failed error)) row)) waits
-    (λ x. threads-given_back thread sent.over (with_thread thread (answered_thread (Failed error)) x))
-    (λ x k is. fewer-given_back thread sent.over (with_thread thread (answered_thread (Failed error)) x) k is)
-
-taken_waits : (state : State) (sent : Sent) → taken_in state ≡ Some sent → (number : ℕ) → is_queued_at number state ≡ false
-taken_waits Ready sent is number = refl
-taken_waits (Queued other) sent is number = let clash : None ≡ Some sent = is in absurd (cc)
-taken_waits (Taken other) sent is number = refl
-taken_waits (Answered answer) sent is number = refl
-
-served_fewer : (part : Part) (user : ℕ) (own : OwnItem) → Fewer (served_part part own).processes part.processes (sender_of user own).proc.num
-served_fewer part user (item.Message process thread) = elim (option_cases (thread_at part process thread)) [
-  | inl none ↦ rw none (fewer_none part.processes process)
-  | inr row ↦ elim (option_cases (taken_in row.0.state)) [
-    | inl none ↦ rw (row.1, none) (fewer_none part.processes process)
-    | inr sent ↦ rw (row.1, sent.1) (answered_fewer part process thread sent.0 (deed_at part process sent.0 sent.0.manager)
-        (λ k. ap (stands_at k) row.1 ∙ taken_waits row.0.state sent.0 sent.1 k)
-        (at_fewer part process sent.0 sent.0.manager))
-  ]
+pub none_served : (parts : List (Option Part)) (user : ℕ) (own : OwnItem) → answered_call own (row_at parts user) ≡ None → with_row parts user (λ part. served_part part own) ≡ parts
+none_served parts user own is = elim (option_cases (row_at parts user)) [
+  | inl none ↦ with_row-none parts user (λ part. served_part part own) none
+  | inr part ↦
+      let its : answered_call own (Some part.0) ≡ None = rw part.1 at is in
+      rw (part.1, none_done part.0 own its) (set-row parts user part.0 part.1)
 ]
 
--- disconnect nodes that go
+pub Kept-served : (parts : List (Option Part)) (channel : Channel) (user : ℕ) (own : OwnItem) (call : Manager × ℕ) → answered_call own (row_at parts user) ≡ Some call → Kept parts channel
+    → (unblock_call (line_at channel.lines (manager_number call.0)) (sender_of user own) ≡ Some call.1
+      → unblock_call (line_without user (item.Unblock (sender_of user own).proc.num (sender_of user own).tid call.1) (line_at channel.lines (manager_number call.0))) (sender_of user own) ≡ None)
+    → Kept (with_row parts user (λ part. served_part part own))
+        (settled (sender_of user own).proc (process_of (with_row parts user (λ part. served_part part own)) (sender_of user own).proc) managers
+          (with_channel_line channel (manager_number call.0) (line_without user (item.Unblock (sender_of user own).proc.num (sender_of user own).tid call.1))))
+Kept-served parts channel user own call is kept gone = by_item own refl (serves parts user own call is)
+  where
+    by_item : (it : OwnItem) → it ≡ own → Serves parts user own call → Kept (with_row parts user (λ part. served_part part own))
+        (settled (sender_of user own).proc (process_of (with_row parts user (λ part. served_part part own)) (sender_of user own).proc) managers
+          (with_channel_line channel (manager_number call.0) (line_without user (item.Unblock (sender_of user own).proc.num (sender_of user own).tid call.1))))
+    by_item it same known = rw (known.its_call, known.message)
+        (Kept-answered parts channel (sender_of user (item.Message known.process known.tid)) (λ part. served_part part (item.Message known.process known.tid)) known.row known.sent known.given kept
+          (rw known.message at known.there) known.taken (rw known.message at known.changes) (rw (known.its_call, known.message) at gone))
 
-module _ (proc : Proc) (process : Option Process) where
-  settled_at-fields : {A : Type 0} (read : Channel → A) (manager : Manager) (c : Channel) → read (without_server c proc (manager_number manager)) ≡ read c → read (settled_at proc process manager c) ≡ read c
-  settled_at-fields read manager c same = cond_both {A = Channel} (attached_at (manager_number manager) process) _ _ (λ d. read d ≡ read c) (λ attached. refl) (λ gone. same)
-
-  settled-fields : {A : Type 0} (read : Channel → A) → ((c : Channel) (number : ℕ) → read (without_server c proc number) ≡ read c) → (ms : List Manager) (c : Channel) → read (settled proc process ms c) ≡ read c
-  settled-fields read same [] c = refl
-  settled-fields read same (m ∷ ms) c = settled-fields read same ms (settled_at proc process m c) ∙ settled_at-fields read m c (same c (manager_number m))
-
-  has-settled-other : (other : Proc) (at : ℕ) → other ≢ proc → (ms : List Manager) (c : Channel) → has_server (settled proc process ms c) other at ≡ has_server c other at
-  has-settled-other other at differs [] c = refl
-  has-settled-other other at differs (m ∷ ms) c =
-      has-settled-other other at differs ms (settled_at proc process m c)
-      ∙ settled_at-fields (λ d. has_server d other at) m c
-      (has-removed c.servers proc (manager_number m) other at ∙ rw (is_same_server-differs proc other (manager_number m) at (λ same. absurd (differs same))) (and_true (has_server c other at)))
-
-  has-settled_at-self : (m : Manager) (c : Channel) (k : ℕ) → has_server (settled_at proc process m c) proc k ≡ (has_server c proc k && (attached_at (manager_number m) process || not (is_numbered k m)))
-  has-settled_at-self m c k = elim (cases_Bool (attached_at (manager_number m) process)) [
-    | inl attached ↦ rw attached (sym (and_true (has_server c proc k)))
-    | inr gone ↦ rw gone (has-removed c.servers proc (manager_number m) proc k ∙ rw (same_server-self proc (manager_number m) k) refl)
-  ]
-
-  has-settled-self : (ms : List Manager) (c : Channel) (k : ℕ) → has_server (settled proc process ms c) proc k ≡ (has_server c proc k && (attached_at k process || not (list_any (is_numbered k) ms)))
-  has-settled-self [] c k = sym (rw (or_true (attached_at k process)) (and_true (has_server c proc k)))
-  has-settled-self (m ∷ ms) c k = has-settled-self ms (settled_at proc process m c) k ∙ ap (λ b. b && (attached_at k process || not (list_any (is_numbered k) ms))) (has-settled_at-self m c k) ∙ elim (cases_Bool (is_numbered k m)) [
-    | inl same ↦
-        let number : manager_number m ≡ k = eqb-true (manager_number m) k same in
-        rw (same, number) (once (has_server c proc k) (attached_at k process) (list_any (is_numbered k) ms))
-    | inr differs ↦ rw differs (unless (has_server c proc k) (attached_at (manager_number m) process) (attached_at k process || not (list_any (is_numbered k) ms)))
-  ]
-    where
-      once : (h a l : Bool) → ((h && (a || false)) && (a || not l)) ≡ (h && (a || false))
-      once true true l = refl
-      once true false l = refl
-      once false a l = refl
-
-      unless : (h a b : Bool) → ((h && (a || true)) && b) ≡ (h && b)
-      unless true true b = refl
-      unless true false b = refl
-      unless false a b = refl
-
-module _ (parts : List (Option Part)) (channel : Channel) (user : ℕ) (own : OwnItem) (kept : Kept parts channel) where
-  abbrev proc : Proc
-  proc = (sender_of user own).proc
-
-  abbrev h : Part → Part
-  h part = served_part part own
-
-  abbrev new : List (Option Part)
-  new = with_row parts proc.user.0 h
-
-  elsewhere : (other : Proc) → other ≢ proc → process_of new other ≡ process_of parts other
-  elsewhere other differs = process_of-other parts proc h (λ part is n apart. (served_fewer part user own).others n apart) other differs
-
-  attached-fewer : (k : ℕ) → attached_at k (process_of new proc) ≡ true → attached_at k (process_of parts proc) ≡ true
-  attached-fewer k is = by_part (row_at parts proc.user.0) (rw (row_at-with_same parts proc.user.0 h) at is)
-    where
-      by_part : (o : Option Part) → attached_at k (process_in proc.num (option_map h o)) ≡ true → attached_at k (process_in proc.num o) ≡ true
-      by_part None is = is
-      by_part (Some part) is = (served_fewer part user own).attached k is
-
-  kept_if : (had has : Bool) → (has ≡ true → had ≡ true) → (had && (has || false)) ≡ has
-  kept_if true true less = refl
-  kept_if true false less = refl
-  kept_if false true less = less refl
-  kept_if false false less = refl
-
-  abbrev channel_after : Channel
-  channel_after = settled proc (process_of new proc) managers channel
-
-  served_at : Kept new channel_after
-  served_at = record {
-    users = settled-fields proc (process_of new proc) (λ c. c.users) (λ c number. refl) managers channel ∙ kept.users ∙ sym (length-with_row parts proc.user.0 h);
-    managers = ap length (settled-fields proc (process_of new proc) (λ c. c.lines) (λ c number. refl) managers channel) ∙ kept.managers;
-    threads = λ t. ap (λ s. set.contains s t) (settled-fields proc (process_of new proc) (λ c. c.threads) (λ c number. refl) managers channel) ∙ kept.threads t
-        ∙ sym (read-with_row (λ o. is_some (thread_of t.tid (process_in t.proc.num o))) parts proc.user.0 t.proc.user.0 h (λ part is. (served_fewer part user own).threads t.proc.num t.tid));
-    lines = λ t k. ap (λ lines. stands (line_at lines k) t) (settled-fields proc (process_of new proc) (λ c. c.lines) (λ c number. refl) managers channel) ∙ kept.lines t k
-        ∙ sym (read-with_row (λ o. stands_at k (thread_of t.tid (process_in t.proc.num o))) parts proc.user.0 t.proc.user.0 h (λ part is. (served_fewer part user own).lines t.proc.num t.tid k));
-    servers = λ other m. elim (same_proc other proc) [
-      | inr differs ↦ has-settled-other proc (process_of new proc) other (manager_number m) differs managers channel ∙ kept.servers other m ∙ ap (attached_at (manager_number m)) (sym (elsewhere other differs))
-      | inl same ↦ rw same (has-settled-self proc (process_of new proc) managers channel (manager_number m)
-          ∙ rw (is_listed m, kept.servers proc m) (kept_if (attached_at (manager_number m) (process_of parts proc)) (attached_at (manager_number m) (process_of new proc)) (attached-fewer (manager_number m))))
-    ];
-  }
-
--- an item is done, and the disconnect nodes of its process are settled
-pub Kept-served : (parts : List (Option Part)) (channel : Channel) (user : ℕ) (own : OwnItem) → Kept parts channel
-    → Kept (with_row parts user (λ part. served_part part own)) (settled (sender_of user own).proc (process_of (with_row parts user (λ part. served_part part own)) (sender_of user own).proc) managers channel)
-Kept-served parts channel user (item.Message process thread) kept = served_at parts channel user (item.Message process thread) kept
-
--- one manager more
-
-settled-suc : (proc : Proc) (process : Option Process) (ms : List Manager) (n : ℕ) (c : Channel) → settled proc process (take (suc n) ms) c ≡ settled_number proc process (slice_get ms n) (settled proc process (take n ms) c)
-settled-suc proc process [] zero c = refl
-settled-suc proc process [] (suc n) c = refl
-settled-suc proc process (m ∷ ms) zero c = refl
-settled-suc proc process (m ∷ ms) (suc n) c = settled-suc proc process ms n (settled_at proc process m c)
-
-pub settled-next : (proc : Proc) (process : Option Process) (ms : List Manager) (n : ℕ) (c : Channel) → settled proc process (take (n + 1) ms) c ≡ settled_number proc process (slice_get ms n) (settled proc process (take n ms) c)
-settled-next proc process ms n c = rw (add-one n) (settled-suc proc process ms n c)
+-- where nothing is answered, disconnect nodes are settled as they were
+pub Kept-idle : (parts : List (Option Part)) (channel : Channel) (proc : Proc) → Kept parts channel → Kept parts (settled proc (process_of parts proc) managers channel)
+Kept-idle parts channel proc kept = Kept-settled parts channel proc (record {
+  users = kept.users;
+  managers = kept.managers;
+  threads = kept.threads;
+  lines = kept.lines;
+  pulses = kept.pulses;
+  others = λ other m differs. kept.servers other m;
+  attached = λ m is. kept.servers proc m ∙ is;
+})

@@ -24,12 +24,12 @@ use Rattle.qx_machine.specs.Processes.{Process, new_process, new_thread}
 use Rattle.qx_machine.specs.Rows.{row_at, lowest_from, put_row, with_row}
 use Rattle.qx_machine.specs.Users.{boot_part}
 use Rattle.qx_machine.proofs.Places.{lowest_from_free}
-use Rattle.qx_chan.specs.Channel.{Channel, has_server, has_thread, is_thread_of, no_channel, stands, thread_cmp, server_cmp, with_process}
+use Rattle.qx_chan.specs.Channel.{Channel, has_server, has_thread, is_thread_of, no_channel, stands, unblock_call, thread_cmp, server_cmp, with_process}
 use Rattle.qx_chan.proofs.PresenceLemmas.{has-process, lines-process, servers-process, users-process}
 use Rattle.qx_parts.specs.Reads.{HasPlace, process_in, process_of, thread_row}
 use Rattle.qx_process.proofs.RowLemmas.{row_at-get_or}
 use Rattle.qx_steps.specs.Calls.{spawn_number_in}
-use Rattle.qx_steps.specs.Kept.{Kept, attached_at, stands_at}
+use Rattle.qx_steps.specs.Kept.{Kept, asked_at, attached_at, stands_at}
 use Rattle.qx_chan.proofs.EntryLemmas.{or_false}
 use Rattle.qx_chan.proofs.NodesLemmas.{same_proc}
 use Rattle.qx_steps.proofs.ProcessLemmas.{process_of-other}
@@ -151,6 +151,12 @@ module _ (parts : List (Option Part)) (proc : Proc) (threads prio : ℕ) (begun 
         | inr differs ↦ ap (λ o. stands_at number (thread_of other.tid o)) (sym (elsewhere other.proc differs))
         | inl same ↦ rw (same, old_none, here) (sym (new_waits threads other.tid prio number))
       ];
+      pulses = λ other number call is.
+        let before : asked_at number call (thread_row parts other) ≡ true = kept.pulses other number call (ap (λ lines. unblock_call (line_at lines number) other) (sym (lines-process channel proc threads)) ∙ is) in
+        elim (same_proc other.proc proc) [
+          | inr differs ↦ ap (λ o. asked_at number call (thread_of other.tid o)) (elsewhere other.proc differs) ∙ before
+          | inl same ↦ let clash : false ≡ true = rw (same, old_none) at before in absurd (cc)
+        ];
       servers = λ other manager. ap (λ s. set.contains s (other, manager_number manager)) (servers-process channel proc threads) ∙ kept.servers other manager ∙ elim (same_proc other proc) [
         | inr differs ↦ ap (attached_at (manager_number manager)) (sym (elsewhere other differs))
         | inl same ↦ rw (same, old_none, here) (sym (new_attached threads prio manager))
@@ -171,7 +177,7 @@ module _ (parts : List (Option Part)) (proc : Proc) (threads prio : ℕ) (begun 
 
 -- a channel of another room
 pub Kept-room : (parts : List (Option Part)) (channel : Channel) (room : ℕ) → Kept parts channel → Kept parts (record channel { room = room })
-Kept-room parts channel room kept = record { users = kept.users; managers = kept.managers; threads = kept.threads; lines = kept.lines; servers = kept.servers }
+Kept-room parts channel room kept = record { users = kept.users; managers = kept.managers; threads = kept.threads; lines = kept.lines; pulses = kept.pulses; servers = kept.servers }
 
 -- no process is there at boot
 none_in : (config : Configuration) (user : ℕ) (names : List (List ℕ)) (k number : ℕ) → process_in number (row_at (boot_parts config user names) k) ≡ None
@@ -192,6 +198,11 @@ length-boot_parts : (config : Configuration) (user : ℕ) (names : List (List �
 length-boot_parts config user [] = refl
 length-boot_parts config user (name ∷ names) = ap suc (length-boot_parts config (user + 1) names)
 
+no_pulse : (count number : ℕ) (thread : Thread) → unblock_call (line_at (replicate count []) number) thread ≡ None
+no_pulse zero number thread = refl
+no_pulse (suc count) zero thread = refl
+no_pulse (suc count) (suc number) thread = no_pulse count number thread
+
 no_line : (count number : ℕ) (thread : Thread) → stands (line_at (replicate count []) number) thread ≡ false
 no_line zero number thread = refl
 no_line (suc count) zero thread = refl
@@ -203,5 +214,6 @@ Kept-boot config names = record {
   managers = refl;
   threads = λ thread. set.contains-empty thread_cmp thread ∙ sym (ap (λ o. is_some (thread_of thread.tid o)) (none_at_boot config names thread.proc));
   lines = λ thread number. no_line COUNT number thread ∙ sym (ap (λ o. stands_at number (thread_of thread.tid o)) (none_at_boot config names thread.proc));
+  pulses = λ thread number call is. let clash : None ≡ Some call = sym (no_pulse COUNT number thread) ∙ is in absurd (cc);
   servers = λ proc manager. set.contains-empty server_cmp (proc, manager_number manager) ∙ sym (ap (attached_at (manager_number manager)) (none_at_boot config names proc));
 }

@@ -1,0 +1,128 @@
+-- A thread is interrupted: what the step comes to, and that rows, lines and nodes stand together still.
+use Rattle.std.proofs.Common.{◌≡◌, ◌≢◌, inl, inr, eq-eqb, ℕ, List, [], ◌∷◌, ◌&&◌, Bool, true, false, Option, Some, None, refl, sym, ◌∙◌, ap}
+use Rattle.std.specs.Prelude.{option_map, if◌then◌else◌}
+use Rattle.qx_types.specs.Managers.{manager_number}
+use Rattle.qx_types.specs.declared.names.Thread.{Thread}
+use Rattle.qx_types.specs.declared.outcome.Outcome.TheVariants.{Done, WrongState}
+use Rattle.qx_types.specs.declared.step.Step.TheVariants.{Interrupt}
+use Rattle.qx_machine.specs.declared.rows.Queued.{Queued}
+use Rattle.qx_machine.specs.declared.rows.Sent.{Sent}
+use Rattle.qx_machine.specs.declared.rows.State.{State}
+use Rattle.qx_machine.specs.declared.rows.State.TheVariants.{Ready, Queued as queued, Taken, Answered}
+use Rattle.qx_machine.specs.declared.rows.Target.{Target}
+use Rattle.qx_machine.specs.declared.rows.ThreadRow.{ThreadRow}
+use Rattle.qx_machine.specs.Clients.{interrupt_in}
+use Rattle.qx_machine.specs.Lines.{into, line_at}
+use Rattle.qx_machine.specs.Machine.{World, rank, step}
+use Rattle.qx_machine.specs.Parts.{Part, thread_at, with_thread_of}
+use Rattle.qx_machine.specs.Processes.{Process, asked_thread, with_thread}
+use Rattle.qx_machine.specs.Rows.{row_at, with_row}
+use Rattle.qx_machine.specs.Users.{client, settle}
+use Rattle.qx_process.proofs.RowLemmas.{set-row}
+use Rattle.qx_chan.specs.Channel.{Channel, stands, unblock_call, unblock_of, with_channel_line}
+use Rattle.qx_parts.specs.Reads.{thread_row}
+use Rattle.qx_steps.specs.Calls.{after_asking, after_dismissal}
+use Rattle.qx_steps.specs.Kept.{Kept, asked_at, stands_at}
+use Rattle.qx_steps.specs.Reads.{IsQueuedTo, IsUnasked}
+use Rattle.qx_chan.proofs.LineLemmas.{stands-into_pulse, unblock_call-into_pulse_other, unblock_call-into_pulse_own}
+use Rattle.qx_steps.proofs.RowReads.{option_cases}
+use Rattle.qx_steps.proofs.ThreadLemmas.{Kept-changed, OneThread, Own, OwnLine, one_thread}
+
+-- ---- what the step comes to
+
+-- a thread's row, in the rows of its user
+record Placed (w : World) (thread : Thread) (row : ThreadRow) : Type 0 where
+  part : Part
+  of_user : row_at w.parts thread.proc.user.0 ≡ Some part
+  in_part : thread_at part thread.proc.num thread.tid ≡ Some row
+
+placed : (w : World) (thread : Thread) (row : ThreadRow) → thread_row w.parts thread ≡ Some row → Placed w thread row
+placed w thread row is = elim (option_cases (row_at w.parts thread.proc.user.0)) [
+  | inl none ↦ let clash : None ≡ Some row = rw none at is in absurd (cc)
+  | inr part ↦ record { part = part.0; of_user = part.1; in_part = rw part.1 at is }
+]
+
+pub interrupt-nobody : (w : World) (thread : Thread) → thread_row w.parts thread ≡ None → step w (Interrupt thread) ≡ record { world = w; outcome = WrongState }
+unfolding step client settle
+interrupt-nobody w thread none = elim (option_cases (row_at w.parts thread.proc.user.0)) [
+  | inl nobody ↦ rw nobody refl
+  | inr part ↦
+      let its : thread_at part.0 thread.proc.num thread.tid ≡ None = rw part.1 at none in
+      rw (part.1, its, set-row w.parts thread.proc.user.0 part.0 part.1) refl
+]
+
+-- a thread that waits for nothing, or whose call was interrupted before
+abbrev IsLeft : State → Type 0
+IsLeft (queued sent) = ⊥
+IsLeft (Taken sent) = sent.is_asked ≡ true
+IsLeft _ = Unit {0}
+
+pub interrupt-left : (w : World) (thread : Thread) (row : ThreadRow) → thread_row w.parts thread ≡ Some row → IsLeft row.state → step w (Interrupt thread) ≡ record { world = w; outcome = Done }
+unfolding step client settle
+interrupt-left w thread row there left =
+    let at = placed w thread row there in
+    rw (at.of_user, at.in_part, by_state at.part row.state left, set-row w.parts thread.proc.user.0 at.part at.of_user) refl
+  where
+    by_state : (part : Part) (s : State) → IsLeft s → interrupt_in part thread row.calls s ≡ record { outcome = Done; part = part; changes = [] }
+    by_state part Ready left = refl
+    by_state part (queued sent) left = absurd left
+    by_state part (Taken sent) left = rw left refl
+    by_state part (Answered answer) left = refl
+
+pub interrupt-dismisses : (w : World) (thread : Thread) (row : ThreadRow) (sent : Sent) → thread_row w.parts thread ≡ Some row → row.state ≡ queued sent → step w (Interrupt thread) ≡ record { world = after_dismissal w thread sent.target; outcome = Done }
+unfolding step client settle
+interrupt-dismisses w thread row sent there is =
+    let at = placed w thread row there in
+    rw (at.of_user, at.in_part, is) refl
+
+pub interrupt-asks : (w : World) (thread : Thread) (row : ThreadRow) (sent : Sent) → thread_row w.parts thread ≡ Some row → row.state ≡ Taken sent → sent.is_asked ≡ false → step w (Interrupt thread) ≡ record { world = after_asking w thread row.calls sent.target; outcome = Done }
+unfolding step client settle
+interrupt-asks w thread row sent there is unasked =
+    let at = placed w thread row there in
+    rw (at.of_user, at.in_part, is, unasked) refl
+
+pub ruleset interrupt_steps = (interrupt-nobody, interrupt-left, interrupt-dismisses, interrupt-asks)
+
+-- ---- a received message is asked to unblock its thread
+
+module _ (parts : List (Option Part)) (channel : Channel) (thread : Thread) (target : Target) (row : ThreadRow) (sent : Sent) (kept : Kept parts channel)
+    (there : thread_row parts thread ≡ Some row) (is : row.state ≡ Taken sent) (to : sent.target ≡ target) (unasked : sent.is_asked ≡ false) where
+  abbrev number : ℕ
+  number = manager_number target.manager
+
+  abbrev new : List (Option Part)
+  new = with_row parts thread.proc.user.0 (with_thread_of thread asked_thread)
+
+  abbrev change : List Queued → List Queued
+  change line = into rank line (unblock_of thread row.calls target.prio.0)
+
+  abbrev line : List Queued
+  line = line_at channel.lines number
+
+  one : OneThread new parts thread (with_thread thread.tid asked_thread) asked_thread
+  one = one_thread parts thread (with_thread_of thread asked_thread) (with_thread thread.tid asked_thread) asked_thread (λ part its. refl) (λ x. refl)
+
+  -- it has no unblock pulse yet
+  pub no_pulse : (at : ℕ) → unblock_call (line_at channel.lines at) thread ≡ None
+  no_pulse at = elim (option_cases (unblock_call (line_at channel.lines at) thread)) [
+    | inl none ↦ none
+    | inr call ↦ let clash : false ≡ true = rw (there, is, unasked) at (kept.pulses thread at call.0 call.1) in absurd (cc)
+  ]
+
+  own : Own parts new channel thread (with_thread thread.tid asked_thread) asked_thread one kept target.manager change
+  own = record {
+    line = record {
+      stand = λ other differs. stands-into_pulse rank line thread row.calls target.prio.0 other;
+      calls = λ other differs. unblock_call-into_pulse_other rank line thread row.calls target.prio.0 other differs;
+    };
+    stand = stands-into_pulse rank line thread row.calls target.prio.0 thread ∙ kept.lines thread number ∙ rw (one.own, there, is) refl;
+    stand_other = λ at differs. kept.lines thread at ∙ rw (one.own, there, is) refl;
+    calls = λ call its.
+      let same : Some row.calls ≡ Some call = sym (unblock_call-into_pulse_own rank line thread row.calls target.prio.0 (no_pulse number)) ∙ its in
+      let equal : row.calls ≡ call = cc in
+      rw (one.own, there, is, to, eq-eqb number number refl, equal) (eq-eqb call call refl);
+    calls_other = λ at call differs its. let clash : None ≡ Some call = sym (no_pulse at) ∙ its in absurd (cc);
+  }
+
+  pub Kept-asked : Kept (with_row parts thread.proc.user.0 (with_thread_of thread asked_thread)) (with_channel_line channel (manager_number target.manager) (λ line. into rank line (unblock_of thread row.calls target.prio.0)))
+  Kept-asked = Kept-changed parts new channel thread (with_thread thread.tid asked_thread) asked_thread one kept target.manager change own (λ x at. refl)
