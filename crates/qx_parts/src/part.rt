@@ -101,7 +101,6 @@ impl Part {
     }
 
     /// A message of a thread goes out.
-    #[tactic(auto, using(qx_procs::proofs::LendLemmas::row_lends))]
     pub fn send(&mut self, thread: Thread, sent: Sent, room: Room)
         requires { CanSend (thread_at self.old thread.proc.num thread.tid) sent.target.over }
         ensures { self.new ≡ with_process thread.proc.num (with_queued thread.tid sent) self.old }

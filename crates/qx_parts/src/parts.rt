@@ -15,7 +15,7 @@ ghost use Rattle.qx_parts.specs.Reads.{CanSend, HasPlace, process_of, thread_row
 use crate::part::Part;
 use qx_machine::{OwnItem, Sent, ThreadRow};
 use qx_process::{Process, Room, places};
-use qx_types::{Outcome, Prio, Proc, Thread, User};
+use qx_types::{Prio, Proc, Thread, User};
 use qx_wire::Parsed;
 use std::alloc::{AllocError, Global};
 use std::marker::Model;
