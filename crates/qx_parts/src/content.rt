@@ -21,7 +21,7 @@ pub fn encoded(alloc: Global, request: &Request) -> Result<Bytes, NoMemory>
 }
 
 /// Whether each field of a request is in its range; the connection of a dup is judged by whether it is there.
-pub fn is_in_ranges(request: &Request) -> bool
+pub(crate) fn is_in_ranges(request: &Request) -> bool
     ensures ranges { result ≡ in_ranges request.now }
 {
     match request {
