@@ -21,7 +21,7 @@ pub fn encoded(alloc: Global, request: &Request) -> Result<Bytes, NoMemory>
 }
 
 /// Whether each field of a request is in its range; the connection of a dup is judged by whether it is there.
-pub fn is_in_ranges(request: &Request) -> bool
+pub(crate) fn is_in_ranges(request: &Request) -> bool
     ensures ranges { result ≡ in_ranges request.now }
 {
     match request {
@@ -45,33 +45,27 @@ fn can_send(content: &Content<'_>) -> bool
 fn content_of(request: &Request) -> Content<'_>
     ensures { result ≡ calls.content_of request.now }
 {
-    Content::Spelled(match request {
+    Content::Spelled(match *request {
         Request::OpenPath { flags, mode, .. } => Message::Open {
-            flags: *flags,
-            mode: *mode,
+            flags,
+            mode,
             rest: root(),
         },
         Request::StatPath { .. } => Message::Stat { rest: root() },
         Request::Unlink { .. } => Message::Unlink { rest: root() },
-        Request::Mkdir { mode, .. } => Message::Mknod {
-            mode: *mode,
-            rest: root(),
-        },
-        Request::Read { count, .. } => Message::Read { count: *count },
-        Request::Write { bytes, .. } => Message::Write {
+        Request::Mkdir { mode, .. } => Message::Mknod { mode, rest: root() },
+        Request::Read { count, .. } => Message::Read { count },
+        Request::Write { ref bytes, .. } => Message::Write {
             bytes: BorrowedBytes::new(bytes.as_slice()),
         },
         Request::Close { .. } => Message::Close,
-        Request::Dup { coid } => Message::Dup { old: *coid },
-        Request::Seek { whence, by, .. } => Message::Lseek {
-            whence: *whence,
-            offset: *by,
-        },
+        Request::Dup { coid } => Message::Dup { old: coid },
+        Request::Seek { whence, by, .. } => Message::Lseek { whence, offset: by },
         Request::Fstat { .. } => Message::Fstat,
-        Request::List { after, .. } => Message::List {
+        Request::List { ref after, .. } => Message::List {
             after: BorrowedBytes::new(after.as_slice()),
         },
-        Request::Chmod { mode, .. } => Message::Chmod { mode: *mode },
+        Request::Chmod { mode, .. } => Message::Chmod { mode },
         Request::Notify {
             action,
             conds,
@@ -79,14 +73,12 @@ fn content_of(request: &Request) -> Content<'_>
             value,
             ..
         } => Message::Notify {
-            action: *action,
-            conditions: *conds,
-            code: *code,
-            value: *value,
+            action,
+            conditions: conds,
+            code,
+            value,
         },
-        Request::Raw { bytes, .. } => {
-            return Content::Raw(BorrowedBytes::new(bytes.as_slice()));
-        }
+        Request::Raw { ref bytes, .. } => return Content::Raw(BorrowedBytes::new(bytes.as_slice())),
     })
 }
 

@@ -1,8 +1,7 @@
 //! How a call of a thread is judged, by the rows of its user.
 
-ghost use Rattle.std.specs.Prelude.{◌≡◌, ◌∷◌, ◌&&◌, nat_le, IsTrue, IfOk};
+ghost use Rattle.std.specs.Prelude.{◌≡◌, ◌∷◌, IsTrue, IfOk};
 ghost use Rattle.std.specs.Str.{bytes_eq};
-ghost use Rattle.qx_types.specs.declared.limits.TheConstants.Limits.{FIRST_CONNECTION, LAST_CONNECTION};
 ghost use Rattle.qx_machine.specs.Calls as calls;
 ghost use Rattle.qx_machine.specs.Calls.{address, can_send, content_of, in_ranges};
 ghost use Rattle.qx_process.specs.Reads.{IsPriority};

@@ -101,7 +101,6 @@ impl Part {
     }
 
     /// A message of a thread goes out.
-    #[tactic(auto, using(qx_procs::proofs::LendLemmas::row_lends))]
     pub fn send(&mut self, alloc: Global, thread: Thread, sent: Sent) -> Result<(), AllocError>
         requires { CanSend (thread_at self.old thread.proc.num thread.tid) sent.target }
         ensures ok { OnOk result (self.new ≡ with_process thread.proc.num (with_queued thread.tid sent) self.old) }

@@ -17,7 +17,7 @@ ghost use Rattle.qx_parts.specs.Reads.{CanSend, HasPlace, process_of, thread_row
 use crate::part::Part;
 use qx_machine::{Over, OwnItem, Sent, ThreadRow};
 use qx_process::{Process, places};
-use qx_types::{Errno, Outcome, Prio, Proc, Thread, User};
+use qx_types::{Errno, Prio, Proc, Thread, User};
 use qx_wire::Parsed;
 use std::alloc::{AllocError, Global};
 use std::marker::Model;

@@ -106,11 +106,7 @@ impl Resources {
     }
 
     /// Opens the root over a new connection (C Library Reference: `open`).
-    fn open(
-        &mut self,
-        target: Target,
-        rest: &Rest<'_>,
-    ) -> Result<Result<Done, Errno>, AllocError>
+    fn open(&mut self, target: Target, rest: &Rest<'_>) -> Result<Result<Done, Errno>, AllocError>
         ensures ok { IfOk result (λ given. deed_with self.new given ≡ open_deed self.old target rest.now) }
         ensures kept { IfOk result (λ given. OnErr given (self.new ≡ self.old)) }
         ensures err { OnErr result (self.new ≡ self.old) }
