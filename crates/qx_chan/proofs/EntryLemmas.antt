@@ -1,6 +1,8 @@
--- Lists of entries: which threads stand in them, as items come and go.
-use Rattle.std.proofs.Common.{◌<◌, ◌∙◌, length, sym, ◌≡◌, ◌≢◌, ◌⊎◌, inl, inr, ℕ, ◌||◌, Bool, true, false, nat_lt, List, [], ◌∷◌, Contains, map, drop, unwrap_or, refl, ap, arith}
+-- Lists of entries, the nodes that stand for them, and whose they are.
+use Rattle.std.proofs.Common.{◌<◌, ◌∙◌, length, sym, ◌≡◌, ◌≢◌, ◌⊎◌, inl, inr, ℕ, ◌||◌, if◌then◌else◌, Bool, true, false, nat_lt, List, [], ◌∷◌, Contains, nat_eq, Option, Some, None, is_some, map, drop, unwrap_or, refl, ap, arith}
 use Rattle.std.specs.FinMap as maps
+use Rattle.std.specs.List.{AllByRecursion}
+use Rattle.std.specs.Option.{option_or}
 use Rattle.std.specs.Ordering.{nat_cmp}
 use Rattle.std.proofs.lemmas.Bool.{cases_Bool}
 use Rattle.std.proofs.lemmas.List.{get_or-set_other, get_or-set_same, length-set}
@@ -9,10 +11,13 @@ use Rattle.std.proofs.lemmas.Bool.Decides.{eqb_tells, nat_tests}
 use Rattle.qx_types.specs.declared.names.Thread.{Thread}
 use Rattle.qx_lists.proofs.ListLemmas.{contains_cases, contains_first, contains_later}
 use Rattle.qx_lists.proofs.MapLemmas.{get-insert_same}
+use Rattle.qx_machine.specs.declared.rows.OwnItem.{OwnItem}
+use Rattle.qx_machine.specs.declared.rows.OwnItem.TheVariants as item
 use Rattle.qx_machine.specs.declared.rows.Queued.{Queued}
 use Rattle.qx_machine.specs.Lines.{into, line_at, with_line}
-use Rattle.qx_chan.specs.Channel.{is_same_thread, sender, stands}
-use Rattle.qx_chan.specs.Kept.{nobodys}
+use Rattle.qx_chan.specs.Channel.{call_in, first_told, is_same_thread, message_in, sender_of, told}
+use Rattle.qx_chan.specs.Kept.{nobodys, owner_in, owner_of}
+use Rattle.qx_chan.specs.Nodes.{Disconnect, Message, Owner, Unblock}
 
 -- priority insertion, by what the items stand for
 pub into-map : {A B : Type 0} (by : A → ℕ) (rank : B → ℕ) (f : A → B) → ((x : A) → by x ≡ rank (f x)) → (xs : List A) (x : A) → map f (into by xs x) ≡ into rank (map f xs) (f x)
@@ -92,41 +97,91 @@ pub or_true : (b : Bool) → (b || true) ≡ true
 or_true true = refl
 or_true false = refl
 
-module _ (f : ℕ → Queued) (thread : Thread) where
-  -- a node of the list that stands for the thread's message
-  pub stands-entry : (nodes : List ℕ) (node : ℕ) → Contains nodes node → sender (f node) ≡ thread → stands (map f nodes) thread ≡ true
-  stands-entry [] node at is = absurd (omega (arith, at.1))
-  stands-entry (x ∷ xs) node at is = elim (contains_cases x node xs at) [
-    | inl first ↦ rw (← first, is, is_same_thread-self thread) refl
-    | inr later ↦ rw (stands-entry xs node later is) (or_true (is_same_thread (sender (f x)) thread))
+pub or_none : {A : Type 0} (o : Option A) → option_or o None ≡ o
+or_none None = refl
+or_none (Some x) = refl
+
+-- a thread's messages, or its unblock pulses, are told by an owner
+pub record Reads {A : Type 0} (part : OwnItem → Option A) (thread : Thread) (owner : Owner) : Type 0 where
+  pub of : (entry : Queued) → is_some (told part thread entry) ≡ true → owner_of entry ≡ owner
+  pub from : (entry : Queued) → owner_of entry ≡ owner → is_some (told part thread entry) ≡ true
+
+abbrev owned_thread : Owner → Thread → Thread
+owned_thread (Message thread) other = thread
+owned_thread (Unblock thread) other = thread
+owned_thread (Disconnect proc number) other = other
+
+module _ {A : Type 0} (one other : Thread) where
+  -- what is told of another thread is nothing
+  told_if : (x : Option A) → is_some (if is_same_thread one other then x else None) ≡ true → (one ≡ other) × (is_some x ≡ true)
+  told_if x is = elim (cases_Bool (is_same_thread one other)) [
+    | inl same ↦ (is_same_thread-same one other same, rw same at is)
+    | inr differs ↦ let clash : false ≡ true = rw differs at is in cc
   ]
 
-  pub stands-find : (nodes : List ℕ) → stands (map f nodes) thread ≡ true → (node : ℕ) × (Contains nodes node × (sender (f node) ≡ thread))
-  stands-find [] stands = cc
-  stands-find (x ∷ xs) stands = elim (cases_Bool (is_same_thread (sender (f x)) thread)) [
-    | inl same ↦ (x, (contains_first x xs, is_same_thread-same (sender (f x)) thread same))
-    | inr other ↦ let later = stands-find xs (rw other at stands) in (later.0, (contains_later x later.0 xs later.1.0, later.1.1))
-  ]
+  told_same : (x : Option A) → one ≡ other → is_some x ≡ true → is_some (if is_same_thread one other then x else None) ≡ true
+  told_same x same some = rw (same, is_same_thread-self other) some
 
--- which threads stand in a line, once an item is put there
-pub stands-into : (rank : Queued → ℕ) (line : List Queued) (entry : Queued) (thread : Thread) → stands (into rank line entry) thread ≡ (stands line thread || is_same_thread (sender entry) thread)
-stands-into rank [] entry thread = or_false (is_same_thread (sender entry) thread)
-stands-into rank (first ∷ line) entry thread =
-    let rest = stands-into rank line entry thread in
-    elim (cases_Bool (nat_lt (rank first) (rank entry))) [
-      | inl above ↦ rw above (swapped (is_same_thread (sender entry) thread) (is_same_thread (sender first) thread || stands line thread))
-      | inr below ↦ rw (below, rest) (assoc (is_same_thread (sender first) thread) (stands line thread) (is_same_thread (sender entry) thread))
-    ]
+pub reads-message : (thread : Thread) → Reads message_in thread (Message thread)
+reads-message thread = record { of = λ entry. of entry.user.0 entry.item; from = λ entry. from entry.user.0 entry.item }
   where
-    swapped : (a b : Bool) → (a || b) ≡ (b || a)
-    swapped true true = refl
-    swapped true false = refl
-    swapped false true = refl
-    swapped false false = refl
+    of : (user : ℕ) (it : OwnItem) → is_some (if is_same_thread (sender_of user it) thread then message_in it else None) ≡ true → owner_in (sender_of user it) it ≡ Message thread
+    of user (item.Message p n) is = ap Message (told_if (sender_of user (item.Message p n)) thread (Some tt) is).0
+    of user (item.Unblock p n call) is = let clash : false ≡ true = (told_if (sender_of user (item.Unblock p n call)) thread None is).1 in cc
 
-    assoc : (a b c : Bool) → (a || (b || c)) ≡ ((a || b) || c)
-    assoc true b c = refl
-    assoc false b c = refl
+    from : (user : ℕ) (it : OwnItem) → owner_in (sender_of user it) it ≡ Message thread → is_some (if is_same_thread (sender_of user it) thread then message_in it else None) ≡ true
+    from user (item.Message p n) is = told_same (sender_of user (item.Message p n)) thread (Some tt) (ap (λ owner. owned_thread owner thread) is) refl
+    from user (item.Unblock p n call) is = absurd (cc)
+
+pub reads-call : (thread : Thread) → Reads call_in thread (Unblock thread)
+reads-call thread = record { of = λ entry. of entry.user.0 entry.item; from = λ entry. from entry.user.0 entry.item }
+  where
+    of : (user : ℕ) (it : OwnItem) → is_some (if is_same_thread (sender_of user it) thread then call_in it else None) ≡ true → owner_in (sender_of user it) it ≡ Unblock thread
+    of user (item.Message p n) is = let clash : false ≡ true = (told_if (sender_of user (item.Message p n)) thread None is).1 in cc
+    of user (item.Unblock p n call) is = ap Unblock (told_if (sender_of user (item.Unblock p n call)) thread (Some call) is).0
+
+    from : (user : ℕ) (it : OwnItem) → owner_in (sender_of user it) it ≡ Unblock thread → is_some (if is_same_thread (sender_of user it) thread then call_in it else None) ≡ true
+    from user (item.Message p n) is = absurd (cc)
+    from user (item.Unblock p n call) is = told_same (sender_of user (item.Unblock p n call)) thread (Some call) (ap (λ owner. owned_thread owner thread) is) refl
+
+module _ {A : Type 0} (f : ℕ → Queued) (part : OwnItem → Option A) (thread : Thread) where
+  -- a node of the list that stands for such an item of the thread
+  pub told-entry : (nodes : List ℕ) (node : ℕ) → Contains nodes node → is_some (told part thread (f node)) ≡ true → is_some (first_told part thread (map f nodes)) ≡ true
+  told-entry [] node at is = absurd (omega (arith, at.1))
+  told-entry (x ∷ xs) node at is = elim (contains_cases x node xs at) [
+    | inl first ↦ either (told part thread (f x)) (first_told part thread (map f xs)) (inl (rw first at is))
+    | inr later ↦ either (told part thread (f x)) (first_told part thread (map f xs)) (inr (told-entry xs node later is))
+  ]
+    where
+      either : (o p : Option A) → (is_some o ≡ true) ⊎ (is_some p ≡ true) → is_some (option_or o p) ≡ true
+      either None p (inl is) = let clash : false ≡ true = is in cc
+      either None p (inr is) = is
+      either (Some x) p is = refl
+
+  pub told-find : (nodes : List ℕ) → is_some (first_told part thread (map f nodes)) ≡ true → (node : ℕ) × (Contains nodes node × (is_some (told part thread (f node)) ≡ true))
+  told-find [] is = cc
+  told-find (x ∷ xs) is = elim (cases_Bool (is_some (told part thread (f x)))) [
+    | inl some ↦ (x, (contains_first x xs, some))
+    | inr none ↦ let later = told-find xs (rest (told part thread (f x)) (first_told part thread (map f xs)) none is) in (later.0, (contains_later x later.0 xs later.1.0, later.1.1))
+  ]
+    where
+      rest : (o p : Option A) → is_some o ≡ false → is_some (option_or o p) ≡ true → is_some p ≡ true
+      rest None p none is = is
+      rest (Some x) p none is = let clash : true ≡ false = none in cc
+
+all_at : (x : ℕ) (xs : List ℕ) (y : ℕ) → AllByRecursion (λ z. nat_eq x z ≡ false) xs → Contains xs y → nat_eq x y ≡ false
+all_at x [] y all at = absurd (omega (arith, at.1))
+all_at x (z ∷ zs) y all at = elim (contains_cases z y zs at) [
+  | inl same ↦ rw same all.0
+  | inr later ↦ all_at x zs y all.1 later
+]
+
+-- a node stands in a line once
+pub differs_from : (x y : ℕ) (xs : List ℕ) → AllByRecursion (λ z. nat_eq x z ≡ false) xs → Contains xs y → x ≡ y → ⊥
+differs_from x y xs all at same = clash x (ap (nat_eq x) same ∙ all_at x xs y all at)
+  where
+    clash : (x : ℕ) → nat_eq x x ≡ false → ⊥
+    clash x differs = grind (arith, nat_tests, differs)
 
 -- the lines under their numbers, once one of them was changed
 module _ {A : Type 0} (lines : List (List A)) (number : ℕ) (change : List A → List A) where

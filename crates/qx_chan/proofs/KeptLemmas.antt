@@ -4,22 +4,27 @@ use Rattle.std.specs.FinMap as maps
 use Rattle.std.specs.Ordering.{nat_cmp}
 use Rattle.std.specs.List.{IsDistinct, AllByRecursion}
 use Rattle.std.proofs.lemmas.Bool.{cases_Bool}
-use Rattle.std.proofs.lemmas.Bool.Decides.{eqb_tells, nat_tests}
+use Rattle.std.proofs.lemmas.Bool.Decides.{eqb_tells}
 use Rattle.std.proofs.lemmas.Option.{same_Some, slice_get-map}
+use Rattle.qx_types.specs.declared.names.Proc.{Proc}
 use Rattle.qx_types.specs.declared.names.Thread.{Thread}
-use Rattle.qx_lists.specs.Table.{Table, ContainsNode, IsFree, IsIn, nodes_of}
+use Rattle.qx_lists.specs.Table.{Table, ContainsNode, IsFree, IsIn, nodes_of, without}
 use Rattle.qx_lists.proofs.ListLemmas.{contains_cases, contains_first, contains_later, nowhere_from}
 use Rattle.qx_lists.proofs.MapLemmas.{get-remove_same}
 use Rattle.qx_lines.specs.declared.Line.{Line}
-use Rattle.qx_lines.specs.Line.{IsLineOf, IsOwn, SameElsewhere, nodes_in}
+use Rattle.qx_lines.specs.Line.{IsInLine, IsLineOf, IsOwn, SameElsewhere, nodes_in}
 use Rattle.qx_lines.proofs.LineFacts.{IsLineOf-same, IsLineOf-elsewhere, apart_from_new}
+use Rattle.qx_machine.specs.declared.rows.OwnItem.{OwnItem}
+use Rattle.qx_machine.specs.declared.rows.OwnItem.TheVariants as item
 use Rattle.qx_machine.specs.declared.rows.Queued.{Queued}
-use Rattle.qx_machine.specs.Machine.{rank}
+use Rattle.qx_machine.specs.Machine.{line_without, rank}
 use Rattle.qx_machine.specs.Lines.{into, line_at, with_line}
-use Rattle.qx_chan.specs.Channel.{sender, stands}
-use Rattle.qx_chan.specs.Kept.{Kept, PutIn, TakenOut, entries, entry_at, list_at, named}
-use Rattle.qx_chan.specs.Nodes.{Message, Owner}
-use Rattle.qx_chan.proofs.EntryLemmas.{contains_rest, map-drop, stands-entry, stands-find}
+use Rattle.qx_chan.specs.Channel.{IsGone, call_in, first_told, message_in, no_other, sender, stands, told, unblock_call}
+use Rattle.qx_chan.specs.Kept.{Kept, PutIn, TakenOut, entries, entry_at, list_at, named, owner_in, owner_of}
+use Rattle.qx_chan.specs.Nodes.{Disconnect, Message, Owner, Unblock}
+use Rattle.qx_chan.proofs.EntryLemmas.{Reads, differs_from, reads-call, reads-message, told-entry, told-find}
+use Rattle.qx_chan.proofs.LineLemmas.{is_this, without-absent, without-map}
+use Rattle.qx_chan.proofs.NodesLemmas.{none_of}
 use Rattle.qx_chan.proofs.TableLemmas.{absent_is, contained-other, contains-insert, contains-other, contains-self, entries-kept, entry-other, entry-same, inserted, line-kept, none_some, nowhere, removed, some_same}
 
 -- a place that was written, and the others
@@ -92,56 +97,105 @@ Kept-room old new lines node_of same_lists values kept = record {
   names = rw values kept.names;
   owned = rw values kept.owned;
   once = kept.once;
-  listed = rw same_lists kept.listed;
+  listed = rw (same_lists, values) kept.listed;
 }
 
--- a node that is no message's stands in no list
-pub IsFree-pulse : (t : Table Queued) (lines : List Line) (node_of : Owner → Option ℕ) (owner : Owner) (node : ℕ) → Kept t lines node_of → node_of owner ≡ Some node → ((thread : Thread) → owner ≢ Message thread) → IsFree t node
-IsFree-pulse t lines node_of owner node kept has pulse = record {
-  there = kept.there owner node has;
-  in_no_list = nowhere_from t.lists node (λ list at. let of = (kept.listed list node at).1 in pulse of.0 (kept.once (Message of.0) owner node of.1 has));
+not_disconnect : (thread : Thread) (it : OwnItem) (proc : Proc) (number : ℕ) → owner_in thread it ≡ Disconnect proc number → ⊥
+not_disconnect thread (item.Message process n) proc number is = cc
+not_disconnect thread (item.Unblock process n call) proc number is = cc
+
+-- a disconnect node stands in no list
+pub IsFree-disconnect : (t : Table Queued) (lines : List Line) (node_of : Owner → Option ℕ) (proc : Proc) (number node : ℕ) → Kept t lines node_of → node_of (Disconnect proc number) ≡ Some node → IsFree t node
+IsFree-disconnect t lines node_of proc number node kept has = record {
+  there = kept.there (Disconnect proc number) node has;
+  in_no_list = nowhere_from t.lists node (λ list at. not_disconnect _ _ proc number (kept.once (Disconnect proc number) (owner_of (entry_at t node)) node has (kept.listed list node at).1));
 }
 
--- and that of a message that stands in no line
-pub IsFree-message : (t : Table Queued) (lines : List Line) (node_of : Owner → Option ℕ) (thread : Thread) (node : ℕ) → Kept t lines node_of → node_of (Message thread) ≡ Some node → ((number : ℕ) → stands (line_at (map (entries t) lines) number) thread ≡ false) → IsFree t node
-IsFree-message t lines node_of thread node kept has idle = record {
-  there = kept.there (Message thread) node has;
-  in_no_list = nowhere_from t.lists node (λ list at.
-      let of = (kept.listed list node at).0 in
-      let line = line_of lines of.0 list of.1 in
-      let here : Contains (nodes_in t line.0) node = rw (← line.1.1) at at in
-      let in_line : stands (entries t line.0) thread ≡ true = stands-entry (entry_at t) thread (nodes_in t line.0) node here (kept.names (Message thread) node has) in
-      let clash : true ≡ false = sym in_line ∙ ap (λ l. stands l thread) (sym (line_at-shown t lines of.0 line.0 line.1.0)) ∙ idle of.0 in
-      cc);
-}
+-- what the lines tell of a thread, and the node of its messages or of its unblock pulses
+module _ {A : Type 0} (part : OwnItem → Option A) (thread : Thread) (owner : Owner) (reads : Reads part thread owner) (own_name : named owner ≡ owner) (t : Table Queued) (lines : List Line) (node_of : Owner → Option ℕ) (node : ℕ) (kept : Kept t lines node_of) (has : node_of owner ≡ Some node) where
+  tells : is_some (told part thread (entry_at t node)) ≡ true
+  tells = reads.from (entry_at t node) (kept.names owner node has ∙ own_name)
+
+  -- where nothing is told of the thread, the node stands in no list
+  pub IsFree-own : ((number : ℕ) → is_some (first_told part thread (line_at (map (entries t) lines) number)) ≡ false) → IsFree t node
+  IsFree-own idle = record {
+    there = kept.there owner node has;
+    in_no_list = nowhere_from t.lists node (λ list at.
+        let of = (kept.listed list node at).0 in
+        let line = line_of lines of.0 list of.1 in
+        let here : Contains (nodes_in t line.0) node = rw (← line.1.1) at at in
+        let in_line : is_some (first_told part thread (entries t line.0)) ≡ true = told-entry (entry_at t) part thread (nodes_in t line.0) node here tells in
+        let clash : true ≡ false = sym in_line ∙ ap (λ l. is_some (first_told part thread l)) (sym (line_at-shown t lines of.0 line.0 line.1.0)) ∙ idle of.0 in
+        cc);
+  }
+
+  only : (x : ℕ) → node_of (owner_of (entry_at t x)) ≡ Some x → owner_of (entry_at t x) ≡ owner → x ≡ node
+  only x own is = some_same x node (node_of owner) (ap node_of (sym is) ∙ own) has
+
+  -- where something is, the node stands in that line
+  pub in_line-own : (line : Line) → is_some (first_told part thread (entries t line)) ≡ true → IsInLine t line node
+  in_line-own line some =
+      let found = told-find (entry_at t) part thread (nodes_in t line) some in
+      let same = only found.0 (kept.listed line.list found.0 found.1.0).1 (reads.of (entry_at t found.0) found.1.1) in
+      rw (← same) found.1.0
+
+  -- once the node is gone, nothing is told of the thread
+  pub gone-own : (line : Line) (xs : List ℕ) → ((x : ℕ) → Contains xs x → IsInLine t line x) → (Contains xs node → ⊥) → is_some (first_told part thread (map (entry_at t) xs)) ≡ false
+  gone-own line xs members gone = elim (cases_Bool (is_some (first_told part thread (map (entry_at t) xs)))) [
+    | inr none ↦ none
+    | inl some ↦
+        let found = told-find (entry_at t) part thread xs some in
+        let same = only found.0 (kept.listed line.list found.0 (members found.0 found.1.0)).1 (reads.of (entry_at t found.0) found.1.1) in
+        absurd (gone (rw (← same) found.1.0))
+  ]
+
+  -- a user's item goes as the node that stands for it does
+  pub items-without : (line : Line) (user : ℕ) (it : OwnItem) → IsDistinct nat_eq (nodes_in t line) → is_this user it (entry_at t node) ≡ true → ((entry : Queued) → is_this user it entry ≡ true → owner_of entry ≡ owner) → map (entry_at t) (without node (nodes_in t line)) ≡ line_without user it (entries t line)
+  items-without line user it distinct this names = without-map (entry_at t) user it node (nodes_in t line) distinct (λ x at. elim (eqb_tells x node) [
+    | inl same ↦ rw same.0 (ap (λ y. is_this user it (entry_at t y)) same.1 ∙ this)
+    | inr differs ↦ rw differs.0 (elim (cases_Bool (is_this user it (entry_at t x))) [
+      | inr other ↦ other
+      | inl is ↦ absurd (differs.1 (only x (kept.listed line.list x at).1 (names (entry_at t x) is)))
+    ])
+  ])
+
+  -- where the node stands for another item, that item is in no line
+  pub items-other : (line : Line) (user : ℕ) (it : OwnItem) → is_this user it (entry_at t node) ≡ false → ((entry : Queued) → is_this user it entry ≡ true → owner_of entry ≡ owner) → line_without user it (entries t line) ≡ entries t line
+  items-other line user it not names = without-absent (entry_at t) user it (nodes_in t line) (λ x at. elim (cases_Bool (is_this user it (entry_at t x))) [
+    | inr other ↦ other
+    | inl is ↦
+        let same = only x (kept.listed line.list x at).1 (names (entry_at t x) is) in
+        let clash : true ≡ false = sym is ∙ ap (λ y. is_this user it (entry_at t y)) same ∙ not in
+        absurd (cc)
+  ])
 
 -- one line changes
 module _ (old new : Table Queued) (lines : List Line) (number : ℕ) (before after : Line) (node_of : Owner → Option ℕ) (kept : Kept old lines node_of) (is : slice_get lines number ≡ Some before) (own : after.list ≡ before.list) (elsewhere : (list : ℕ) → (IsOwn before list → ⊥) → maps.get new.lists list ≡ maps.get old.lists list) where
   not_own : (other : ℕ) (line : Line) → other ≢ number → slice_get lines other ≡ Some line → line.list ≢ before.list
   not_own other line differs at same = differs (kept.apart other number line.list (list_of lines other line at) (list_of lines number before is ∙ ap Some (sym same)))
 
-  changed : IsLineOf rank new after → ((line : Line) → IsLineOf rank old line → maps.get new.lists line.list ≡ maps.get old.lists line.list → IsLineOf rank new line) → ((node : ℕ) → is_some (maps.get new.values node) ≡ is_some (maps.get old.values node)) → ((owner : Owner) (node : ℕ) → node_of owner ≡ Some node → sender (entry_at new node) ≡ named owner) → ((node : ℕ) → Contains (nodes_in new after) node → Contains (nodes_in old before) node ⊎ ((thread : Thread) × (node_of (Message thread) ≡ Some node))) → Kept new (slice_set lines number after) node_of
-  changed line others same names among = record {
+  changed : IsLineOf rank new after → ((line : Line) → IsLineOf rank old line → maps.get new.lists line.list ≡ maps.get old.lists line.list → IsLineOf rank new line) → ((node : ℕ) → is_some (maps.get new.values node) ≡ is_some (maps.get old.values node)) → ((node : ℕ) → owner_of (entry_at new node) ≡ owner_of (entry_at old node)) → ((node : ℕ) → Contains (nodes_in new after) node → Contains (nodes_in old before) node ⊎ (node_of (owner_of (entry_at old node)) ≡ Some node)) → Kept new (slice_set lines number after) node_of
+  changed line others same same_owner among = record {
     line = λ other found at. elim (slice_get-set lines number other after found at) [
       | inl here ↦ rw here.1 line
       | inr there ↦ others found (kept.line other found there.1) (elsewhere found.list (not_own other found there.0 there.1))
     ];
     apart = λ one other list a b. kept.apart one other list (sym (stays one) ∙ a) (sym (stays other) ∙ b);
     there = λ owner node has. same node ∙ kept.there owner node has;
-    names = names;
+    names = λ owner node has. same_owner node ∙ kept.names owner node has;
     owned = λ node there. kept.owned node (sym (same node) ∙ there);
     once = kept.once;
     listed = λ list node at. elim (eqb_tells list before.list) [
       | inl here ↦
           let in_after : Contains (nodes_in new after) node = rw (own ∙ sym here.1) at in
-          elim (among node in_after) [
-            | inl earlier ↦ ((number, here_now list here.1), (kept.listed before.list node earlier).1)
-            | inr message ↦ ((number, here_now list here.1), message)
-          ]
+          ((number, here_now list here.1), ap node_of (same_owner node) ∙ elim (among node in_after) [
+            | inl earlier ↦ (kept.listed before.list node earlier).1
+            | inr it ↦ it
+          ])
       | inr differs ↦
           let earlier : IsIn old list node = rw (ap (λ o. unwrap_or o []) (elsewhere list differs.1)) at at in
           let was = kept.listed list node earlier in
-          ((was.0.0, stays was.0.0 ∙ was.0.1), was.1)
+          ((was.0.0, stays was.0.0 ∙ was.0.1), ap node_of (same_owner node) ∙ was.1)
     ];
   }
     where
@@ -151,47 +205,48 @@ module _ (old new : Table Queued) (lines : List Line) (number : ℕ) (before aft
       here_now : (list : ℕ) → list ≡ before.list → list_at (slice_set lines number after) number ≡ Some list
       here_now list here = stays number ∙ list_of lines number before is ∙ ap Some (sym here)
 
--- a free node of a thread's message is put into a line
-module _ (old new : Table Queued) (lines : List Line) (number : ℕ) (before after : Line) (node_of : Owner → Option ℕ) (thread : Thread) (node : ℕ) (entry : Queued) (kept : Kept old lines node_of) (is : slice_get lines number ≡ Some before) (own : node_of (Message thread) ≡ Some node) (free : IsFree old node) (put : PutIn old new before after node entry) where
-  pub Kept-put : sender entry ≡ thread → Kept new (slice_set lines number after) node_of
-  Kept-put names = changed old new lines number before after node_of kept is put.own put.lists put.line
+-- a free node is put into a line, and stands for another item of its owner
+module _ (old new : Table Queued) (lines : List Line) (number : ℕ) (before after : Line) (node_of : Owner → Option ℕ) (owner : Owner) (node : ℕ) (entry : Queued) (kept : Kept old lines node_of) (is : slice_get lines number ≡ Some before) (own : node_of owner ≡ Some node) (free : IsFree old node) (put : PutIn old new before after node entry) where
+  pub Kept-put : owner_of entry ≡ owner → named owner ≡ owner → Kept new (slice_set lines number after) node_of
+  Kept-put names own_name = changed old new lines number before after node_of kept is put.own put.lists put.line
       (λ line stands lists. line-kept old new node (inserted old new _ _ put.values) line stands lists (nowhere old free line.list))
       (λ other. elim (eqb_tells other node) [
         | inl same ↦ rw same.1 (contains-self old new node entry put.values ∙ sym free.there)
         | inr differs ↦ ap is_some (inserted old new node entry put.values other differs.1)
       ])
-      (λ owner other has. elim (eqb_tells other node) [
-        | inl same ↦
-            let message : owner ≡ Message thread = kept.once (Message thread) owner node own (rw same.1 at has) in
-            rw (same.1, message) (ap sender (entry-same old new node entry put.values) ∙ names)
-        | inr differs ↦ ap sender (entry-other old new node (inserted old new _ _ put.values) other differs.1) ∙ kept.names owner other has
+      (λ other. elim (eqb_tells other node) [
+        | inl same ↦ rw same.1 (ap owner_of (entry-same old new node entry put.values) ∙ names ∙ sym was)
+        | inr differs ↦ ap owner_of (entry-other old new node (inserted old new _ _ put.values) other differs.1)
       ])
       (λ other at. elim (put.among other at) [
         | inl earlier ↦ inl earlier
-        | inr same ↦ inr (thread, own ∙ ap Some (sym same))
+        | inr same ↦ inr (rw same (ap node_of was ∙ own))
       ])
+    where
+      was : owner_of (entry_at old node) ≡ owner
+      was = kept.names owner node own ∙ own_name
 
   pub shown-put : map (entries new) (slice_set lines number after) ≡ with_line (map (entries old) lines) number (λ line. into rank line entry)
   shown-put =
       shown-set old new lines number after (λ other line differs at. entries-kept old new node (inserted old new _ _ put.values) line (put.lists line.list (not_own old new lines number before after node_of kept is put.own put.lists other line differs at)) (nowhere old free line.list))
       ∙ ap (slice_set (map (entries old) lines) number) (put.entries ∙ ap (λ line. into rank line entry) (sym (line_at-shown old lines number before is)))
 
--- the first node of a line, if there is one, leaves it
-module _ (old new : Table Queued) (lines : List Line) (number : ℕ) (before after : Line) (node_of : Owner → Option ℕ) (kept : Kept old lines node_of) (is : slice_get lines number ≡ Some before) (taken : TakenOut old new before after) where
-  pub Kept-taken : Kept new (slice_set lines number after) node_of
-  Kept-taken = changed old new lines number before after node_of kept is taken.own taken.lists taken.line
+-- nodes leave a line
+module _ (old new : Table Queued) (lines : List Line) (number : ℕ) (before after : Line) (change : List ℕ → List ℕ) (node_of : Owner → Option ℕ) (kept : Kept old lines node_of) (is : slice_get lines number ≡ Some before) (taken : TakenOut old new before after change) where
+  pub Kept-taken : ((x : ℕ) → Contains (change (nodes_in old before)) x → Contains (nodes_in old before) x) → Kept new (slice_set lines number after) node_of
+  Kept-taken fewer = changed old new lines number before after node_of kept is taken.own taken.lists taken.line
       (λ line stands lists. IsLineOf-same rank old new line stands (λ list own. rw own lists) (λ node at. rw taken.values refl))
       (λ node. rw taken.values refl)
-      (λ owner node has. rw taken.values (kept.names owner node has))
-      (λ node at. let rest : Contains (drop 1 (nodes_in old before)) node = rw taken.nodes at at in inl (contains_rest (nodes_in old before) node rest))
+      (λ node. rw taken.values refl)
+      (λ node at. let rest : Contains (change (nodes_in old before)) node = rw taken.nodes at at in inl (fewer node rest))
 
-  pub shown-taken : map (entries new) (slice_set lines number after) ≡ with_line (map (entries old) lines) number (drop 1)
-  shown-taken =
-      let rest : entries new after ≡ drop 1 (entries old before) = rw (taken.nodes, taken.values) (map-drop (entry_at old) (nodes_in old before)) in
+  pub shown-taken : (items : List Queued → List Queued) → map (entry_at old) (change (nodes_in old before)) ≡ items (entries old before) → map (entries new) (slice_set lines number after) ≡ with_line (map (entries old) lines) number items
+  shown-taken items same =
+      let rest : entries new after ≡ items (entries old before) = rw (taken.nodes, taken.values) same in
       shown-set old new lines number after (λ other line differs at.
       let nodes : nodes_in new line ≡ nodes_in old line = ap (λ o. unwrap_or o []) (taken.lists line.list (not_own old new lines number before after node_of kept is taken.own taken.lists other line differs at)) in
       rw (nodes, taken.values) refl)
-      ∙ ap (slice_set (map (entries old) lines) number) (rest ∙ ap (drop 1) (sym (line_at-shown old lines number before is)))
+      ∙ ap (slice_set (map (entries old) lines) number) (rest ∙ ap items (sym (line_at-shown old lines number before is)))
 
 -- an owner that had no node gets a new one
 module _ (old new : Table Queued) (node : ℕ) (entry : Queued) (room : ℕ) (is : new ≡ record old { values = maps.insert old.values node entry; room = room }) (absent : maps.get old.values node ≡ None) (contained : (list other : ℕ) → IsIn old list other → ContainsNode old other) where
@@ -210,7 +265,7 @@ module _ (old new : Table Queued) (node : ℕ) (entry : Queued) (room : ℕ) (is
   pub entries-made : (line : Line) → entries new line ≡ entries old line
   entries-made line = entries-kept old new node (inserted old new _ _ values_made) line (lists_made line.list) (not_listed line.list)
 
-  pub Kept-made : (lines : List Line) (node_of after : Owner → Option ℕ) (owner : Owner) → node_of owner ≡ None → after owner ≡ Some node → ((other : Owner) → (other ≡ owner) ⊎ ((other ≢ owner) × (after other ≡ node_of other))) → sender entry ≡ named owner → Kept old lines node_of → Kept new lines after
+  pub Kept-made : (lines : List Line) (node_of after : Owner → Option ℕ) (owner : Owner) → node_of owner ≡ None → after owner ≡ Some node → ((other : Owner) → (other ≡ owner) ⊎ ((other ≢ owner) × (after other ≡ node_of other))) → owner_of entry ≡ named owner → Kept old lines node_of → Kept new lines after
   Kept-made lines node_of after owner lacked gets others names kept = record {
     line = λ number line at. line-kept old new node (inserted old new _ _ values_made) line (kept.line number line at) (lists_made line.list) (not_listed line.list);
     apart = kept.apart;
@@ -219,8 +274,8 @@ module _ (old new : Table Queued) (node : ℕ) (entry : Queued) (room : ℕ) (is
       | inr was ↦ contains-insert old new node entry values_made x (kept.there one x was)
     ];
     names = λ one x has. elim (whose one x has) [
-      | inl made ↦ rw (made.0, made.1) (ap sender (entry-same old new node entry values_made) ∙ names)
-      | inr was ↦ ap sender (entry-other old new node (inserted old new _ _ values_made) x (was_there x (kept.there one x was))) ∙ kept.names one x was
+      | inl made ↦ rw (made.0, made.1) (ap owner_of (entry-same old new node entry values_made) ∙ names)
+      | inr was ↦ ap owner_of (entry-other old new node (inserted old new _ _ values_made) x (was_there x (kept.there one x was))) ∙ kept.names one x was
     ];
     owned = λ x there. elim (eqb_tells x node) [
       | inl same ↦ (owner, rw same.1 gets)
@@ -239,7 +294,8 @@ module _ (old new : Table Queued) (node : ℕ) (entry : Queued) (room : ℕ) (is
     listed = λ list x at.
         let earlier : IsIn old list x = rw (ap (λ o. unwrap_or o []) (lists_made list)) at at in
         let was = kept.listed list x earlier in
-        (was.0, (was.1.0, still (Message was.1.0) x was.1.1));
+        let same = entry-other old new node (inserted old new _ _ values_made) x (was_there x (contained list x earlier)) in
+        (was.0, still (owner_of (entry_at new x)) x (ap (λ entry. node_of (owner_of entry)) same ∙ was.1));
   }
     where
       whose : (one : Owner) (x : ℕ) → after one ≡ Some x → ((one ≡ owner) × (x ≡ node)) ⊎ (node_of one ≡ Some x)
@@ -270,7 +326,7 @@ module _ (old new : Table Queued) (node room : ℕ) (is : new ≡ record old { v
     line = λ number line at. line-kept old new node (removed old new node values_freed) line (kept.line number line at) (lists_freed line.list) (nowhere old free line.list);
     apart = kept.apart;
     there = λ one x has. let was = before one x has in contains-other old new node (removed old new node values_freed) x was.0 (kept.there one x was.1);
-    names = λ one x has. let was = before one x has in ap sender (entry-other old new node (removed old new node values_freed) x was.0) ∙ kept.names one x was.1;
+    names = λ one x has. let was = before one x has in ap owner_of (entry-other old new node (removed old new node values_freed) x was.0) ∙ kept.names one x was.1;
     owned = λ x there.
         let differs : x ≢ node = λ same. absent_is (maps.get new.values node) (rw same at there) (rw values_freed (get-remove_same old.values node)) in
         let was = kept.owned x (contained-other old new node (removed old new node values_freed) x differs there) in
@@ -279,7 +335,8 @@ module _ (old new : Table Queued) (node room : ℕ) (is : new ≡ record old { v
     listed = λ list x at.
         let earlier : IsIn old list x = rw (ap (λ o. unwrap_or o []) (lists_freed list)) at at in
         let was = kept.listed list x earlier in
-        (was.0, (was.1.0, still (Message was.1.0) x (λ same. nowhere old free list (rw same at earlier)) was.1.1));
+        let differs : x ≢ node = λ same. nowhere old free list (rw same at earlier) in
+        (was.0, still (owner_of (entry_at new x)) x differs (ap (λ entry. node_of (owner_of entry)) (entry-other old new node (removed old new node values_freed) x differs) ∙ was.1));
   }
     where
       before : (one : Owner) (x : ℕ) → after one ≡ Some x → (x ≢ node) × (node_of one ≡ Some x)
@@ -338,7 +395,7 @@ Kept-line old new lines line node_of none stands was_new elsewhere kept = record
     | inr differs ↦
         let earlier : IsIn old list node = rw (ap (λ o. unwrap_or o []) (elsewhere.lists list differs.1)) at at in
         let was = kept.listed list node earlier in
-        ((was.0.0, list_at-more lines line was.0.0 list was.0.1), was.1)
+        ((was.0.0, list_at-more lines line was.0.0 list was.0.1), rw elsewhere.values was.1)
   ];
 }
   where
@@ -355,46 +412,32 @@ shown-none t lines node_of kept none = all lines
 
     empty_line : (line : Line) → entries t line ≡ []
     empty_line line =
-        let nodes : nodes_in t line ≡ [] = no_nodes (nodes_in t line) (λ node at. let of = (kept.listed line.list node at).1 in none_some node _ (none (Message of.0)) of.1) in
+        let nodes : nodes_in t line ≡ [] = no_nodes (nodes_in t line) (λ node at. none_some node _ (none (owner_of (entry_at t node))) (kept.listed line.list node at).1) in
         rw nodes refl
 
     all : (lines : List Line) → map (entries t) lines ≡ replicate (length lines) []
     all [] = refl
     all (line ∷ lines) = rw (empty_line line, all lines) refl
 
-all_at : (x : ℕ) (xs : List ℕ) (y : ℕ) → AllByRecursion (λ z. nat_eq x z ≡ false) xs → Contains xs y → nat_eq x y ≡ false
-all_at x [] y all at = absurd (omega (arith, at.1))
-all_at x (z ∷ zs) y all at = elim (contains_cases z y zs at) [
-  | inl same ↦ rw same all.0
-  | inr later ↦ all_at x zs y all.1 later
-]
+gone_by : (it : OwnItem) (thread : Thread) (line : List Queued) → (owner_in thread it ≡ Message thread → stands line thread ≡ false) → (owner_in thread it ≡ Unblock thread → unblock_call line thread ≡ None) → no_other it thread line
+gone_by (item.Message process number) thread line message pulse = message refl
+gone_by (item.Unblock process number call) thread line message pulse = pulse refl
 
--- the message of a thread stands in a line once
-module _ (f : ℕ → Queued) (of : Thread → Option ℕ) where
-  gone_from : (xs : List ℕ) (first : Queued) → IsDistinct nat_eq xs → ((x : ℕ) → Contains xs x → of (sender (f x)) ≡ Some x) → slice_get (map f xs) 0 ≡ Some first → stands (drop 1 (map f xs)) (sender first) ≡ false
+-- the first item of a line stands there once
+module _ (t : Table Queued) (lines : List Line) (node_of : Owner → Option ℕ) (line : Line) (kept : Kept t lines node_of) where
+  gone_from : (x : ℕ) (xs : List ℕ) (first : Queued) → x ∷ xs ≡ nodes_in t line → AllByRecursion (λ y. nat_eq x y ≡ false) xs → entry_at t x ≡ first → IsGone first (map (entry_at t) xs)
+  gone_from x xs first nodes apart is =
+      let inside : (y : ℕ) → Contains (x ∷ xs) y → IsInLine t line y = λ y at. rw (← nodes) at in
+      let own : node_of (owner_of first) ≡ Some x = ap (λ entry. node_of (owner_of entry)) (sym is) ∙ (kept.listed line.list x (inside x (contains_first x xs))).1 in
+      gone_by first.item (sender first) (map (entry_at t) xs)
+      (λ message. gone-own message_in (sender first) (Message (sender first)) (reads-message (sender first)) refl t lines node_of x kept (ap node_of (sym message) ∙ own) line xs (λ y at. inside y (contains_later x y xs at)) (λ at. differs_from x x xs apart at refl))
+      (λ pulse. none_of _ (gone-own call_in (sender first) (Unblock (sender first)) (reads-call (sender first)) refl t lines node_of x kept (ap node_of (sym pulse) ∙ own) line xs (λ y at. inside y (contains_later x y xs at)) (λ at. differs_from x x xs apart at refl)))
+
+  gone_first : (nodes : List ℕ) (first : Queued) → nodes ≡ nodes_in t line → IsDistinct nat_eq nodes → slice_get (map (entry_at t) nodes) 0 ≡ Some first → IsGone first (drop 1 (map (entry_at t) nodes))
   unfolding IsDistinct
-  gone_from [] first distinct members is = absurd (none_some first None refl is)
-  gone_from (x ∷ xs) first distinct members is =
-      let same : f x ≡ first = cc in
-      rw (← same) (elim (cases_Bool (stands (map f xs) (sender (f x)))) [
-        | inr absent ↦ absent
-        | inl present ↦
-            let found = stands-find f (sender (f x)) xs present in
-            let other : of (sender (f found.0)) ≡ Some found.0 = members found.0 (contains_later x found.0 xs found.1.0) in
-            let this : of (sender (f x)) ≡ Some x = members x (contains_first x xs) in
-            let again : of (sender (f x)) ≡ Some found.0 = sym (ap of found.1.1) ∙ other in
-            let equal : x ≡ found.0 = some_same x found.0 _ this again in
-            let apart : nat_eq x found.0 ≡ false = all_at x xs found.0 distinct.0 found.1.0 in
-            let clash : nat_eq x x ≡ false = rw (← equal) at apart in
-            absurd (differs_from_itself x clash)
-      ])
-    where
-      differs_from_itself : (x : ℕ) → nat_eq x x ≡ false → ⊥
-      differs_from_itself x differs = grind (arith, nat_tests, differs)
+  gone_first [] first same distinct is = absurd (none_some first None refl is)
+  gone_first (x ∷ xs) first same distinct is = gone_from x xs first same distinct.0 (same_Some (entry_at t x) first is)
 
-pub gone-if : (t : Table Queued) (lines : List Line) (node_of : Owner → Option ℕ) (line : Line) (first : Option Queued) → Kept t lines node_of → IsDistinct nat_eq (nodes_in t line) → first ≡ slice_get (entries t line) 0 → IfSome first (λ taken. stands (drop 1 (entries t line)) (sender taken) ≡ false)
-gone-if t lines node_of line None kept distinct is = tt
-gone-if t lines node_of line (Some first) kept distinct is =
-    gone_from (entry_at t) (λ thread. node_of (Message thread)) (nodes_in t line) first distinct (λ node at.
-    let of = (kept.listed line.list node at).1 in
-    ap (λ thread. node_of (Message thread)) (kept.names (Message of.0) node of.1) ∙ of.1) (sym is)
+  pub gone-if : (first : Option Queued) → IsDistinct nat_eq (nodes_in t line) → first ≡ slice_get (entries t line) 0 → IfSome first (λ taken. IsGone taken (drop 1 (entries t line)))
+  gone-if None distinct is = tt
+  gone-if (Some first) distinct is = gone_first (nodes_in t line) first refl distinct (sym is)

@@ -1,5 +1,7 @@
--- Lists of entries: which threads stand in them, as items come and go; the lines under their numbers.
+-- Lists of entries, the nodes that stand for them, and whose they are; the lines under their numbers.
 pub mod EntryLemmas
+-- What a line tells of threads, as items come and go.
+pub mod LineLemmas
 -- What nodes stand for and which lines there are, as one node of the table changes.
 pub mod TableLemmas
 -- The channel's invariant, call by call.

@@ -1,5 +1,5 @@
 -- What contracts see of a channel, and what its calls make of it.
-use Rattle.std.specs.Prelude.{◌≡◌, ℕ, zero, suc, ◌+◌, ◌-◌, ◌==◌, ◌&&◌, if◌then◌else◌, nat_le, refl, tt, Unit, IsTrue, Bool, false, List, [], ◌∷◌, Option, Some, None, is_some, replicate}
+use Rattle.std.specs.Prelude.{◌≡◌, ℕ, zero, suc, ◌+◌, ◌-◌, ◌==◌, ◌&&◌, if◌then◌else◌, nat_le, refl, IsTrue, Bool, false, List, [], ◌∷◌, Option, Some, None, is_some, replicate}
 use Rattle.std.specs.Coded.{Coded, code_by, coded×, coded_ℕ, coded_list}
 use Rattle.std.specs.FinSet as set
 use Rattle.std.specs.Option.{option_or}

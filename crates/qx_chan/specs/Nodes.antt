@@ -105,7 +105,7 @@ servers_of nodes = set.from_list (keys_in (λ proc number. (proc, number)) (λ o
 -- the same nodes, where the pulse of one thread stands in another line, or in none
 pub record Asked (old new : List UserNodes) (thread : Thread) (asked : Option ℕ) : Type 0 where
   pub nodes : (owner : Owner) → node_of new owner ≡ node_of old owner
-  pub asked : asked_at new thread ≡ asked
+  pub here : asked_at new thread ≡ asked
   pub others : (other : Thread) → other ≢ thread → asked_at new other ≡ asked_at old other
   pub threads : threads_of new ≡ threads_of old
   pub servers : servers_of new ≡ servers_of old

@@ -1,0 +1,239 @@
+-- What a line tells of threads, as items come and go: whether a thread's message stands there, and which call its unblock pulse names.
+use Rattle.std.proofs.Common.{◌≡◌, ◌≢◌, inl, inr, ℕ, ◌&&◌, ◌||◌, ◌==◌, if◌then◌else◌, Bool, true, false, nat_lt, List, [], ◌∷◌, Option, Some, None, is_some, map, Contains, nat_eq, refl, sym, ◌∙◌, ap, ap₂, arith}
+use Rattle.std.specs.List.{IsDistinct}
+use Rattle.std.specs.Option.{option_or}
+use Rattle.std.proofs.lemmas.Bool.{cases_Bool}
+use Rattle.std.proofs.lemmas.Bool.Decides.{eqb_tells, nat_tests}
+use Rattle.qx_types.specs.declared.names.Thread.{Thread}
+use Rattle.qx_lists.specs.Table.{without}
+use Rattle.qx_lists.proofs.ListLemmas.{contains_first, contains_later}
+use Rattle.qx_machine.specs.declared.rows.OwnItem.{OwnItem}
+use Rattle.qx_machine.specs.declared.rows.OwnItem.TheVariants as item
+use Rattle.qx_machine.specs.declared.rows.Queued.{Queued}
+use Rattle.qx_machine.specs.Lines.{into}
+use Rattle.qx_machine.specs.Machine.{is_same_item, line_without}
+use Rattle.qx_chan.specs.Channel.{call_in, first_told, is_same_thread, message_in, message_of, sender, sender_of, stands, told, unblock_call, unblock_of}
+use Rattle.qx_chan.proofs.EntryLemmas.{differs_from, is_same_thread-differs, is_same_thread-same, is_same_thread-self, or_none}
+
+-- the item is this one of the user
+abbrev pub is_this : ℕ → OwnItem → Queued → Bool
+is_this user it entry = (entry.user.0 == user) && is_same_item entry.item it
+
+same_message : (p q n m : ℕ) → ((p == q) && (n == m)) ≡ true → ◌≡◌ {A = OwnItem} (item.Message p n) (item.Message q m)
+same_message p q n m is = elim (eqb_tells p q) [
+  | inr differs ↦ let clash : false ≡ true = rw differs.0 at is in cc
+  | inl one ↦ elim (eqb_tells n m) [
+    | inr differs ↦ let clash : false ≡ true = rw (one.0, differs.0) at is in cc
+    | inl two ↦ rw (one.1, two.1) refl
+  ]
+]
+
+same_unblock : (p q n m c d : ℕ) → ((p == q) && (n == m) && (c == d)) ≡ true → ◌≡◌ {A = OwnItem} (item.Unblock p n c) (item.Unblock q m d)
+same_unblock p q n m c d is = elim (eqb_tells p q) [
+  | inr differs ↦ let clash : false ≡ true = rw differs.0 at is in cc
+  | inl one ↦ elim (eqb_tells n m) [
+    | inr differs ↦ let clash : false ≡ true = rw (one.0, differs.0) at is in cc
+    | inl two ↦ elim (eqb_tells c d) [
+      | inr differs ↦ let clash : false ≡ true = rw (one.0, two.0, differs.0) at is in cc
+      | inl three ↦ rw (one.1, two.1, three.1) refl
+    ]
+  ]
+]
+
+same_item : (one other : OwnItem) → is_same_item one other ≡ true → one ≡ other
+same_item (item.Message p n) (item.Message q m) is = same_message p q n m is
+same_item (item.Message p n) (item.Unblock q m d) is = cc
+same_item (item.Unblock p n c) (item.Message q m) is = cc
+same_item (item.Unblock p n c) (item.Unblock q m d) is = same_unblock p q n m c d is
+
+pub this_is : (user : ℕ) (it : OwnItem) (entry : Queued) → is_this user it entry ≡ true → (entry.user.0 ≡ user) × (entry.item ≡ it)
+this_is user it entry is = elim (eqb_tells entry.user.0 user) [
+  | inr differs ↦ let clash : false ≡ true = rw differs.0 at is in cc
+  | inl same ↦ (same.1, same_item entry.item it (rw same.0 at is))
+]
+
+some_of_none : {A : Type 0} (a : A) (o : Option A) → o ≡ None → o ≡ Some a → ⊥
+some_of_none a o none some = let clash : None ≡ Some a = sym none ∙ some in cc
+
+both_none : {A : Type 0} (o p : Option A) → option_or o p ≡ None → (o ≡ None) × (p ≡ None)
+both_none None p none = (refl, none)
+both_none (Some x) p none = cc
+
+module _ {A : Type 0} (part : OwnItem → Option A) (thread : Thread) where
+  -- what a user's item tells
+  abbrev pub told_of : ℕ → OwnItem → Option A
+  told_of user it = if is_same_thread (sender_of user it) thread then part it else None
+
+  told-this : (user : ℕ) (it : OwnItem) (entry : Queued) → is_this user it entry ≡ true → told part thread entry ≡ told_of user it
+  told-this user it entry is = let same = this_is user it entry is in ap₂ told_of same.0 same.1
+
+  -- an item comes that tells nothing of the thread
+  pub told-into_none : (rank : Queued → ℕ) (line : List Queued) (entry : Queued) → told part thread entry ≡ None → first_told part thread (into rank line entry) ≡ first_told part thread line
+  told-into_none rank [] entry none = rw none refl
+  told-into_none rank (first ∷ line) entry none =
+      let rest = told-into_none rank line entry none in
+      elim (cases_Bool (nat_lt (rank first) (rank entry))) [
+        | inl above ↦ rw (above, none) refl
+        | inr below ↦ rw (below, rest) refl
+      ]
+
+  -- an item comes where none tells anything of the thread
+  pub told-into : (rank : Queued → ℕ) (line : List Queued) (entry : Queued) → first_told part thread line ≡ None → first_told part thread (into rank line entry) ≡ told part thread entry
+  told-into rank [] entry none = or_none (told part thread entry)
+  told-into rank (first ∷ line) entry none =
+      let both = both_none (told part thread first) (first_told part thread line) none in
+      let rest = told-into rank line entry both.1 in
+      elim (cases_Bool (nat_lt (rank first) (rank entry))) [
+        | inl above ↦ rw (above, none) (or_none (told part thread entry))
+        | inr below ↦ rw (below, both.0, rest) refl
+      ]
+
+  -- an item goes that is not what is told of the thread
+  pub told-without : (user : ℕ) (it : OwnItem) (line : List Queued) → ((a : A) → told_of user it ≡ Some a → first_told part thread line ≢ Some a) → first_told part thread (line_without user it line) ≡ first_told part thread line
+  told-without user it [] other = refl
+  told-without user it (first ∷ line) other = elim (cases_Bool (is_this user it first)) [
+    | inl this ↦ rw this (gone (told part thread first) (first_told part thread line) (λ a some. other a (sym (told-this user it first this) ∙ some)))
+    | inr differs ↦ rw differs (stays (told part thread first) _ (first_told part thread line) other (told-without user it line))
+  ]
+    where
+      gone : (o p : Option A) → ((a : A) → o ≡ Some a → option_or o p ≢ Some a) → p ≡ option_or o p
+      gone None p differs = refl
+      gone (Some a) p differs = absurd (differs a refl refl)
+
+      stays : (o new p : Option A) → ((a : A) → told_of user it ≡ Some a → option_or o p ≢ Some a) → (((a : A) → told_of user it ≡ Some a → p ≢ Some a) → new ≡ p) → option_or o new ≡ option_or o p
+      stays None new p differs rest = rest differs
+      stays (Some x) new p differs rest = refl
+
+  -- where nothing is told of the thread, no such item stands
+  pub without-none : (user : ℕ) (it : OwnItem) (line : List Queued) → is_some (told_of user it) ≡ true → first_told part thread line ≡ None → line_without user it line ≡ line
+  without-none user it [] some none = refl
+  without-none user it (first ∷ line) some none =
+      let both = both_none (told part thread first) (first_told part thread line) none in
+      elim (cases_Bool (is_this user it first)) [
+        | inl this ↦ let clash : true ≡ false = sym some ∙ ap is_some (sym (told-this user it first this) ∙ both.0) in absurd (cc)
+        | inr differs ↦ rw differs (ap (λ l. first ∷ l) (without-none user it line some both.1))
+      ]
+
+some-or : {A : Type 0} (o p : Option A) → is_some (option_or o p) ≡ (is_some o || is_some p)
+some-or None p = refl
+some-or (Some x) p = refl
+
+or-later : (a b c : Bool) → (c || (a || b)) ≡ ((a || b) || c)
+or-later true b true = refl
+or-later true b false = refl
+or-later false true true = refl
+or-later false true false = refl
+or-later false false true = refl
+or-later false false false = refl
+
+or-assoc : (a b c : Bool) → (a || (b || c)) ≡ ((a || b) || c)
+or-assoc true b c = refl
+or-assoc false b c = refl
+
+-- whether anything is told of the thread, once an item comes
+pub some-into : {A : Type 0} (part : OwnItem → Option A) (thread : Thread) (rank : Queued → ℕ) (line : List Queued) (entry : Queued) → is_some (first_told part thread (into rank line entry)) ≡ (is_some (first_told part thread line) || is_some (told part thread entry))
+some-into part thread rank [] entry = ap is_some (or_none (told part thread entry))
+some-into part thread rank (first ∷ line) entry =
+    let rest = some-into part thread rank line entry in
+    elim (cases_Bool (nat_lt (rank first) (rank entry))) [
+      | inl above ↦ rw above (some-or (told part thread entry) (first_told part thread (first ∷ line)) ∙ ap (λ b. is_some (told part thread entry) || b) (some-or (told part thread first) (first_told part thread line)) ∙ or-later (is_some (told part thread first)) (is_some (first_told part thread line)) (is_some (told part thread entry)) ∙ ap (λ b. b || is_some (told part thread entry)) (sym (some-or (told part thread first) (first_told part thread line))))
+      | inr below ↦ rw below (some-or (told part thread first) (first_told part thread (into rank line entry)) ∙ ap (λ b. is_some (told part thread first) || b) rest ∙ or-assoc (is_some (told part thread first)) (is_some (first_told part thread line)) (is_some (told part thread entry)) ∙ ap (λ b. b || is_some (told part thread entry)) (sym (some-or (told part thread first) (first_told part thread line))))
+    ]
+
+-- a user's item leaves where its node does
+module _ (f : ℕ → Queued) (user : ℕ) (it : OwnItem) where
+  pub without-absent : (xs : List ℕ) → ((x : ℕ) → Contains xs x → is_this user it (f x) ≡ false) → line_without user it (map f xs) ≡ map f xs
+  without-absent [] none = refl
+  without-absent (x ∷ xs) none = rw (none x (contains_first x xs)) (ap (λ l. f x ∷ l) (without-absent xs (λ y at. none y (contains_later x y xs at))))
+
+  pub without-map : (node : ℕ) (xs : List ℕ) → IsDistinct nat_eq xs → ((x : ℕ) → Contains xs x → is_this user it (f x) ≡ (x == node)) → map f (without node xs) ≡ line_without user it (map f xs)
+  unfolding IsDistinct
+  without-map node [] distinct same = refl
+  without-map node (x ∷ xs) distinct same = elim (eqb_tells x node) [
+    | inl this ↦ rw (this.0, same x (contains_first x xs)) (rw this.0 (ap (map f) (without-other node xs (λ y at is. differs_from x y xs distinct.0 at (this.1 ∙ sym is)))))
+    | inr other ↦ rw (other.0, same x (contains_first x xs)) (rw other.0 (ap (λ l. f x ∷ l) (without-map node xs distinct.1 (λ y at. same y (contains_later x y xs at)))))
+  ]
+    where
+      without-other : (node : ℕ) (xs : List ℕ) → ((y : ℕ) → Contains xs y → y ≢ node) → without node xs ≡ xs
+      without-other node [] differs = refl
+      without-other node (y ∷ ys) differs = elim (eqb_tells y node) [
+        | inl same ↦ absurd (differs y (contains_first y ys) same.1)
+        | inr other ↦ rw other.0 (ap (λ l. y ∷ l) (without-other node ys (λ z at. differs z (contains_later y z ys at))))
+      ]
+
+told-nothing : {A : Type 0} (b : Bool) → ◌≡◌ {A = Option A} (if b then None else None) None
+told-nothing true = refl
+told-nothing false = refl
+
+some-if : {A : Type 0} (b : Bool) (x : A) → is_some (if b then Some x else None) ≡ b
+some-if true x = refl
+some-if false x = refl
+
+if_not : {A : Type 0} (thread other : Thread) (x : Option A) → other ≢ thread → (if is_same_thread thread other then x else None) ≡ None
+if_not thread other x differs = rw (is_same_thread-differs thread other (λ same. differs (sym same))) refl
+
+-- a message goes into a line
+module _ (rank : Queued → ℕ) (line : List Queued) (thread : Thread) (prio : ℕ) (other : Thread) where
+  pub call-sent : unblock_call (into rank line (message_of thread prio)) other ≡ unblock_call line other
+  call-sent = told-into_none call_in other rank line (message_of thread prio) (told-nothing (is_same_thread thread other))
+
+  pub stands-sent : stands (into rank line (message_of thread prio)) other ≡ (stands line other || is_same_thread thread other)
+  stands-sent = some-into message_in other rank line (message_of thread prio) ∙ ap (λ b. stands line other || b) (some-if (is_same_thread thread other) tt)
+
+-- an unblock pulse goes into a line
+module _ (rank : Queued → ℕ) (line : List Queued) (thread : Thread) (call prio : ℕ) (other : Thread) where
+  pub stands-asked : stands (into rank line (unblock_of thread call prio)) other ≡ stands line other
+  stands-asked = ap is_some (told-into_none message_in other rank line (unblock_of thread call prio) (told-nothing (is_same_thread thread other)))
+
+  pub call-asked : unblock_call line thread ≡ None → unblock_call (into rank line (unblock_of thread call prio)) other ≡ (if is_same_thread thread other then Some call else unblock_call line other)
+  call-asked none = elim (cases_Bool (is_same_thread thread other)) [
+    | inl same ↦ rw (← is_same_thread-same thread other same, is_same_thread-self thread) (told-into call_in thread rank line (unblock_of thread call prio) none ∙ told_here)
+    | inr differs ↦ rw differs (told-into_none call_in other rank line (unblock_of thread call prio) (rw differs refl))
+  ]
+    where
+      told_here : told call_in thread (unblock_of thread call prio) ≡ Some call
+      told_here = rw (is_same_thread-self thread) refl
+
+-- a thread's message goes out of a line
+module _ (line : List Queued) (thread other : Thread) where
+  abbrev withdrawn : List Queued
+  withdrawn = line_without thread.proc.user.0 (item.Message thread.proc.num thread.tid) line
+
+  pub call-withdrawn : unblock_call withdrawn other ≡ unblock_call line other
+  call-withdrawn = told-without call_in other thread.proc.user.0 (item.Message thread.proc.num thread.tid) line (λ a is. absurd (some_of_none a _ (told-nothing (is_same_thread thread other)) is))
+
+  pub stands-withdrawn_other : other ≢ thread → stands withdrawn other ≡ stands line other
+  stands-withdrawn_other differs = ap is_some (told-without message_in other thread.proc.user.0 (item.Message thread.proc.num thread.tid) line (λ a is. absurd (some_of_none a _ (if_not thread other (Some tt) differs) is)))
+
+-- an unblock pulse goes out of a line, if it stands there
+module _ (line : List Queued) (thread : Thread) (call : ℕ) where
+  abbrev replied : List Queued
+  replied = line_without thread.proc.user.0 (item.Unblock thread.proc.num thread.tid call) line
+
+  pub stands-replied : (other : Thread) → stands replied other ≡ stands line other
+  stands-replied other = ap is_some (told-without message_in other thread.proc.user.0 (item.Unblock thread.proc.num thread.tid call) line (λ a is. absurd (some_of_none a _ (told-nothing (is_same_thread thread other)) is)))
+
+  pub call-replied_other : (other : Thread) → other ≢ thread → unblock_call replied other ≡ unblock_call line other
+  call-replied_other other differs = told-without call_in other thread.proc.user.0 (item.Unblock thread.proc.num thread.tid call) line (λ a is. absurd (some_of_none a _ (if_not thread other (Some call) differs) is))
+
+  -- a thread that another call, or none, is to be unblocked from
+  pub call-replied_not : unblock_call line thread ≢ Some call → unblock_call replied thread ≡ unblock_call line thread
+  call-replied_not not = told-without call_in thread thread.proc.user.0 (item.Unblock thread.proc.num thread.tid call) line (λ a is some. not (some ∙ sym is ∙ rw (is_same_thread-self thread) refl))
+
+  pub replied-none : unblock_call line thread ≡ None → replied ≡ line
+  replied-none none = without-none call_in thread thread.proc.user.0 (item.Unblock thread.proc.num thread.tid call) line (rw (is_same_thread-self thread) refl) none
+
+-- the first item goes out of a line
+module _ (first : Queued) (line : List Queued) (other : Thread) where
+  pub stands-received_other : sender first ≢ other → stands (first ∷ line) other ≡ stands line other
+  stands-received_other differs = rw (is_same_thread-differs (sender first) other differs) refl
+
+  pub call-received_other : sender first ≢ other → unblock_call (first ∷ line) other ≡ unblock_call line other
+  call-received_other differs = rw (is_same_thread-differs (sender first) other differs) refl
+
+  -- of a message, and of an unblock pulse
+  pub call-received : call_in first.item ≡ None → unblock_call (first ∷ line) other ≡ unblock_call line other
+  call-received none = ap (λ o. option_or o (unblock_call line other)) (ap (λ o. if is_same_thread (sender first) other then o else None) none ∙ told-nothing (is_same_thread (sender first) other))
+
+  pub stands-received : message_in first.item ≡ None → stands (first ∷ line) other ≡ stands line other
+  stands-received none = ap (λ o. is_some (option_or o (first_told message_in other line))) (ap (λ o. if is_same_thread (sender first) other then o else None) none ∙ told-nothing (is_same_thread (sender first) other))
