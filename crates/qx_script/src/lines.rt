@@ -1,7 +1,7 @@
 ghost use Rattle.std.specs.Prelude.{◌≡◌, ℕ, IfOk, IfSome, List, map, option_map, true};
 ghost use Rattle.qx_types.specs.Configuration.{is_user_name};
 ghost use Rattle.qx_calls.specs.Forms.{read};
-ghost use Rattle.qx_script.specs.Lines.{command_of, do_of, perform_line, prio_line, receive_line, reply_line, serve_line, show_line, spawn_line, step_of, trace_line, user_line, workers_line};
+ghost use Rattle.qx_script.specs.Lines.{command_of, do_of, interrupt_line, perform_line, prio_line, receive_line, reply_line, serve_line, show_line, spawn_line, step_of, trace_line, user_line, workers_line};
 
 use crate::command::Command;
 use qx_calls::lines::call;
@@ -71,6 +71,17 @@ fn prio(users: &Users, words: &[&[u8]]) -> Option<Step>
     Some(Step::SetPrio { thread, prio })
 }
 
+/// `interrupt THREAD`
+fn interrupt(users: &Users, words: &[&[u8]]) -> Option<Step>
+    ensures step { result ≡ read interrupt_line users.now (map (λ word. word.now) words.now) }
+{
+    let [word] = words else {
+        return None;
+    };
+    let thread = thread(users, *word)?;
+    Some(Step::Interrupt { thread })
+}
+
 /// `receive WORKER ram|pipe`
 fn receive(words: &[&[u8]]) -> Option<Step>
     ensures step { (users : List (List ℕ)) → result ≡ read receive_line users (map (λ word. word.now) words.now) }
@@ -111,6 +122,8 @@ fn step(
         Ok(reply(users, words))
     } else if name == b"prio".as_slice() {
         Ok(prio(users, words))
+    } else if name == b"interrupt".as_slice() {
+        Ok(interrupt(users, words))
     } else if name == b"receive".as_slice() {
         Ok(receive(words))
     } else if name == b"perform".as_slice() {

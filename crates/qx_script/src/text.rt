@@ -26,9 +26,10 @@ pub fn push_step(
             threads,
             prio,
         } => push_spawn(text, config, *user, *threads, *prio),
-        Step::Call { thread, request } => { push_call_step(alloc, text, config, *thread, request) }
+        Step::Call { thread, request } => push_call_step(alloc, text, config, *thread, request),
         Step::TakeReply { thread } => push_reply(text, config, *thread),
         Step::SetPrio { thread, prio } => push_prio(text, config, *thread, *prio),
+        Step::Interrupt { thread } => push_interrupt(text, config, *thread),
         Step::Receive { worker, manager } => push_receive(text, *worker, *manager),
         Step::Perform { worker, moment } => push_perform(text, *worker, *moment),
     }
@@ -83,6 +84,14 @@ fn push_prio(
     text.extend_from_slice(b"prio ")?;
     push_thread(text, config, thread)?;
     push_next_number(text, prio.0 as u64)
+}
+
+#[tactic(auto, unfolding(crate::specs::StepText::step_text))]
+fn push_interrupt(text: &mut Vec<u8>, config: &Config, thread: Thread) -> Result<(), NoMemory>
+    ensures ok { OnOk result (text.new.items ≡ text.old.items ++ step_text config.now (Step.Interrupt thread)) }
+{
+    text.extend_from_slice(b"interrupt ")?;
+    push_thread(text, config, thread)
 }
 
 #[tactic(auto, unfolding(crate::specs::StepText::step_text))]

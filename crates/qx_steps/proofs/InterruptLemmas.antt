@@ -24,7 +24,8 @@ use Rattle.qx_parts.specs.Reads.{thread_row}
 use Rattle.qx_steps.specs.Calls.{after_asking, after_dismissal}
 use Rattle.qx_steps.specs.Kept.{Kept, asked_at, stands_at}
 use Rattle.qx_steps.specs.Reads.{IsQueuedTo, IsUnasked}
-use Rattle.qx_chan.proofs.LineLemmas.{stands-into_pulse, unblock_call-into_pulse_other, unblock_call-into_pulse_own}
+use Rattle.qx_chan.proofs.EntryLemmas.{is_same_thread-differs, is_same_thread-self}
+use Rattle.qx_chan.proofs.LineLemmas.{call-asked, stands-asked}
 use Rattle.qx_steps.proofs.RowReads.{option_cases}
 use Rattle.qx_steps.proofs.ThreadLemmas.{Kept-changed, OneThread, Own, OwnLine, one_thread}
 
@@ -112,13 +113,13 @@ module _ (parts : List (Option Part)) (channel : Channel) (thread : Thread) (tar
   own : Own parts new channel thread (with_thread thread.tid asked_thread) asked_thread one kept target.manager change
   own = record {
     line = record {
-      stand = λ other differs. stands-into_pulse rank line thread row.calls target.prio.0 other;
-      calls = λ other differs. unblock_call-into_pulse_other rank line thread row.calls target.prio.0 other differs;
+      stand = λ other differs. stands-asked rank line thread row.calls target.prio.0 other;
+      calls = λ other differs. call-asked rank line thread row.calls target.prio.0 other (no_pulse number) ∙ rw (is_same_thread-differs thread other (λ same. differs (sym same))) refl;
     };
-    stand = stands-into_pulse rank line thread row.calls target.prio.0 thread ∙ kept.lines thread number ∙ rw (one.own, there, is) refl;
+    stand = stands-asked rank line thread row.calls target.prio.0 thread ∙ kept.lines thread number ∙ rw (one.own, there, is) refl;
     stand_other = λ at differs. kept.lines thread at ∙ rw (one.own, there, is) refl;
     calls = λ call its.
-      let same : Some row.calls ≡ Some call = sym (unblock_call-into_pulse_own rank line thread row.calls target.prio.0 (no_pulse number)) ∙ its in
+      let same : Some row.calls ≡ Some call = sym (call-asked rank line thread row.calls target.prio.0 thread (no_pulse number) ∙ rw (is_same_thread-self thread) refl) ∙ its in
       let equal : row.calls ≡ call = cc in
       rw (one.own, there, is, to, eq-eqb number number refl, equal) (eq-eqb call call refl);
     calls_other = λ at call differs its. let clash : None ≡ Some call = sym (no_pulse at) ∙ its in absurd (cc);

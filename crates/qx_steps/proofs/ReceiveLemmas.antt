@@ -21,7 +21,8 @@ use Rattle.qx_process.proofs.RowLemmas.{set-row, with_row-none}
 use Rattle.qx_chan.specs.Channel.{Channel, IsGone, call_in, first_told, message_in, sender, sender_of, stands, told, unblock_call, with_channel_line}
 use Rattle.qx_parts.specs.Reads.{process_of, thread_row}
 use Rattle.qx_steps.specs.Kept.{Kept, asked_at, is_asked_at, is_queued_at, stands_at}
-use Rattle.qx_chan.proofs.EntryLemmas.{is_same_thread-differs, is_same_thread-self}
+use Rattle.qx_chan.proofs.EntryLemmas.{is_same_thread-self}
+use Rattle.qx_chan.proofs.LineLemmas.{call-received, call-received_other, stands-received, stands-received_other}
 use Rattle.qx_steps.proofs.AttachedLemmas.{eqb-differs}
 use Rattle.qx_steps.proofs.ThreadLemmas.{Kept-changed, OneThread, Own, OwnLine, one_thread}
 
@@ -38,14 +39,6 @@ empty_line (line ∷ lines) (suc number) is = ap (λ rest. line ∷ rest) (empty
 pub none_first : (line : List Queued) → None ≡ slice_get line 0 → line ≡ []
 none_first [] is = refl
 none_first (first ∷ line) is = let clash : None ≡ Some first = is in absurd (cc)
-
--- what the first item tells of others, and where it tells nothing
-
-told-other : {A : Type 0} (part : OwnItem → Option A) (first : Queued) (rest : List Queued) (other : Thread) → other ≢ sender first → first_told part other rest ≡ first_told part other (first ∷ rest)
-told-other part first rest other differs = rw (is_same_thread-differs (sender first) other (λ same. differs (sym same))) refl
-
-told-none : {A : Type 0} (part : OwnItem → Option A) (first : Queued) (rest : List Queued) → part first.item ≡ None → first_told part (sender first) rest ≡ first_told part (sender first) (first ∷ rest)
-told-none part first rest none = rw (is_same_thread-self (sender first), none) refl
 
 -- a thread whose message stands somewhere, and stands no more once it is taken
 gone_from : (row : Option ThreadRow) (number at : ℕ) → stands_at number row ≡ true → stands_at at (option_map taken_thread row) ≡ false
@@ -110,12 +103,12 @@ module _ (parts : List (Option Part)) (channel : Channel) (manager : Manager) (u
     own : Own parts (with_row parts user h) channel thread (with_thread tid taken_thread) taken_thread one kept manager (drop 1)
     own = record {
       line = record {
-        stand = λ other differs. rw line (ap is_some (told-other message_in first rest other differs));
-        calls = λ other differs. rw line (told-other call_in first rest other differs);
+        stand = λ other differs. rw line (sym (stands-received_other first rest other (λ same. differs (sym same))));
+        calls = λ other differs. rw line (sym (call-received first rest other refl));
       };
       stand = rw (line, one.own) (gone ∙ sym (gone_from (thread_row parts thread) number number stood));
       stand_other = λ at differs. kept.lines thread at ∙ stands_once (thread_row parts thread) number at differs stood ∙ sym (rw one.own (gone_from (thread_row parts thread) number at stood));
-      calls = λ call is. absurd (none number call (rw line (sym (told-none call_in first rest refl) ∙ rw line at is)));
+      calls = λ call is. absurd (none number call (rw line (call-received first rest thread refl ∙ rw line at is)));
       calls_other = λ at call differs is. absurd (none at call is);
     }
       where
@@ -160,10 +153,10 @@ module _ (parts : List (Option Part)) (channel : Channel) (manager : Manager) (u
     pulse_own : Own parts (with_row parts user same_part) channel asked (λ x. x) same_thread same_one kept manager (drop 1)
     pulse_own = record {
       line = record {
-        stand = λ other differs. rw line (ap is_some (told-other message_in pulse rest other differs));
-        calls = λ other differs. rw line (told-other call_in pulse rest other differs);
+        stand = λ other differs. rw line (sym (stands-received pulse rest other refl));
+        calls = λ other differs. rw line (sym (call-received_other pulse rest other (λ same. differs (sym same))));
       };
-      stand = rw line (ap is_some (told-none message_in pulse rest refl)) ∙ ap (λ l. stands l asked) (sym line) ∙ kept.lines asked number ∙ ap (stands_at number) (sym (same_row (thread_row parts asked)) ∙ sym same_one.own);
+      stand = rw line (sym (stands-received pulse rest asked refl)) ∙ ap (λ l. stands l asked) (sym line) ∙ kept.lines asked number ∙ ap (stands_at number) (sym (same_row (thread_row parts asked)) ∙ sym same_one.own);
       stand_other = λ at differs. kept.lines asked at ∙ ap (stands_at at) (sym (same_row (thread_row parts asked)) ∙ sym same_one.own);
       calls = λ its is. let clash : None ≡ Some its = sym gone ∙ rw line at is in absurd (cc);
       calls_other = λ at its differs is. ap (asked_at at its) (same_one.own ∙ same_row (thread_row parts asked)) ∙ kept.pulses asked at its is;

@@ -24,7 +24,7 @@ use Rattle.qx_parts.specs.Reads.{process_of, thread_row}
 use Rattle.qx_steps.specs.Kept.{Kept, asked_at, attached_at, attaches, is_queued_at, settled, stands_at, with_attached}
 use Rattle.qx_steps.specs.Reads.{IsReady}
 use Rattle.qx_chan.proofs.EntryLemmas.{is_same_thread-differs, is_same_thread-self, or_false, or_true}
-use Rattle.qx_chan.proofs.LineLemmas.{stands-into_message, unblock_call-into_message}
+use Rattle.qx_chan.proofs.LineLemmas.{call-sent, stands-sent}
 use Rattle.qx_chan.proofs.SetLemmas.{has-server, is_same_server-differs}
 use Rattle.qx_steps.proofs.AttachedLemmas.{attached-connected, eqb-differs, same_server-self, threads-connected}
 use Rattle.qx_steps.proofs.RowReads.{option_cases}
@@ -110,13 +110,13 @@ module _ (parts : List (Option Part)) (channel : Channel) (thread : Thread) (sen
   own : Own parts new channel thread f (queued_thread sent) one kept sent.target.manager change
   own = record {
     line = record {
-      stand = λ other differs. stands-into_message rank line thread sent.target.prio.0 other ∙ ap (λ b. stands line other || b) (is_same_thread-differs thread other (λ same. differs (sym same))) ∙ or_false (stands line other);
-      calls = λ other differs. unblock_call-into_message rank line thread sent.target.prio.0 other;
+      stand = λ other differs. stands-sent rank line thread sent.target.prio.0 other ∙ ap (λ b. stands line other || b) (is_same_thread-differs thread other (λ same. differs (sym same))) ∙ or_false (stands line other);
+      calls = λ other differs. call-sent rank line thread sent.target.prio.0 other;
     };
-    stand = stands-into_message rank line thread sent.target.prio.0 thread ∙ ap (λ b. stands line thread || b) (is_same_thread-self thread) ∙ or_true (stands line thread)
+    stand = stands-sent rank line thread sent.target.prio.0 thread ∙ ap (λ b. stands line thread || b) (is_same_thread-self thread) ∙ or_true (stands line thread)
         ∙ sym (rw one.own (queued_at (thread_row parts thread) ready number ∙ eq-eqb number number refl));
     stand_other = λ at differs. waits-nowhere parts channel thread ready kept at ∙ sym (rw one.own (queued_at (thread_row parts thread) ready at ∙ eqb-differs number at (λ equal. differs (sym equal))));
-    calls = λ call is. absurd (none number call (sym (unblock_call-into_message rank line thread sent.target.prio.0 thread) ∙ is));
+    calls = λ call is. absurd (none number call (sym (call-sent rank line thread sent.target.prio.0 thread) ∙ is));
     calls_other = λ at call differs is. absurd (none at call is);
   }
     where

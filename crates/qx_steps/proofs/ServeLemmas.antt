@@ -31,7 +31,7 @@ use Rattle.qx_parts.specs.Deeds.{served_part}
 use Rattle.qx_parts.specs.Reads.{process_in, process_of, thread_row}
 use Rattle.qx_steps.specs.Kept.{Kept, asked_at, attached_at, is_asked_at, is_queued_at, settled, stands_at}
 use Rattle.qx_steps.specs.Workers.{answered_call, call_of, lines_answered}
-use Rattle.qx_chan.proofs.LineLemmas.{stands-without_message_other, stands-without_pulse, unblock_call-without_message, unblock_call-without_pulse_other, unblock_call-without_pulse_none}
+use Rattle.qx_chan.proofs.LineLemmas.{call-replied_other, call-withdrawn, replied-none, stands-replied, stands-withdrawn_other}
 use Rattle.qx_steps.proofs.AttachedLemmas.{fewer-done, fewer-given_back, fewer-let_go, threads-done, threads-given_back, threads-let_go}
 use Rattle.qx_steps.proofs.ReceiveLemmas.{queued-unasked, stands_once}
 use Rattle.qx_steps.proofs.RowReads.{option_cases}
@@ -135,12 +135,12 @@ module _ (parts : List (Option Part)) (channel : Channel) (thread : Thread) (tar
   Kept-dismissed error gone = Kept-left parts channel thread (λ part. after_answer part thread.proc.num thread.tid target.over (Err error)) target.over (Err error) kept (λ part is. refl) target.manager drop_message
       (record {
         line = record {
-          stand = λ other differs. stands-without_message_other thread (line_at channel.lines (manager_number target.manager)) other differs;
-          calls = λ other differs. unblock_call-without_message thread (line_at channel.lines (manager_number target.manager)) other;
+          stand = λ other differs. stands-withdrawn_other (line_at channel.lines (manager_number target.manager)) thread other differs;
+          calls = λ other differs. call-withdrawn (line_at channel.lines (manager_number target.manager)) thread other;
         };
         stand = gone;
         stand_other = λ at differs. stands_once (thread_row parts thread) (manager_number target.manager) at differs at_target;
-        calls = unblock_call-without_message thread (line_at channel.lines (manager_number target.manager)) thread ∙ no_pulse (manager_number target.manager);
+        calls = call-withdrawn (line_at channel.lines (manager_number target.manager)) thread thread ∙ no_pulse (manager_number target.manager);
         calls_other = λ at call differs its. queued-unasked (thread_row parts thread) (manager_number target.manager) at_target at call (kept.pulses thread at call its);
       })
     where
@@ -191,10 +191,10 @@ module _ (parts : List (Option Part)) (channel : Channel) (thread : Thread) (h :
   Kept-answered gone = Kept-left parts channel thread h sent.target.over given kept changes sent.target.manager drop_pulse
       (record {
         line = record {
-          stand = λ other differs. stands-without_pulse thread row.calls (line_at channel.lines its_number) other;
-          calls = λ other differs. unblock_call-without_pulse_other thread row.calls (line_at channel.lines its_number) other differs;
+          stand = λ other differs. stands-replied (line_at channel.lines its_number) thread row.calls other;
+          calls = λ other differs. call-replied_other (line_at channel.lines its_number) thread row.calls other differs;
         };
-        stand = stands-without_pulse thread row.calls (line_at channel.lines its_number) thread ∙ kept.lines thread its_number ∙ rw (there, is) refl;
+        stand = stands-replied (line_at channel.lines its_number) thread row.calls thread ∙ kept.lines thread its_number ∙ rw (there, is) refl;
         stand_other = λ at differs. rw (there, is) refl;
         calls = no_call;
         calls_other = λ at call differs its. differs (sym (eqb-same its_number at (and_middle sent.is_asked (its_number == at) (row.calls == call) (asked_is at call its))));
@@ -202,7 +202,7 @@ module _ (parts : List (Option Part)) (channel : Channel) (thread : Thread) (h :
     where
       no_call : unblock_call (drop_pulse (line_at channel.lines its_number)) thread ≡ None
       no_call = elim (option_cases (unblock_call (line_at channel.lines its_number) thread)) [
-        | inl none ↦ unblock_call-without_pulse_none thread row.calls (line_at channel.lines its_number) none
+        | inl none ↦ ap (λ l. unblock_call l thread) (replied-none (line_at channel.lines its_number) thread row.calls none) ∙ none
         | inr call ↦
             let same : row.calls ≡ call.0 = eqb-same row.calls call.0 (and_last sent.is_asked (its_number == its_number) (row.calls == call.0) (asked_is its_number call.0 call.1)) in
             gone (call.1 ∙ ap Some (sym same))

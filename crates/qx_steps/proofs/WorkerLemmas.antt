@@ -1,5 +1,5 @@
 -- What a receive and a perform come to, case by case.
-use Rattle.std.proofs.Common.{◌≡◌, ℕ, List, [], ◌∷◌, true, false, Option, Some, None, is_some, refl, ap}
+use Rattle.std.proofs.Common.{◌≡◌, inl, inr, ℕ, List, [], ◌∷◌, true, false, Option, Some, None, is_some, refl, ap}
 use Rattle.qx_types.specs.declared.names.Manager.{Manager}
 use Rattle.qx_types.specs.declared.names.Worker.{Worker}
 use Rattle.qx_types.specs.declared.outcome.Outcome.TheVariants.{WrongState, Took, Idle, Busy, Handled, Nothing}
@@ -8,13 +8,16 @@ use Rattle.qx_machine.specs.declared.rows.Held.{Held}
 use Rattle.qx_machine.specs.declared.rows.OwnItem.{OwnItem}
 use Rattle.qx_machine.specs.declared.rows.OwnItem.TheVariants as item
 use Rattle.qx_machine.specs.declared.rows.Queued.{Queued}
-use Rattle.qx_machine.specs.Machine.{World, step, is_worker, line_of, with_taken, with_empty_hand, receive_hand, received_part, performed_part, shown_item}
+use Rattle.qx_machine.specs.Machine.{World, step, is_worker, line_of, with_taken, with_empty_hand, receive_hand, received_part, performed_part, lines_after, shown_item}
 use Rattle.qx_machine.specs.Rows.{row_at}
 use Rattle.qx_machine.specs.Parts.{Part}
+use Rattle.qx_machine.specs.Performing.{or_kept, serve_message, taken_in}
 use Rattle.qx_machine.specs.Users.{take, serve, settle}
 use Rattle.qx_process.proofs.RowLemmas.{with_row-none}
+use Rattle.qx_chan.specs.Channel.{sender_of}
 use Rattle.qx_parts.specs.Deeds.{served_part}
-use Rattle.qx_steps.specs.Workers.{after_holding, after_serving}
+use Rattle.qx_steps.specs.Workers.{after_holding, after_serving, answered_call, lines_answered}
+use Rattle.qx_steps.proofs.RowReads.{option_cases}
 
 pub receive-no_worker : (w : World) (worker : Worker) (manager : Manager) → is_worker w.config worker.0 ≡ false → step w (Receive worker manager) ≡ record { world = w; outcome = WrongState }
 unfolding step
@@ -55,10 +58,25 @@ pub perform-nothing : (w : World) (worker : Worker) (moment : ℕ) → is_worker
 unfolding step
 perform-nothing w worker moment valid hand = rw (valid, hand)
 
+-- the changes of the lines, told by the call that is answered
+answered_lines : (part : Part) (user process tid : ℕ) (lines : List (List Queued)) → lines_after user lines (or_kept part (serve_message part process tid)).changes
+    ≡ lines_answered (sender_of user (item.Message process tid)) (answered_call (item.Message process tid) (Some part)) lines
+answered_lines part user process tid lines = elim (option_cases (row_at part.processes process)) [
+  | inl none ↦ rw none refl
+  | inr x ↦ elim (option_cases (row_at x.0.threads tid)) [
+    | inl none ↦ rw (x.1, none) refl
+    | inr row ↦ elim (option_cases (taken_in row.0.state)) [
+      | inl none ↦ rw (x.1, row.1, none) refl
+      | inr sent ↦ rw (x.1, row.1, sent.1) refl
+    ]
+  ]
+]
+
 served_item : (w : World) (worker : ℕ) (user : ℕ) (item : OwnItem) (moment : ℕ) (part : Option Part) → row_at w.parts user ≡ part → performed_part (with_empty_hand w worker) (record { user = record { 0 = user }; item = item }) moment part ≡ after_serving w worker (record { user = record { 0 = user }; item = item })
 unfolding serve settle
-served_item w worker user (item.Message process thread) moment None row = rw (with_row-none w.parts user (λ part. served_part part (item.Message process thread)) row)
-served_item w worker user (item.Message process thread) moment (Some part) row = rw row
+served_item w worker user own moment None row = rw (row, with_row-none w.parts user (λ part. served_part part own) row) refl
+served_item w worker user (item.Message process tid) moment (Some part) row = rw (row, ← answered_lines part user process tid w.lines) refl
+served_item w worker user (item.Unblock process tid call) moment (Some part) row = rw row refl
 
 -- the held item is done
 pub perform-handled : (w : World) (worker : Worker) (moment : ℕ) (held : Held) → is_worker w.config worker.0 ≡ true → row_at w.hands worker.0 ≡ Some held → step w (Perform worker moment) ≡ record { world = after_serving w worker.0 held; outcome = Handled }

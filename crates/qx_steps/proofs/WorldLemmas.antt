@@ -9,14 +9,14 @@ use Rattle.qx_types.specs.declared.outcome.Outcome.TheVariants.{Spawned, Sent, W
 use Rattle.qx_types.specs.declared.request.Request.{Request}
 use Rattle.qx_types.specs.declared.step.Step.TheVariants.{Spawn, Call, TakeReply, SetPrio}
 use Rattle.qx_machine.specs.declared.rows.OwnItem.{OwnItem}
-use Rattle.qx_machine.specs.declared.rows.Sent as sent
-use Rattle.qx_machine.specs.Clients.{ClientStep, answer_in, is_prio, or_unchanged, own_path, sent_by, set_prio, spawn, spawn_number, take_reply}
+use Rattle.qx_machine.specs.declared.rows.Target.{Target}
+use Rattle.qx_machine.specs.Clients.{ClientStep, answer_in, is_prio, or_unchanged, own_path, set_prio, spawn, spawn_number, take_reply, target_by}
 use Rattle.qx_machine.specs.Machine.{World, step, client_end, client_step}
 use Rattle.qx_machine.specs.Parts.{Part, Change, thread_at}
 use Rattle.qx_machine.specs.Rows.{row_at, with_row}
 use Rattle.qx_machine.specs.Users.{client, settle}
 use Rattle.qx_process.proofs.RowLemmas.{set-row}
-use Rattle.qx_steps.specs.Calls.{after_sending, after_start, sent_from, sent_in, spawn_number_in}
+use Rattle.qx_steps.specs.Calls.{after_sending, after_start, sent_to, spawn_number_in, target_in}
 use Rattle.qx_steps.proofs.RowReads.{option_cases}
 
 -- the world with other rows of one user
@@ -91,20 +91,20 @@ set_prio-nobody w thread prio none = rw none refl
 
 -- call
 
-pub call-refused : (w : World) (thread : Thread) (request : Request) (outcome : Outcome) → sent_in w thread request ≡ Err outcome → step w (Call thread request) ≡ record { world = w; outcome = outcome }
+pub call-refused : (w : World) (thread : Thread) (request : Request) (outcome : Outcome) → target_in w thread request ≡ Err outcome → step w (Call thread request) ≡ record { world = w; outcome = outcome }
 unfolding step client
 call-refused w thread request outcome is = elim (option_cases (row_at w.parts thread.proc.user.0)) [
   | inl none ↦ let same : Err WrongState ≡ Err outcome = rw none at is in rw none (ap (λ o. record { world = w; outcome = o }) (cc))
   | inr part ↦
-      let its : sent_by (own_path w.config thread.proc.user.0) part.0 thread request ≡ Err outcome = rw part.1 at is in
+      let its : target_by (own_path w.config thread.proc.user.0) part.0 thread request ≡ Err outcome = rw part.1 at is in
       rw (part.1, its) (refused_by w thread.proc.user.0 part.0 outcome part.1)
 ]
 
-pub call-sent : (w : World) (thread : Thread) (request : Request) (message : sent.Sent) → sent_in w thread request ≡ Ok message → step w (Call thread request) ≡ record { world = after_sending w thread message; outcome = Sent }
+pub call-sent : (w : World) (thread : Thread) (request : Request) (target : Target) → target_in w thread request ≡ Ok target → step w (Call thread request) ≡ record { world = after_sending w thread (sent_to target request); outcome = Sent }
 unfolding step client settle
-call-sent w thread request message is = elim (option_cases (row_at w.parts thread.proc.user.0)) [
-  | inl none ↦ let clash : Err WrongState ≡ Ok message = rw none at is in absurd (cc)
+call-sent w thread request target is = elim (option_cases (row_at w.parts thread.proc.user.0)) [
+  | inl none ↦ let clash : Err WrongState ≡ Ok target = rw none at is in absurd (cc)
   | inr part ↦
-      let its : sent_by (own_path w.config thread.proc.user.0) part.0 thread request ≡ Ok message = rw part.1 at is in
+      let its : target_by (own_path w.config thread.proc.user.0) part.0 thread request ≡ Ok target = rw part.1 at is in
       rw (part.1, its) refl
 ]
