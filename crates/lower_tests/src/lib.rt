@@ -1,4 +1,5 @@
-//! Tests of the crates below the channel through their public calls: types, tables of nodes, lines, a user's processes.
+//! Tests of the crates below the channel through their public calls: types, tables of nodes, lines, a thread's
+//! room for its replies, a user's processes.
 #![tactic(auto)]
 
 #[cfg(test)]
@@ -13,5 +14,7 @@ mod memory;
 mod nodes;
 #[cfg(test)]
 mod processes;
+#[cfg(test)]
+mod rooms;
 #[cfg(test)]
 mod tables;

@@ -5,7 +5,10 @@ use Rattle.std.proofs.Math.ListN.{set, length-set}
 use Rattle.std.proofs.lemmas.Grind.{common_steps}
 use Rattle.std.proofs.lemmas.List.{set-get_or}
 use Rattle.std.proofs.lemmas.Option.{unwrap_or-slice_get, slice_get_read}
+use Rattle.qx_machine.specs.declared.rows.ThreadRow.{ThreadRow}
+use Rattle.qx_machine.specs.Processes.{Process}
 use Rattle.qx_machine.specs.Rows.{row_at, with_row}
+use Rattle.qx_process.specs.Lends.{put_thread}
 
 -- a row is what stands in its place
 pub row_at-get_or : {A : Type 0} (xs : List (Option A)) (n : ℕ) → row_at xs n ≡ get_or xs n None
@@ -37,3 +40,7 @@ set-same xs n x read = ap (λ y. set xs n y) read ∙ set-get_or xs n x
 -- a row put back where it stands changes nothing
 pub set-row : {A : Type 0} (xs : List (Option A)) (n : ℕ) (x : A) → row_at xs n ≡ Some x → set xs n (Some x) ≡ xs
 set-row xs n x is = ap (λ y. set xs n y) (sym is ∙ row_at-get_or xs n) ∙ set-get_or xs n None
+
+-- a thread's row that is left as it was changes nothing in the process
+pub thread_put_back : (process : Process) (thread : ℕ) (row : ThreadRow) → row_at process.threads thread ≡ Some row → put_thread thread row process ≡ process
+thread_put_back process thread row is = rw (set-row process.threads thread row is) refl

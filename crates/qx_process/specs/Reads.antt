@@ -1,15 +1,12 @@
 -- What rows are asked.
 use Rattle.std.specs.Prelude.{ℕ, ◌<◌, ◌≤◌, Bool, true, false, Option, Some, None, ⊤}
 use Rattle.qx_types.specs.declared.limits.TheConstants.Limits.{CALLS, LAST_CONNECTION, PRIORITY}
-use Rattle.qx_machine.specs.declared.rows.Connection.{Connection}
 use Rattle.qx_machine.specs.declared.rows.Over.{Over}
 use Rattle.qx_machine.specs.declared.rows.Over.TheVariants.{New}
 use Rattle.qx_machine.specs.declared.rows.State.{State}
 use Rattle.qx_machine.specs.declared.rows.State.TheVariants.{Queued, Taken}
 use Rattle.qx_machine.specs.declared.rows.Target.{Target}
 use Rattle.qx_machine.specs.declared.rows.ThreadRow.{ThreadRow}
-use Rattle.qx_machine.specs.Processes.{Process}
-use Rattle.qx_machine.specs.Rows.{row_at}
 
 -- a message of the thread is in a line, or was received and not yet answered
 abbrev pub is_blocked : State → Bool

@@ -4,11 +4,10 @@
 mod connections;
 pub mod places;
 pub mod process;
-pub mod room;
+mod room;
 mod servers;
 pub mod thread;
 mod threads;
 
 pub use process::Process;
-pub use room::Room;
 pub use thread::ThreadCell;

@@ -1,23 +1,22 @@
-ghost use Rattle.std.specs.Prelude.{◌≡◌, ◌≤◌, length, is_some, IsTrue, IfSome, OnSome, Some, None};
+ghost use Rattle.std.specs.Prelude.{◌≡◌, ◌≤◌, length, is_some, IsTrue, IfSome, OnSome, OnOk, OnErr, Some, None};
 ghost use Rattle.std.specs.Option.{option_copied, option_copied_mut};
 ghost use Rattle.std.specs.Borrow.{sem};
 ghost use Rattle.qx_types.specs.Managers.{manager_number};
-ghost use Rattle.qx_types.specs.declared.limits.TheConstants.Limits.{FIRST_CONNECTION, LAST_CONNECTION, THREADS};
+ghost use Rattle.qx_types.specs.declared.limits.TheConstants.Limits.{BODY, FIRST_CONNECTION, LAST_CONNECTION, THREADS};
 ghost use Rattle.qx_machine.specs.Processes as machine;
 ghost use Rattle.qx_machine.specs.Processes.{answered_thread, with_thread};
 ghost use Rattle.qx_machine.specs.Rows.{row_at, lowest_from};
 ghost use Rattle.qx_machine.specs.Servers.{is_attached};
-ghost use Rattle.qx_process.specs.declared.room.TheConstants.{REPLY_BYTES};
 ghost use Rattle.qx_process.specs.Reads.{is_thread_blocked, CanCall, CanGo, HasNumber, IsPriority, IsRanked};
 
 use crate::connections::{self, Connections};
 use crate::places;
-use crate::room::Room;
 use crate::servers::{self, Servers, Sides};
 use crate::thread::ThreadCell;
 use crate::threads::{self, PLACES, Threads};
 use qx_machine::{Connection, Over, Sent, ServerConnection, ThreadRow};
 use qx_types::{Answer, Coid, Errno, Limits, Manager, Prio};
+use std::alloc::{AllocError, Global};
 use std::marker::Model;
 
 /// A process: its threads from 1 and its connections from 3, the side connections of its threads, and its server
@@ -156,24 +155,27 @@ impl Process {
         connections::set_block(&mut self.connections, coid, block);
     }
 
-    /// A message of a thread goes out: the thread is blocked, and what the message goes over is attached (C Library
-    /// Reference: `MsgSend`).
-    pub fn send(&mut self, thread: u8, sent: Sent, room: Room)
+    /// A message of a thread goes out: the thread is blocked, with room for the reply, and what the message goes over is
+    /// attached (C Library Reference: `MsgSend`).
+    #[tactic(auto, using(crate::proofs::RowLemmas::thread_put_back))]
+    pub fn send(&mut self, alloc: Global, thread: u8, sent: Sent) -> Result<(), AllocError>
         requires call { CanCall (row_at self.old.threads thread) }
         requires target { CanGo sent.target }
-        ensures process { self.new ≡ machine.with_queued thread sent self.old }
+        ensures ok { OnOk result (self.new ≡ machine.with_queued thread sent self.old) }
+        ensures err { OnErr result (self.new ≡ self.old) }
     {
         let target = sent.target;
         if let Some(cell) = self.thread_mut(thread) {
-            cell.send(sent, room);
+            cell.send(alloc, sent)?;
         }
         self.connect(thread, target.manager, target.over);
+        Ok(())
     }
 
     /// A blocked thread gets a reply; what was attached for its message alone goes (C Library Reference: `MsgReply`).
     pub fn reply(&mut self, thread: u8, over: Over, status: u64, bytes: &[u8])
         requires blocked { IsTrue (is_thread_blocked (row_at self.old.threads thread)) }
-        requires fits { length bytes.now ≤ REPLY_BYTES }
+        requires fits { length bytes.now ≤ BODY }
         ensures process { self.new ≡ machine.after_reply thread over (with_thread thread (answered_thread (Answer.Reply status bytes.now)) self.old) }
     {
         if let Some(cell) = self.thread_mut(thread) {

@@ -1,15 +1,14 @@
-ghost use Rattle.std.specs.Prelude.{◌≡◌, ◌≤◌, length, IfOk};
-ghost use Rattle.qx_process.specs.declared.room.TheConstants.{REPLY_BYTES};
+ghost use Rattle.std.specs.Prelude.{◌≡◌, ◌≤◌, ◌<◌, length, IsSome, IfOk, None};
+ghost use Rattle.qx_bytes.specs.declared.reply.TheConstants.ReplyBytes.{INLINE};
+ghost use Rattle.qx_types.specs.declared.limits.TheConstants.Limits.{BODY};
 
-use qx_types::Bytes;
+use qx_bytes::ReplyBytes;
+use qx_types::Limits;
 use std::alloc::{AllocError, Global};
 use std::marker::Model;
 
-/// The most bytes of a reply.
-pub const REPLY_BYTES: usize = 40;
-
-/// Memory for the bytes of a reply, of exactly as many as one may have: made when the message is sent, so that answering
-/// takes none.
+/// Memory for the bytes of a reply, of exactly as many as one may have: there before a message is sent, so that no answer
+/// is refused for want of it.
 #[derive(Drop)]
 pub struct Room {
     bytes: Vec<u8>,
@@ -17,34 +16,63 @@ pub struct Room {
 
 impl Model for Room {
     ghost use Rattle.std.specs.Prelude.{◌≡◌, ℕ, vec_len, vec_capacity};
-    ghost use Rattle.qx_process.specs.declared.room.TheConstants.{REPLY_BYTES};
+    ghost use Rattle.qx_types.specs.declared.limits.TheConstants.Limits.{BODY};
 
     ghost Value = { ℕ };
 
     ghost view = { λ r. vec_capacity r.bytes };
 
-    ghost invariant = { λ r. (vec_len r.bytes ≡ 0) × (vec_capacity r.bytes ≡ REPLY_BYTES) };
+    ghost invariant = { λ r. (vec_len r.bytes ≡ 0) × (vec_capacity r.bytes ≡ BODY) };
 }
 
 impl Room {
     /// Room for the bytes of one reply, and no more.
     pub fn new(alloc: Global) -> Result<Self, AllocError>
-        ensures exact { IfOk result (λ room. room ≡ REPLY_BYTES) }
+        ensures exact { IfOk result (λ room. room ≡ BODY) }
     {
         Ok(Room {
-            bytes: Vec::with_capacity(alloc, REPLY_BYTES)?,
+            bytes: Vec::with_capacity(alloc, Limits::BODY)?,
         })
     }
 
-    /// The room filled with the bytes of a reply, for which no memory is taken.
-    pub fn filled(self, reply: &[u8]) -> Bytes
-        requires fits { length reply.now ≤ REPLY_BYTES }
+    /// Few bytes of a reply, which stand inline and leave the room.
+    pub fn inline(&self, reply: &[u8]) -> ReplyBytes
+        requires few { length reply.now ≤ INLINE }
+        ensures bytes { result ≡ reply.now }
+    {
+        ReplyBytes::inline(*self.bytes.allocator(), reply)
+    }
+
+    /// The room filled with the bytes of a reply and shrunk to them. Where it can't be shrunk it stays whole, so nothing is
+    /// refused.
+    pub fn filled(self, reply: &[u8]) -> ReplyBytes
+        requires fits { length reply.now ≤ BODY }
         ensures bytes { result ≡ reply.now }
     {
         let Room { mut bytes } = self;
         match bytes.extend_from_slice(reply) {
-            Ok(()) => Bytes::from_vec(bytes),
+            Ok(()) => {
+                bytes.shrink_to_fit();
+                ReplyBytes::from_vec(bytes)
+            }
             Err(_) => unreachable!(),
         }
+    }
+}
+
+/// The bytes of a reply: few leave the room where it is, and more take it along.
+pub fn reply_bytes(room: &mut Option<Room>, reply: &[u8]) -> ReplyBytes
+    requires room { IsSome room.old }
+    requires fits { length reply.now ≤ BODY }
+    ensures bytes { result ≡ reply.now }
+    ensures stays { length reply.now ≤ INLINE → room.new ≡ room.old }
+    ensures goes { INLINE < length reply.now → room.new ≡ None }
+{
+    match room {
+        Some(room) if reply.len() <= ReplyBytes::INLINE => room.inline(reply),
+        _ => match room.take() {
+            Some(room) => room.filled(reply),
+            None => unreachable!(),
+        },
     }
 }

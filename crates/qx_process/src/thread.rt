@@ -1,17 +1,17 @@
-ghost use Rattle.std.specs.Prelude.{◌≡◌, ◌≤◌, ◌<◌, length, IsTrue, MatchOption};
-ghost use Rattle.qx_types.specs.declared.limits.TheConstants.Limits.{CALLS};
+ghost use Rattle.std.specs.Prelude.{◌≡◌, ◌≤◌, ◌<◌, length, IsTrue, MatchOption, OnOk, OnErr};
+ghost use Rattle.qx_types.specs.declared.limits.TheConstants.Limits.{BODY, CALLS};
 ghost use Rattle.qx_machine.specs.Clients.{answer_in};
 ghost use Rattle.qx_machine.specs.Processes.{asked_thread, new_thread, queued_thread, taken_thread, answered_thread, ready_thread, ranked_thread};
-ghost use Rattle.qx_process.specs.declared.room.TheConstants.{REPLY_BYTES};
 ghost use Rattle.qx_process.specs.Reads.{is_blocked, IsPriority, IsRanked};
 
-use crate::room::Room;
+use crate::room::{Room, reply_bytes};
 use qx_machine::{Sent, State, ThreadRow};
 use qx_types::{Answer, Errno, Prio};
+use std::alloc::{AllocError, Global};
 use std::marker::Model;
 use std::mem;
 
-/// A thread, with the room for its reply while it is blocked.
+/// A thread, with the room for its replies: there while it is blocked, and afterwards until an answer takes it along.
 #[derive(Drop)]
 pub struct ThreadCell {
     row: ThreadRow,
@@ -52,16 +52,20 @@ impl ThreadCell {
         &self.row
     }
 
-    /// The thread has sent a message, and is blocked until it is answered; the room is for the reply (C Library Reference:
-    /// `MsgSend`).
-    pub fn send(&mut self, sent: Sent, room: Room)
+    /// The thread has sent a message, and is blocked until it is answered; the room for the reply is the one that is there,
+    /// or is made (C Library Reference: `MsgSend`).
+    pub fn send(&mut self, alloc: Global, sent: Sent) -> Result<(), AllocError>
         requires countable { self.old.calls < CALLS }
         requires priority { IsPriority sent.target.prio.0 }
-        ensures row { self.new ≡ queued_thread sent self.old }
+        ensures ok { OnOk result (self.new ≡ queued_thread sent self.old) }
+        ensures err { OnErr result (self.new ≡ self.old) }
     {
+        if self.room.is_none() {
+            self.room = Some(Room::new(alloc)?);
+        }
         self.row.state = State::Queued(sent);
         self.row.calls += 1;
-        self.room = Some(room);
+        Ok(())
     }
 
     /// The thread's message is received (C Library Reference: `MsgReceive`).
@@ -84,28 +88,22 @@ impl ThreadCell {
         }
     }
 
-    /// The thread gets a reply (C Library Reference: `MsgReply`).
+    /// The thread gets a reply, which can't be refused for want of memory (C Library Reference: `MsgReply`).
     pub fn reply(&mut self, status: u64, bytes: &[u8])
         requires blocked { IsTrue (is_blocked self.old.state) }
-        requires fits { length bytes.now ≤ REPLY_BYTES }
+        requires fits { length bytes.now ≤ BODY }
         ensures row { self.new ≡ answered_thread (Answer.Reply status bytes.now) self.old }
     {
-        match self.room.take() {
-            Some(room) => {
-                let reply = Answer::Reply(status, room.filled(bytes));
-                self.row.state = State::Answered(reply);
-            }
-            None => unreachable!(),
-        }
+        let bytes = reply_bytes(&mut self.room, bytes);
+        self.row.state = State::Answered(Answer::Reply(status, bytes));
     }
 
-    /// The thread gets an error (C Library Reference: `MsgError`).
+    /// The thread gets an error, and keeps the room (C Library Reference: `MsgError`).
     pub fn fail(&mut self, error: Errno)
         requires blocked { IsTrue (is_blocked self.old.state) }
         ensures row { self.new ≡ answered_thread (Answer.Failed error) self.old }
     {
         self.row.state = State::Answered(Answer::Failed(error));
-        self.room = None;
     }
 
     /// The thread gets another priority (C Library Reference: `SchedSet`).
