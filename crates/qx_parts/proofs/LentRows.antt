@@ -14,6 +14,11 @@ pub put_back : {A R E : Type 0} (xs : List (Option A)) (n : ℕ) (x y : A) (r : 
 put_back xs n x y (Ok done) there same = tt
 put_back xs n x y (Err error) there same = rw same (set-row xs n x (sym there))
 
+-- a process that a refused call put back
+pub process_put_back : {R E : Type 0} (part : Part) (n : ℕ) (x y : Process) (r : Result R E) → Some x ≡ row_at part.processes n → OnErr r (y ≡ x) → OnErr r (◌≡◌ {A = Part} (record part { processes = slice_set part.processes n (Some y) }) part)
+process_put_back part n x y (Ok done) there same = tt
+process_put_back part n x y (Err error) there same = ap (λ rows. record part { processes = rows }) (rw same (set-row part.processes n x (sym there)))
+
 -- a thread's row that is put back changes nothing
 pub put_thread-same : (part : Part) (number thread : ℕ) (row : ThreadRow) → thread_at part number thread ≡ Some row → with_process number (put_thread thread row) part ≡ part
 put_thread-same part number thread row there = ap (λ rows. record part { processes = rows }) (put_thread_same part.processes number thread row there)

@@ -19,7 +19,7 @@ ghost use Rattle.qx_parts.specs.Reads.{CanSend};
 use crate::judge;
 use crate::resources::{Done, Resources};
 use qx_machine::{Effect, Over, OwnItem, Sent, State, Target, ThreadRow};
-use qx_process::{Process, Room};
+use qx_process::Process;
 use qx_procs::Processes;
 use qx_types::{Answer, Bytes, Errno, Outcome, Prio, Request, Thread, User};
 use qx_wire::{Meaning, Parsed, meaning};
@@ -106,10 +106,10 @@ impl Part {
         ensures ok { OnOk result (self.new ≡ with_process thread.proc.num (with_queued thread.tid sent) self.old) }
         ensures err { OnErr result (self.new ≡ self.old) }
     {
-        let room = Room::new(alloc)?;
-        if let Some(process) = self.processes.process_mut(thread.proc.num) {
-            process.send(thread.tid, sent, room);
-        }
+        let Some(process) = self.processes.process_mut(thread.proc.num) else {
+            return Ok(());
+        };
+        process.send(alloc, thread.tid, sent)?;
         Ok(())
     }
 
