@@ -1,5 +1,5 @@
 -- How the lines and the nodes stand in the table, as a node is made, put into a line, taken out of one or given back.
-use Rattle.std.proofs.Common.{◌≡◌, ◌≢◌, ◌⊎◌, ◌++◌, inl, inr, ℕ, zero, suc, true, false, nat_eq, List, [], ◌∷◌, Contains, Option, Some, None, option_map, map, drop, length, replicate, slice_get, slice_set, unwrap_or, is_some, IfSome, refl, sym, ◌∙◌, ap, arith}
+use Rattle.std.proofs.Common.{◌≡◌, ◌≢◌, ◌⊎◌, ◌++◌, subst, inl, inr, ℕ, zero, suc, true, false, nat_eq, List, [], ◌∷◌, Contains, Option, Some, None, option_map, map, drop, length, replicate, slice_get, slice_set, unwrap_or, is_some, IfSome, refl, sym, ◌∙◌, ap, arith}
 use Rattle.std.specs.FinMap as maps
 use Rattle.std.specs.Ordering.{nat_cmp}
 use Rattle.std.specs.List.{IsDistinct, AllByRecursion}
@@ -19,11 +19,11 @@ use Rattle.qx_machine.specs.declared.rows.OwnItem.TheVariants as item
 use Rattle.qx_machine.specs.declared.rows.Queued.{Queued}
 use Rattle.qx_machine.specs.Machine.{line_without, rank}
 use Rattle.qx_machine.specs.Lines.{into, line_at, with_line}
-use Rattle.qx_chan.specs.Channel.{IsGone, call_in, first_told, message_in, no_other, sender, stands, told, unblock_call}
+use Rattle.qx_chan.specs.Channel.{IsGone, call_in, first_told, is_same_thread, message_in, no_other, sender, stands, told, unblock_call}
 use Rattle.qx_chan.specs.Kept.{Kept, PutIn, TakenOut, entries, entry_at, list_at, named, owner_in, owner_of}
 use Rattle.qx_chan.specs.Nodes.{Disconnect, Message, Owner, Unblock}
-use Rattle.qx_chan.proofs.EntryLemmas.{Reads, differs_from, reads-call, reads-message, told-entry, told-find}
-use Rattle.qx_chan.proofs.LineLemmas.{is_this, without-absent, without-map}
+use Rattle.qx_chan.proofs.EntryLemmas.{Reads, differs_from, reads-call, reads-message, some_of, told-entry, told-find, told-part}
+use Rattle.qx_chan.proofs.LineLemmas.{is_this, other-unblock, owner-this, this-message, this-unblock, without-absent, without-map}
 use Rattle.qx_chan.proofs.NodesLemmas.{none_of}
 use Rattle.qx_chan.proofs.TableLemmas.{absent_is, contained-other, contains-insert, contains-other, contains-self, entries-kept, entry-other, entry-same, inserted, line-kept, none_some, nowhere, removed, some_same}
 
@@ -65,6 +65,15 @@ list_of lines number line is = ap (option_map (λ l. l.list)) is
 pub line_at-shown : (t : Table Queued) (lines : List Line) (number : ℕ) (line : Line) → slice_get lines number ≡ Some line → line_at (map (entries t) lines) number ≡ entries t line
 line_at-shown t lines number line is = ap (λ o. unwrap_or o []) (slice_get-map (entries t) lines number ∙ ap (option_map (entries t)) is)
 
+-- a line that stays as it is
+pub with_line-same : (lines : List (List Queued)) (number : ℕ) (change : List Queued → List Queued) → change (line_at lines number) ≡ line_at lines number → lines ≡ with_line lines number change
+with_line-same lines number change same = sym (ap (slice_set lines number) same ∙ set_same lines number)
+  where
+    set_same : (lines : List (List Queued)) (number : ℕ) → slice_set lines number (line_at lines number) ≡ lines
+    set_same [] number = refl
+    set_same (line ∷ lines) zero = refl
+    set_same (line ∷ lines) (suc number) = ap (λ l. line ∷ l) (set_same lines number)
+
 -- a line that changes keeps its list
 list_at-set : (before after : Line) → after.list ≡ before.list → (lines : List Line) (number other : ℕ) → slice_get lines number ≡ Some before → list_at (slice_set lines number after) other ≡ list_at lines other
 list_at-set before after own [] number other is = refl
@@ -100,6 +109,12 @@ Kept-room old new lines node_of same_lists values kept = record {
   listed = rw (same_lists, values) kept.listed;
 }
 
+-- the same nodes of the same owners
+pub Kept-owners : (t : Table Queued) (lines : List Line) (node_of after : Owner → Option ℕ) → ((owner : Owner) → after owner ≡ node_of owner) → Kept t lines node_of → Kept t lines after
+Kept-owners t lines node_of after same kept =
+    let all : node_of ≡ after = λ i owner. sym (same owner) i in
+    subst (Kept t lines) all kept
+
 not_disconnect : (thread : Thread) (it : OwnItem) (proc : Proc) (number : ℕ) → owner_in thread it ≡ Disconnect proc number → ⊥
 not_disconnect thread (item.Message process n) proc number is = cc
 not_disconnect thread (item.Unblock process n call) proc number is = cc
@@ -110,6 +125,26 @@ IsFree-disconnect t lines node_of proc number node kept has = record {
   there = kept.there (Disconnect proc number) node has;
   in_no_list = nowhere_from t.lists node (λ list at. not_disconnect _ _ proc number (kept.once (Disconnect proc number) (owner_of (entry_at t node)) node has (kept.listed list node at).1));
 }
+
+-- what a line tells of a thread is told by the node of its messages or of its unblock pulses
+module _ {A : Type 0} (part : OwnItem → Option A) (thread : Thread) (owner : Owner) (reads : Reads part thread owner) (t : Table Queued) (lines : List Line) (node_of : Owner → Option ℕ) (kept : Kept t lines node_of) where
+  found-own : (a : A) (line : Line) (xs : List ℕ) → ((x : ℕ) → Contains xs x → IsInLine t line x) → first_told part thread (map (entry_at t) xs) ≡ Some a → (x : ℕ) × (Contains xs x × ((node_of owner ≡ Some x) × (part (entry_at t x).item ≡ Some a)))
+  found-own a line xs members is =
+      let found = told-find (entry_at t) part thread a xs is in
+      let own = reads.of (entry_at t found.0) (ap is_some found.1.1) in
+      (found.0, (found.1.0, (ap node_of (sym own) ∙ (kept.listed line.list found.0 (members found.0 found.1.0)).1, told-part (is_same_thread (sender (entry_at t found.0)) thread) (part (entry_at t found.0).item) a found.1.1)))
+
+  pub stands-owned : (number : ℕ) → is_some (first_told part thread (line_at (map (entries t) lines) number)) ≡ true → node_of owner ≡ None → ⊥
+  stands-owned number some none =
+      let line = line_there lines number some in
+      let told = some_of (first_told part thread (entries t line.0)) (sym (ap (λ l. is_some (first_told part thread l)) (line_at-shown t lines number line.0 line.1)) ∙ some) in
+      let found = found-own told.0 line.0 (nodes_in t line.0) (λ x at. at) told.1 in
+      none_some found.0 (node_of owner) none found.1.1.0
+    where
+      line_there : (lines : List Line) (number : ℕ) → is_some (first_told part thread (line_at (map (entries t) lines) number)) ≡ true → (line : Line) × (slice_get lines number ≡ Some line)
+      line_there [] number some = cc
+      line_there (line ∷ lines) zero some = (line, refl)
+      line_there (line ∷ lines) (suc number) some = line_there lines number some
 
 -- what the lines tell of a thread, and the node of its messages or of its unblock pulses
 module _ {A : Type 0} (part : OwnItem → Option A) (thread : Thread) (owner : Owner) (reads : Reads part thread owner) (own_name : named owner ≡ owner) (t : Table Queued) (lines : List Line) (node_of : Owner → Option ℕ) (node : ℕ) (kept : Kept t lines node_of) (has : node_of owner ≡ Some node) where
@@ -135,22 +170,30 @@ module _ {A : Type 0} (part : OwnItem → Option A) (thread : Thread) (owner : O
   -- where something is, the node stands in that line
   pub in_line-own : (line : Line) → is_some (first_told part thread (entries t line)) ≡ true → IsInLine t line node
   in_line-own line some =
-      let found = told-find (entry_at t) part thread (nodes_in t line) some in
-      let same = only found.0 (kept.listed line.list found.0 found.1.0).1 (reads.of (entry_at t found.0) found.1.1) in
+      let told = some_of (first_told part thread (entries t line)) some in
+      let found = found-own part thread owner reads t lines node_of kept told.0 line (nodes_in t line) (λ x at. at) told.1 in
+      let same : found.0 ≡ node = some_same found.0 node (node_of owner) found.1.1.0 has in
       rw (← same) found.1.0
+
+  pub part-own : (a : A) (line : Line) → first_told part thread (entries t line) ≡ Some a → part (entry_at t node).item ≡ Some a
+  part-own a line is =
+      let found = found-own part thread owner reads t lines node_of kept a line (nodes_in t line) (λ x at. at) is in
+      let same : found.0 ≡ node = some_same found.0 node (node_of owner) found.1.1.0 has in
+      rw (← same) found.1.1.1
 
   -- once the node is gone, nothing is told of the thread
   pub gone-own : (line : Line) (xs : List ℕ) → ((x : ℕ) → Contains xs x → IsInLine t line x) → (Contains xs node → ⊥) → is_some (first_told part thread (map (entry_at t) xs)) ≡ false
   gone-own line xs members gone = elim (cases_Bool (is_some (first_told part thread (map (entry_at t) xs)))) [
     | inr none ↦ none
     | inl some ↦
-        let found = told-find (entry_at t) part thread xs some in
-        let same = only found.0 (kept.listed line.list found.0 (members found.0 found.1.0)).1 (reads.of (entry_at t found.0) found.1.1) in
+        let told = some_of (first_told part thread (map (entry_at t) xs)) some in
+        let found = found-own part thread owner reads t lines node_of kept told.0 line xs members told.1 in
+        let same : found.0 ≡ node = some_same found.0 node (node_of owner) found.1.1.0 has in
         absurd (gone (rw (← same) found.1.0))
   ]
 
   -- a user's item goes as the node that stands for it does
-  pub items-without : (line : Line) (user : ℕ) (it : OwnItem) → IsDistinct nat_eq (nodes_in t line) → is_this user it (entry_at t node) ≡ true → ((entry : Queued) → is_this user it entry ≡ true → owner_of entry ≡ owner) → map (entry_at t) (without node (nodes_in t line)) ≡ line_without user it (entries t line)
+  items-without : (line : Line) (user : ℕ) (it : OwnItem) → IsDistinct nat_eq (nodes_in t line) → is_this user it (entry_at t node) ≡ true → ((entry : Queued) → is_this user it entry ≡ true → owner_of entry ≡ owner) → map (entry_at t) (without node (nodes_in t line)) ≡ line_without user it (entries t line)
   items-without line user it distinct this names = without-map (entry_at t) user it node (nodes_in t line) distinct (λ x at. elim (eqb_tells x node) [
     | inl same ↦ rw same.0 (ap (λ y. is_this user it (entry_at t y)) same.1 ∙ this)
     | inr differs ↦ rw differs.0 (elim (cases_Bool (is_this user it (entry_at t x))) [
@@ -160,7 +203,7 @@ module _ {A : Type 0} (part : OwnItem → Option A) (thread : Thread) (owner : O
   ])
 
   -- where the node stands for another item, that item is in no line
-  pub items-other : (line : Line) (user : ℕ) (it : OwnItem) → is_this user it (entry_at t node) ≡ false → ((entry : Queued) → is_this user it entry ≡ true → owner_of entry ≡ owner) → line_without user it (entries t line) ≡ entries t line
+  items-other : (line : Line) (user : ℕ) (it : OwnItem) → is_this user it (entry_at t node) ≡ false → ((entry : Queued) → is_this user it entry ≡ true → owner_of entry ≡ owner) → line_without user it (entries t line) ≡ entries t line
   items-other line user it not names = without-absent (entry_at t) user it (nodes_in t line) (λ x at. elim (cases_Bool (is_this user it (entry_at t x))) [
     | inr other ↦ other
     | inl is ↦
@@ -168,6 +211,22 @@ module _ {A : Type 0} (part : OwnItem → Option A) (thread : Thread) (owner : O
         let clash : true ≡ false = sym is ∙ ap (λ y. is_this user it (entry_at t y)) same ∙ not in
         absurd (cc)
   ])
+
+-- a thread's message goes out of a line as its node does, and so does the pulse that names a call
+module _ (t : Table Queued) (lines : List Line) (node_of : Owner → Option ℕ) (thread : Thread) (node : ℕ) (kept : Kept t lines node_of) (line : Line) where
+  pub message-leaves : node_of (Message thread) ≡ Some node → IsDistinct nat_eq (nodes_in t line) → map (entry_at t) (without node (nodes_in t line)) ≡ line_without thread.proc.user.0 (item.Message thread.proc.num thread.tid) (entries t line)
+  message-leaves has distinct = items-without message_in thread (Message thread) (reads-message thread) refl t lines node_of node kept has line thread.proc.user.0 (item.Message thread.proc.num thread.tid) distinct
+      (this-message thread (entry_at t node) (kept.names (Message thread) node has)) (λ entry at. owner-this thread.proc.user.0 (item.Message thread.proc.num thread.tid) entry at)
+
+  module _ (has : node_of (Unblock thread) ≡ Some node) (call : ℕ) where
+    pub pulse-leaves : call_in (entry_at t node).item ≡ Some call → IsDistinct nat_eq (nodes_in t line) → map (entry_at t) (without node (nodes_in t line)) ≡ line_without thread.proc.user.0 (item.Unblock thread.proc.num thread.tid call) (entries t line)
+    pulse-leaves names distinct = items-without call_in thread (Unblock thread) (reads-call thread) refl t lines node_of node kept has line thread.proc.user.0 (item.Unblock thread.proc.num thread.tid call) distinct
+        (this-unblock thread call (entry_at t node) (kept.names (Unblock thread) node has) names) (λ entry at. owner-this thread.proc.user.0 (item.Unblock thread.proc.num thread.tid call) entry at)
+
+    -- where the pulse names another call, nothing goes
+    pub pulse-stays : (other : ℕ) → call_in (entry_at t node).item ≡ Some other → other ≢ call → line_without thread.proc.user.0 (item.Unblock thread.proc.num thread.tid call) (entries t line) ≡ entries t line
+    pulse-stays other names differs = items-other call_in thread (Unblock thread) (reads-call thread) refl t lines node_of node kept has line thread.proc.user.0 (item.Unblock thread.proc.num thread.tid call)
+        (other-unblock thread call other (entry_at t node) names differs) (λ entry at. owner-this thread.proc.user.0 (item.Unblock thread.proc.num thread.tid call) entry at)
 
 -- one line changes
 module _ (old new : Table Queued) (lines : List Line) (number : ℕ) (before after : Line) (node_of : Owner → Option ℕ) (kept : Kept old lines node_of) (is : slice_get lines number ≡ Some before) (own : after.list ≡ before.list) (elsewhere : (list : ℕ) → (IsOwn before list → ⊥) → maps.get new.lists list ≡ maps.get old.lists list) where

@@ -1,25 +1,52 @@
-use Rattle.std.proofs.Common.{◌≡◌, Some, slice_get, sym, ◌∙◌, refl}
-use Rattle.std.proofs.lemmas.List.{length-set}
-use Rattle.std.proofs.lemmas.Option.{slice_get_read}
-use Rattle.qx_types.specs.declared.names.TheConstants.Manager.{COUNT}
-use Rattle.qx_chan.proofs.KeptLemmas.{Kept-taken, gone-if, line_at-shown, shown-taken}
-use Rattle.qx_chan.proofs.PresenceLemmas.{same_channel}
+use Rattle.std.proofs.Common.{rules, ◌≡◌, ℕ, ◌-◌, ◌*◌, ◌<◌, ◌≤◌, false, length, drop, slice_get, max, IfOk, IsOk, OnOk, OnErr, IfSome, IsTrue, None, Some, ◌+◌, ◌/◌, ◌%◌, Bool, true, nat_eq, nat_lt, List, [], ◌∷◌, ◌++◌, slice_index_or, slice_set, bit_and, bit_or, Fits, w8, w32, w64, Bor, MutBor}
+use Rattle.std.specs.FinMap as maps
+use Rattle.qx_types.specs.Managers.{manager_number}
+use Rattle.qx_types.specs.declared.limits.TheConstants.Limits.{PRIORITY, PROCESSES, THREADS}
+use Rattle.qx_lists.specs.Table.{ContainsNode, IsFree, IsIn, with_value, without}
+use Rattle.qx_lines.specs.Line.{IsInLine, IsLineOf}
+use Rattle.qx_machine.specs.Lines.{into}
+use Rattle.qx_machine.specs.Machine as machine
+use Rattle.qx_machine.specs.declared.rows.OwnItem.TheVariants as item
+use Rattle.qx_chan.specs.Channel.{HasThread, IsGone, call_in, channel_line, has_server, has_thread, message_of, no_channel, stands, unblock_call, unblock_of, with_channel_line, with_process, with_server, with_thread, without_server}
+use Rattle.qx_chan.specs.Kept.{PutIn, TakenOut, entries, entry_at, owner_of}
+use Rattle.qx_chan.specs.Nodes.{Unblock}
 use Rattle.qx_chan.proofs.channel.Channel.receive.Goals as goal
 
+-- src/channel.rt:96:21
 pub take_out-requires-clause-line : goal.take_out-requires-clause-line
-take_out-requires-clause-line c = c.self.invariant.1.line c.number.result c.index_mut.result.now (slice_get_read c.self.inside.lines.items COUNT c.number.result c.index_mut.result.now (sym c.self.invariant.0) c.number.ensures.few c.index_mut.ensures.value)
+take_out-requires-clause-line c = ?
 
+-- src/channel.rt:96:21
 pub invariant_of-self : goal.invariant_of-self
-invariant_of-self c =
-    let is : slice_get c.self.inside.lines.items c.number.result ≡ Some c.index_mut.result.now = slice_get_read c.self.inside.lines.items COUNT c.number.result c.index_mut.result.now (sym c.self.invariant.0) c.number.ensures.few c.index_mut.ensures.value in
-    (length-set c.self.inside.lines.items c.number.result c.take_out.new.line ∙ c.self.invariant.0, Kept-taken c.self.inside.table _ _ c.number.result _ _ _ c.self.invariant.1 is c.take_out.ensures.out)
+invariant_of-self c = ?
 
-pub returns-clause-rest : goal.returns-clause-rest
-returns-clause-rest c =
-    let is : slice_get c.self.inside.lines.items c.number.result ≡ Some c.index_mut.result.now = slice_get_read c.self.inside.lines.items COUNT c.number.result c.index_mut.result.now (sym c.self.invariant.0) c.number.ensures.few c.index_mut.ensures.value in
-    rw (← c.self.view_is, ← c.number.ensures.number) (same_channel (shown-taken c.self.inside.table _ _ c.number.result _ _ _ c.self.invariant.1 is c.take_out.ensures.out) refl refl refl c.take_out.ensures.out.room)
+-- src/channel.rt:96:21
+pub returns-in_err-first-clause-rest : goal.returns-in_err-first-clause-rest
+returns-in_err-first-clause-rest c = ?
 
-pub returns-clause-gone : goal.returns-clause-gone
-returns-clause-gone c =
-    let is : slice_get c.self.inside.lines.items c.number.result ≡ Some c.index_mut.result.now = slice_get_read c.self.inside.lines.items COUNT c.number.result c.index_mut.result.now (sym c.self.invariant.0) c.number.ensures.few c.index_mut.ensures.value in
-    rw (← c.self.view_is, ← c.number.ensures.number, line_at-shown c.self.inside.table _ c.number.result _ is) (gone-if c.self.inside.table _ _ c.index_mut.result.now _ c.self.invariant.1 (c.know.ensures.distinct c.index_mut.result.now.list) c.take_out.ensures.first)
+-- src/channel.rt:105:13
+pub set_asked-requires : goal.set_asked-requires
+set_asked-requires c = ?
+
+-- src/channel.rt:105:13
+pub invariant_of-self-in-Unblock : goal.invariant_of-self-in-Unblock
+invariant_of-self-in-Unblock c = ?
+
+pub invariant_of-self-in_default : goal.invariant_of-self-in_default
+invariant_of-self-in_default c = ?
+
+-- src/channel.rt:90:5
+pub returns-in-Unblock-clause-rest : goal.returns-in-Unblock-clause-rest
+returns-in-Unblock-clause-rest c = ?
+
+-- src/channel.rt:90:5
+pub returns-in-Unblock-clause-gone : goal.returns-in-Unblock-clause-gone
+returns-in-Unblock-clause-gone c = ?
+
+-- src/channel.rt:90:5
+pub returns-in_default-clause-rest : goal.returns-in_default-clause-rest
+returns-in_default-clause-rest c = ?
+
+-- src/channel.rt:90:5
+pub returns-in_default-clause-gone : goal.returns-in_default-clause-gone
+returns-in_default-clause-gone c = ?
