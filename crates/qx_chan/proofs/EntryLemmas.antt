@@ -1,5 +1,5 @@
 -- Lists of entries, the nodes that stand for them, and whose they are.
-use Rattle.std.proofs.Common.{◌<◌, ◌∙◌, length, sym, ◌≡◌, ◌≢◌, ◌⊎◌, inl, inr, ℕ, ◌||◌, if◌then◌else◌, Bool, true, false, nat_lt, List, [], ◌∷◌, Contains, nat_eq, Option, Some, None, is_some, map, drop, unwrap_or, refl, ap, arith}
+use Rattle.std.proofs.Common.{zero, suc, slice_set, ◌<◌, ◌∙◌, length, sym, ◌≡◌, ◌≢◌, ◌⊎◌, inl, inr, ℕ, ◌||◌, if◌then◌else◌, Bool, true, false, nat_lt, List, [], ◌∷◌, Contains, nat_eq, Option, Some, None, is_some, map, drop, unwrap_or, refl, ap, arith}
 use Rattle.std.specs.FinMap as maps
 use Rattle.std.specs.List.{AllByRecursion}
 use Rattle.std.specs.Option.{option_or}
@@ -201,3 +201,12 @@ module _ {A : Type 0} (lines : List (List A)) (number : ℕ) (change : List A �
 
   pub length-with_line : length (with_line lines number change) ≡ length lines
   length-with_line = length-set lines number (change (line_at lines number))
+
+-- a line that stays as it is
+pub with_line-same : (lines : List (List Queued)) (number : ℕ) (change : List Queued → List Queued) → change (line_at lines number) ≡ line_at lines number → lines ≡ with_line lines number change
+with_line-same lines number change same = sym (ap (slice_set lines number) same ∙ set_same lines number)
+  where
+    set_same : (lines : List (List Queued)) (number : ℕ) → slice_set lines number (line_at lines number) ≡ lines
+    set_same [] number = refl
+    set_same (line ∷ lines) zero = refl
+    set_same (line ∷ lines) (suc number) = ap (λ l. line ∷ l) (set_same lines number)

@@ -65,15 +65,6 @@ list_of lines number line is = ap (option_map (λ l. l.list)) is
 pub line_at-shown : (t : Table Queued) (lines : List Line) (number : ℕ) (line : Line) → slice_get lines number ≡ Some line → line_at (map (entries t) lines) number ≡ entries t line
 line_at-shown t lines number line is = ap (λ o. unwrap_or o []) (slice_get-map (entries t) lines number ∙ ap (option_map (entries t)) is)
 
--- a line that stays as it is
-pub with_line-same : (lines : List (List Queued)) (number : ℕ) (change : List Queued → List Queued) → change (line_at lines number) ≡ line_at lines number → lines ≡ with_line lines number change
-with_line-same lines number change same = sym (ap (slice_set lines number) same ∙ set_same lines number)
-  where
-    set_same : (lines : List (List Queued)) (number : ℕ) → slice_set lines number (line_at lines number) ≡ lines
-    set_same [] number = refl
-    set_same (line ∷ lines) zero = refl
-    set_same (line ∷ lines) (suc number) = ap (λ l. line ∷ l) (set_same lines number)
-
 -- a line that changes keeps its list
 list_at-set : (before after : Line) → after.list ≡ before.list → (lines : List Line) (number other : ℕ) → slice_get lines number ≡ Some before → list_at (slice_set lines number after) other ≡ list_at lines other
 list_at-set before after own [] number other is = refl
@@ -227,6 +218,22 @@ module _ (t : Table Queued) (lines : List Line) (node_of : Owner → Option ℕ)
     pub pulse-stays : (other : ℕ) → call_in (entry_at t node).item ≡ Some other → other ≢ call → line_without thread.proc.user.0 (item.Unblock thread.proc.num thread.tid call) (entries t line) ≡ entries t line
     pulse-stays other names differs = items-other call_in thread (Unblock thread) (reads-call thread) refl t lines node_of node kept has line thread.proc.user.0 (item.Unblock thread.proc.num thread.tid call)
         (other-unblock thread call other (entry_at t node) names differs) (λ entry at. owner-this thread.proc.user.0 (item.Unblock thread.proc.num thread.tid call) entry at)
+
+-- what holds of no items and of the items of each line, holds of the line of each number
+at_any : (t : Table Queued) (P : List Queued → Type 0) → P [] → ((line : Line) → P (entries t line)) → (lines : List Line) (number : ℕ) → P (line_at (map (entries t) lines) number)
+at_any t P none all [] number = none
+at_any t P none all (line ∷ lines) zero = all line
+at_any t P none all (line ∷ lines) (suc number) = at_any t P none all lines number
+
+-- a pulse that names another call
+module _ (t : Table Queued) (lines : List Line) (node_of : Owner → Option ℕ) (thread : Thread) (node : ℕ) (kept : Kept t lines node_of) (has : node_of (Unblock thread) ≡ Some node) (call other number : ℕ) (names : call_in (entry_at t node).item ≡ Some other) (differs : other ≢ call) where
+  pub other-stays : line_without thread.proc.user.0 (item.Unblock thread.proc.num thread.tid call) (line_at (map (entries t) lines) number) ≡ line_at (map (entries t) lines) number
+  other-stays = at_any t (λ l. line_without thread.proc.user.0 (item.Unblock thread.proc.num thread.tid call) l ≡ l) refl (λ line. pulse-stays t lines node_of thread node kept line has call other names differs) lines number
+
+  pub other-told : unblock_call (line_at (map (entries t) lines) number) thread ≢ Some call
+  other-told is =
+      let part : call_in (entry_at t node).item ≡ Some call = at_any t (λ l. unblock_call l thread ≡ Some call → call_in (entry_at t node).item ≡ Some call) (λ none. absurd (none_some call None refl none)) (λ line is. part-own call_in thread (Unblock thread) (reads-call thread) refl t lines node_of node kept has call line is) lines number is in
+      differs (some_same other call (call_in (entry_at t node).item) names part)
 
 -- one line changes
 module _ (old new : Table Queued) (lines : List Line) (number : ℕ) (before after : Line) (node_of : Owner → Option ℕ) (kept : Kept old lines node_of) (is : slice_get lines number ≡ Some before) (own : after.list ≡ before.list) (elsewhere : (list : ℕ) → (IsOwn before list → ⊥) → maps.get new.lists list ≡ maps.get old.lists list) where
@@ -482,6 +489,10 @@ gone_by : (it : OwnItem) (thread : Thread) (line : List Queued) → (owner_in th
 gone_by (item.Message process number) thread line message pulse = message refl
 gone_by (item.Unblock process number call) thread line message pulse = pulse refl
 
+pub no_pulse : (it : OwnItem) (thread : Thread) (line : List Queued) (call : ℕ) → call_in it ≡ Some call → no_other it thread line → unblock_call line thread ≡ None
+no_pulse (item.Message process number) thread line call is gone = cc
+no_pulse (item.Unblock process number other) thread line call is gone = gone
+
 -- the first item of a line stands there once
 module _ (t : Table Queued) (lines : List Line) (node_of : Owner → Option ℕ) (line : Line) (kept : Kept t lines node_of) where
   gone_from : (x : ℕ) (xs : List ℕ) (first : Queued) → x ∷ xs ≡ nodes_in t line → AllByRecursion (λ y. nat_eq x y ≡ false) xs → entry_at t x ≡ first → IsGone first (map (entry_at t) xs)
@@ -496,6 +507,16 @@ module _ (t : Table Queued) (lines : List Line) (node_of : Owner → Option ℕ)
   unfolding IsDistinct
   gone_first [] first same distinct is = absurd (none_some first None refl is)
   gone_first (x ∷ xs) first same distinct is = gone_from x xs first same distinct.0 (same_Some (entry_at t x) first is)
+
+  -- and the node of its owner stands for it
+  pub first-owned : (first : Queued) → Some first ≡ slice_get (entries t line) 0 → (node : ℕ) × (node_of (owner_of first) ≡ Some node)
+  first-owned first is = of (nodes_in t line) refl (sym is)
+    where
+      of : (nodes : List ℕ) → nodes ≡ nodes_in t line → slice_get (map (entry_at t) nodes) 0 ≡ Some first → (node : ℕ) × (node_of (owner_of first) ≡ Some node)
+      of [] same is = absurd (none_some first None refl is)
+      of (x ∷ xs) same is =
+          let inside : IsInLine t line x = rw (← same) (contains_first x xs) in
+          (x, ap (λ entry. node_of (owner_of entry)) (sym (same_Some (entry_at t x) first is)) ∙ (kept.listed line.list x inside).1)
 
   pub gone-if : (first : Option Queued) → IsDistinct nat_eq (nodes_in t line) → first ≡ slice_get (entries t line) 0 → IfSome first (λ taken. IsGone taken (drop 1 (entries t line)))
   gone-if None distinct is = tt

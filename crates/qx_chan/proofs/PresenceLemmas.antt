@@ -178,6 +178,11 @@ nodes-there nodes thread none there = let clash : false ≡ true = sym (ap is_so
 pub nodes-absent : (nodes : List UserNodes) (thread : Thread) → set.contains (threads_of nodes) thread ≡ false → nodes_at nodes thread ≡ None
 nodes-absent nodes thread absent = none_of _ (sym (threads-nodes nodes thread) ∙ absent)
 
+-- a thread that has one node has nodes
+pub nodes-some : {A B : Type 0} (f : A → B) (o : Option A) (x : B) → option_map f o ≡ Some x → is_some o ≡ true
+nodes-some f None x is = cc
+nodes-some f (Some a) x is = refl
+
 -- a process with a thread in the set has a place
 pub started : (nodes : List UserNodes) (proc : Proc) → (tid : ℕ) × (set.contains (threads_of nodes) (record { proc = proc; tid = tid }) ≡ true) → process_at nodes proc ≢ no_process
 started nodes proc there = started-thread nodes (record { proc = proc; tid = there.0 }) (sym (threads-nodes nodes (record { proc = proc; tid = there.0 })) ∙ there.1)

@@ -1,22 +1,22 @@
 -- In which line a thread's unblock pulse stands, as items come and go.
-use Rattle.std.proofs.Common.{◌≡◌, ◌≢◌, inl, inr, ℕ, ◌<◌, ◌==◌, Bool, true, false, List, [], Option, Some, None, is_some, length, drop, replicate, refl, sym, ◌∙◌, ap, arith}
+use Rattle.std.proofs.Common.{◌≡◌, ◌≢◌, inl, inr, ℕ, ◌<◌, ◌==◌, Bool, true, false, List, [], ◌∷◌, Option, Some, None, is_some, length, drop, slice_get, replicate, refl, sym, ◌∙◌, ap, arith}
 use Rattle.std.proofs.lemmas.Bool.Decides.{eqb_tells, nat_tests}
-use Rattle.std.proofs.lemmas.Option.{unwrap_or-slice_get}
+use Rattle.std.proofs.lemmas.Option.{same_Some, unwrap_or-slice_get}
 use Rattle.qx_types.specs.declared.names.Thread.{Thread}
 use Rattle.qx_machine.specs.declared.rows.OwnItem.TheVariants as item
 use Rattle.qx_machine.specs.declared.rows.Queued.{Queued}
 use Rattle.qx_machine.specs.Lines.{into, line_at, with_line}
 use Rattle.qx_machine.specs.Machine.{line_without}
-use Rattle.qx_chan.specs.Channel.{is_same_thread, message_of, unblock_call, unblock_of}
+use Rattle.qx_chan.specs.Channel.{call_in, is_same_thread, message_of, sender, unblock_call, unblock_of}
 use Rattle.qx_chan.specs.Kept.{IsTold, is_at}
-use Rattle.qx_chan.proofs.EntryLemmas.{is_same_thread-differs, is_same_thread-self, line_at-other, line_at-same}
-use Rattle.qx_chan.proofs.LineLemmas.{call-asked, call-replied_other, call-sent, call-withdrawn}
+use Rattle.qx_chan.proofs.EntryLemmas.{is_same_thread-differs, is_same_thread-self, line_at-other, line_at-same, with_line-same}
+use Rattle.qx_chan.proofs.LineLemmas.{call-asked, call-received, call-received_other, call-replied_other, replied-none, call-sent, call-withdrawn}
 use Rattle.qx_chan.proofs.NodesLemmas.{default_of, none_of, same_or_not}
 
 pub is_at-self : (number : ℕ) → is_at number (Some number) ≡ true
 is_at-self number = grind (arith, nat_tests)
 
-is_at-other : (number other : ℕ) → other ≢ number → is_at other (Some number) ≡ false
+pub is_at-other : (number other : ℕ) → other ≢ number → is_at other (Some number) ≡ false
 is_at-other number other differs = elim (eqb_tells other number) [
   | inl same ↦ absurd (differs same.1)
   | inr apart ↦ apart.0
@@ -92,9 +92,31 @@ module _ (lines : List (List Queued)) (number : ℕ) (asked : Thread → Option 
       own : unblock_call (into rank (line_at lines number) (unblock_of thread call prio)) thread ≡ Some call
       own = call-asked rank (line_at lines number) thread call prio thread (idle number) ∙ rw (is_same_thread-self thread) refl
 
+  pub told-received : ((first : Queued) → slice_get (line_at lines number) 0 ≡ Some first → call_in first.item ≡ None) → IsTold (with_line lines number (drop 1)) asked
+  told-received none = kept (drop 1) (λ thread. by_first (line_at lines number) thread none)
+    where
+      by_first : (line : List Queued) (thread : Thread) → ((first : Queued) → slice_get line 0 ≡ Some first → call_in first.item ≡ None) → unblock_call (drop 1 line) thread ≡ unblock_call line thread
+      by_first [] thread none = refl
+      by_first (first ∷ rest) thread none = sym (call-received first rest thread (none first refl))
+
+  pub told-pulse : (first : Queued) (call : ℕ) (after : Thread → Option ℕ) → slice_get (line_at lines number) 0 ≡ Some first → call_in first.item ≡ Some call → ((other : Thread) → other ≢ sender first → after other ≡ asked other) → after (sender first) ≡ None → unblock_call (drop 1 (line_at lines number)) (sender first) ≡ None → IsTold (with_line lines number (drop 1)) after
+  told-pulse first call after is names same now gone = told-goes (drop 1) (sender first) after (λ other differs. others (line_at lines number) is other differs) same now (at-one number (asked (sender first)) (sym (was (sender first) number) ∙ stood (line_at lines number) is)) gone
+    where
+      others : (line : List Queued) → slice_get line 0 ≡ Some first → (other : Thread) → other ≢ sender first → unblock_call (drop 1 line) other ≡ unblock_call line other
+      others [] is other differs = refl
+      others (x ∷ rest) is other differs = sym (call-received_other x rest other (λ same. differs (sym same ∙ ap sender (same_Some x first is))))
+
+      stood : (line : List Queued) → slice_get line 0 ≡ Some first → is_some (unblock_call line (sender first)) ≡ true
+      stood [] is = absurd (cc)
+      stood (x ∷ rest) is = rw (same_Some x first is, is_same_thread-self (sender first), names) refl
+
   pub told-replied : (thread : Thread) (call : ℕ) (after : Thread → Option ℕ) → ((other : Thread) → other ≢ thread → after other ≡ asked other) → after thread ≡ None → asked thread ≡ Some number → unblock_call (line_without thread.proc.user.0 (item.Unblock thread.proc.num thread.tid call) (line_at lines number)) thread ≡ None → IsTold (with_line lines number (line_without thread.proc.user.0 (item.Unblock thread.proc.num thread.tid call))) after
   told-replied thread call after same now before gone = told-goes (line_without thread.proc.user.0 (item.Unblock thread.proc.num thread.tid call)) thread after (λ other differs. call-replied_other (line_at lines number) thread call other differs) same now before gone
 
 -- a thread whose pulse stands elsewhere, or nowhere
 pub not_told : (lines : List (List Queued)) (number : ℕ) (asked : Thread → Option ℕ) (thread : Thread) → IsTold lines asked → is_at number (asked thread) ≡ false → unblock_call (line_at lines number) thread ≡ None
 not_told lines number asked thread was apart = none_of _ (was thread number ∙ apart)
+
+-- and its answer takes nothing out of the line
+pub reply-none : (lines : List (List Queued)) (number : ℕ) (asked : Thread → Option ℕ) (thread : Thread) (call : ℕ) → IsTold lines asked → is_at number (asked thread) ≡ false → lines ≡ with_line lines number (line_without thread.proc.user.0 (item.Unblock thread.proc.num thread.tid call))
+reply-none lines number asked thread call was apart = with_line-same lines number (line_without thread.proc.user.0 (item.Unblock thread.proc.num thread.tid call)) (replied-none (line_at lines number) thread call (not_told lines number asked thread was apart))
