@@ -9,7 +9,7 @@ use Rattle.std.proofs.lemmas.Option.{same_Some, slice_get-map}
 use Rattle.qx_types.specs.declared.names.Proc.{Proc}
 use Rattle.qx_types.specs.declared.names.Thread.{Thread}
 use Rattle.qx_lists.specs.Table.{Table, ContainsNode, IsFree, IsIn, nodes_of, without}
-use Rattle.qx_lists.proofs.ListLemmas.{contains_cases, contains_first, contains_later, nowhere_from}
+use Rattle.qx_lists.proofs.ListLemmas.{contains_first, contains_later, nowhere_from}
 use Rattle.qx_lists.proofs.MapLemmas.{get-remove_same}
 use Rattle.qx_lines.specs.declared.Line.{Line}
 use Rattle.qx_lines.specs.Line.{IsInLine, IsLineOf, IsOwn, SameElsewhere, nodes_in}
@@ -253,11 +253,13 @@ module _ (old new : Table Queued) (lines : List Line) (number : ℕ) (before aft
     once = kept.once;
     listed = λ list node at. elim (eqb_tells list before.list) [
       | inl here ↦
-          let in_after : Contains (nodes_in new after) node = rw (own ∙ sym here.1) at in
-          ((number, here_now list here.1), ap node_of (same_owner node) ∙ elim (among node in_after) [
-            | inl earlier ↦ (kept.listed before.list node earlier).1
-            | inr it ↦ it
-          ])
+          let in_after : Contains (nodes_in new after) node = rw (own ∙ sym here.1) at in (
+            (number, here_now list here.1),
+            ap node_of (same_owner node) ∙ elim (among node in_after) [
+              | inl earlier ↦ (kept.listed before.list node earlier).1
+              | inr it ↦ it
+            ],
+          )
       | inr differs ↦
           let earlier : IsIn old list node = rw (ap (λ o. unwrap_or o []) (elsewhere list differs.1)) at at in
           let was = kept.listed list node earlier in

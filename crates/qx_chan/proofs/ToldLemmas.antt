@@ -1,5 +1,5 @@
 -- In which line a thread's unblock pulse stands, as items come and go.
-use Rattle.std.proofs.Common.{◌≡◌, ◌≢◌, inl, inr, ℕ, ◌<◌, ◌==◌, Bool, true, false, List, [], ◌∷◌, Option, Some, None, is_some, length, drop, slice_get, replicate, refl, sym, ◌∙◌, ap, arith}
+use Rattle.std.proofs.Common.{◌≡◌, ◌≢◌, inl, inr, ℕ, ◌<◌, true, false, List, [], ◌∷◌, Option, Some, None, is_some, length, drop, slice_get, replicate, refl, sym, ◌∙◌, ap, arith}
 use Rattle.std.proofs.lemmas.Bool.Decides.{eqb_tells, nat_tests}
 use Rattle.std.proofs.lemmas.Option.{same_Some, unwrap_or-slice_get}
 use Rattle.qx_types.specs.declared.names.Thread.{Thread}
@@ -7,7 +7,7 @@ use Rattle.qx_machine.specs.declared.rows.OwnItem.TheVariants as item
 use Rattle.qx_machine.specs.declared.rows.Queued.{Queued}
 use Rattle.qx_machine.specs.Lines.{into, line_at, with_line}
 use Rattle.qx_machine.specs.Machine.{line_without}
-use Rattle.qx_chan.specs.Channel.{call_in, is_same_thread, message_of, sender, unblock_call, unblock_of}
+use Rattle.qx_chan.specs.Channel.{call_in, message_of, sender, unblock_call, unblock_of}
 use Rattle.qx_chan.specs.Kept.{IsTold, is_at}
 use Rattle.qx_chan.proofs.EntryLemmas.{is_same_thread-differs, is_same_thread-self, line_at-other, line_at-same, with_line-same}
 use Rattle.qx_chan.proofs.LineLemmas.{call-asked, call-received, call-received_other, call-replied_other, replied-none, call-sent, call-withdrawn}

@@ -15,8 +15,9 @@ pub invariant_of-self : goal.invariant_of-self
 invariant_of-self c =
     let had : disconnect_at c.self.inside.nodes c.args.proc (manager_number c.args.manager) ≡ Some c.in-Some.node = search rules in
     let free : IsFree c.self.inside.table c.in-Some.node = IsFree-disconnect c.self.inside.table _ _ c.args.proc (manager_number c.args.manager) c.in-Some.node c.self.invariant.1 had in
-    let gone = rw c.set_disconnect.ensures.set at c.set_disconnect.ensures.there (started-server c.self.inside.nodes c.args.proc _ _ had) in
-    (c.self.invariant.0, rw c.set_disconnect.ensures.set (Kept-freed c.self.inside.table _ c.in-Some.node _ c.free_node.ensures.freed free c.self.inside.lines.items _ _ (Disconnect c.args.proc (manager_number c.args.manager)) had gone (node_of-with_disconnect c.self.inside.nodes c.args.proc (manager_number c.args.manager) None) c.self.invariant.1),
+    let gone = rw c.set_disconnect.ensures.set at c.set_disconnect.ensures.there (started-server c.self.inside.nodes c.args.proc _ _ had) in (
+      c.self.invariant.0,
+      rw c.set_disconnect.ensures.set (Kept-freed c.self.inside.table _ c.in-Some.node _ c.free_node.ensures.freed free c.self.inside.lines.items _ _ (Disconnect c.args.proc (manager_number c.args.manager)) had gone (node_of-with_disconnect c.self.inside.nodes c.args.proc (manager_number c.args.manager) None) c.self.invariant.1),
       IsTold-same _ _ _ _ (shown-kept c.self.inside.table c.free_node.new.self c.self.inside.lines.items (entries-freed c.self.inside.table _ c.in-Some.node _ c.free_node.ensures.freed free)) (λ thread. rw c.set_disconnect.ensures.set (ap asked_in (nodes_at-with_disconnect c.self.inside.nodes c.args.proc (manager_number c.args.manager) None thread))) c.self.invariant.2,
     )
 
