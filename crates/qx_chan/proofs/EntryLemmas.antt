@@ -1,5 +1,5 @@
 -- Lists of entries, the nodes that stand for them, and whose they are.
-use Rattle.std.proofs.Common.{◌<◌, ◌∙◌, length, sym, ◌≡◌, ◌≢◌, ◌⊎◌, inl, inr, ℕ, ◌||◌, if◌then◌else◌, Bool, true, false, nat_lt, List, [], ◌∷◌, Contains, nat_eq, Option, Some, None, is_some, map, drop, unwrap_or, refl, ap, arith}
+use Rattle.std.proofs.Common.{zero, suc, slice_set, ◌<◌, ◌∙◌, length, sym, ◌≡◌, ◌≢◌, ◌⊎◌, inl, inr, ℕ, ◌||◌, if◌then◌else◌, Bool, true, false, nat_lt, List, [], ◌∷◌, Contains, nat_eq, Option, Some, None, is_some, map, drop, unwrap_or, refl, ap, arith}
 use Rattle.std.specs.FinMap as maps
 use Rattle.std.specs.List.{AllByRecursion}
 use Rattle.std.specs.Option.{option_or}
@@ -106,7 +106,7 @@ pub record Reads {A : Type 0} (part : OwnItem → Option A) (thread : Thread) (o
   pub of : (entry : Queued) → is_some (told part thread entry) ≡ true → owner_of entry ≡ owner
   pub from : (entry : Queued) → owner_of entry ≡ owner → is_some (told part thread entry) ≡ true
 
-abbrev owned_thread : Owner → Thread → Thread
+abbrev pub owned_thread : Owner → Thread → Thread
 owned_thread (Message thread) other = thread
 owned_thread (Unblock thread) other = thread
 owned_thread (Disconnect proc number) other = other
@@ -158,16 +158,24 @@ module _ {A : Type 0} (f : ℕ → Queued) (part : OwnItem → Option A) (thread
       either None p (inr is) = is
       either (Some x) p is = refl
 
-  pub told-find : (nodes : List ℕ) → is_some (first_told part thread (map f nodes)) ≡ true → (node : ℕ) × (Contains nodes node × (is_some (told part thread (f node)) ≡ true))
-  told-find [] is = cc
-  told-find (x ∷ xs) is = elim (cases_Bool (is_some (told part thread (f x)))) [
-    | inl some ↦ (x, (contains_first x xs, some))
-    | inr none ↦ let later = told-find xs (rest (told part thread (f x)) (first_told part thread (map f xs)) none is) in (later.0, (contains_later x later.0 xs later.1.0, later.1.1))
-  ]
+  pub told-find : (a : A) (nodes : List ℕ) → first_told part thread (map f nodes) ≡ Some a → (node : ℕ) × (Contains nodes node × (told part thread (f node) ≡ Some a))
+  told-find a [] is = cc
+  told-find a (x ∷ xs) is = by_first (told part thread (f x)) refl (told-find a xs)
     where
-      rest : (o p : Option A) → is_some o ≡ false → is_some (option_or o p) ≡ true → is_some p ≡ true
-      rest None p none is = is
-      rest (Some x) p none is = let clash : true ≡ false = none in cc
+      by_first : (o : Option A) → told part thread (f x) ≡ o → (first_told part thread (map f xs) ≡ Some a → (node : ℕ) × (Contains xs node × (told part thread (f node) ≡ Some a))) → (node : ℕ) × (Contains (x ∷ xs) node × (told part thread (f node) ≡ Some a))
+      by_first None none later =
+          let rest : first_told part thread (map f xs) ≡ Some a = sym (ap (λ o. option_or o (first_told part thread (map f xs))) none) ∙ is in
+          let found = later rest in
+          (found.0, (contains_later x found.0 xs found.1.0, found.1.1))
+      by_first (Some b) some later = (x, (contains_first x xs, some ∙ sym (ap (λ o. option_or o (first_told part thread (map f xs))) some) ∙ is))
+
+pub some_of : {A : Type 0} (o : Option A) → is_some o ≡ true → (a : A) × (o ≡ Some a)
+some_of None is = cc
+some_of (Some a) is = (a, refl)
+
+pub told-part : {A : Type 0} (b : Bool) (x : Option A) (a : A) → (if b then x else None) ≡ Some a → x ≡ Some a
+told-part true x a is = is
+told-part false x a is = cc
 
 all_at : (x : ℕ) (xs : List ℕ) (y : ℕ) → AllByRecursion (λ z. nat_eq x z ≡ false) xs → Contains xs y → nat_eq x y ≡ false
 all_at x [] y all at = absurd (omega (arith, at.1))
@@ -193,3 +201,12 @@ module _ {A : Type 0} (lines : List (List A)) (number : ℕ) (change : List A �
 
   pub length-with_line : length (with_line lines number change) ≡ length lines
   length-with_line = length-set lines number (change (line_at lines number))
+
+-- a line that stays as it is
+pub with_line-same : (lines : List (List Queued)) (number : ℕ) (change : List Queued → List Queued) → change (line_at lines number) ≡ line_at lines number → lines ≡ with_line lines number change
+with_line-same lines number change same = sym (ap (slice_set lines number) same ∙ set_same lines number)
+  where
+    set_same : (lines : List (List Queued)) (number : ℕ) → slice_set lines number (line_at lines number) ≡ lines
+    set_same [] number = refl
+    set_same (line ∷ lines) zero = refl
+    set_same (line ∷ lines) (suc number) = ap (λ l. line ∷ l) (set_same lines number)

@@ -1,5 +1,5 @@
 -- How the lines and the nodes stand in the table, as a node is made, put into a line, taken out of one or given back.
-use Rattle.std.proofs.Common.{◌≡◌, ◌≢◌, ◌⊎◌, ◌++◌, inl, inr, ℕ, zero, suc, true, false, nat_eq, List, [], ◌∷◌, Contains, Option, Some, None, option_map, map, drop, length, replicate, slice_get, slice_set, unwrap_or, is_some, IfSome, refl, sym, ◌∙◌, ap, arith}
+use Rattle.std.proofs.Common.{◌≡◌, ◌≢◌, ◌⊎◌, ◌++◌, subst, inl, inr, ℕ, zero, suc, true, false, nat_eq, List, [], ◌∷◌, Contains, Option, Some, None, option_map, map, drop, length, replicate, slice_get, slice_set, unwrap_or, is_some, IfSome, refl, sym, ◌∙◌, ap, arith}
 use Rattle.std.specs.FinMap as maps
 use Rattle.std.specs.Ordering.{nat_cmp}
 use Rattle.std.specs.List.{IsDistinct, AllByRecursion}
@@ -9,7 +9,7 @@ use Rattle.std.proofs.lemmas.Option.{same_Some, slice_get-map}
 use Rattle.qx_types.specs.declared.names.Proc.{Proc}
 use Rattle.qx_types.specs.declared.names.Thread.{Thread}
 use Rattle.qx_lists.specs.Table.{Table, ContainsNode, IsFree, IsIn, nodes_of, without}
-use Rattle.qx_lists.proofs.ListLemmas.{contains_cases, contains_first, contains_later, nowhere_from}
+use Rattle.qx_lists.proofs.ListLemmas.{contains_first, contains_later, nowhere_from}
 use Rattle.qx_lists.proofs.MapLemmas.{get-remove_same}
 use Rattle.qx_lines.specs.declared.Line.{Line}
 use Rattle.qx_lines.specs.Line.{IsInLine, IsLineOf, IsOwn, SameElsewhere, nodes_in}
@@ -19,11 +19,11 @@ use Rattle.qx_machine.specs.declared.rows.OwnItem.TheVariants as item
 use Rattle.qx_machine.specs.declared.rows.Queued.{Queued}
 use Rattle.qx_machine.specs.Machine.{line_without, rank}
 use Rattle.qx_machine.specs.Lines.{into, line_at, with_line}
-use Rattle.qx_chan.specs.Channel.{IsGone, call_in, first_told, message_in, no_other, sender, stands, told, unblock_call}
+use Rattle.qx_chan.specs.Channel.{IsGone, call_in, first_told, is_same_thread, message_in, no_other, sender, stands, told, unblock_call}
 use Rattle.qx_chan.specs.Kept.{Kept, PutIn, TakenOut, entries, entry_at, list_at, named, owner_in, owner_of}
 use Rattle.qx_chan.specs.Nodes.{Disconnect, Message, Owner, Unblock}
-use Rattle.qx_chan.proofs.EntryLemmas.{Reads, differs_from, reads-call, reads-message, told-entry, told-find}
-use Rattle.qx_chan.proofs.LineLemmas.{is_this, without-absent, without-map}
+use Rattle.qx_chan.proofs.EntryLemmas.{Reads, differs_from, reads-call, reads-message, some_of, told-entry, told-find, told-part}
+use Rattle.qx_chan.proofs.LineLemmas.{is_this, other-unblock, owner-this, this-message, this-unblock, without-absent, without-map}
 use Rattle.qx_chan.proofs.NodesLemmas.{none_of}
 use Rattle.qx_chan.proofs.TableLemmas.{absent_is, contained-other, contains-insert, contains-other, contains-self, entries-kept, entry-other, entry-same, inserted, line-kept, none_some, nowhere, removed, some_same}
 
@@ -100,6 +100,12 @@ Kept-room old new lines node_of same_lists values kept = record {
   listed = rw (same_lists, values) kept.listed;
 }
 
+-- the same nodes of the same owners
+pub Kept-owners : (t : Table Queued) (lines : List Line) (node_of after : Owner → Option ℕ) → ((owner : Owner) → after owner ≡ node_of owner) → Kept t lines node_of → Kept t lines after
+Kept-owners t lines node_of after same kept =
+    let all : node_of ≡ after = λ i owner. sym (same owner) i in
+    subst (Kept t lines) all kept
+
 not_disconnect : (thread : Thread) (it : OwnItem) (proc : Proc) (number : ℕ) → owner_in thread it ≡ Disconnect proc number → ⊥
 not_disconnect thread (item.Message process n) proc number is = cc
 not_disconnect thread (item.Unblock process n call) proc number is = cc
@@ -110,6 +116,26 @@ IsFree-disconnect t lines node_of proc number node kept has = record {
   there = kept.there (Disconnect proc number) node has;
   in_no_list = nowhere_from t.lists node (λ list at. not_disconnect _ _ proc number (kept.once (Disconnect proc number) (owner_of (entry_at t node)) node has (kept.listed list node at).1));
 }
+
+-- what a line tells of a thread is told by the node of its messages or of its unblock pulses
+module _ {A : Type 0} (part : OwnItem → Option A) (thread : Thread) (owner : Owner) (reads : Reads part thread owner) (t : Table Queued) (lines : List Line) (node_of : Owner → Option ℕ) (kept : Kept t lines node_of) where
+  found-own : (a : A) (line : Line) (xs : List ℕ) → ((x : ℕ) → Contains xs x → IsInLine t line x) → first_told part thread (map (entry_at t) xs) ≡ Some a → (x : ℕ) × (Contains xs x × ((node_of owner ≡ Some x) × (part (entry_at t x).item ≡ Some a)))
+  found-own a line xs members is =
+      let found = told-find (entry_at t) part thread a xs is in
+      let own = reads.of (entry_at t found.0) (ap is_some found.1.1) in
+      (found.0, (found.1.0, (ap node_of (sym own) ∙ (kept.listed line.list found.0 (members found.0 found.1.0)).1, told-part (is_same_thread (sender (entry_at t found.0)) thread) (part (entry_at t found.0).item) a found.1.1)))
+
+  pub stands-owned : (number : ℕ) → is_some (first_told part thread (line_at (map (entries t) lines) number)) ≡ true → node_of owner ≡ None → ⊥
+  stands-owned number some none =
+      let line = line_there lines number some in
+      let told = some_of (first_told part thread (entries t line.0)) (sym (ap (λ l. is_some (first_told part thread l)) (line_at-shown t lines number line.0 line.1)) ∙ some) in
+      let found = found-own told.0 line.0 (nodes_in t line.0) (λ x at. at) told.1 in
+      none_some found.0 (node_of owner) none found.1.1.0
+    where
+      line_there : (lines : List Line) (number : ℕ) → is_some (first_told part thread (line_at (map (entries t) lines) number)) ≡ true → (line : Line) × (slice_get lines number ≡ Some line)
+      line_there [] number some = cc
+      line_there (line ∷ lines) zero some = (line, refl)
+      line_there (line ∷ lines) (suc number) some = line_there lines number some
 
 -- what the lines tell of a thread, and the node of its messages or of its unblock pulses
 module _ {A : Type 0} (part : OwnItem → Option A) (thread : Thread) (owner : Owner) (reads : Reads part thread owner) (own_name : named owner ≡ owner) (t : Table Queued) (lines : List Line) (node_of : Owner → Option ℕ) (node : ℕ) (kept : Kept t lines node_of) (has : node_of owner ≡ Some node) where
@@ -135,22 +161,30 @@ module _ {A : Type 0} (part : OwnItem → Option A) (thread : Thread) (owner : O
   -- where something is, the node stands in that line
   pub in_line-own : (line : Line) → is_some (first_told part thread (entries t line)) ≡ true → IsInLine t line node
   in_line-own line some =
-      let found = told-find (entry_at t) part thread (nodes_in t line) some in
-      let same = only found.0 (kept.listed line.list found.0 found.1.0).1 (reads.of (entry_at t found.0) found.1.1) in
+      let told = some_of (first_told part thread (entries t line)) some in
+      let found = found-own part thread owner reads t lines node_of kept told.0 line (nodes_in t line) (λ x at. at) told.1 in
+      let same : found.0 ≡ node = some_same found.0 node (node_of owner) found.1.1.0 has in
       rw (← same) found.1.0
+
+  pub part-own : (a : A) (line : Line) → first_told part thread (entries t line) ≡ Some a → part (entry_at t node).item ≡ Some a
+  part-own a line is =
+      let found = found-own part thread owner reads t lines node_of kept a line (nodes_in t line) (λ x at. at) is in
+      let same : found.0 ≡ node = some_same found.0 node (node_of owner) found.1.1.0 has in
+      rw (← same) found.1.1.1
 
   -- once the node is gone, nothing is told of the thread
   pub gone-own : (line : Line) (xs : List ℕ) → ((x : ℕ) → Contains xs x → IsInLine t line x) → (Contains xs node → ⊥) → is_some (first_told part thread (map (entry_at t) xs)) ≡ false
   gone-own line xs members gone = elim (cases_Bool (is_some (first_told part thread (map (entry_at t) xs)))) [
     | inr none ↦ none
     | inl some ↦
-        let found = told-find (entry_at t) part thread xs some in
-        let same = only found.0 (kept.listed line.list found.0 (members found.0 found.1.0)).1 (reads.of (entry_at t found.0) found.1.1) in
+        let told = some_of (first_told part thread (map (entry_at t) xs)) some in
+        let found = found-own part thread owner reads t lines node_of kept told.0 line xs members told.1 in
+        let same : found.0 ≡ node = some_same found.0 node (node_of owner) found.1.1.0 has in
         absurd (gone (rw (← same) found.1.0))
   ]
 
   -- a user's item goes as the node that stands for it does
-  pub items-without : (line : Line) (user : ℕ) (it : OwnItem) → IsDistinct nat_eq (nodes_in t line) → is_this user it (entry_at t node) ≡ true → ((entry : Queued) → is_this user it entry ≡ true → owner_of entry ≡ owner) → map (entry_at t) (without node (nodes_in t line)) ≡ line_without user it (entries t line)
+  items-without : (line : Line) (user : ℕ) (it : OwnItem) → IsDistinct nat_eq (nodes_in t line) → is_this user it (entry_at t node) ≡ true → ((entry : Queued) → is_this user it entry ≡ true → owner_of entry ≡ owner) → map (entry_at t) (without node (nodes_in t line)) ≡ line_without user it (entries t line)
   items-without line user it distinct this names = without-map (entry_at t) user it node (nodes_in t line) distinct (λ x at. elim (eqb_tells x node) [
     | inl same ↦ rw same.0 (ap (λ y. is_this user it (entry_at t y)) same.1 ∙ this)
     | inr differs ↦ rw differs.0 (elim (cases_Bool (is_this user it (entry_at t x))) [
@@ -160,7 +194,7 @@ module _ {A : Type 0} (part : OwnItem → Option A) (thread : Thread) (owner : O
   ])
 
   -- where the node stands for another item, that item is in no line
-  pub items-other : (line : Line) (user : ℕ) (it : OwnItem) → is_this user it (entry_at t node) ≡ false → ((entry : Queued) → is_this user it entry ≡ true → owner_of entry ≡ owner) → line_without user it (entries t line) ≡ entries t line
+  items-other : (line : Line) (user : ℕ) (it : OwnItem) → is_this user it (entry_at t node) ≡ false → ((entry : Queued) → is_this user it entry ≡ true → owner_of entry ≡ owner) → line_without user it (entries t line) ≡ entries t line
   items-other line user it not names = without-absent (entry_at t) user it (nodes_in t line) (λ x at. elim (cases_Bool (is_this user it (entry_at t x))) [
     | inr other ↦ other
     | inl is ↦
@@ -168,6 +202,38 @@ module _ {A : Type 0} (part : OwnItem → Option A) (thread : Thread) (owner : O
         let clash : true ≡ false = sym is ∙ ap (λ y. is_this user it (entry_at t y)) same ∙ not in
         absurd (cc)
   ])
+
+-- a thread's message goes out of a line as its node does, and so does the pulse that names a call
+module _ (t : Table Queued) (lines : List Line) (node_of : Owner → Option ℕ) (thread : Thread) (node : ℕ) (kept : Kept t lines node_of) (line : Line) where
+  pub message-leaves : node_of (Message thread) ≡ Some node → IsDistinct nat_eq (nodes_in t line) → map (entry_at t) (without node (nodes_in t line)) ≡ line_without thread.proc.user.0 (item.Message thread.proc.num thread.tid) (entries t line)
+  message-leaves has distinct = items-without message_in thread (Message thread) (reads-message thread) refl t lines node_of node kept has line thread.proc.user.0 (item.Message thread.proc.num thread.tid) distinct
+      (this-message thread (entry_at t node) (kept.names (Message thread) node has)) (λ entry at. owner-this thread.proc.user.0 (item.Message thread.proc.num thread.tid) entry at)
+
+  module _ (has : node_of (Unblock thread) ≡ Some node) (call : ℕ) where
+    pub pulse-leaves : call_in (entry_at t node).item ≡ Some call → IsDistinct nat_eq (nodes_in t line) → map (entry_at t) (without node (nodes_in t line)) ≡ line_without thread.proc.user.0 (item.Unblock thread.proc.num thread.tid call) (entries t line)
+    pulse-leaves names distinct = items-without call_in thread (Unblock thread) (reads-call thread) refl t lines node_of node kept has line thread.proc.user.0 (item.Unblock thread.proc.num thread.tid call) distinct
+        (this-unblock thread call (entry_at t node) (kept.names (Unblock thread) node has) names) (λ entry at. owner-this thread.proc.user.0 (item.Unblock thread.proc.num thread.tid call) entry at)
+
+    -- where the pulse names another call, nothing goes
+    pub pulse-stays : (other : ℕ) → call_in (entry_at t node).item ≡ Some other → other ≢ call → line_without thread.proc.user.0 (item.Unblock thread.proc.num thread.tid call) (entries t line) ≡ entries t line
+    pulse-stays other names differs = items-other call_in thread (Unblock thread) (reads-call thread) refl t lines node_of node kept has line thread.proc.user.0 (item.Unblock thread.proc.num thread.tid call)
+        (other-unblock thread call other (entry_at t node) names differs) (λ entry at. owner-this thread.proc.user.0 (item.Unblock thread.proc.num thread.tid call) entry at)
+
+-- what holds of no items and of the items of each line, holds of the line of each number
+at_any : (t : Table Queued) (P : List Queued → Type 0) → P [] → ((line : Line) → P (entries t line)) → (lines : List Line) (number : ℕ) → P (line_at (map (entries t) lines) number)
+at_any t P none all [] number = none
+at_any t P none all (line ∷ lines) zero = all line
+at_any t P none all (line ∷ lines) (suc number) = at_any t P none all lines number
+
+-- a pulse that names another call
+module _ (t : Table Queued) (lines : List Line) (node_of : Owner → Option ℕ) (thread : Thread) (node : ℕ) (kept : Kept t lines node_of) (has : node_of (Unblock thread) ≡ Some node) (call other number : ℕ) (names : call_in (entry_at t node).item ≡ Some other) (differs : other ≢ call) where
+  pub other-stays : line_without thread.proc.user.0 (item.Unblock thread.proc.num thread.tid call) (line_at (map (entries t) lines) number) ≡ line_at (map (entries t) lines) number
+  other-stays = at_any t (λ l. line_without thread.proc.user.0 (item.Unblock thread.proc.num thread.tid call) l ≡ l) refl (λ line. pulse-stays t lines node_of thread node kept line has call other names differs) lines number
+
+  pub other-told : unblock_call (line_at (map (entries t) lines) number) thread ≢ Some call
+  other-told is =
+      let part : call_in (entry_at t node).item ≡ Some call = at_any t (λ l. unblock_call l thread ≡ Some call → call_in (entry_at t node).item ≡ Some call) (λ none. absurd (none_some call None refl none)) (λ line is. part-own call_in thread (Unblock thread) (reads-call thread) refl t lines node_of node kept has call line is) lines number is in
+      differs (some_same other call (call_in (entry_at t node).item) names part)
 
 -- one line changes
 module _ (old new : Table Queued) (lines : List Line) (number : ℕ) (before after : Line) (node_of : Owner → Option ℕ) (kept : Kept old lines node_of) (is : slice_get lines number ≡ Some before) (own : after.list ≡ before.list) (elsewhere : (list : ℕ) → (IsOwn before list → ⊥) → maps.get new.lists list ≡ maps.get old.lists list) where
@@ -187,11 +253,13 @@ module _ (old new : Table Queued) (lines : List Line) (number : ℕ) (before aft
     once = kept.once;
     listed = λ list node at. elim (eqb_tells list before.list) [
       | inl here ↦
-          let in_after : Contains (nodes_in new after) node = rw (own ∙ sym here.1) at in
-          ((number, here_now list here.1), ap node_of (same_owner node) ∙ elim (among node in_after) [
-            | inl earlier ↦ (kept.listed before.list node earlier).1
-            | inr it ↦ it
-          ])
+          let in_after : Contains (nodes_in new after) node = rw (own ∙ sym here.1) at in (
+            (number, here_now list here.1),
+            ap node_of (same_owner node) ∙ elim (among node in_after) [
+              | inl earlier ↦ (kept.listed before.list node earlier).1
+              | inr it ↦ it
+            ],
+          )
       | inr differs ↦
           let earlier : IsIn old list node = rw (ap (λ o. unwrap_or o []) (elsewhere list differs.1)) at at in
           let was = kept.listed list node earlier in
@@ -423,6 +491,10 @@ gone_by : (it : OwnItem) (thread : Thread) (line : List Queued) → (owner_in th
 gone_by (item.Message process number) thread line message pulse = message refl
 gone_by (item.Unblock process number call) thread line message pulse = pulse refl
 
+pub no_pulse : (it : OwnItem) (thread : Thread) (line : List Queued) (call : ℕ) → call_in it ≡ Some call → no_other it thread line → unblock_call line thread ≡ None
+no_pulse (item.Message process number) thread line call is gone = cc
+no_pulse (item.Unblock process number other) thread line call is gone = gone
+
 -- the first item of a line stands there once
 module _ (t : Table Queued) (lines : List Line) (node_of : Owner → Option ℕ) (line : Line) (kept : Kept t lines node_of) where
   gone_from : (x : ℕ) (xs : List ℕ) (first : Queued) → x ∷ xs ≡ nodes_in t line → AllByRecursion (λ y. nat_eq x y ≡ false) xs → entry_at t x ≡ first → IsGone first (map (entry_at t) xs)
@@ -437,6 +509,16 @@ module _ (t : Table Queued) (lines : List Line) (node_of : Owner → Option ℕ)
   unfolding IsDistinct
   gone_first [] first same distinct is = absurd (none_some first None refl is)
   gone_first (x ∷ xs) first same distinct is = gone_from x xs first same distinct.0 (same_Some (entry_at t x) first is)
+
+  -- and the node of its owner stands for it
+  pub first-owned : (first : Queued) → Some first ≡ slice_get (entries t line) 0 → (node : ℕ) × (node_of (owner_of first) ≡ Some node)
+  first-owned first is = of (nodes_in t line) refl (sym is)
+    where
+      of : (nodes : List ℕ) → nodes ≡ nodes_in t line → slice_get (map (entry_at t) nodes) 0 ≡ Some first → (node : ℕ) × (node_of (owner_of first) ≡ Some node)
+      of [] same is = absurd (none_some first None refl is)
+      of (x ∷ xs) same is =
+          let inside : IsInLine t line x = rw (← same) (contains_first x xs) in
+          (x, ap (λ entry. node_of (owner_of entry)) (sym (same_Some (entry_at t x) first is)) ∙ (kept.listed line.list x inside).1)
 
   pub gone-if : (first : Option Queued) → IsDistinct nat_eq (nodes_in t line) → first ≡ slice_get (entries t line) 0 → IfSome first (λ taken. IsGone taken (drop 1 (entries t line)))
   gone-if None distinct is = tt

@@ -4,6 +4,8 @@ pub mod EntryLemmas
 pub mod LineLemmas
 -- What nodes stand for and which lines there are, as one node of the table changes.
 pub mod TableLemmas
+-- In which line a thread's unblock pulse stands, as items come and go.
+pub mod ToldLemmas
 -- The channel's invariant, call by call.
 pub mod KeptLemmas
 -- The columns of nodes, as a thread or a server connection gets its own or gives it back.

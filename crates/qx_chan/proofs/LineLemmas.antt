@@ -4,6 +4,7 @@ use Rattle.std.specs.List.{IsDistinct}
 use Rattle.std.specs.Option.{option_or}
 use Rattle.std.proofs.lemmas.Bool.{cases_Bool}
 use Rattle.std.proofs.lemmas.Bool.Decides.{eqb_tells, nat_tests}
+use Rattle.std.proofs.lemmas.Option.{same_Some}
 use Rattle.qx_types.specs.declared.names.Thread.{Thread}
 use Rattle.qx_lists.specs.Table.{without}
 use Rattle.qx_lists.proofs.ListLemmas.{contains_first, contains_later}
@@ -13,7 +14,9 @@ use Rattle.qx_machine.specs.declared.rows.Queued.{Queued}
 use Rattle.qx_machine.specs.Lines.{into}
 use Rattle.qx_machine.specs.Machine.{is_same_item, line_without}
 use Rattle.qx_chan.specs.Channel.{call_in, first_told, is_same_thread, message_in, message_of, sender, sender_of, stands, told, unblock_call, unblock_of}
-use Rattle.qx_chan.proofs.EntryLemmas.{differs_from, is_same_thread-differs, is_same_thread-same, is_same_thread-self, or_none}
+use Rattle.qx_chan.specs.Kept.{owner_in, owner_of}
+use Rattle.qx_chan.specs.Nodes.{Message, Owner, Unblock}
+use Rattle.qx_chan.proofs.EntryLemmas.{owned_thread, differs_from, is_same_thread-differs, is_same_thread-same, is_same_thread-self, or_none}
 
 -- the item is this one of the user
 abbrev pub is_this : ℕ → OwnItem → Queued → Bool
@@ -50,6 +53,37 @@ pub this_is : (user : ℕ) (it : OwnItem) (entry : Queued) → is_this user it e
 this_is user it entry is = elim (eqb_tells entry.user.0 user) [
   | inr differs ↦ let clash : false ≡ true = rw differs.0 at is in cc
   | inl same ↦ (same.1, same_item entry.item it (rw same.0 at is))
+]
+
+-- the item of a thread is that of its owner
+abbrev item_owner : ℕ → OwnItem → Owner
+item_owner user it = owner_in (sender_of user it) it
+
+pub owner-this : (user : ℕ) (it : OwnItem) (entry : Queued) → is_this user it entry ≡ true → owner_of entry ≡ owner_in (sender_of user it) it
+owner-this user it entry is = let same = this_is user it entry is in ap₂ item_owner same.0 same.1
+
+pub this-message : (thread : Thread) (entry : Queued) → owner_of entry ≡ Message thread → is_this thread.proc.user.0 (item.Message thread.proc.num thread.tid) entry ≡ true
+this-message thread entry = by_item entry.user.0 entry.item
+  where
+    by_item : (user : ℕ) (it : OwnItem) → item_owner user it ≡ Message thread → ((user == thread.proc.user.0) && is_same_item it (item.Message thread.proc.num thread.tid)) ≡ true
+    by_item user (item.Message p n) is = let same : sender_of user (item.Message p n) ≡ thread = ap (λ owner. owned_thread owner thread) is in rw (← same) (grind (arith, nat_tests))
+    by_item user (item.Unblock p n c) is = absurd (cc)
+
+pub this-unblock : (thread : Thread) (call : ℕ) (entry : Queued) → owner_of entry ≡ Unblock thread → call_in entry.item ≡ Some call → is_this thread.proc.user.0 (item.Unblock thread.proc.num thread.tid call) entry ≡ true
+this-unblock thread call entry = by_item entry.user.0 entry.item
+  where
+    by_item : (user : ℕ) (it : OwnItem) → item_owner user it ≡ Unblock thread → call_in it ≡ Some call → ((user == thread.proc.user.0) && is_same_item it (item.Unblock thread.proc.num thread.tid call)) ≡ true
+    by_item user (item.Message p n) is names = absurd (cc)
+    by_item user (item.Unblock p n c) is names =
+        let same : sender_of user (item.Unblock p n c) ≡ thread = ap (λ owner. owned_thread owner thread) is in
+        let here : c ≡ call = same_Some c call names in
+        rw (← same, ← here) (grind (arith, nat_tests))
+
+-- a pulse that names another call
+pub other-unblock : (thread : Thread) (call other : ℕ) (entry : Queued) → call_in entry.item ≡ Some other → other ≢ call → is_this thread.proc.user.0 (item.Unblock thread.proc.num thread.tid call) entry ≡ false
+other-unblock thread call other entry names differs = elim (cases_Bool (is_this thread.proc.user.0 (item.Unblock thread.proc.num thread.tid call) entry)) [
+  | inr apart ↦ apart
+  | inl is ↦ absurd (differs (same_Some other call (sym names ∙ ap call_in (this_is thread.proc.user.0 (item.Unblock thread.proc.num thread.tid call) entry is).1)))
 ]
 
 some_of_none : {A : Type 0} (a : A) (o : Option A) → o ≡ None → o ≡ Some a → ⊥

@@ -4,6 +4,7 @@ use Rattle.std.proofs.lemmas.Bool.{cases_Bool, cases_eq, cases_lt}
 use Rattle.std.proofs.lemmas.List.{get_or-set_same, get_or-set_other, get_or-replicate, length-replicate, length-set}
 use Rattle.std.proofs.lemmas.Grind.{common_steps}
 use Rattle.std.proofs.lemmas.Option.{unwrap_or-slice_get}
+use Rattle.qx_types.specs.Managers.{manager_number}
 use Rattle.qx_types.specs.declared.limits.TheConstants.Limits.{PROCESSES, THREADS}
 use Rattle.qx_types.specs.declared.names.Proc.{Proc}
 use Rattle.qx_types.specs.declared.names.TheConstants.Manager.{COUNT}
@@ -14,7 +15,7 @@ use Rattle.qx_chan.specs.declared.nodes.ProcessNodes.{ProcessNodes}
 use Rattle.qx_chan.specs.declared.nodes.ThreadNodes.{ThreadNodes}
 use Rattle.qx_chan.specs.declared.nodes.UserNodes.{UserNodes}
 use Rattle.qx_chan.specs.Channel.{is_same_thread}
-use Rattle.qx_chan.specs.Nodes.{Disconnect, Message, Owner, Unblock, disconnect_at, no_nodes, no_process, no_processes, node_of, nodes_at, process_at, servers_with, threads_with, user_with, with_disconnect_at, with_nodes_at, with_process_at}
+use Rattle.qx_chan.specs.Nodes.{Disconnect, Message, Owner, Unblock, asked_at, asked_in, disconnect_at, no_nodes, no_process, no_processes, node_of, nodes_at, process_at, servers_with, threads_with, user_with, with_disconnect_at, with_nodes_at, with_process_at}
 use Rattle.qx_chan.proofs.EntryLemmas.{is_same_thread-same, is_same_thread-self, same_names}
 
 pub same_or_not : (one other : Thread) → (one ≡ other) ⊎ (one ≢ other)
@@ -115,6 +116,13 @@ module _ (nodes : List UserNodes) (thread : Thread) (own : ThreadNodes) where
   -- a thread's nodes and a disconnect node are apart
   pub disconnect_at-with_nodes : (proc : Proc) (number : ℕ) → disconnect_at (with_nodes_at nodes thread own) proc number ≡ disconnect_at nodes proc number
   disconnect_at-with_nodes proc number = read-with_process (λ p. row_at p.servers number) nodes thread.proc proc (threads_with (process_at nodes thread.proc) thread.tid own) (λ same. refl)
+
+  -- a thread that had no nodes is asked by nobody
+  pub asked_at-added : nodes_at nodes thread ≡ None → own.asked ≡ None → nodes_at (with_nodes_at nodes thread own) thread ≡ Some own → (other : Thread) → asked_at (with_nodes_at nodes thread own) other ≡ asked_at nodes other
+  asked_at-added fresh none there other = elim (same_or_not other thread) [
+    | inl same ↦ rw same (ap asked_in there ∙ ap (option_map manager_number) none ∙ sym (ap asked_in fresh))
+    | inr differs ↦ ap asked_in (nodes_at-other other differs)
+  ]
 
   pub length-with_nodes : length (with_nodes_at nodes thread own) ≡ length nodes
   length-with_nodes = length-set nodes thread.proc.user.0 _

@@ -1,5 +1,5 @@
 -- Which threads and server connections have nodes, as sets.
-use Rattle.std.proofs.Common.{◌≡◌, ◌≢◌, inl, inr, ℕ, zero, suc, ◌+◌, ◌-◌, ◌*◌, ◌<◌, ◌≤◌, ◌&&◌, ◌||◌, ◌==◌, nat_le, Bool, true, false, List, [], ◌∷◌, Option, Some, None, get_or, length, is_some, refl, sym, ◌∙◌, ap, arith}
+use Rattle.std.proofs.Common.{◌≡◌, ◌≢◌, inl, inr, ℕ, zero, suc, ◌+◌, ◌-◌, ◌*◌, ◌<◌, ◌≤◌, ◌&&◌, ◌||◌, ◌==◌, nat_le, Bool, true, false, List, [], ◌∷◌, Option, Some, None, get_or, length, is_some, option_map, refl, sym, ◌∙◌, ap, arith}
 use Rattle.std.specs.FinSet as set
 use Rattle.std.specs.List.{list_any}
 use Rattle.std.specs.Ordering.{eq_by_cmp}
@@ -7,6 +7,7 @@ use Rattle.std.specs.Cmp.{eq_by_cmp_equiv}
 use Rattle.std.proofs.lemmas.Bool.Decides.{eqb_tells, nat_tests}
 use Rattle.std.proofs.lemmas.List.Folds.{list_any-append}
 use Rattle.std.proofs.lemmas.Option.{unwrap_or-slice_get}
+use Rattle.qx_types.specs.Managers.{manager_number}
 use Rattle.qx_types.specs.declared.limits.TheConstants.Limits.{PROCESSES, THREADS}
 use Rattle.qx_types.specs.declared.names.Proc.{Proc}
 use Rattle.qx_types.specs.declared.names.TheConstants.Manager.{COUNT}
@@ -16,9 +17,9 @@ use Rattle.qx_chan.specs.declared.nodes.ProcessNodes.{ProcessNodes}
 use Rattle.qx_chan.specs.declared.nodes.ThreadNodes.{ThreadNodes}
 use Rattle.qx_chan.specs.declared.nodes.UserNodes.{UserNodes}
 use Rattle.qx_chan.specs.Channel.{Channel, has_thread, is_same_thread, is_thread_of, server_cmp, thread_cmp, with_process, with_server, with_thread, without_server}
-use Rattle.qx_chan.specs.Nodes.{disconnect_at, if_there, keys_in, no_nodes, no_process, no_processes, nodes_at, numbered, process_at, process_in, servers_of, threads_of, with_disconnect_at, with_nodes_at}
+use Rattle.qx_chan.specs.Nodes.{Asked, Disconnect, Message, Owner, Unblock, asked_in, disconnect_at, if_there, keys_in, no_nodes, no_process, no_processes, node_of, nodes_at, numbered, process_at, process_in, servers_of, threads_of, with_disconnect_at, with_nodes_at}
 use Rattle.qx_chan.proofs.EntryLemmas.{or_false}
-use Rattle.qx_chan.proofs.NodesLemmas.{default_of, disconnect_at-none, disconnect_at-other, disconnect_at-with_nodes, none_of, nodes_at-none, nodes_at-other, nodes_at-with_disconnect, started-thread}
+use Rattle.qx_chan.proofs.NodesLemmas.{default_of, disconnect_at-none, disconnect_at-other, disconnect_at-with_nodes, length-with_nodes, none_of, nodes_at-none, nodes_at-other, nodes_at-with_disconnect, same_or_not, started-thread}
 use Rattle.qx_chan.proofs.SetLemmas.{has-thread, insert-there, insert_is, other_key, remove-absent, remove_is, server_exact, server_total, thread_exact, thread_total}
 
 -- what numbered places tell
@@ -128,6 +129,29 @@ module _ (nodes : List UserNodes) (thread : Thread) (own : ThreadNodes) where
   pub servers-with_nodes : servers_of (with_nodes_at nodes thread own) ≡ servers_of nodes
   servers-with_nodes = same_servers _ _ (λ proc number. servers-nodes (with_nodes_at nodes thread own) proc number ∙ ap is_some (disconnect_at-with_nodes nodes thread own proc number) ∙ sym (servers-nodes nodes proc number))
 
+-- a thread's pulse stands in another line, or in none
+module _ (nodes : List UserNodes) (thread : Thread) (old own : ThreadNodes) (was : nodes_at nodes thread ≡ Some old) (is : nodes_at (with_nodes_at nodes thread own) thread ≡ Some own) where
+  same_field : (field : ThreadNodes → ℕ) → field own ≡ field old → (other : Thread) → option_map field (nodes_at (with_nodes_at nodes thread own) other) ≡ option_map field (nodes_at nodes other)
+  same_field field same other = elim (same_or_not other thread) [
+    | inl here ↦ rw (here, is, was) (ap Some same)
+    | inr differs ↦ ap (option_map field) (nodes_at-other nodes thread own other differs)
+  ]
+
+  same_owners : own.message ≡ old.message → own.unblock ≡ old.unblock → (owner : Owner) → node_of (with_nodes_at nodes thread own) owner ≡ node_of nodes owner
+  same_owners message unblock (Message other) = same_field (λ o. o.message) message other
+  same_owners message unblock (Unblock other) = same_field (λ o. o.unblock) unblock other
+  same_owners message unblock (Disconnect proc number) = disconnect_at-with_nodes nodes thread own proc number
+
+  pub Asked-set : own.message ≡ old.message → own.unblock ≡ old.unblock → Asked nodes (with_nodes_at nodes thread own) thread (option_map manager_number own.asked)
+  Asked-set message unblock = record {
+    nodes = same_owners message unblock;
+    here = ap asked_in is;
+    others = λ other differs. ap asked_in (nodes_at-other nodes thread own other differs);
+    threads = threads-with_nodes nodes thread own is ∙ sym (insert-there thread_total thread_exact (threads_of nodes) thread (threads-nodes nodes thread ∙ ap is_some was));
+    servers = servers-with_nodes nodes thread own;
+    users = length-with_nodes nodes thread own;
+  }
+
 module _ (nodes : List UserNodes) (proc : Proc) (number : ℕ) (node : Option ℕ) where
   pub threads-with_disconnect : threads_of (with_disconnect_at nodes proc number node) ≡ threads_of nodes
   threads-with_disconnect = same_threads _ _ (λ other. threads-nodes (with_disconnect_at nodes proc number node) other ∙ ap is_some (nodes_at-with_disconnect nodes proc number node other) ∙ sym (threads-nodes nodes other))
@@ -153,6 +177,11 @@ nodes-there nodes thread none there = let clash : false ≡ true = sym (ap is_so
 
 pub nodes-absent : (nodes : List UserNodes) (thread : Thread) → set.contains (threads_of nodes) thread ≡ false → nodes_at nodes thread ≡ None
 nodes-absent nodes thread absent = none_of _ (sym (threads-nodes nodes thread) ∙ absent)
+
+-- a thread that has one node has nodes
+pub nodes-some : {A B : Type 0} (f : A → B) (o : Option A) (x : B) → option_map f o ≡ Some x → is_some o ≡ true
+nodes-some f None x is = cc
+nodes-some f (Some a) x is = refl
 
 -- a process with a thread in the set has a place
 pub started : (nodes : List UserNodes) (proc : Proc) → (tid : ℕ) × (set.contains (threads_of nodes) (record { proc = proc; tid = tid }) ≡ true) → process_at nodes proc ≢ no_process

@@ -78,12 +78,8 @@ impl Channel {
             unreachable!();
         };
         let waiting = Waiting::new(queued_message(thread, prio));
-        put_in(
-            &mut self.table,
-            &mut self.lines[manager.number()],
-            own.message,
-            waiting,
-        );
+        let line = &mut self.lines[manager.number()];
+        put_in(&mut self.table, line, own.message, waiting);
     }
 
     /// Takes the first item of a line, a message or an unblock pulse (C Library Reference: `MsgReceive`).
@@ -95,7 +91,9 @@ impl Channel {
         self.table.know();
         let first = take_out(&mut self.table, &mut self.lines[manager.number()])?;
         if let OwnItem::Unblock {
-            process, thread, ..
+            process,
+            thread,
+            ..
         } = first.item
         {
             let proc = Proc {
@@ -120,12 +118,8 @@ impl Channel {
             unreachable!();
         };
         let waiting = Waiting::new(queued_unblock(thread, call, prio));
-        put_in(
-            &mut self.table,
-            &mut self.lines[manager.number()],
-            own.unblock,
-            waiting,
-        );
+        let line = &mut self.lines[manager.number()];
+        put_in(&mut self.table, line, own.unblock, waiting);
         self.nodes.set_asked(thread, Some(manager));
     }
 
@@ -140,11 +134,8 @@ impl Channel {
             unreachable!();
         };
         self.table.know();
-        remove(
-            &mut self.table,
-            &mut self.lines[manager.number()],
-            own.message,
-        );
+        let line = &mut self.lines[manager.number()];
+        remove(&mut self.table, line, own.message);
     }
 
     /// Takes the pulse that asks to unblock a thread from a call out of the line, if it stands there, as the call is
@@ -166,11 +157,8 @@ impl Channel {
             return;
         }
         self.table.know();
-        remove(
-            &mut self.table,
-            &mut self.lines[manager.number()],
-            own.unblock,
-        );
+        let line = &mut self.lines[manager.number()];
+        remove(&mut self.table, line, own.unblock);
         self.nodes.set_asked(thread, None);
     }
 
@@ -213,7 +201,10 @@ impl Channel {
         self.table.know();
         let message = new_node(&mut self.table, Waiting::new(queued_message(thread, prio)));
         self.table.know();
-        let unblock = new_node(&mut self.table, Waiting::new(queued_unblock(thread, 0, prio)));
+        let unblock = new_node(
+            &mut self.table,
+            Waiting::new(queued_unblock(thread, 0, prio)),
+        );
         let asked = None;
         self.nodes.set(
             thread,

@@ -4,10 +4,11 @@ use Rattle.std.specs.FinMap as maps
 use Rattle.std.specs.Ordering.{nat_cmp}
 use Rattle.qx_types.specs.declared.names.TheConstants.Manager.{COUNT}
 use Rattle.qx_chan.specs.Kept.{Kept}
-use Rattle.qx_chan.specs.Nodes.{no_nodes, no_processes, node_of}
+use Rattle.qx_chan.specs.Nodes.{asked_in, no_nodes, no_processes, node_of}
 use Rattle.qx_chan.proofs.KeptLemmas.{Kept-line, Kept-none, shown-none}
-use Rattle.qx_chan.proofs.NodesLemmas.{node_of-none}
+use Rattle.qx_chan.proofs.NodesLemmas.{node_of-none, nodes_at-none}
 use Rattle.qx_chan.proofs.PresenceLemmas.{same_channel, servers-none, threads-none}
+use Rattle.qx_chan.proofs.ToldLemmas.{IsTold-none}
 use Rattle.qx_chan.proofs.channel.Channel.new.Goals as goal
 
 pub managers-init : goal.managers-init
@@ -23,7 +24,11 @@ managers-preserved c = (
 )
 
 pub invariant_of-result : goal.invariant_of-result
-invariant_of-result c = (omega (arith, c.managers.invariant.0, c.managers-test.false, c.managers.auto.counter-end), rw c.in_ok-nodes.ensures.none c.managers.invariant.2)
+invariant_of-result c = (
+  omega (arith, c.managers.invariant.0, c.managers-test.false, c.managers.auto.counter-end),
+  rw c.in_ok-nodes.ensures.none c.managers.invariant.2,
+  IsTold-none _ _ _ (shown-none c.managers.table c.managers.lines.items _ c.managers.invariant.2 (node_of-none c.args.users)) (λ thread. rw c.in_ok-nodes.ensures.none (ap asked_in (nodes_at-none c.args.users thread))),
+)
 
 pub returns : goal.returns
 returns c =

@@ -1,9 +1,11 @@
-use Rattle.std.proofs.Common.{ap}
-use Rattle.qx_chan.proofs.KeptLemmas.{Kept-room}
+use Rattle.std.proofs.Common.{ap, refl}
+use Rattle.qx_chan.specs.Kept.{entries}
+use Rattle.qx_chan.proofs.KeptLemmas.{Kept-room, shown-kept}
+use Rattle.qx_chan.proofs.ToldLemmas.{IsTold-same}
 use Rattle.qx_chan.proofs.channel.Channel.reserve.Goals as goal
 
 pub invariant_of-self : goal.invariant_of-self
 invariant_of-self c = rw c.in_err-reserve.ensures.err c.self.invariant
 
 pub invariant_of-self-2 : goal.invariant_of-self-2
-invariant_of-self-2 c = (c.self.invariant.0, Kept-room c.self.inside.table _ _ _ (ap (λ t. t.lists) c.in_ok-reserve.ensures.ok) (ap (λ t. t.values) c.in_ok-reserve.ensures.ok) c.self.invariant.1)
+invariant_of-self-2 c = (c.self.invariant.0, Kept-room c.self.inside.table _ _ _ (ap (λ t. t.lists) c.in_ok-reserve.ensures.ok) (ap (λ t. t.values) c.in_ok-reserve.ensures.ok) c.self.invariant.1, IsTold-same _ _ _ _ (shown-kept c.self.inside.table c.reserve.new.self c.self.inside.lines.items (λ line. ap (λ t. entries t line) c.in_ok-reserve.ensures.ok)) (λ thread. refl) c.self.invariant.2)

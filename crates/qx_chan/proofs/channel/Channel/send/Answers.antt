@@ -1,32 +1,43 @@
-use Rattle.std.proofs.Common.{◌≡◌, Some, option_map, slice_get, sym, ◌∙◌, ap, refl}
-use Rattle.std.proofs.lemmas.List.{length-set}
+use Rattle.std.proofs.Common.{◌≡◌, ◌<◌, Some, length, option_map, map, slice_get, slice_set, sym, ◌∙◌, ap, refl, arith}
+use Rattle.std.proofs.lemmas.List.{length-map, length-set}
 use Rattle.std.proofs.lemmas.Option.{slice_get_read}
 use Rattle.qx_types.specs.declared.names.TheConstants.Manager.{COUNT}
 use Rattle.qx_lists.specs.Table.{IsFree}
+use Rattle.qx_machine.specs.Lines.{into, with_line}
+use Rattle.qx_machine.specs.Machine.{rank}
+use Rattle.qx_chan.specs.Channel.{message_in, message_of}
+use Rattle.qx_chan.specs.Kept.{entries}
 use Rattle.qx_chan.specs.Nodes.{Message, node_of}
-use Rattle.qx_chan.proofs.KeptLemmas.{IsFree-message, Kept-put, shown-put}
+use Rattle.qx_chan.proofs.EntryLemmas.{reads-message}
+use Rattle.qx_chan.proofs.KeptLemmas.{IsFree-own, Kept-put, shown-put}
 use Rattle.qx_chan.proofs.PresenceLemmas.{nodes-there, same_channel}
+use Rattle.qx_chan.proofs.ToldLemmas.{told-sent}
 use Rattle.qx_chan.proofs.channel.Channel.send.Goals as goal
 
 pub unreachable-requires : goal.unreachable-requires
 unreachable-requires c = nodes-there c.self.inside.nodes c.args.thread (sym c.at.ensures.own ∙ c.in_default.is) (rw (← c.self.view_is) at c.requires.own)
 
 pub put_in-requires-clause-line : goal.put_in-requires-clause-line
-put_in-requires-clause-line c = c.self.invariant.1.line c.number.result c.index_mut.result.now (slice_get_read c.self.inside.lines.items COUNT c.number.result c.index_mut.result.now (sym c.self.invariant.0) c.number.ensures.few c.index_mut.ensures.value)
+put_in-requires-clause-line c = c.self.invariant.1.line c.number.result c.index_mut-line.result.now (slice_get_read c.self.inside.lines.items COUNT c.number.result c.index_mut-line.result.now (sym c.self.invariant.0) c.number.ensures.few c.index_mut-line.ensures.value)
 
 pub put_in-requires-clause-free : goal.put_in-requires-clause-free
-put_in-requires-clause-free c = IsFree-message c.self.inside.table _ _ c.args.thread c.in-Some.own.message c.self.invariant.1 (ap (option_map (λ own. own.message)) (sym c.at.ensures.own ∙ c.in-Some.is)) (rw (← c.self.view_is) at c.requires.idle)
+put_in-requires-clause-free c = IsFree-own message_in c.args.thread (Message c.args.thread) (reads-message c.args.thread) refl c.self.inside.table _ _ c.in-Some.own.message c.self.invariant.1 (ap (option_map (λ own. own.message)) (sym c.at.ensures.own ∙ c.in-Some.is)) (rw (← c.self.view_is) at c.requires.idle)
 
 pub invariant_of-self : goal.invariant_of-self
 invariant_of-self c =
-    let is : slice_get c.self.inside.lines.items c.number.result ≡ Some c.index_mut.result.now = slice_get_read c.self.inside.lines.items COUNT c.number.result c.index_mut.result.now (sym c.self.invariant.0) c.number.ensures.few c.index_mut.ensures.value in
+    let is : slice_get c.self.inside.lines.items c.number.result ≡ Some c.index_mut-line.result.now = slice_get_read c.self.inside.lines.items COUNT c.number.result c.index_mut-line.result.now (sym c.self.invariant.0) c.number.ensures.few c.index_mut-line.ensures.value in
     let has : node_of c.self.inside.nodes (Message c.args.thread) ≡ Some c.in-Some.own.message = ap (option_map (λ own. own.message)) (sym c.at.ensures.own ∙ c.in-Some.is) in
-    let free : IsFree c.self.inside.table c.in-Some.own.message = IsFree-message c.self.inside.table _ _ c.args.thread _ c.self.invariant.1 has (rw (← c.self.view_is) at c.requires.idle) in
-    (length-set c.self.inside.lines.items c.number.result c.put_in.new.line ∙ c.self.invariant.0, Kept-put c.self.inside.table _ _ c.number.result _ _ _ c.args.thread _ _ c.self.invariant.1 is has free c.put_in.ensures.put (rw (c.new-waiting.ensures.entry, c.queued_message.ensures.message) refl))
+    let free : IsFree c.self.inside.table c.in-Some.own.message = IsFree-own message_in c.args.thread (Message c.args.thread) (reads-message c.args.thread) refl c.self.inside.table _ _ _ c.self.invariant.1 has (rw (← c.self.view_is) at c.requires.idle) in
+    let within : c.number.result < length (map (entries c.self.inside.table) c.self.inside.lines.items) = omega (arith, length-map c.self.inside.lines.items (entries c.self.inside.table), c.self.invariant.0, c.number.ensures.few) in
+    let shown : map (entries c.put_in.new.table) (slice_set c.self.inside.lines.items c.number.result c.put_in.new.line) ≡ with_line (map (entries c.self.inside.table) c.self.inside.lines.items) c.number.result (λ line. into rank line (message_of c.args.thread c.args.prio.0)) = rw (← c.queued_message.ensures.message, ← c.new-waiting.ensures.entry) (shown-put c.self.inside.table _ _ c.number.result _ _ _ (Message c.args.thread) _ _ c.self.invariant.1 is has free c.put_in.ensures.put) in (
+      length-set c.self.inside.lines.items c.number.result c.put_in.new.line ∙ c.self.invariant.0,
+      Kept-put c.self.inside.table _ _ c.number.result _ _ _ (Message c.args.thread) _ _ c.self.invariant.1 is has free c.put_in.ensures.put (rw (c.new-waiting.ensures.entry, c.queued_message.ensures.message) refl) refl,
+      rw shown (told-sent _ c.number.result _ within c.self.invariant.2 rank c.args.thread c.args.prio.0),
+    )
 
 pub returns : goal.returns
 returns c =
-    let is : slice_get c.self.inside.lines.items c.number.result ≡ Some c.index_mut.result.now = slice_get_read c.self.inside.lines.items COUNT c.number.result c.index_mut.result.now (sym c.self.invariant.0) c.number.ensures.few c.index_mut.ensures.value in
+    let is : slice_get c.self.inside.lines.items c.number.result ≡ Some c.index_mut-line.result.now = slice_get_read c.self.inside.lines.items COUNT c.number.result c.index_mut-line.result.now (sym c.self.invariant.0) c.number.ensures.few c.index_mut-line.ensures.value in
     let has : node_of c.self.inside.nodes (Message c.args.thread) ≡ Some c.in-Some.own.message = ap (option_map (λ own. own.message)) (sym c.at.ensures.own ∙ c.in-Some.is) in
-    let free : IsFree c.self.inside.table c.in-Some.own.message = IsFree-message c.self.inside.table _ _ c.args.thread _ c.self.invariant.1 has (rw (← c.self.view_is) at c.requires.idle) in
-    rw (← c.self.view_is, ← c.number.ensures.number, ← c.queued_message.ensures.message, ← c.new-waiting.ensures.entry) (record { put = same_channel (shown-put c.self.inside.table _ _ c.number.result _ _ _ c.args.thread _ _ c.self.invariant.1 is has free c.put_in.ensures.put) refl refl refl c.put_in.ensures.put.room })
+    let free : IsFree c.self.inside.table c.in-Some.own.message = IsFree-own message_in c.args.thread (Message c.args.thread) (reads-message c.args.thread) refl c.self.inside.table _ _ _ c.self.invariant.1 has (rw (← c.self.view_is) at c.requires.idle) in
+    rw (← c.self.view_is, ← c.number.ensures.number, ← c.queued_message.ensures.message, ← c.new-waiting.ensures.entry) (record { sent = same_channel (shown-put c.self.inside.table _ _ c.number.result _ _ _ (Message c.args.thread) _ _ c.self.invariant.1 is has free c.put_in.ensures.put) refl refl refl c.put_in.ensures.put.room })
