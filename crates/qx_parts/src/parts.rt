@@ -1,6 +1,6 @@
 //! The rows of all users, from 1: a place for each number.
 
-ghost use Rattle.std.specs.Prelude.{◌≡◌, ◌∷◌, ◌++◌, [], None, Some, IsFalse, IsTrue, IsOk, IfOk, OnOk, OnErr, Err};
+ghost use Rattle.std.specs.Prelude.{◌≡◌, ◌∷◌, ◌++◌, [], None, Some, IsFalse, IsTrue, IsOk, IfOk, IfSome, OnOk, OnErr, Err};
 ghost use Rattle.std.specs.Option.{option_copied, option_copied_mut};
 ghost use Rattle.std.specs.Borrow.{sem};
 ghost use Rattle.qx_machine.specs.Clients as clients;
@@ -10,7 +10,7 @@ ghost use Rattle.qx_machine.specs.Performing.{after_answer};
 ghost use Rattle.qx_machine.specs.Processes.{asked_thread, with_queued};
 ghost use Rattle.qx_machine.specs.Rows.{row_at, with_row};
 ghost use Rattle.qx_machine.specs.Users as users;
-ghost use Rattle.qx_process.specs.Reads.{is_thread_blocked};
+ghost use Rattle.qx_process.specs.Reads.{is_thread_blocked, IsRanked};
 ghost use Rattle.qx_parts.specs.Deeds.{served_part, taken_item_of, wants_memory_of, IsReadOf};
 ghost use Rattle.qx_parts.specs.Reads.{CanSend, HasPlace, process_of, thread_row};
 
@@ -84,7 +84,8 @@ impl Parts {
 
     /// A thread's row.
     pub fn thread(&self, thread: Thread) -> Option<&ThreadRow>
-        ensures { option_copied result ≡ thread_row self.now thread }
+        ensures row { option_copied result ≡ thread_row self.now thread }
+        ensures priorities { IfSome result (λ row. IsRanked row.now) }
     {
         match self.process(thread.proc) {
             Some(process) => process.thread(thread.tid),

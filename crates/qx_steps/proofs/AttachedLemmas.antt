@@ -91,22 +91,21 @@ or_cases : (a b : Bool) → (a || b) ≡ true → (a ≡ true) ⊎ (b ≡ true)
 or_cases true b is = inl refl
 or_cases false b is = inr is
 
-or_left : (a b : Bool) → a ≡ true → (a || b) ≡ true
-or_left a b is = rw is refl
-
 -- a call attaches nothing but what its message goes over, at its manager
 pub attached-connected : (thread : ℕ) (manager : Manager) (over : Over) (x : Process) (number : ℕ) → attached_at number (Some (with_over thread manager over x)) ≡ true → (attached_at number (Some x) ≡ true) ⊎ ((attaches over && is_numbered number manager) ≡ true)
 attached-connected thread manager (Existing coid) x number is = inl is
-attached-connected thread manager (New coid) x number is = elim (or_cases _ _ is) [
+attached-connected thread manager (New coid) x number is =
+    elim (or_cases (list_any (connects number) (put_row x.connections coid.0 (record { manager = manager; block = None }))) (list_any (sides_with number) x.sides) is) [
   | inr side ↦ inl (rw side (or_true (list_any (connects number) x.connections)))
-  | inl connection ↦ elim (or_cases _ _ (any-put (connects number) x.connections coid.0 (record { manager = manager; block = None }) connection)) [
-    | inl before ↦ inl (or_left _ _ before)
+  | inl connection ↦ elim (or_cases (list_any (connects number) x.connections) (is_numbered number manager) (any-put (connects number) refl x.connections coid.0 (record { manager = manager; block = None }) connection)) [
+    | inl before ↦ inl (rw before refl)
     | inr new ↦ inr new
   ]
 ]
-attached-connected thread manager Side x number is = elim (or_cases _ _ is) [
-  | inl connection ↦ inl (or_left _ _ connection)
-  | inr side ↦ elim (or_cases _ _ (any-set (sides_with number) x.sides thread manager side)) [
+attached-connected thread manager Side x number is =
+    elim (or_cases (list_any (connects number) x.connections) (list_any (sides_with number) (slice_set x.sides thread (Some manager))) is) [
+  | inl connection ↦ inl (rw connection refl)
+  | inr side ↦ elim (or_cases (list_any (sides_with number) x.sides) (is_numbered number manager) (any-set (sides_with number) refl x.sides thread manager side)) [
     | inl before ↦ inl (rw before (or_true (list_any (connects number) x.connections)))
     | inr new ↦ inr new
   ]

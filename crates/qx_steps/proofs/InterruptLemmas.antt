@@ -1,8 +1,9 @@
 -- A thread is interrupted: what the step comes to, and that rows, lines and nodes stand together still.
-use Rattle.std.proofs.Common.{◌≡◌, ◌≢◌, inl, inr, eq-eqb, ℕ, List, [], ◌∷◌, ◌&&◌, Bool, true, false, Option, Some, None, refl, sym, ◌∙◌, ap}
+use Rattle.std.proofs.Common.{◌≡◌, ◌≢◌, ◌⊎◌, subst, inl, inr, eq-eqb, ℕ, List, [], ◌∷◌, ◌&&◌, Bool, true, false, Option, Some, None, refl, sym, ◌∙◌, ap}
 use Rattle.std.specs.Prelude.{option_map, if◌then◌else◌}
 use Rattle.qx_types.specs.Managers.{manager_number}
 use Rattle.qx_types.specs.declared.names.Thread.{Thread}
+use Rattle.qx_types.specs.declared.outcome.Answer.{Answer}
 use Rattle.qx_types.specs.declared.outcome.Outcome.TheVariants.{Done, WrongState}
 use Rattle.qx_types.specs.declared.step.Step.TheVariants.{Interrupt}
 use Rattle.qx_machine.specs.declared.rows.Queued.{Queued}
@@ -31,18 +32,6 @@ use Rattle.qx_steps.proofs.ThreadLemmas.{Kept-changed, OneThread, Own, OwnLine, 
 
 -- ---- what the step comes to
 
--- a thread's row, in the rows of its user
-record Placed (w : World) (thread : Thread) (row : ThreadRow) : Type 0 where
-  part : Part
-  of_user : row_at w.parts thread.proc.user.0 ≡ Some part
-  in_part : thread_at part thread.proc.num thread.tid ≡ Some row
-
-placed : (w : World) (thread : Thread) (row : ThreadRow) → thread_row w.parts thread ≡ Some row → Placed w thread row
-placed w thread row is = elim (option_cases (row_at w.parts thread.proc.user.0)) [
-  | inl none ↦ let clash : None ≡ Some row = rw none at is in absurd (cc)
-  | inr part ↦ record { part = part.0; of_user = part.1; in_part = rw part.1 at is }
-]
-
 pub interrupt-nobody : (w : World) (thread : Thread) → thread_row w.parts thread ≡ None → step w (Interrupt thread) ≡ record { world = w; outcome = WrongState }
 unfolding step client settle
 interrupt-nobody w thread none = elim (option_cases (row_at w.parts thread.proc.user.0)) [
@@ -52,37 +41,43 @@ interrupt-nobody w thread none = elim (option_cases (row_at w.parts thread.proc.
       rw (part.1, its, set-row w.parts thread.proc.user.0 part.0 part.1) refl
 ]
 
--- a thread that waits for nothing, or whose call was interrupted before
-abbrev IsLeft : State → Type 0
-IsLeft (queued sent) = ⊥
-IsLeft (Taken sent) = sent.is_asked ≡ true
-IsLeft _ = Unit {0}
+-- by the row of a thread, in the rows of its user
+module _ (w : World) (thread : Thread) (row : ThreadRow) (part : Part) (of_user : row_at w.parts thread.proc.user.0 ≡ Some part) (in_part : thread_at part thread.proc.num thread.tid ≡ Some row) where
+  left_by : interrupt_in part thread row.calls row.state ≡ record { outcome = Done; part = part; changes = [] } → step w (Interrupt thread) ≡ record { world = w; outcome = Done }
+  unfolding step client settle
+  left_by left = rw (of_user, in_part, left, set-row w.parts thread.proc.user.0 part of_user) refl
 
-pub interrupt-left : (w : World) (thread : Thread) (row : ThreadRow) → thread_row w.parts thread ≡ Some row → IsLeft row.state → step w (Interrupt thread) ≡ record { world = w; outcome = Done }
-unfolding step client settle
-interrupt-left w thread row there left =
-    let at = placed w thread row there in
-    rw (at.of_user, at.in_part, by_state at.part row.state left, set-row w.parts thread.proc.user.0 at.part at.of_user) refl
-  where
-    by_state : (part : Part) (s : State) → IsLeft s → interrupt_in part thread row.calls s ≡ record { outcome = Done; part = part; changes = [] }
-    by_state part Ready left = refl
-    by_state part (queued sent) left = absurd left
-    by_state part (Taken sent) left = rw left refl
-    by_state part (Answered answer) left = refl
+  dismisses_by : (sent : Sent) → row.state ≡ queued sent → step w (Interrupt thread) ≡ record { world = after_dismissal w thread sent.target; outcome = Done }
+  unfolding step client settle
+  dismisses_by sent is = rw (of_user, in_part, is) refl
+
+  asks_by : (sent : Sent) → row.state ≡ Taken sent → sent.is_asked ≡ false → step w (Interrupt thread) ≡ record { world = after_asking w thread row.calls sent.target; outcome = Done }
+  unfolding step client settle
+  asks_by sent is unasked = rw (of_user, in_part, is, unasked) refl
+
+-- what holds by the row of a thread holds where the thread is there
+by_row : (w : World) (thread : Thread) (row : ThreadRow) (P : Type 0) → thread_row w.parts thread ≡ Some row → ((part : Part) → row_at w.parts thread.proc.user.0 ≡ Some part → thread_at part thread.proc.num thread.tid ≡ Some row → P) → P
+by_row w thread row P is given = elim (option_cases (row_at w.parts thread.proc.user.0)) [
+  | inl none ↦ let clash : None ≡ Some row = rw none at is in absurd (cc)
+  | inr part ↦ given part.0 part.1 (rw part.1 at is)
+]
+
+-- it waits for nothing
+pub interrupt-idle : (w : World) (thread : Thread) (row : ThreadRow) → thread_row w.parts thread ≡ Some row → (row.state ≡ Ready) ⊎ ((answer : Answer) × (row.state ≡ Answered answer)) → step w (Interrupt thread) ≡ record { world = w; outcome = Done }
+interrupt-idle w thread row there (inl is) = by_row w thread row _ there (λ part of_user in_part. left_by w thread row part of_user in_part (rw is refl))
+interrupt-idle w thread row there (inr is) = by_row w thread row _ there (λ part of_user in_part. left_by w thread row part of_user in_part (rw is.1 refl))
+
+-- its call was interrupted before
+pub interrupt-again : (w : World) (thread : Thread) (row : ThreadRow) (sent : Sent) → thread_row w.parts thread ≡ Some row → row.state ≡ Taken sent → sent.is_asked ≡ true → step w (Interrupt thread) ≡ record { world = w; outcome = Done }
+interrupt-again w thread row sent there is asked = by_row w thread row _ there (λ part of_user in_part. left_by w thread row part of_user in_part (rw (is, asked) refl))
 
 pub interrupt-dismisses : (w : World) (thread : Thread) (row : ThreadRow) (sent : Sent) → thread_row w.parts thread ≡ Some row → row.state ≡ queued sent → step w (Interrupt thread) ≡ record { world = after_dismissal w thread sent.target; outcome = Done }
-unfolding step client settle
-interrupt-dismisses w thread row sent there is =
-    let at = placed w thread row there in
-    rw (at.of_user, at.in_part, is) refl
+interrupt-dismisses w thread row sent there is = by_row w thread row _ there (λ part of_user in_part. dismisses_by w thread row part of_user in_part sent is)
 
 pub interrupt-asks : (w : World) (thread : Thread) (row : ThreadRow) (sent : Sent) → thread_row w.parts thread ≡ Some row → row.state ≡ Taken sent → sent.is_asked ≡ false → step w (Interrupt thread) ≡ record { world = after_asking w thread row.calls sent.target; outcome = Done }
-unfolding step client settle
-interrupt-asks w thread row sent there is unasked =
-    let at = placed w thread row there in
-    rw (at.of_user, at.in_part, is, unasked) refl
+interrupt-asks w thread row sent there is unasked = by_row w thread row _ there (λ part of_user in_part. asks_by w thread row part of_user in_part sent is unasked)
 
-pub ruleset interrupt_steps = (interrupt-nobody, interrupt-left, interrupt-dismisses, interrupt-asks)
+pub ruleset interrupt_steps = (interrupt-nobody, interrupt-idle, interrupt-again, interrupt-dismisses, interrupt-asks)
 
 -- ---- a received message is asked to unblock its thread
 
@@ -127,3 +122,34 @@ module _ (parts : List (Option Part)) (channel : Channel) (thread : Thread) (tar
 
   pub Kept-asked : Kept (with_row parts thread.proc.user.0 (with_thread_of thread asked_thread)) (with_channel_line channel (manager_number target.manager) (λ line. into rank line (unblock_of thread row.calls target.prio.0)))
   Kept-asked = Kept-changed parts new channel thread (with_thread thread.tid asked_thread) asked_thread one kept target.manager change own (λ x at. refl)
+
+-- the same, by what a call of the world asks for
+
+record Unasked (parts : List (Option Part)) (thread : Thread) (target : Target) (call : ℕ) : Type 0 where
+  row : ThreadRow
+  there : thread_row parts thread ≡ Some row
+  its_call : row.calls ≡ call
+  sent : Sent
+  is : row.state ≡ Taken sent
+  to : sent.target ≡ target
+  unasked : sent.is_asked ≡ false
+
+unasked_from : (parts : List (Option Part)) (thread : Thread) (target : Target) (call : ℕ) → IsUnasked target call (thread_row parts thread) → Unasked parts thread target call
+unasked_from parts thread target call is = elim (option_cases (thread_row parts thread)) [
+  | inl none ↦ absurd (rw none at is)
+  | inr row ↦
+      let its : IsUnasked target call (Some row.0) = rw row.1 at is in
+      record { row = row.0; there = row.1; its_call = its.0; sent = its.1.0; is = its.1.1.0; to = its.1.1.1.0; unasked = its.1.1.1.1 }
+]
+
+pub asks-idle : (parts : List (Option Part)) (channel : Channel) (thread : Thread) (target : Target) (call : ℕ) → IsUnasked target call (thread_row parts thread) → Kept parts channel → (at : ℕ) → unblock_call (line_at channel.lines at) thread ≡ None
+asks-idle parts channel thread target call asked kept at =
+    let it = unasked_from parts thread target call asked in
+    no_pulse parts channel thread target it.row it.sent kept it.there it.is it.to it.unasked at
+
+pub asks-kept : (parts : List (Option Part)) (channel : Channel) (thread : Thread) (target : Target) (call : ℕ) → IsUnasked target call (thread_row parts thread) → Kept parts channel
+    → Kept (with_row parts thread.proc.user.0 (with_thread_of thread asked_thread)) (with_channel_line channel (manager_number target.manager) (λ line. into rank line (unblock_of thread call target.prio.0)))
+asks-kept parts channel thread target call asked kept =
+    let it = unasked_from parts thread target call asked in
+    subst (λ n. Kept (with_row parts thread.proc.user.0 (with_thread_of thread asked_thread)) (with_channel_line channel (manager_number target.manager) (λ line. into rank line (unblock_of thread n target.prio.0)))) it.its_call
+    (Kept-asked parts channel thread target it.row it.sent kept it.there it.is it.to it.unasked)

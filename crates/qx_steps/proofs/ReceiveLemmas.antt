@@ -137,7 +137,7 @@ module _ (parts : List (Option Part)) (channel : Channel) (manager : Manager) (u
     same_thread row = row
 
     with_same : {A : Type 0} (xs : List (Option A)) (n : ℕ) → xs ≡ with_row xs n (λ x. x)
-    with_same xs n = by_row (row_at xs n) refl
+    with_same {A = A} xs n = by_row (row_at xs n) refl
       where
         by_row : (o : Option A) → row_at xs n ≡ o → xs ≡ with_row xs n (λ x. x)
         by_row None is = sym (with_row-none xs n (λ x. x) is)

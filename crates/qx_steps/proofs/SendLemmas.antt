@@ -104,7 +104,7 @@ module _ (parts : List (Option Part)) (channel : Channel) (thread : Thread) (sen
   queued_at None ready at = absurd ready
   queued_at (Some row) ready at = refl
 
-  line : List Queued
+  abbrev line : List Queued
   line = line_at channel.lines number
 
   own : Own parts new channel thread f (queued_thread sent) one kept sent.target.manager change

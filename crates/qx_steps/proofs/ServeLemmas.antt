@@ -1,6 +1,6 @@
 -- Rows, lines and nodes stand together still as a thread is answered: as a worker does what it holds, or as its queued message goes.
 use Rattle.std.proofs.Common.{◌≡◌, ◌≢◌, inl, inr, ℕ, ◌∷◌, [], ◌&&◌, ◌==◌, Bool, true, false, List, Option, Some, None, Result, Ok, Err, refl, sym, ◌∙◌, ap}
-use Rattle.std.specs.Prelude.{option_map}
+use Rattle.std.specs.Prelude.{option_map, IfSome}
 use Rattle.std.proofs.lemmas.Bool.Decides.{eqb_tells}
 use Rattle.qx_types.specs.Managers.{manager_number, managers}
 use Rattle.qx_types.specs.declared.errno.Errno.{Errno}
@@ -22,7 +22,7 @@ use Rattle.qx_machine.specs.declared.rows.ThreadRow.{ThreadRow}
 use Rattle.qx_machine.specs.Lines.{line_at, with_line}
 use Rattle.qx_machine.specs.Machine.{line_without}
 use Rattle.qx_machine.specs.Parts.{Part, thread_at, thread_of}
-use Rattle.qx_machine.specs.Performing.{Deed, after_answer, deed_of, taken_in}
+use Rattle.qx_machine.specs.Performing.{Deed, after_answer, deed_of, or_kept, serve_message, taken_in}
 use Rattle.qx_machine.specs.Processes.{Process, after_effect, after_error, after_reply, answered_thread, with_thread}
 use Rattle.qx_machine.specs.Rows.{row_at, with_row}
 use Rattle.qx_process.proofs.RowLemmas.{set-row, with_row-none}
@@ -30,7 +30,8 @@ use Rattle.qx_chan.specs.Channel.{Channel, has_server, sender_of, stands, unbloc
 use Rattle.qx_parts.specs.Deeds.{served_part}
 use Rattle.qx_parts.specs.Reads.{process_in, process_of, thread_row}
 use Rattle.qx_steps.specs.Kept.{Kept, asked_at, attached_at, is_asked_at, is_queued_at, settled, stands_at}
-use Rattle.qx_steps.specs.Workers.{answered_call, call_of, lines_answered}
+use Rattle.qx_steps.specs.Reads.{IsQueuedTo}
+use Rattle.qx_steps.specs.Workers.{answered_call, call_of, channel_answered, IsPulseGone}
 use Rattle.qx_chan.proofs.LineLemmas.{call-replied_other, call-withdrawn, replied-none, stands-replied, stands-withdrawn_other}
 use Rattle.qx_steps.proofs.AttachedLemmas.{fewer-done, fewer-given_back, fewer-let_go, threads-done, threads-given_back, threads-let_go}
 use Rattle.qx_steps.proofs.ReceiveLemmas.{queued-unasked, stands_once}
@@ -81,17 +82,17 @@ module _ (parts : List (Option Part)) (channel : Channel) (thread : Thread) (h :
   one = one_thread parts thread h (answered thread.tid over given) (answered_thread (answer_of given)) changes (answered-threads thread.tid over given)
 
   -- what the line tells, once the thread is answered
-  record Left : Type 0 where
-    line : OwnLine (change line) line thread
-    stand : stands (change line) thread ≡ false
-    stand_other : (at : ℕ) → at ≢ number → stands_at at (thread_row parts thread) ≡ false
-    calls : unblock_call (change line) thread ≡ None
-    calls_other : (at call : ℕ) → at ≢ number → unblock_call (line_at channel.lines at) thread ≡ Some call → ⊥
+  pub record Left : Type 0 where
+    pub own_line : OwnLine (change line) line thread
+    pub stand : stands (change line) thread ≡ false
+    pub stand_other : (at : ℕ) → at ≢ number → stands_at at (thread_row parts thread) ≡ false
+    pub calls : unblock_call (change line) thread ≡ None
+    pub calls_other : (at call : ℕ) → at ≢ number → unblock_call (line_at channel.lines at) thread ≡ Some call → ⊥
 
   module _ (left : Left) where
     own : Own parts new channel thread (answered thread.tid over given) (answered_thread (answer_of given)) one kept manager change
     own = record {
-      line = left.line;
+      line = left.own_line;
       stand = left.stand ∙ sym (rw one.own (answered_row (answer_of given) (thread_row parts thread) number));
       stand_other = λ at differs. kept.lines thread at ∙ left.stand_other at differs ∙ sym (rw one.own (answered_row (answer_of given) (thread_row parts thread) at));
       calls = λ call is. let clash : None ≡ Some call = sym left.calls ∙ is in absurd (cc);
@@ -134,7 +135,7 @@ module _ (parts : List (Option Part)) (channel : Channel) (thread : Thread) (tar
             (with_channel_line channel (manager_number target.manager) drop_message))
   Kept-dismissed error gone = Kept-left parts channel thread (λ part. after_answer part thread.proc.num thread.tid target.over (Err error)) target.over (Err error) kept (λ part is. refl) target.manager drop_message
       (record {
-        line = record {
+        own_line = record {
           stand = λ other differs. stands-withdrawn_other (line_at channel.lines (manager_number target.manager)) thread other differs;
           calls = λ other differs. call-withdrawn (line_at channel.lines (manager_number target.manager)) thread other;
         };
@@ -190,7 +191,7 @@ module _ (parts : List (Option Part)) (channel : Channel) (thread : Thread) (h :
       → Kept (with_row parts thread.proc.user.0 h) (settled thread.proc (process_of (with_row parts thread.proc.user.0 h) thread.proc) managers (with_channel_line channel its_number drop_pulse))
   Kept-answered gone = Kept-left parts channel thread h sent.target.over given kept changes sent.target.manager drop_pulse
       (record {
-        line = record {
+        own_line = record {
           stand = λ other differs. stands-replied (line_at channel.lines its_number) thread row.calls other;
           calls = λ other differs. call-replied_other (line_at channel.lines its_number) thread row.calls other differs;
         };
@@ -221,6 +222,15 @@ pub record Serves (parts : List (Option Part)) (user : ℕ) (own : OwnItem) (cal
   pub given : Result Deed Errno
   pub changes : (part : Part) → row_at parts user ≡ Some part → (served_part part own).processes ≡ with_row part.processes process (answered tid sent.target.over given)
 
+served-message : (part : Part) (process tid : ℕ) (x : Process) (row : ThreadRow) (sent : Sent) → row_at part.processes process ≡ Some x → row_at x.threads tid ≡ Some row → taken_in row.state ≡ Some sent
+    → (or_kept part (serve_message part process tid)).part ≡ after_answer part process tid sent.target.over (deed_of part.resources x sent.target (meaning sent.bytes))
+served-message part process tid x row sent a b c = rw (a, b, c) refl
+
+served-processes : (part : Part) (process tid : ℕ) (x : Process) (row : ThreadRow) (sent : Sent) → row_at part.processes process ≡ Some x → row_at x.threads tid ≡ Some row → taken_in row.state ≡ Some sent
+    → (or_kept part (serve_message part process tid)).part.processes ≡ with_row part.processes process (answered tid sent.target.over (deed_of part.resources x sent.target (meaning sent.bytes)))
+served-processes part process tid x row sent a b c =
+    ap (λ p. p.processes) (served-message part process tid x row sent a b c) ∙ answered-processes part process tid sent.target.over (deed_of part.resources x sent.target (meaning sent.bytes))
+
 serves : (parts : List (Option Part)) (user : ℕ) (own : OwnItem) (call : Manager × ℕ) → answered_call own (row_at parts user) ≡ Some call → Serves parts user own call
 serves parts user (item.Unblock process tid of) call is = elim (option_cases (row_at parts user)) [
   | inl none ↦ let clash : None ≡ Some call = rw none at is in absurd (cc)
@@ -246,9 +256,7 @@ serves parts user (item.Message process tid) call is = elim (option_cases (row_a
               taken = taken_is row.0.state sent.0 sent.1;
               its_call = cc;
               given = deed_of part.0.resources x.0 sent.0.target (meaning sent.0.bytes);
-              changes = λ other here.
-                let same : part.0 ≡ other = some_same part.0 other (sym part.1 ∙ here) in
-                rw (← same, x.1, row.1, sent.1) (answered-processes part.0 process tid sent.0.target.over (deed_of part.0.resources x.0 sent.0.target (meaning sent.0.bytes)));
+              changes = λ other here. rw (some_same other part.0 (sym here ∙ part.1)) (served-processes part.0 process tid x.0 row.0 sent.0 x.1 row.1 sent.1);
             }
       ]
     ]
@@ -258,10 +266,8 @@ serves parts user (item.Message process tid) call is = elim (option_cases (row_a
     some_same : (one other : Part) → Some one ≡ Some other → one ≡ other
     some_same one other is = cc
 
--- nothing is done where no message is answered
-none_done : (part : Part) (own : OwnItem) → answered_call own (Some part) ≡ None → served_part part own ≡ part
-none_done part (item.Unblock process tid of) is = refl
-none_done part (item.Message process tid) is = elim (option_cases (row_at part.processes process)) [
+none_answered : (part : Part) (process tid : ℕ) → call_of (thread_at part process tid) ≡ None → (or_kept part (serve_message part process tid)).part ≡ part
+none_answered part process tid is = elim (option_cases (row_at part.processes process)) [
   | inl none ↦ rw none refl
   | inr x ↦ elim (option_cases (row_at x.0.threads tid)) [
     | inl none ↦ rw (x.1, none) refl
@@ -272,6 +278,11 @@ none_done part (item.Message process tid) is = elim (option_cases (row_at part.p
   ]
 ]
 
+-- nothing is done where no message is answered
+none_done : (part : Part) (own : OwnItem) → answered_call own (Some part) ≡ None → served_part part own ≡ part
+none_done part (item.Unblock process tid of) is = refl
+none_done part (item.Message process tid) is = none_answered part process tid is
+
 pub none_served : (parts : List (Option Part)) (user : ℕ) (own : OwnItem) → answered_call own (row_at parts user) ≡ None → with_row parts user (λ part. served_part part own) ≡ parts
 none_served parts user own is = elim (option_cases (row_at parts user)) [
   | inl none ↦ with_row-none parts user (λ part. served_part part own) none
@@ -280,23 +291,15 @@ none_served parts user own is = elim (option_cases (row_at parts user)) [
       rw (part.1, none_done part.0 own its) (set-row parts user part.0 part.1)
 ]
 
-pub Kept-served : (parts : List (Option Part)) (channel : Channel) (user : ℕ) (own : OwnItem) (call : Manager × ℕ) → answered_call own (row_at parts user) ≡ Some call → Kept parts channel
-    → (unblock_call (line_at channel.lines (manager_number call.0)) (sender_of user own) ≡ Some call.1
-      → unblock_call (line_without user (item.Unblock (sender_of user own).proc.num (sender_of user own).tid call.1) (line_at channel.lines (manager_number call.0))) (sender_of user own) ≡ None)
+kept-one : (parts : List (Option Part)) (channel : Channel) (user : ℕ) (own : OwnItem) (call : Manager × ℕ) → Serves parts user own call → Kept parts channel → IsPulseGone channel (sender_of user own) call
     → Kept (with_row parts user (λ part. served_part part own))
-        (settled (sender_of user own).proc (process_of (with_row parts user (λ part. served_part part own)) (sender_of user own).proc) managers
-          (with_channel_line channel (manager_number call.0) (line_without user (item.Unblock (sender_of user own).proc.num (sender_of user own).tid call.1))))
-Kept-served parts channel user own call is kept gone = by_item own refl (serves parts user own call is)
-  where
-    by_item : (it : OwnItem) → it ≡ own → Serves parts user own call → Kept (with_row parts user (λ part. served_part part own))
-        (settled (sender_of user own).proc (process_of (with_row parts user (λ part. served_part part own)) (sender_of user own).proc) managers
-          (with_channel_line channel (manager_number call.0) (line_without user (item.Unblock (sender_of user own).proc.num (sender_of user own).tid call.1))))
-    by_item it same known = rw (known.its_call, known.message)
-        (Kept-answered parts channel (sender_of user (item.Message known.process known.tid)) (λ part. served_part part (item.Message known.process known.tid)) known.row known.sent known.given kept
-          (rw known.message at known.there) known.taken (rw known.message at known.changes) (rw (known.its_call, known.message) at gone))
+        (settled (sender_of user own).proc (process_of (with_row parts user (λ part. served_part part own)) (sender_of user own).proc) managers (channel_answered channel (sender_of user own) (Some call)))
+kept-one parts channel user own call known kept gone = rw (known.its_call, known.message)
+    (Kept-answered parts channel (sender_of user (item.Message known.process known.tid)) (λ part. served_part part (item.Message known.process known.tid)) known.row known.sent known.given kept
+      (rw known.message at known.there) known.taken (rw known.message at known.changes) (rw (known.its_call, known.message) at gone))
 
 -- where nothing is answered, disconnect nodes are settled as they were
-pub Kept-idle : (parts : List (Option Part)) (channel : Channel) (proc : Proc) → Kept parts channel → Kept parts (settled proc (process_of parts proc) managers channel)
+Kept-idle : (parts : List (Option Part)) (channel : Channel) (proc : Proc) → Kept parts channel → Kept parts (settled proc (process_of parts proc) managers channel)
 Kept-idle parts channel proc kept = Kept-settled parts channel proc (record {
   users = kept.users;
   managers = kept.managers;
@@ -306,3 +309,46 @@ Kept-idle parts channel proc kept = Kept-settled parts channel proc (record {
   others = λ other m differs. kept.servers other m;
   attached = λ m is. kept.servers proc m ∙ is;
 })
+
+-- an item is done, its call's unblock pulse goes, and the disconnect nodes of its process are settled
+pub Kept-served : (parts : List (Option Part)) (channel : Channel) (user : ℕ) (own : OwnItem) → Kept parts channel → IfSome (answered_call own (row_at parts user)) (IsPulseGone channel (sender_of user own))
+    → Kept (with_row parts user (λ part. served_part part own))
+        (settled (sender_of user own).proc (process_of (with_row parts user (λ part. served_part part own)) (sender_of user own).proc) managers
+          (channel_answered channel (sender_of user own) (answered_call own (row_at parts user))))
+Kept-served parts channel user own kept gone = elim (option_cases (answered_call own (row_at parts user))) [
+  | inl none ↦ rw (none, none_served parts user own none) (Kept-idle parts channel (sender_of user own).proc kept)
+  | inr call ↦
+      let its : IsPulseGone channel (sender_of user own) call.0 = rw call.1 at gone in
+      rw call.1 (kept-one parts channel user own call.0 (serves parts user own call.0 call.1) kept its)
+]
+
+-- a queued message goes, by what a call of the world asks for
+
+record QueuedTo (parts : List (Option Part)) (thread : Thread) (target : Target) : Type 0 where
+  row : ThreadRow
+  there : thread_row parts thread ≡ Some row
+  sent : Sent
+  is : row.state ≡ queued sent
+  to : sent.target ≡ target
+
+queued_from : (parts : List (Option Part)) (thread : Thread) (target : Target) → IsQueuedTo target (thread_row parts thread) → QueuedTo parts thread target
+queued_from parts thread target is = elim (option_cases (thread_row parts thread)) [
+  | inl none ↦ absurd (rw none at is)
+  | inr row ↦
+      let its : IsQueuedTo target (Some row.0) = rw row.1 at is in
+      record { row = row.0; there = row.1; sent = its.0; is = its.1.0; to = its.1.1 }
+]
+
+pub dismisses-stands : (parts : List (Option Part)) (channel : Channel) (thread : Thread) (target : Target) → IsQueuedTo target (thread_row parts thread) → Kept parts channel → stands (line_at channel.lines (manager_number target.manager)) thread ≡ true
+dismisses-stands parts channel thread target is kept =
+    let it = queued_from parts thread target is in
+    dismissed-stands parts channel thread target it.row it.sent kept it.there it.is it.to
+
+pub dismisses-kept : (parts : List (Option Part)) (channel : Channel) (thread : Thread) (target : Target) (error : Errno) → IsQueuedTo target (thread_row parts thread) → Kept parts channel
+    → stands (line_without thread.proc.user.0 (item.Message thread.proc.num thread.tid) (line_at channel.lines (manager_number target.manager))) thread ≡ false
+    → Kept (with_row parts thread.proc.user.0 (λ part. after_answer part thread.proc.num thread.tid target.over (Err error)))
+        (settled thread.proc (process_of (with_row parts thread.proc.user.0 (λ part. after_answer part thread.proc.num thread.tid target.over (Err error))) thread.proc) managers
+          (with_channel_line channel (manager_number target.manager) (line_without thread.proc.user.0 (item.Message thread.proc.num thread.tid))))
+dismisses-kept parts channel thread target error is kept gone =
+    let it = queued_from parts thread target is in
+    Kept-dismissed parts channel thread target it.row it.sent kept it.there it.is it.to error gone

@@ -74,7 +74,7 @@ answered_lines part user process tid lines = elim (option_cases (row_at part.pro
 
 served_item : (w : World) (worker : ℕ) (user : ℕ) (item : OwnItem) (moment : ℕ) (part : Option Part) → row_at w.parts user ≡ part → performed_part (with_empty_hand w worker) (record { user = record { 0 = user }; item = item }) moment part ≡ after_serving w worker (record { user = record { 0 = user }; item = item })
 unfolding serve settle
-served_item w worker user own moment None row = rw (row, with_row-none w.parts user (λ part. served_part part own) row) refl
+served_item w worker user own moment None row = rw (with_row-none w.parts user (λ part. served_part part own) row, row) refl
 served_item w worker user (item.Message process tid) moment (Some part) row = rw (row, ← answered_lines part user process tid w.lines) refl
 served_item w worker user (item.Unblock process tid call) moment (Some part) row = rw row refl
 

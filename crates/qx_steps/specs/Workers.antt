@@ -1,5 +1,5 @@
 -- A receive and a perform in parts: the world once an item is held, and once it is done.
-use Rattle.std.specs.Prelude.{ℕ, List, Option, Some, None, slice_set}
+use Rattle.std.specs.Prelude.{◌≡◌, ℕ, List, Option, Some, None, slice_set}
 use Rattle.qx_types.specs.Managers.{manager_number}
 use Rattle.qx_types.specs.declared.names.Manager.{Manager}
 use Rattle.qx_types.specs.declared.names.Thread.{Thread}
@@ -9,13 +9,13 @@ use Rattle.qx_machine.specs.declared.rows.OwnItem.{OwnItem}
 use Rattle.qx_machine.specs.declared.rows.OwnItem.TheVariants as item
 use Rattle.qx_machine.specs.declared.rows.Sent.{Sent}
 use Rattle.qx_machine.specs.declared.rows.ThreadRow.{ThreadRow}
-use Rattle.qx_machine.specs.Lines.{with_line}
+use Rattle.qx_machine.specs.Lines.{line_at, with_line}
 use Rattle.qx_machine.specs.Machine.{World, line_without}
 use Rattle.qx_machine.specs.Parts.{Part, thread_at}
 use Rattle.qx_machine.specs.Performing.{taken_in}
 use Rattle.qx_machine.specs.Rows.{row_at, with_row}
 use Rattle.qx_machine.specs.Users.{take}
-use Rattle.qx_chan.specs.Channel.{sender_of}
+use Rattle.qx_chan.specs.Channel.{Channel, sender_of, unblock_call}
 use Rattle.qx_parts.specs.Deeds.{served_part}
 
 -- the world once the first item of a line, which is the rest of it now, is in a worker's hand
@@ -44,6 +44,15 @@ answered_call (item.Unblock process thread call) (Some part) = None
 abbrev pub lines_answered : Thread → Option (Manager × ℕ) → List (List Queued) → List (List Queued)
 lines_answered thread None lines = lines
 lines_answered thread (Some call) lines = with_line lines (manager_number call.0) (line_without thread.proc.user.0 (item.Unblock thread.proc.num thread.tid call.1))
+
+-- the channel, once it is
+abbrev pub channel_answered : Channel → Thread → Option (Manager × ℕ) → Channel
+channel_answered channel thread call = record channel { lines = lines_answered thread call channel.lines }
+
+-- no unblock pulse of the call is left in its line
+abbrev pub IsPulseGone : Channel → Thread → Manager × ℕ → Type 0
+IsPulseGone channel thread call = unblock_call (line_at channel.lines (manager_number call.0)) thread ≡ Some call.1
+    → unblock_call (line_without thread.proc.user.0 (item.Unblock thread.proc.num thread.tid call.1) (line_at channel.lines (manager_number call.0))) thread ≡ None
 
 -- the world once an item that a worker held is done
 abbrev pub after_serving : World → ℕ → Held → World

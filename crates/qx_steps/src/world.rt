@@ -1,6 +1,6 @@
 //! The rows of all users, the managers' lines and what each worker holds, with one call for each step.
 
-ghost use Rattle.std.specs.Prelude.{◌≡◌, ◌<◌, ◌∷◌, ◌↔◌, ◌≢◌, [], None, Some, Err, IfOk, IsOk, IsTrue, IsFalse, OnOk, OnErr, IsErrOf, length, is_some, option_map, replicate, slice_set, unwrap_or, if◌then◌else◌};
+ghost use Rattle.std.specs.Prelude.{◌≡◌, ◌<◌, ◌∷◌, ◌↔◌, ◌≢◌, [], None, Some, Err, IfOk, IfSome, IsOk, IsTrue, IsFalse, OnOk, OnErr, IsErrOf, length, is_some, option_map, replicate, slice_set, unwrap_or, if◌then◌else◌};
 ghost use Rattle.std.specs.Option.{option_copied};
 ghost use Rattle.qx_machine.specs.Clients as clients;
 ghost use Rattle.qx_machine.specs.Laws.{is_refusal};
@@ -12,9 +12,9 @@ ghost use Rattle.qx_process.specs.Reads.{is_thread_blocked, IsPriority};
 ghost use Rattle.qx_parts.specs.Deeds.{IsReadOf, taken_item_of};
 ghost use Rattle.qx_parts.specs.Reads.{CanSend, thread_row};
 ghost use Rattle.qx_steps.specs.Calls.{after_asking, after_dismissal, after_sending, after_start, spawn_number_in, target_in};
-ghost use Rattle.qx_steps.specs.Held.{hand_wants_memory, held_work, holds_wanting, work_now, IsReadFor, IsStale};
+ghost use Rattle.qx_steps.specs.Held.{bytes_in, hand_wants_memory, held_work, holds_wanting, work_now, IsReadFor, IsStale};
 ghost use Rattle.qx_steps.specs.Reads.{is_thread_answered, IsQueuedTo, IsReady, IsUnasked};
-ghost use Rattle.qx_steps.specs.Workers.{after_serving, answered_call};
+ghost use Rattle.qx_steps.specs.Workers.{after_serving, answered_call, channel_answered, IsPulseGone};
 
 use crate::servers;
 use crate::work::{PerformFault, Work, WorkRef};
@@ -149,14 +149,17 @@ impl World {
             State::Queued(sent) => {
                 let target = sent.target;
                 self.dismiss(thread, target);
+                Outcome::Done
             }
-            State::Taken(sent) if !sent.is_asked => {
-                let (target, call) = (sent.target, row.calls);
-                self.ask_unblock(thread, target, call);
+            State::Taken(sent) => {
+                if !sent.is_asked {
+                    let (target, call) = (sent.target, row.calls);
+                    self.ask_unblock(thread, target, call);
+                }
+                Outcome::Done
             }
-            _ => {}
+            State::Ready | State::Answered(_) => Outcome::Done,
         }
-        Outcome::Done
     }
 
     /// A thread's message leaves its line, and the thread is answered EINTR.
@@ -341,10 +344,9 @@ impl World {
     {
         let answered = self.answered_call(held);
         self.parts.serve(held.user, held.item, read)?;
-        if let Some((manager, call)) = answered {
-            self.channel.reply(manager, named_thread(held.user, held.item), call);
-        }
-        servers::settle(&mut self.channel, &self.parts, named_thread(held.user, held.item).proc);
+        let thread = named_thread(held.user, held.item);
+        reply_in(&mut self.channel, thread, answered);
+        servers::settle(&mut self.channel, &self.parts, thread.proc);
         places::free(&mut self.hands, worker.0 as usize);
         Ok(())
     }
@@ -365,7 +367,8 @@ impl World {
 
     /// Whether something is held that the work is not.
     pub fn is_stale(&self, worker: Worker, work: &Work) -> bool
-        ensures { IsTrue result ↔ IsStale (held_work self.now worker.0) work.now }
+        ensures stale { IsTrue result ↔ IsStale (held_work self.now worker.0) work.now }
+        ensures fresh { IsFalse result → IsReadFor (bytes_in work.now) (held_work self.now worker.0) }
     {
         match self.held(worker) {
             Some(held) => !is_same_work(held, work),
@@ -509,6 +512,16 @@ fn hold_in(hands: &mut Vec<Option<Held>>, worker: Worker, first: Queued)
         item: first.item,
     };
     places::set(hands, worker.0 as usize, held);
+}
+
+/// A call of a thread, if there is one, is answered: an unblock pulse of it stands in the line no more.
+fn reply_in(channel: &mut Channel, thread: Thread, call: Option<(Manager, u64)>)
+    ensures replied { channel.new ≡ channel_answered channel.old thread call }
+    ensures gone { IfSome call (IsPulseGone channel.old thread) }
+{
+    if let Some((manager, call)) = call {
+        channel.reply(manager, thread, call);
+    }
 }
 
 /// The bytes of a user's name.

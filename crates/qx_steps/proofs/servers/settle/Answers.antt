@@ -1,7 +1,7 @@
 use Rattle.std.proofs.Common.{sym, ◌∙◌, ap}
 use Rattle.qx_types.specs.Managers.{managers}
 use Rattle.qx_parts.specs.Reads.{process_of}
-use Rattle.qx_steps.proofs.ServeLemmas.{settled-next}
+use Rattle.qx_steps.proofs.SettleLemmas.{settled-next}
 use Rattle.qx_steps.proofs.servers.settle.Goals as goal
 
 pub loop-number-preserved : goal.loop-number-preserved

@@ -14,10 +14,10 @@ returns-in_default-clause-world c =
     let idle : is_some (row_at c.args.self.now.hands c.args.worker.0) ≡ false = search rules in
     let empty : line_at c.self.inside.channel.lines (manager_number c.args.manager) ≡ [] = none_first _ (search rules) in
     let line : line_at c.args.self.now.lines (manager_number c.args.manager) ≡ [] = rw (← c.self.view_is) empty in
-    rw (receive-idle c.args.self.now c.args.worker c.args.manager valid idle line, ← c.self.view_is, c.take.ensures.rest, empty_line c.self.inside.channel.lines (manager_number c.args.manager) empty)
+    rw (receive-idle c.args.self.now c.args.worker c.args.manager valid idle line, ← c.self.view_is, c.receive.ensures.rest, empty_line c.self.inside.channel.lines (manager_number c.args.manager) empty)
 
 pub invariant_of-self-2 : goal.invariant_of-self-2
-invariant_of-self-2 c = rw (c.take-2.ensures, c.take.ensures.rest) (Kept-taken c.self.inside.parts c.self.inside.channel c.args.manager c.in-Some.first _ (first_of-line _ _ c.in-Some.ensures.first) c.in-Some.ensures.gone c.self.invariant)
+invariant_of-self-2 c = rw (c.take.ensures, c.receive.ensures.rest) (Kept-taken c.self.inside.parts c.self.inside.channel c.args.manager c.in-Some.first _ (first_of-line _ _ c.in-Some.ensures.first) c.in-Some.ensures.gone c.self.invariant)
 
 pub returns-clause-outcome : goal.returns-clause-outcome
 returns-clause-outcome c =
@@ -31,4 +31,9 @@ returns-clause-world c =
     let valid : is_worker c.args.self.now.config c.args.worker.0 ≡ true = search rules in
     let idle : is_some (row_at c.args.self.now.hands c.args.worker.0) ≡ false = search rules in
     let line : line_at c.args.self.now.lines (manager_number c.args.manager) ≡ c.in-Some.first ∷ drop 1 (line_at c.self.inside.channel.lines (manager_number c.args.manager)) = rw (← c.self.view_is) (first_of-line _ _ c.in-Some.ensures.first) in
-    rw (receive-took c.args.self.now c.args.worker c.args.manager _ _ valid idle line, ← c.self.view_is, c.take-2.ensures, c.take.ensures.rest, c.hold_in.ensures)
+    rw (receive-took c.args.self.now c.args.worker c.args.manager _ _ valid idle line, ← c.self.view_is, c.take.ensures, c.receive.ensures.rest, c.hold_in.ensures)
+
+pub invariant_of-self : goal.invariant_of-self
+invariant_of-self c =
+    let empty : line_at c.self.inside.channel.lines (manager_number c.args.manager) ≡ [] = none_first _ (search rules) in
+    rw (c.receive.ensures.rest, empty_line c.self.inside.channel.lines (manager_number c.args.manager) empty) c.self.invariant
