@@ -43,10 +43,6 @@ contains_into by (z ∷ zs) x y at = elim (cases_Bool (nat_lt (by z) (by x))) [
       ]
 ]
 
-pub contains_rest : (xs : List ℕ) (x : ℕ) → Contains (drop 1 xs) x → Contains xs x
-contains_rest [] x at = at
-contains_rest (y ∷ ys) x at = contains_later y x ys at
-
 -- a list of what nodes stand for, where two readings agree on the nodes
 pub map-agree : {B : Type 0} (f g : ℕ → B) (xs : List ℕ) → ((x : ℕ) → Contains xs x → f x ≡ g x) → map f xs ≡ map g xs
 map-agree f g [] same = refl

@@ -491,10 +491,6 @@ gone_by : (it : OwnItem) (thread : Thread) (line : List Queued) → (owner_in th
 gone_by (item.Message process number) thread line message pulse = message refl
 gone_by (item.Unblock process number call) thread line message pulse = pulse refl
 
-pub no_pulse : (it : OwnItem) (thread : Thread) (line : List Queued) (call : ℕ) → call_in it ≡ Some call → no_other it thread line → unblock_call line thread ≡ None
-no_pulse (item.Message process number) thread line call is gone = cc
-no_pulse (item.Unblock process number other) thread line call is gone = gone
-
 -- the first item of a line stands there once
 module _ (t : Table Queued) (lines : List Line) (node_of : Owner → Option ℕ) (line : Line) (kept : Kept t lines node_of) where
   gone_from : (x : ℕ) (xs : List ℕ) (first : Queued) → x ∷ xs ≡ nodes_in t line → AllByRecursion (λ y. nat_eq x y ≡ false) xs → entry_at t x ≡ first → IsGone first (map (entry_at t) xs)

@@ -13,7 +13,7 @@ use Rattle.qx_machine.specs.declared.rows.OwnItem.TheVariants as item
 use Rattle.qx_machine.specs.declared.rows.Queued.{Queued}
 use Rattle.qx_machine.specs.Lines.{into}
 use Rattle.qx_machine.specs.Machine.{is_same_item, line_without}
-use Rattle.qx_chan.specs.Channel.{call_in, first_told, is_same_thread, message_in, message_of, sender, sender_of, stands, told, unblock_call, unblock_of}
+use Rattle.qx_chan.specs.Channel.{call_in, first_told, is_same_thread, message_in, message_of, no_other, sender, sender_of, stands, told, unblock_call, unblock_of}
 use Rattle.qx_chan.specs.Kept.{owner_in, owner_of}
 use Rattle.qx_chan.specs.Nodes.{Message, Owner, Unblock}
 use Rattle.qx_chan.proofs.EntryLemmas.{owned_thread, differs_from, is_same_thread-differs, is_same_thread-same, is_same_thread-self, or_none}
@@ -271,3 +271,12 @@ module _ (first : Queued) (line : List Queued) (other : Thread) where
 
   pub stands-received : message_in first.item ≡ None → stands (first ∷ line) other ≡ stands line other
   stands-received none = ap (λ o. is_some (option_or o (first_told message_in other line))) (ap (λ o. if is_same_thread (sender first) other then o else None) none ∙ told-nothing (is_same_thread (sender first) other))
+
+-- what was taken stands there no more
+pub gone-message : (it : OwnItem) (thread : Thread) (line : List Queued) → call_in it ≡ None → no_other it thread line → stands line thread ≡ false
+gone-message (item.Message process number) thread line none gone = gone
+gone-message (item.Unblock process number call) thread line none gone = cc
+
+pub gone-pulse : (it : OwnItem) (thread : Thread) (line : List Queued) → message_in it ≡ None → no_other it thread line → unblock_call line thread ≡ None
+gone-pulse (item.Message process number) thread line none gone = cc
+gone-pulse (item.Unblock process number call) thread line none gone = gone

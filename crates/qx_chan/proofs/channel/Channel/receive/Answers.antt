@@ -5,11 +5,12 @@ use Rattle.qx_types.specs.declared.names.TheConstants.Manager.{COUNT}
 use Rattle.qx_types.specs.declared.names.Thread.{Thread}
 use Rattle.qx_lists.proofs.ListLemmas.{contains_rest}
 use Rattle.qx_machine.specs.Lines.{line_at, with_line}
-use Rattle.qx_chan.specs.Channel.{IsGone, call_in, sender, sender_of, unblock_call}
+use Rattle.qx_chan.specs.Channel.{IsGone, call_in, message_in, sender, sender_of, unblock_call}
 use Rattle.qx_chan.specs.Kept.{entries, entry_at, owner_in}
 use Rattle.qx_chan.specs.Nodes.{Unblock, node_of}
 use Rattle.qx_chan.proofs.EntryLemmas.{map-drop}
-use Rattle.qx_chan.proofs.KeptLemmas.{Kept-owners, Kept-taken, first-owned, gone-if, line_at-shown, no_pulse, shown-taken}
+use Rattle.qx_chan.proofs.KeptLemmas.{Kept-owners, Kept-taken, first-owned, gone-if, line_at-shown, shown-taken}
+use Rattle.qx_chan.proofs.LineLemmas.{gone-pulse}
 use Rattle.qx_chan.proofs.PresenceLemmas.{nodes-some, same_channel}
 use Rattle.qx_chan.proofs.TableLemmas.{none_some}
 use Rattle.qx_chan.proofs.ToldLemmas.{told-pulse, told-received}
@@ -49,7 +50,7 @@ invariant_of-self-in-Unblock c =
     let first : Some c.in_ok-first.first ≡ slice_get (entries c.self.inside.table c.index_mut.result.now) 0 = sym c.in_ok-first.was ∙ c.take_out.ensures.first in
     let pulse : sender c.in_ok-first.first ≡ thread_in c.in_ok-first.first.user.0 c.in-Unblock.process c.in-Unblock.thread = ap (sender_of c.in_ok-first.first.user.0) c.in-Unblock.is in
     let gone : IsGone c.in_ok-first.first (drop 1 (entries c.self.inside.table c.index_mut.result.now)) = gone-if c.self.inside.table _ _ c.index_mut.result.now c.self.invariant.1 (Some c.in_ok-first.first) (c.know.ensures.distinct c.index_mut.result.now.list) first in
-    let none : unblock_call (drop 1 (entries c.self.inside.table c.index_mut.result.now)) (sender c.in_ok-first.first) ≡ None = no_pulse c.in_ok-first.first.item (sender c.in_ok-first.first) _ c.in-Unblock.call (ap call_in c.in-Unblock.is) gone in (
+    let none : unblock_call (drop 1 (entries c.self.inside.table c.index_mut.result.now)) (sender c.in_ok-first.first) ≡ None = gone-pulse c.in_ok-first.first.item (sender c.in_ok-first.first) _ (ap message_in c.in-Unblock.is) gone in (
       length-set c.self.inside.lines.items c.number.result c.take_out.new.line ∙ c.self.invariant.0,
       Kept-owners _ _ _ _ c.set_asked.ensures.asked.nodes (Kept-taken c.self.inside.table _ _ c.number.result _ _ (drop 1) _ c.self.invariant.1 is c.take_out.ensures.out (λ x at. contains_rest x _ at)),
       rw shown (told-pulse _ c.number.result _ within c.self.invariant.2 c.in_ok-first.first c.in-Unblock.call _ (ap (λ l. slice_get l 0) (line_at-shown c.self.inside.table _ c.number.result _ is) ∙ sym first) (ap call_in c.in-Unblock.is)
