@@ -3,13 +3,12 @@
 
 mod rows;
 
-pub use rows::{Over, Post, Row, Sent, State};
-
 use plain_messages::{Kind, Reading, read, write};
 use qx_types::{
     Answer, Bytes, Coid, Config, Errno, Item, Manager, OFlags, Outcome, Prio, Proc, Request, Step,
     Thread, User, Worker,
 };
+pub use rows::{Over, Post, Row, Sent, State};
 use rows::{Connection, Queued, first_out, line_up};
 use std::alloc::{AllocError, Global};
 
@@ -29,6 +28,7 @@ pub struct Plain {
 }
 
 /// What a worker holds: the bytes of a message, or a pulse.
+#[derive(Clone, Copy)]
 pub enum Held<'a> {
     Message(&'a Bytes),
     Pulse,
@@ -154,9 +154,7 @@ impl Plain {
                 self.judge_path(proc.user, path)?;
                 Ok((Manager::Ram, Over::New(self.free_connection(proc)?)))
             }
-            Request::StatPath { path }
-            | Request::Unlink { path }
-            | Request::Mkdir { path, .. } => {
+            Request::StatPath { path } | Request::Unlink { path } | Request::Mkdir { path, .. } => {
                 self.judge_path(proc.user, path)?;
                 Ok((Manager::Ram, Over::Side))
             }

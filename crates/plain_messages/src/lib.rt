@@ -233,12 +233,7 @@ fn action_subtype(action: NotifyAction) -> u16 {
 }
 
 /// A header and a body.
-pub fn message(
-    alloc: Global,
-    number: u16,
-    subtype: u16,
-    body: &[u8],
-) -> Result<Bytes, AllocError> {
+pub fn message(alloc: Global, number: u16, subtype: u16, body: &[u8]) -> Result<Bytes, AllocError> {
     let length = u32::try_from(body.len()).unwrap_or(u32::MAX);
     let mut bytes = Vec::from_slice(alloc, &number.to_le_bytes())?;
     bytes.extend_from_slice(&subtype.to_le_bytes())?;
