@@ -24,7 +24,7 @@ use tally::Tally;
 /// Steps from one busy time to the next, and how many of them are busy.
 const ROUND: u32 = 192;
 
-const BUSY: u32 = 80;
+const BUSY: u32 = 92;
 
 /// So many items have to stand in the line at some time.
 const LONG: usize = 100;

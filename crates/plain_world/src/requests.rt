@@ -56,8 +56,11 @@ fn next_small(dice: &mut Dice) -> Request {
     let coid = next_connection(dice);
     match dice.below(5) {
         0 => Request::Close { coid },
-        1 | 2 => Request::Fstat { coid },
-        _ => Request::Dup { coid },
+        1 => Request::Fstat { coid },
+        2 => Request::Dup { coid },
+        _ => Request::Dup {
+            coid: last_connection(dice),
+        },
     }
 }
 
@@ -166,6 +169,11 @@ fn next_connection(dice: &mut Dice) -> Coid {
     } else {
         Coid(3 + dice.below(6))
     }
+}
+
+/// The last number that a connection may have, or the one after it.
+fn last_connection(dice: &mut Dice) -> Coid {
+    Coid(66 + dice.below(2))
 }
 
 fn next_path(alloc: Global, dice: &mut Dice, user: User) -> Result<Bytes, AllocError> {
