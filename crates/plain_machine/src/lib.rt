@@ -1,38 +1,19 @@
 //! The rules of the machine over plain vectors, with no number of a row being its place.
 #![tactic(auto)]
 
-use qx_machine::{Message, Over, Sent, State};
+mod rows;
+
+use plain_messages::{Kind, Reading, read, write};
 use qx_types::{
     Answer, Bytes, Coid, Config, Errno, Item, Manager, OFlags, Outcome, Prio, Proc, Request, Step,
     Thread, User, Worker,
 };
+pub use rows::{Over, Post, Row, Sent, State};
+use rows::{Connection, Queued, first_out, line_up};
 use std::alloc::{AllocError, Global};
 
-/// A thread that was started.
-#[derive(Drop)]
-pub struct Row {
-    pub thread: Thread,
-    pub state: State,
-    prio: Prio,
-    calls: u64,
-}
-
-/// A connection of a process, with its block once the open has been performed.
-#[derive(Drop)]
-struct Connection {
-    proc: Proc,
-    coid: Coid,
-    block: Option<u16>,
-}
-
-/// An item of a line.
-#[derive(Clone, Copy)]
-struct Queued {
-    thread: Thread,
-    prio: Prio,
-}
-
-/// All rows of all users, one vector for each kind.
+/// All rows of all users, one vector for each kind. Server connections have none: nothing shows them, and no user has
+/// more processes than the most of them.
 #[derive(Drop)]
 pub struct Plain {
     alloc: Global,
@@ -43,7 +24,14 @@ pub struct Plain {
     blocks: Vec<(User, u16)>,
     ram: Vec<Queued>,
     pipe: Vec<Queued>,
-    hands: Vec<(Worker, Thread)>,
+    hands: Vec<(Worker, Post)>,
+}
+
+/// What a worker holds: the bytes of a message, or a pulse.
+#[derive(Clone, Copy)]
+pub enum Held<'a> {
+    Message(&'a Bytes),
+    Pulse,
 }
 
 impl Plain {
@@ -73,6 +61,7 @@ impl Plain {
             Step::Call { thread, request } => self.call(*thread, request),
             Step::TakeReply { thread } => Ok(self.take_reply(*thread)),
             Step::SetPrio { thread, prio } => Ok(self.set_prio(*thread, *prio)),
+            Step::Interrupt { thread } => self.interrupt(*thread),
             Step::Receive { worker, manager } => self.receive(*worker, *manager),
             Step::Perform { worker, .. } => self.perform(*worker),
         }
@@ -107,6 +96,7 @@ impl Plain {
     }
 
     fn call(&mut self, thread: Thread, request: &Request) -> Result<Outcome, AllocError> {
+        let bytes = write(self.alloc, request)?;
         let Some(row) = self.row(thread) else {
             return Ok(Outcome::WrongState);
         };
@@ -114,19 +104,25 @@ impl Plain {
         if !matches!(&row.state, State::Ready) {
             return Ok(Outcome::WrongState);
         }
-        if !is_in_range(request) {
+        if !is_in_range(request, bytes.as_slice()) {
             return Ok(Outcome::Refused(Errno::EINVAL));
         }
         let Some(calls) = row.calls.checked_add(1) else {
             return Ok(Outcome::Refused(Errno::EAGAIN));
         };
-        match self.message(thread, prio, request) {
-            Ok(sent) => {
-                self.send(thread, sent, calls)?;
-                Ok(Outcome::Sent)
-            }
-            Err(error) => Ok(Outcome::Refused(error)),
-        }
+        let (manager, over) = match self.target(thread.proc, request) {
+            Ok(target) => target,
+            Err(error) => return Ok(Outcome::Refused(error)),
+        };
+        let sent = Sent {
+            manager,
+            over,
+            prio,
+            is_asked: false,
+            bytes,
+        };
+        self.send(thread, sent, calls)?;
+        Ok(Outcome::Sent)
     }
 
     /// Sends a message as a thread's call of that number.
@@ -135,11 +131,12 @@ impl Plain {
             self.connections.push(Connection {
                 proc: thread.proc,
                 coid,
+                manager: sent.manager,
                 block: None,
             })?;
         }
         let item = Queued {
-            thread,
+            post: Post::Message(thread),
             prio: sent.prio,
         };
         line_up(self.line_mut(sent.manager), item)?;
@@ -150,36 +147,32 @@ impl Plain {
         Ok(())
     }
 
-    /// The message that a request is sent as. All connections are at the RAM manager.
-    fn message(&self, thread: Thread, prio: Prio, request: &Request) -> Result<Sent, Errno> {
-        let (over, message) = match request {
-            Request::OpenPath { path, flags, mode } => {
-                if !self.is_own_root(thread.proc.user, path) {
-                    return Err(Errno::ENOENT);
-                }
-                let Some(coid) = self.free_connection(thread.proc) else {
-                    return Err(Errno::EMFILE);
-                };
-                let (flags, mode) = (*flags, *mode);
-                (Over::New(coid), Message::Open { flags, mode })
+    /// Where a request goes, and over what.
+    fn target(&self, proc: Proc, request: &Request) -> Result<(Manager, Over), Errno> {
+        match request {
+            Request::OpenPath { path, .. } => {
+                self.judge_path(proc.user, path)?;
+                Ok((Manager::Ram, Over::New(self.free_connection(proc)?)))
             }
-            Request::Close { coid } => (self.used(thread.proc, *coid)?, Message::Close),
-            Request::Fstat { coid } => (self.used(thread.proc, *coid)?, Message::Fstat),
-        };
-        Ok(Sent {
-            manager: Manager::Ram,
-            over,
-            prio,
-            message,
-        })
-    }
-
-    /// A connection that is there.
-    fn used(&self, proc: Proc, coid: Coid) -> Result<Over, Errno> {
-        if self.is_connection(proc, coid) {
-            Ok(Over::Existing(coid))
-        } else {
-            Err(Errno::EBADF)
+            Request::StatPath { path } | Request::Unlink { path } | Request::Mkdir { path, .. } => {
+                self.judge_path(proc.user, path)?;
+                Ok((Manager::Ram, Over::Side))
+            }
+            Request::Dup { coid } => {
+                let manager = self.manager_of(proc, *coid)?;
+                Ok((manager, Over::New(self.free_connection(proc)?)))
+            }
+            Request::Read { coid, .. }
+            | Request::Write { coid, .. }
+            | Request::Close { coid }
+            | Request::Seek { coid, .. }
+            | Request::Fstat { coid }
+            | Request::List { coid, .. }
+            | Request::Chmod { coid, .. }
+            | Request::Notify { coid, .. }
+            | Request::Raw { coid, .. } => {
+                Ok((self.manager_of(proc, *coid)?, Over::Existing(*coid)))
+            }
         }
     }
 
@@ -208,6 +201,37 @@ impl Plain {
         Outcome::Done
     }
 
+    fn interrupt(&mut self, thread: Thread) -> Result<Outcome, AllocError> {
+        let Some(row) = self.row(thread) else {
+            return Ok(Outcome::WrongState);
+        };
+        match &row.state {
+            State::Queued(sent) => {
+                let (manager, over) = (sent.manager, sent.over);
+                self.drop_post(manager, Post::Message(thread));
+                self.end_call(thread, over, Answer::Failed(Errno::EINTR));
+            }
+            State::Taken(sent) => {
+                if !sent.is_asked {
+                    let post = Post::Unblock(thread, row.calls);
+                    let (manager, prio) = (sent.manager, sent.prio);
+                    line_up(self.line_mut(manager), Queued { post, prio })?;
+                    self.mark_asked(thread);
+                }
+            }
+            State::Ready | State::Answered(_) => {}
+        }
+        Ok(Outcome::Done)
+    }
+
+    fn mark_asked(&mut self, thread: Thread) {
+        if let Some(row) = self.row_mut(thread)
+            && let State::Taken(sent) = &mut row.state
+        {
+            sent.is_asked = true;
+        }
+    }
+
     fn receive(&mut self, worker: Worker, manager: Manager) -> Result<Outcome, AllocError> {
         if !self.is_worker(worker) {
             return Ok(Outcome::WrongState);
@@ -215,64 +239,133 @@ impl Plain {
         if self.hand(worker).is_some() {
             return Ok(Outcome::Busy);
         }
-        let Some(thread) = first_out(self.line_mut(manager)) else {
+        let Some(post) = first_out(self.line_mut(manager)) else {
             return Ok(Outcome::Idle);
         };
-        self.hands.push((worker, thread))?;
-        if let Some(sent) = self.queued(thread) {
-            self.set_state(thread, State::Taken(sent));
+        self.hands.push((worker, post))?;
+        match post {
+            Post::Message(thread) => {
+                if let Some(sent) = self.withdraw(thread) {
+                    self.set_state(thread, State::Taken(sent));
+                }
+                Ok(Outcome::Took(Item::Message(thread)))
+            }
+            Post::Unblock(thread, _) => Ok(Outcome::Took(Item::Unblock(thread))),
         }
-        Ok(Outcome::Took(Item::Message(thread)))
     }
 
+    /// A pulse to unblock a thread changes nothing: no call waits at a manager.
     fn perform(&mut self, worker: Worker) -> Result<Outcome, AllocError> {
         if !self.is_worker(worker) {
             return Ok(Outcome::WrongState);
         }
-        let Some(thread) = self.hand(worker) else {
+        let Some(post) = self.hand(worker) else {
             return Ok(Outcome::Nothing);
         };
         self.hands.retain(|(holder, _)| *holder != worker);
-        if let Some(sent) = self.taken(thread) {
-            let answer = self.answer(thread, sent)?;
-            self.set_state(thread, State::Answered(answer));
+        if let Post::Message(thread) = post {
+            self.serve(thread)?;
         }
         Ok(Outcome::Handled)
     }
 
-    /// What a message comes to.
-    fn answer(&mut self, thread: Thread, sent: Sent) -> Result<Answer, AllocError> {
-        let (proc, user) = (thread.proc, thread.proc.user);
-        let none = Bytes::new(self.alloc);
-        let (Over::New(coid) | Over::Existing(coid)) = sent.over else {
+    /// Answers the message of a thread. A pulse that would unblock the thread from it is not needed any more.
+    fn serve(&mut self, thread: Thread) -> Result<(), AllocError> {
+        let calls = self.row(thread).map_or(0, |row| row.calls);
+        if let Some(sent) = self.withdraw(thread) {
+            let answer = self.answer(thread.proc, &sent)?;
+            self.drop_post(sent.manager, Post::Unblock(thread, calls));
+            self.end_call(thread, sent.over, answer);
+        }
+        Ok(())
+    }
+
+    /// Gives a thread its answer. With an error goes the connection that the call made.
+    fn end_call(&mut self, thread: Thread, over: Over, answer: Answer) {
+        if let (Over::New(coid), Answer::Failed(_)) = (over, &answer) {
+            self.detach(thread.proc, coid);
+        }
+        self.set_state(thread, State::Answered(answer));
+    }
+
+    /// What a message comes to. The RAM manager has four functions, and the pipe manager none.
+    fn answer(&mut self, proc: Proc, sent: &Sent) -> Result<Answer, AllocError> {
+        let kind = match read(sent.bytes.as_slice()) {
+            Reading::Malformed => return Ok(Answer::Failed(Errno::EINVAL)),
+            Reading::Unknown => return Ok(Answer::Failed(Errno::ENOSYS)),
+            Reading::Known(kind) => kind,
+        };
+        match (sent.manager, kind) {
+            (Manager::Ram, Kind::Open) => self.open(proc, sent),
+            (Manager::Ram, Kind::Stat) => self.stat(proc.user, sent),
+            (Manager::Ram, Kind::Close) => self.close(proc, sent),
+            (Manager::Ram, Kind::Fstat) => self.fstat(proc, sent),
+            _ => Ok(Answer::Failed(Errno::ENOSYS)),
+        }
+    }
+
+    /// Header, flags and mode of an open have 12 bytes, behind which a path's rest stands.
+    fn open(&mut self, proc: Proc, sent: &Sent) -> Result<Answer, AllocError> {
+        let Over::New(coid) = sent.over else {
             return Ok(Answer::Failed(Errno::EINVAL));
         };
-        match sent.message {
-            Message::Open { .. } => {
-                let Some(block) = self.free_block(user) else {
-                    self.detach(proc, coid);
-                    return Ok(Answer::Failed(Errno::ENFILE));
-                };
-                self.blocks.push((user, block))?;
-                self.set_block(proc, coid, block);
-                Ok(Answer::Reply(u64::from(coid.0), none))
-            }
-            Message::Close => {
-                let Some(block) = self.block(proc, coid) else {
-                    return Ok(Answer::Failed(Errno::EBADF));
-                };
+        if sent.bytes.len() > 12 {
+            return Ok(Answer::Failed(Errno::ENOENT));
+        }
+        let Some(block) = self.free_block(proc.user) else {
+            return Ok(Answer::Failed(Errno::ENFILE));
+        };
+        self.blocks.push((proc.user, block))?;
+        self.set_block(proc, coid, block);
+        Ok(Answer::Reply(u64::from(coid.0), Bytes::new(self.alloc)))
+    }
+
+    /// A path's rest stands behind the header's 8 bytes.
+    fn stat(&self, user: User, sent: &Sent) -> Result<Answer, AllocError> {
+        if sent.over != Over::Side {
+            return Ok(Answer::Failed(Errno::EINVAL));
+        }
+        if sent.bytes.len() > 8 {
+            return Ok(Answer::Failed(Errno::ENOENT));
+        }
+        self.root_status(user)
+    }
+
+    fn close(&mut self, proc: Proc, sent: &Sent) -> Result<Answer, AllocError> {
+        match self.opened(proc, sent) {
+            Err(error) => Ok(Answer::Failed(error)),
+            Ok((coid, block)) => {
                 self.detach(proc, coid);
-                self.blocks.retain(|taken| *taken != (user, block));
-                Ok(Answer::Reply(0, none))
-            }
-            Message::Fstat => {
-                if self.block(proc, coid).is_none() {
-                    return Ok(Answer::Failed(Errno::EBADF));
-                }
-                let status = root_status(user);
-                Ok(Answer::Reply(0, Bytes::from_slice(self.alloc, &status)?))
+                self.blocks.retain(|taken| *taken != (proc.user, block));
+                Ok(Answer::Reply(0, Bytes::new(self.alloc)))
             }
         }
+    }
+
+    fn fstat(&self, proc: Proc, sent: &Sent) -> Result<Answer, AllocError> {
+        match self.opened(proc, sent) {
+            Err(error) => Ok(Answer::Failed(error)),
+            Ok(_) => self.root_status(proc.user),
+        }
+    }
+
+    /// The connection of a message and its block. It may have gone since the call, or its open may still wait.
+    fn opened(&self, proc: Proc, sent: &Sent) -> Result<(Coid, u16), Errno> {
+        let Over::Existing(coid) = sent.over else {
+            return Err(Errno::EINVAL);
+        };
+        match self.connection(proc, coid) {
+            Some(row) => match row.block {
+                Some(block) if row.manager == sent.manager => Ok((coid, block)),
+                _ => Err(Errno::EBADF),
+            },
+            None => Err(Errno::EBADF),
+        }
+    }
+
+    fn root_status(&self, user: User) -> Result<Answer, AllocError> {
+        let bytes = Bytes::from_slice(self.alloc, &status_bytes(user))?;
+        Ok(Answer::Reply(0, bytes))
     }
 
     /// The threads that were started.
@@ -285,9 +378,21 @@ impl Plain {
         self.threads.iter().find(|row| row.thread == thread)
     }
 
-    /// The message that a worker holds.
-    pub fn held(&self, worker: Worker) -> Option<Message> {
-        Some(self.taken(self.hand(worker)?)?.message)
+    /// What a worker holds, with the bytes of a message.
+    pub fn held(&self, worker: Worker) -> Option<Held<'_>> {
+        match self.hand(worker)? {
+            Post::Message(thread) => match &self.row(thread)?.state {
+                State::Taken(sent) => Some(Held::Message(&sent.bytes)),
+                State::Ready | State::Queued(_) | State::Answered(_) => None,
+            },
+            Post::Unblock(..) => Some(Held::Pulse),
+        }
+    }
+
+    /// What a worker holds, by its thread.
+    pub fn hand(&self, worker: Worker) -> Option<Post> {
+        let (_, post) = self.hands.iter().find(|(holder, _)| *holder == worker)?;
+        Some(*post)
     }
 
     /// How many items stand in a manager's line.
@@ -308,6 +413,18 @@ impl Plain {
         }
     }
 
+    /// Takes the message of a blocked thread out of its row, which is to be given another state at once.
+    fn withdraw(&mut self, thread: Thread) -> Option<Sent> {
+        let row = self.row_mut(thread)?;
+        match std::mem::replace(&mut row.state, State::Ready) {
+            State::Queued(sent) | State::Taken(sent) => Some(sent),
+            other => {
+                row.state = other;
+                None
+            }
+        }
+    }
+
     fn line_mut(&mut self, manager: Manager) -> &mut Vec<Queued> {
         match manager {
             Manager::Ram => &mut self.ram,
@@ -315,36 +432,20 @@ impl Plain {
         }
     }
 
-    /// The message of a thread that stands in a line.
-    fn queued(&self, thread: Thread) -> Option<Sent> {
-        match &self.row(thread)?.state {
-            State::Queued(sent) => Some(*sent),
-            State::Ready | State::Taken(_) | State::Answered(_) => None,
-        }
-    }
-
-    /// The message of a thread that a worker took.
-    fn taken(&self, thread: Thread) -> Option<Sent> {
-        match &self.row(thread)?.state {
-            State::Taken(sent) => Some(*sent),
-            State::Ready | State::Queued(_) | State::Answered(_) => None,
-        }
+    /// Drops an item where it stands in a line.
+    fn drop_post(&mut self, manager: Manager, post: Post) {
+        self.line_mut(manager).retain(|queued| queued.post != post);
     }
 
     fn is_worker(&self, worker: Worker) -> bool {
         0 < worker.0 && worker.0 <= self.config.workers()
     }
 
-    fn hand(&self, worker: Worker) -> Option<Thread> {
-        let (_, thread) = self.hands.iter().find(|(holder, _)| *holder == worker)?;
-        Some(*thread)
-    }
-
-    /// Whether the path is a slash and the user's name.
-    fn is_own_root(&self, user: User, path: &Bytes) -> bool {
+    /// There is one path for each user: a slash and the user's name.
+    fn judge_path(&self, user: User, path: &Bytes) -> Result<(), Errno> {
         match (self.config.name(user), path.as_slice().split_first()) {
-            (Some(name), Some((first, rest))) => *first == b'/' && rest == name.as_slice(),
-            _ => false,
+            (Some(name), Some((b'/', rest))) if rest == name.as_slice() => Ok(()),
+            _ => Err(Errno::ENOENT),
         }
     }
 
@@ -352,9 +453,11 @@ impl Plain {
         (1..=16).find(|num| !self.processes.contains(&Proc { user, num: *num }))
     }
 
-    fn free_connection(&self, proc: Proc) -> Option<Coid> {
-        let number = (3..=66).find(|number| !self.is_connection(proc, Coid(*number)))?;
-        Some(Coid(number))
+    fn free_connection(&self, proc: Proc) -> Result<Coid, Errno> {
+        match (3..=66).find(|number| self.connection(proc, Coid(*number)).is_none()) {
+            Some(number) => Ok(Coid(number)),
+            None => Err(Errno::EMFILE),
+        }
     }
 
     fn free_block(&self, user: User) -> Option<u16> {
@@ -367,12 +470,12 @@ impl Plain {
             .find(|row| row.proc == proc && row.coid == coid)
     }
 
-    fn is_connection(&self, proc: Proc, coid: Coid) -> bool {
-        self.connection(proc, coid).is_some()
-    }
-
-    fn block(&self, proc: Proc, coid: Coid) -> Option<u16> {
-        self.connection(proc, coid)?.block
+    /// At which manager a connection is that is there.
+    fn manager_of(&self, proc: Proc, coid: Coid) -> Result<Manager, Errno> {
+        match self.connection(proc, coid) {
+            Some(row) => Ok(row.manager),
+            None => Err(Errno::EBADF),
+        }
     }
 
     fn set_block(&mut self, proc: Proc, coid: Coid, block: u16) {
@@ -394,34 +497,23 @@ fn is_prio(prio: Prio) -> bool {
     0 < prio.0 && prio.0 <= 63
 }
 
-/// Whether an open asks for reading alone, and for a mode that there is.
-fn is_in_range(request: &Request) -> bool {
+/// Whether the fields of a request are in their ranges, its bytes beside it: a manager could read them. An open has to
+/// ask for reading alone; a connection is judged later, and bytes as they are by their length alone.
+fn is_in_range(request: &Request, bytes: &[u8]) -> bool {
     match request {
-        Request::OpenPath { flags, mode, .. } => *flags == OFlags::READ && *mode <= 0o777,
-        Request::Close { .. } | Request::Fstat { .. } => true,
+        Request::Dup { .. } => true,
+        Request::Raw { .. } => bytes.len() <= 4_168,
+        Request::OpenPath { flags, .. } => *flags == OFlags::READ && is_known(bytes),
+        _ => is_known(bytes),
     }
 }
 
-/// Puts an item behind all of its priority, before the first of a lower one.
-fn line_up(line: &mut Vec<Queued>, item: Queued) -> Result<(), AllocError> {
-    let place = line.iter().position(|other| other.prio.0 < item.prio.0);
-    match place {
-        Some(place) => line.insert(place, item)?,
-        None => line.push(item)?,
-    }
-    Ok(())
-}
-
-/// Takes the first item out of a line.
-fn first_out(line: &mut Vec<Queued>) -> Option<Thread> {
-    if line.is_empty() {
-        return None;
-    }
-    Some(line.remove(0).thread)
+fn is_known(bytes: &[u8]) -> bool {
+    matches!(read(bytes), Reading::Known(_))
 }
 
 /// The status of a user's root: inode 1, a directory, mode 0700, one link, the owner, and no size or times.
-fn root_status(user: User) -> [u8; 40] {
+fn status_bytes(user: User) -> [u8; 40] {
     let mut bytes = [0; 40];
     bytes[0] = 1;
     bytes[4] = 2;

@@ -1,42 +1,10 @@
 //! A fixed pseudo-random sequence of steps, of which some are wrong.
 
-ghost use Rattle.std.specs.Prelude.{◌<◌};
-
-use plain_machine::Plain;
-use qx_machine::State;
-use qx_types::{Bytes, Coid, Manager, OFlags, Prio, Proc, Request, Step, Thread, User, Worker};
+use crate::dice::Dice;
+use crate::requests::next_request;
+use plain_machine::{Plain, Post, State};
+use qx_types::{Manager, Prio, Proc, Step, Thread, User, Worker};
 use std::alloc::{AllocError, Global};
-
-/// A linear congruential generator.
-#[derive(Drop)]
-pub struct Dice {
-    state: u64,
-}
-
-impl Dice {
-    pub fn new(state: u64) -> Dice {
-        Dice { state }
-    }
-
-    /// The next number below a limit, from the generator's high bits.
-    fn below(&mut self, limit: u8) -> u8
-        requires { 0 < limit }
-        ensures { result < limit }
-    {
-        self.state = self
-            .state
-            .wrapping_mul(6_364_136_223_846_793_005)
-            .wrapping_add(1_442_695_040_888_963_407);
-        ((self.state >> 33) % u64::from(limit)) as u8
-    }
-
-    /// True once in so many times.
-    fn one_in(&mut self, limit: u8) -> bool
-        requires { 0 < limit }
-    {
-        self.below(limit) == 0
-    }
-}
 
 /// The kinds of steps.
 enum Kind {
@@ -44,6 +12,7 @@ enum Kind {
     Call,
     TakeReply,
     SetPrio,
+    Interrupt,
     Receive,
     Perform,
 }
@@ -60,6 +29,7 @@ pub fn next_step(
         Kind::Call => next_call(alloc, dice, plain),
         Kind::TakeReply => Ok(next_take_reply(dice, plain)),
         Kind::SetPrio => Ok(next_set_prio(dice)),
+        Kind::Interrupt => Ok(next_interrupt(dice, plain)),
         Kind::Receive => Ok(next_receive(dice, plain)),
         Kind::Perform => Ok(next_perform(dice, plain)),
     }
@@ -92,37 +62,48 @@ fn next_set_prio(dice: &mut Dice) -> Step {
     }
 }
 
+/// Most often a thread whose message a worker holds.
+fn next_interrupt(dice: &mut Dice, plain: &Plain) -> Step {
+    let thread = match plain.hand(any_worker(dice)) {
+        Some(Post::Message(thread)) if !dice.one_in(4) => thread,
+        _ => next_thread(dice),
+    };
+    Step::Interrupt { thread }
+}
+
 fn next_receive(dice: &mut Dice, plain: &Plain) -> Step {
     Step::Receive {
-        worker: next_worker(dice, plain, false),
+        worker: empty_worker(dice, plain),
         manager: next_manager(dice),
     }
 }
 
 fn next_perform(dice: &mut Dice, plain: &Plain) -> Step {
     Step::Perform {
-        worker: next_worker(dice, plain, true),
+        worker: holding_worker(dice, plain),
         moment: u64::from(dice.below(200)),
     }
 }
 
 fn next_kind(dice: &mut Dice, busy: bool) -> Kind {
-    let number = dice.below(16);
+    let number = dice.below(32);
     if busy {
         match number {
-            0 => Kind::Spawn,
-            1..=10 => Kind::Call,
-            11 => Kind::SetPrio,
-            12 => Kind::TakeReply,
-            13 | 14 => Kind::Receive,
+            0 | 1 => Kind::Spawn,
+            2..=20 => Kind::Call,
+            21 => Kind::SetPrio,
+            22..=25 => Kind::TakeReply,
+            26 | 27 => Kind::Interrupt,
+            28 | 29 => Kind::Receive,
             _ => Kind::Perform,
         }
     } else {
         match number {
             0 => Kind::SetPrio,
-            1 => Kind::Call,
-            2..=5 => Kind::TakeReply,
-            6..=10 => Kind::Receive,
+            1..=3 => Kind::Call,
+            4..=9 => Kind::TakeReply,
+            10 | 11 => Kind::Interrupt,
+            12..=22 => Kind::Receive,
             _ => Kind::Perform,
         }
     }
@@ -133,19 +114,19 @@ fn next_user(dice: &mut Dice) -> User {
     if dice.one_in(32) {
         return User(dice.below(5));
     }
-    match dice.below(6) {
-        0 => User(2),
-        1 => User(3),
+    match dice.below(8) {
+        0 | 1 => User(2),
+        2 => User(3),
         _ => User(1),
     }
 }
 
-/// A number of threads.
+/// A number of threads, the most of them most often.
 fn next_count(dice: &mut Dice) -> u8 {
-    if dice.one_in(8) {
-        dice.below(7)
-    } else {
-        1 + dice.below(4)
+    match dice.below(8) {
+        0 => dice.below(7),
+        1 | 2 => 1 + dice.below(4),
+        _ => 4,
     }
 }
 
@@ -158,12 +139,14 @@ fn next_prio(dice: &mut Dice) -> Prio {
     }
 }
 
-/// A thread, which need not be there: of the first process most often.
+/// A thread, which need not be there: of the first process most often, and of the second user's nearly always, so that
+/// its connections run out.
 fn next_thread(dice: &mut Dice) -> Thread {
     let user = next_user(dice);
     let num = match dice.below(32) {
         0 => 17 * dice.below(2),
-        1..=12 => 1,
+        1..=14 => 1,
+        _ if user == User(2) => 1,
         _ => 1 + dice.below(16),
     };
     let tid = if dice.one_in(32) {
@@ -180,7 +163,7 @@ fn next_thread(dice: &mut Dice) -> Thread {
 /// A ready thread, where a few tries find one.
 fn ready_thread(dice: &mut Dice, plain: &Plain) -> Thread {
     for _ in 0..dice.below(64) {
-        let thread = next_thread(dice);
+        let thread = watched_thread(dice, plain);
         if let Some(row) = plain.row(thread)
             && let State::Ready = &row.state
         {
@@ -193,7 +176,7 @@ fn ready_thread(dice: &mut Dice, plain: &Plain) -> Thread {
 /// An answered thread, where some tries find one.
 fn answered_thread(dice: &mut Dice, plain: &Plain) -> Thread {
     for _ in 0..dice.below(255) {
-        let thread = next_thread(dice);
+        let thread = watched_thread(dice, plain);
         if let Some(row) = plain.row(thread)
             && let State::Answered(_) = &row.state
         {
@@ -203,23 +186,55 @@ fn answered_thread(dice: &mut Dice, plain: &Plain) -> Thread {
     next_thread(dice)
 }
 
-/// A worker that holds an item, or one that holds none, where a few tries find one.
-fn next_worker(dice: &mut Dice, plain: &Plain, holds: bool) -> Worker {
+/// Now and then the thread of a pulse that a worker holds, so that it goes on while the pulse is held.
+fn watched_thread(dice: &mut Dice, plain: &Plain) -> Thread {
+    if dice.one_in(2)
+        && let Some(Post::Unblock(thread, _)) = plain.hand(any_worker(dice))
+    {
+        return thread;
+    }
+    next_thread(dice)
+}
+
+/// A worker that holds nothing, where a few tries find one.
+fn empty_worker(dice: &mut Dice, plain: &Plain) -> Worker {
     for _ in 0..dice.below(8) {
         let worker = any_worker(dice);
-        if plain.held(worker).is_some() == holds {
+        if plain.hand(worker).is_none() {
             return worker;
         }
     }
     any_worker(dice)
 }
 
-/// One of the two workers, and now and then one who is not there.
+/// A worker that is to go on with what it holds, where a few tries find one, and less often another.
+fn holding_worker(dice: &mut Dice, plain: &Plain) -> Worker {
+    for _ in 0..dice.below(16) {
+        let worker = any_worker(dice);
+        if !is_late(plain, worker) || dice.one_in(16) {
+            return worker;
+        }
+    }
+    any_worker(dice)
+}
+
+/// Whether a worker holds nothing, or what is to be late: a pulse, or a message that was asked to unblock its thread.
+fn is_late(plain: &Plain, worker: Worker) -> bool {
+    match plain.hand(worker) {
+        Some(Post::Message(thread)) => match plain.row(thread) {
+            Some(row) => matches!(&row.state, State::Taken(sent) if sent.is_asked),
+            None => true,
+        },
+        Some(Post::Unblock(..)) | None => true,
+    }
+}
+
+/// One of the four workers, and now and then one who is not there.
 fn any_worker(dice: &mut Dice) -> Worker {
     if dice.one_in(32) {
-        Worker(3 * dice.below(2))
+        Worker(5 * dice.below(2))
     } else {
-        Worker(1 + dice.below(2))
+        Worker(1 + dice.below(4))
     }
 }
 
@@ -228,70 +243,5 @@ fn next_manager(dice: &mut Dice) -> Manager {
         Manager::Pipe
     } else {
         Manager::Ram
-    }
-}
-
-/// An open most often, for more connections and blocks than are closed.
-fn next_request(alloc: Global, dice: &mut Dice, user: User) -> Result<Request, AllocError> {
-    match dice.below(8) {
-        0 => Ok(Request::Close {
-            coid: next_connection(dice),
-        }),
-        1 => Ok(Request::Fstat {
-            coid: next_connection(dice),
-        }),
-        _ => next_open(alloc, dice, user),
-    }
-}
-
-fn next_open(alloc: Global, dice: &mut Dice, user: User) -> Result<Request, AllocError> {
-    let path = Bytes::from_slice(alloc, next_path(dice, user).as_bytes())?;
-    Ok(Request::OpenPath {
-        path,
-        flags: next_flags(dice),
-        mode: next_mode(dice),
-    })
-}
-
-fn next_connection(dice: &mut Dice) -> Coid {
-    if dice.one_in(16) {
-        Coid(dice.below(80))
-    } else {
-        Coid(3 + dice.below(8))
-    }
-}
-
-/// The user's own root, and now and then another path.
-fn next_path(dice: &mut Dice, user: User) -> &'static str {
-    if dice.one_in(16) {
-        return match dice.below(5) {
-            0 => "/ann",
-            1 => "/anna",
-            2 => "/an",
-            3 => "/",
-            _ => "",
-        };
-    }
-    match user.0 {
-        1 => "/ann",
-        2 => "/bob",
-        _ => "/cat",
-    }
-}
-
-fn next_flags(dice: &mut Dice) -> OFlags {
-    if dice.one_in(16) {
-        OFlags::READ | OFlags::WRITE
-    } else {
-        OFlags::READ
-    }
-}
-
-/// A mode, now and then the greatest one or the one after it.
-fn next_mode(dice: &mut Dice) -> u16 {
-    if dice.one_in(16) {
-        0o777 + u16::from(dice.below(2))
-    } else {
-        0
     }
 }

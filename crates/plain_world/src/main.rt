@@ -2,22 +2,29 @@
 #![tactic(auto)]
 
 mod choice;
+mod deeds;
+mod dice;
+mod raws;
+mod requests;
 mod tally;
+mod texts;
 
 use anyhow::bail;
-use choice::{Dice, next_step};
-use plain_machine::Plain;
-use qx_machine::State;
+use choice::next_step;
+use deeds::deed;
+use dice::Dice;
+use plain_machine::{Held, Plain, State};
 use qx_types::{Bytes, Config, Manager, Outcome, Proc, Request, Step, Thread, User, Worker};
+use qx_wire::Parsed;
 use qx_world::{PerformFault, Work, WorkRef, World};
-use std::alloc::Global;
+use std::alloc::{AllocError, Global};
 use std::env;
 use tally::Tally;
 
 /// Steps from one busy time to the next, and how many of them are busy.
 const ROUND: u32 = 192;
 
-const BUSY: u32 = 80;
+const BUSY: u32 = 92;
 
 /// So many items have to stand in the line at some time.
 const LONG: usize = 100;
@@ -33,7 +40,7 @@ fn main(rt: HostRuntime) -> anyhow::Result<()> {
     Ok(())
 }
 
-/// Takes so many steps in both. A difference is an error, and so is an outcome that did not come.
+/// Takes so many steps in both. A difference is an error, and so is an outcome or a deed that did not come.
 fn compare(alloc: Global, count: u32) -> anyhow::Result<()> {
     let mut plain = Plain::new(alloc, three_users(alloc)?);
     let mut world = World::new(alloc, three_users(alloc)?)?;
@@ -42,10 +49,10 @@ fn compare(alloc: Global, count: u32) -> anyhow::Result<()> {
     judge(&tally)
 }
 
-/// An outcome that did not come is an error, and so is a line that was always short.
+/// What did not come is an error, and so is a line that was always short.
 fn judge(tally: &Tally) -> anyhow::Result<()> {
-    if let Some((word, error)) = tally.missing() {
-        bail!("no outcome was {word} {error}");
+    if let Some((one, other)) = tally.missing() {
+        bail!("what did not come is: {one} {other}");
     }
     if tally.longest() < LONG {
         bail!("the line held no more than {} items", tally.longest());
@@ -63,8 +70,9 @@ fn take_steps(
     let mut dice = Dice::new(1);
     for number in 0..count {
         let step = next_step(alloc, &mut dice, plain, number % ROUND < BUSY)?;
-        let outcome = take_both(world, plain, &step)?;
-        if !tally.mark(&outcome, plain.waiting(Manager::Ram)) {
+        let done = deed(plain, &step);
+        let outcome = take_both(alloc, world, plain, &step)?;
+        if !tally.mark(&outcome, done, plain.waiting(Manager::Ram)) {
             bail!("{step:?}: {outcome:?}");
         }
     }
@@ -75,8 +83,15 @@ fn take_steps(
 }
 
 /// Takes a step in both, and compares outcomes and reads.
-fn take_both(world: &mut World, plain: &mut Plain, step: &Step) -> anyhow::Result<Outcome> {
-    try_stale(world, plain, step)?;
+fn take_both(
+    alloc: Global,
+    world: &mut World,
+    plain: &mut Plain,
+    step: &Step,
+) -> anyhow::Result<Outcome> {
+    if let Step::Perform { worker, moment } = step {
+        try_stale(alloc, world, plain, *worker, *moment)?;
+    }
     let outcome = take(world, plain, step)?;
     let wanted = plain.step(step)?;
     if outcome != wanted {
@@ -88,13 +103,13 @@ fn take_both(world: &mut World, plain: &mut Plain, step: &Step) -> anyhow::Resul
     Ok(outcome)
 }
 
-/// Three users and two workers.
+/// Three users and four workers.
 fn three_users(alloc: Global) -> anyhow::Result<Config> {
     let mut names = Vec::new(alloc);
     for name in ["ann", "bob", "cat"] {
         names.push(Bytes::from_slice(alloc, name.as_bytes())?)?;
     }
-    match Config::new(names, 2) {
+    match Config::new(names, 4) {
         Some(config) => Ok(config),
         None => bail!("the configuration is refused"),
     }
@@ -111,12 +126,12 @@ fn take(world: &mut World, plain: &Plain, step: &Step) -> anyhow::Result<Outcome
         Step::Call { thread, request } => call(world, *thread, request),
         Step::TakeReply { thread } => Ok(world.take_reply(*thread)),
         Step::SetPrio { thread, prio } => Ok(world.set_prio(*thread, *prio)),
+        Step::Interrupt { thread } => Ok(world.interrupt(*thread)),
         Step::Receive { worker, manager } => Ok(world.receive(*worker, *manager)),
-        Step::Perform { worker, moment } => Ok(world.perform(
-            *worker,
-            &held_work(plain, *worker),
-            *moment,
-        )?),
+        Step::Perform { worker, moment } => {
+            let work = held_work(plain, *worker)?;
+            Ok(world.perform(*worker, &work, *moment)?)
+        }
     }
 }
 
@@ -128,22 +143,25 @@ fn call(world: &mut World, thread: Thread, request: &Request) -> anyhow::Result<
 }
 
 /// The work that the plain rows say a worker holds. Where it holds nothing, any work will do.
-fn held_work(plain: &Plain, worker: Worker) -> Work {
+fn held_work(plain: &Plain, worker: Worker) -> Result<Work, AllocError> {
     match plain.held(worker) {
-        Some(message) => Work::Message(message),
-        None => Work::Pulse,
+        Some(Held::Message(bytes)) => Ok(Work::Message(Parsed::read(bytes.clone()?))),
+        Some(Held::Pulse) | None => Ok(Work::Pulse),
     }
 }
 
-/// Before a perform of a message, tries one of a pulse, which is not what the worker holds.
-fn try_stale(world: &mut World, plain: &Plain, step: &Step) -> anyhow::Result<()> {
-    let Step::Perform { worker, moment } = step else {
+/// Before a perform, tries work that the worker does not hold, which is not done.
+fn try_stale(
+    alloc: Global,
+    world: &mut World,
+    plain: &Plain,
+    worker: Worker,
+    moment: u64,
+) -> anyhow::Result<()> {
+    let Some(work) = other_work(alloc, plain, worker, moment)? else {
         return Ok(());
     };
-    if plain.held(*worker).is_none() {
-        return Ok(());
-    }
-    match world.perform(*worker, &Work::Pulse, *moment) {
+    match world.perform(worker, &work, moment) {
         Err(PerformFault::Stale) => {}
         _ => bail!("the work of another item was done"),
     }
@@ -151,6 +169,34 @@ fn try_stale(world: &mut World, plain: &Plain, step: &Step) -> anyhow::Result<()
         bail!("the work of another item was refused, and the reads differ");
     }
     Ok(())
+}
+
+/// Work that a worker which holds something does not hold: of the other kind, or at odd moments other bytes.
+fn other_work(
+    alloc: Global,
+    plain: &Plain,
+    worker: Worker,
+    moment: u64,
+) -> Result<Option<Work>, AllocError> {
+    match plain.held(worker) {
+        Some(Held::Message(bytes)) => {
+            if moment % 2 == 0 {
+                Ok(Some(Work::Pulse))
+            } else {
+                Ok(Some(Work::Message(Parsed::read(other_bytes(bytes)?))))
+            }
+        }
+        Some(Held::Pulse) => Ok(Some(Work::Message(Parsed::read(Bytes::new(alloc))))),
+        None => Ok(None),
+    }
+}
+
+/// As many bytes, of which the last is another one; one byte where there are none.
+fn other_bytes(bytes: &Bytes) -> Result<Bytes, AllocError> {
+    let mut others = bytes.clone()?.into_vec();
+    let last = others.pop().unwrap_or(0);
+    others.push(last ^ 1)?;
+    Ok(Bytes::from_vec(others))
 }
 
 /// Whether all that can be read of the threads that were started, the workers and the lines is the same.
@@ -166,7 +212,7 @@ fn reads_agree(world: &World, plain: &Plain) -> bool {
 
 /// Whether each worker holds the same, and no other number holds anything.
 fn workers_agree(world: &World, plain: &Plain) -> bool {
-    for number in 0..4 {
+    for number in 0..6 {
         if !worker_agrees(world, plain, Worker(number)) {
             return false;
         }
@@ -175,10 +221,11 @@ fn workers_agree(world: &World, plain: &Plain) -> bool {
 }
 
 fn worker_agrees(world: &World, plain: &Plain, worker: Worker) -> bool {
-    match world.held(worker) {
-        Some(WorkRef::Message(held)) => plain.held(worker) == Some(*held),
-        Some(WorkRef::Pulse) => false,
-        None => plain.held(worker).is_none() && !world.holds(worker),
+    match (world.held(worker), plain.held(worker)) {
+        (Some(WorkRef::Message(bytes)), Some(Held::Message(wanted))) => bytes == wanted,
+        (Some(WorkRef::Pulse), Some(Held::Pulse)) => true,
+        (None, None) => !world.holds(worker),
+        _ => false,
     }
 }
 

@@ -1,9 +1,10 @@
-//! Which outcomes came.
+//! Which outcomes came, and what was done.
 
-use qx_types::Outcome;
+use crate::deeds::Deed;
+use qx_types::{Item, Outcome};
 
 /// Each outcome that the steps have to come to, and its error. None other may come.
-const OUTCOMES: [(&str, &str); 18] = [
+const OUTCOMES: [(&str, &str); 22] = [
     ("spawned", ""),
     ("refused", "EINVAL"),
     ("refused", "ENOENT"),
@@ -14,61 +15,126 @@ const OUTCOMES: [(&str, &str); 18] = [
     ("sent", ""),
     ("reply", ""),
     ("reply with bytes", ""),
+    ("error", "EINVAL"),
+    ("error", "ENOSYS"),
     ("error", "EBADF"),
     ("error", "ENFILE"),
+    ("error", "EINTR"),
     ("wrongstate", ""),
-    ("took", ""),
+    ("took a message", ""),
+    ("took an unblock", ""),
     ("idle", ""),
     ("busy", ""),
     ("handled", ""),
     ("nothing", ""),
 ];
 
-/// Which of the outcomes came, and how long the line was.
+/// Each deed that has to be done. None other may be.
+const DEEDS: [(&str, &str); 36] = [
+    ("call", "open"),
+    ("call", "stat"),
+    ("call", "unlink"),
+    ("call", "mkdir"),
+    ("call", "read"),
+    ("call", "write"),
+    ("call", "close"),
+    ("call", "dup"),
+    ("call", "seek"),
+    ("call", "fstat"),
+    ("call", "list"),
+    ("call", "chmod"),
+    ("call", "notify"),
+    ("raw", "malformed"),
+    ("raw", "unknown"),
+    ("raw", "open"),
+    ("raw", "stat"),
+    ("raw", "unlink"),
+    ("raw", "mknod"),
+    ("raw", "read"),
+    ("raw", "write"),
+    ("raw", "close"),
+    ("raw", "dup"),
+    ("raw", "lseek"),
+    ("raw", "fstat"),
+    ("raw", "list"),
+    ("raw", "chmod"),
+    ("raw", "notify"),
+    ("interrupt", "nothing waits"),
+    ("interrupt", "in a line"),
+    ("interrupt", "received"),
+    ("interrupt", "asked already"),
+    ("pulse", "its call waits"),
+    ("pulse", "answered"),
+    ("pulse", "a later call in a line"),
+    ("pulse", "a later call received"),
+];
+
+/// Which of the outcomes and deeds came, and how long the line was.
 #[derive(Drop)]
 pub struct Tally {
-    came: [bool; 18],
+    outcomes: [bool; 22],
+    deeds: [bool; 36],
     longest: usize,
 }
 
 impl Tally {
     pub fn new() -> Tally {
         Tally {
-            came: [false; 18],
+            outcomes: [false; 22],
+            deeds: [false; 36],
             longest: 0,
         }
     }
 
-    /// Marks an outcome, after which so many items wait. Whether it is one of those that may come.
-    pub fn mark(&mut self, outcome: &Outcome, waiting: usize) -> bool {
+    /// Marks an outcome, after which so many items wait, and a deed that it may have done. Whether both are of those that
+    /// may come.
+    pub fn mark(&mut self, outcome: &Outcome, deed: Option<Deed>, waiting: usize) -> bool {
         self.longest = self.longest.max(waiting);
-        self.mark_words(outcome_word(outcome), error_word(outcome))
+        let words = (outcome_word(outcome), error_word(outcome));
+        if !mark_row(&OUTCOMES, &mut self.outcomes, words) {
+            return false;
+        }
+        match (outcome, deed) {
+            (Outcome::Sent | Outcome::Done | Outcome::Handled, Some(deed)) => {
+                mark_row(&DEEDS, &mut self.deeds, deed)
+            }
+            _ => true,
+        }
     }
 
-    fn mark_words(&mut self, word: &str, error: &str) -> bool {
-        for (row, came) in OUTCOMES.iter().zip(self.came.iter_mut()) {
-            if row.0 == word && row.1 == error {
-                *came = true;
-                return true;
-            }
+    /// An outcome or a deed that did not come.
+    pub fn missing(&self) -> Option<Deed> {
+        match missing_row(&OUTCOMES, &self.outcomes) {
+            Some(row) => Some(row),
+            None => missing_row(&DEEDS, &self.deeds),
         }
-        false
-    }
-
-    /// An outcome that did not come.
-    pub fn missing(&self) -> Option<(&'static str, &'static str)> {
-        for (row, came) in OUTCOMES.iter().zip(self.came.iter()) {
-            if !*came {
-                return Some(*row);
-            }
-        }
-        None
     }
 
     /// The most items that the line held.
     pub fn longest(&self) -> usize {
         self.longest
     }
+}
+
+/// Marks the row of these words, if there is one.
+fn mark_row(rows: &[Deed], marks: &mut [bool], words: Deed) -> bool {
+    for (row, mark) in rows.iter().zip(marks.iter_mut()) {
+        if row.0 == words.0 && row.1 == words.1 {
+            *mark = true;
+            return true;
+        }
+    }
+    false
+}
+
+/// The first row without a mark.
+fn missing_row(rows: &[Deed], marks: &[bool]) -> Option<Deed> {
+    for (row, mark) in rows.iter().zip(marks.iter()) {
+        if !*mark {
+            return Some(*row);
+        }
+    }
+    None
 }
 
 fn outcome_word(outcome: &Outcome) -> &'static str {
@@ -88,7 +154,9 @@ fn outcome_word(outcome: &Outcome) -> &'static str {
         Outcome::Pulse(..) => "pulse",
         Outcome::NoPulse => "no pulse",
         Outcome::WrongState => "wrongstate",
-        Outcome::Took(_) => "took",
+        Outcome::Took(Item::Message(_)) => "took a message",
+        Outcome::Took(Item::Unblock(_)) => "took an unblock",
+        Outcome::Took(Item::Disconnect(_)) => "took a disconnect",
         Outcome::Idle => "idle",
         Outcome::Busy => "busy",
         Outcome::Handled => "handled",

@@ -1,0 +1,83 @@
+//! The rows of the plain machine, and its lines.
+
+use qx_types::{Answer, Bytes, Coid, Manager, Prio, Proc, Thread};
+use std::alloc::AllocError;
+
+/// What a message goes over: a connection that its call made, one that was there, or one for the message alone, which
+/// has no number and no row.
+#[derive(Clone, Copy, Debug, PartialEq, Eq)]
+pub enum Over {
+    New(Coid),
+    Existing(Coid),
+    Side,
+}
+
+/// A message on its way.
+#[derive(Debug, Drop)]
+pub struct Sent {
+    pub manager: Manager,
+    pub over: Over,
+    pub prio: Prio,
+    pub is_asked: bool,
+    pub bytes: Bytes,
+}
+
+/// What a thread is doing.
+#[derive(Debug, Drop)]
+pub enum State {
+    Ready,
+    Queued(Sent),
+    Taken(Sent),
+    Answered(Answer),
+}
+
+/// A thread that was started.
+#[derive(Drop)]
+pub struct Row {
+    pub thread: Thread,
+    pub state: State,
+    pub prio: Prio,
+    pub calls: u64,
+}
+
+/// A connection of a process, with its block once the open has been performed.
+#[derive(Drop)]
+pub struct Connection {
+    pub proc: Proc,
+    pub coid: Coid,
+    pub manager: Manager,
+    pub block: Option<u16>,
+}
+
+/// What stands in a line and a worker holds: a thread's message, or the pulse to unblock a thread from its call of that
+/// number.
+#[derive(Clone, Copy, Debug, PartialEq, Eq)]
+pub enum Post {
+    Message(Thread),
+    Unblock(Thread, u64),
+}
+
+/// An item of a line.
+#[derive(Clone, Copy)]
+pub struct Queued {
+    pub post: Post,
+    pub prio: Prio,
+}
+
+/// Puts an item behind all of its priority, before the first of a lower one.
+pub fn line_up(line: &mut Vec<Queued>, item: Queued) -> Result<(), AllocError> {
+    let place = line.iter().position(|other| other.prio.0 < item.prio.0);
+    match place {
+        Some(place) => line.insert(place, item)?,
+        None => line.push(item)?,
+    }
+    Ok(())
+}
+
+/// Takes the first item out of a line.
+pub fn first_out(line: &mut Vec<Queued>) -> Option<Post> {
+    if line.is_empty() {
+        return None;
+    }
+    Some(line.remove(0).post)
+}
