@@ -110,7 +110,7 @@ fn push_over_with_bytes(
 {
     push_over(text, config, name, thread, coid)?;
     text.extend_from_slice(b" ")?;
-    push_bytes(alloc, text, bytes)
+    push_bytes(alloc, text, bytes.as_slice())
 }
 
 #[tactic(auto, unfolding(crate::specs::Calls::call_text))]

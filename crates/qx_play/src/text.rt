@@ -120,7 +120,7 @@ fn push_outcome(
         }
         Outcome::Done => Ok(text.extend_from_slice(b"done")?),
         Outcome::Sent => Ok(text.extend_from_slice(b"sent")?),
-        Outcome::Reply(status, bytes) => push_reply(alloc, text, *status, bytes),
+        Outcome::Reply(status, bytes) => push_reply(alloc, text, *status, bytes.as_slice()),
         Outcome::Failed(error) => {
             text.extend_from_slice(b"error ")?;
             Ok(text.extend_from_slice(error.name().as_bytes())?)
@@ -139,7 +139,7 @@ fn push_outcome(
     }
 }
 
-fn push_reply(alloc: Global, text: &mut Vec<u8>, status: u64, bytes: &Bytes) -> Result<(), NoMemory>
+fn push_reply(alloc: Global, text: &mut Vec<u8>, status: u64, bytes: &[u8]) -> Result<(), NoMemory>
     ensures ok { OnOk result (text.new.items ≡ text.old.items ++ (codes "reply " ++ decimal status ++ codes " " ++ bytes_text bytes.now)) }
 {
     text.extend_from_slice(b"reply ")?;

@@ -61,13 +61,13 @@ pub fn push_thread(text: &mut Vec<u8>, config: &Config, thread: Thread) -> Resul
 
 /// Hexadecimal digits, or `-` for no bytes.
 #[tactic(auto, unfolding(crate::specs::WordText::bytes_text))]
-pub fn push_bytes(alloc: Global, text: &mut Vec<u8>, bytes: &Bytes) -> Result<(), NoMemory>
+pub fn push_bytes(alloc: Global, text: &mut Vec<u8>, bytes: &[u8]) -> Result<(), NoMemory>
     ensures ok { OnOk result (text.new.items ≡ text.old.items ++ bytes_text bytes.now) }
 {
     if bytes.is_empty() {
         return Ok(text.extend_from_slice(b"-")?);
     }
-    let digits = hex::encode(alloc, bytes.as_slice())?;
+    let digits = hex::encode(alloc, bytes)?;
     Ok(text.extend_from_slice(digits.as_bytes())?)
 }
 
