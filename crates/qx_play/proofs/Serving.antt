@@ -1,6 +1,6 @@
 -- Serving leaves no item waiting.
-use Rattle.std.proofs.Common.{◌≡◌, ℕ, suc, zero, ◌+◌, ◌≤◌, ◌<◌, Bool, true, false, List, [], ◌∷◌, ◌++◌, Option, Some, None, length, refl, sym, ap, ◌∙◌, subst, arith, if◌then◌else◌, slice_set, cond, is_some}
-use Rattle.std.specs.Prelude.{find, map, nat_lt, slice_get, sum_by}
+use Rattle.std.proofs.Common.{◌≡◌, ◌⊎◌, inl, inr, ℕ, suc, zero, ◌+◌, ◌≤◌, ◌<◌, Bool, true, false, List, [], ◌∷◌, ◌++◌, Option, Some, None, length, refl, sym, ap, ◌∙◌, subst, arith, if◌then◌else◌, slice_set, cond, is_some}
+use Rattle.std.specs.Prelude.{⊤, ◌==◌, ◌&&◌, find, map, nat_lt, slice_get, sum_by, Result, Ok, Err}
 use Rattle.std.specs.List.{range_with_len}
 use Rattle.std.proofs.lemmas.Grind.{common_steps}
 use Rattle.std.proofs.lemmas.List.{length-replicate, length-set}
@@ -11,15 +11,19 @@ use Rattle.qx_types.specs.Step.{actor_of, user_of}
 use Rattle.qx_types.specs.declared.names.Actor.{Actor}
 use Rattle.qx_types.specs.declared.names.Manager.{Manager}
 use Rattle.qx_types.specs.declared.names.TheConstants.Manager.{COUNT}
+use Rattle.qx_types.specs.declared.outcome.Outcome.{Outcome}
+use Rattle.qx_types.specs.declared.outcome.Outcome.TheVariants.{WrongState}
 use Rattle.qx_types.specs.declared.step.Step.{Step}
 use Rattle.qx_types.specs.declared.step.Step.TheVariants.{Receive, Perform}
 use Rattle.qx_machine.specs.declared.rows.Held.{Held}
 use Rattle.qx_machine.specs.declared.rows.OwnItem.{OwnItem}
-use Rattle.qx_machine.specs.declared.rows.OwnItem.TheVariants.{Message}
+use Rattle.qx_machine.specs.declared.rows.OwnItem.TheVariants.{Message, Unblock}
 use Rattle.qx_machine.specs.declared.rows.Queued.{Queued}
 use Rattle.qx_machine.specs.Lines.{line_at, with_line}
-use Rattle.qx_machine.specs.Machine.{World, After, step_end, changed_manager, line_after, own_held, step, step_of, server_step, boot, client_step, receive_hand, receive_line, received_part, with_taken, perform_hand, performed_part, with_empty_hand, is_worker, line_of, lines_after}
-use Rattle.qx_machine.specs.Parts.{Part, Change}
+use Rattle.qx_machine.specs.Machine.{World, After, step_end, changed_manager, line_after, own_held, step, step_of, server_step, boot, client_step, receive_hand, receive_line, received_part, with_taken, perform_hand, performed_part, with_empty_hand, is_same_item, is_worker, line_of, line_without, lines_after}
+use Rattle.qx_machine.specs.Parts.{Part, Change, Put, Remove}
+use Rattle.qx_machine.specs.Judgements.{◌>>=◌, found}
+use Rattle.qx_machine.specs.Performing.{Served, or_kept, taken_in}
 use Rattle.qx_machine.specs.Rows.{row_at}
 use Rattle.qx_machine.specs.Runs.{world_after}
 use Rattle.qx_machine.specs.Users as users
@@ -96,14 +100,49 @@ pub after_append : (w : World) (xs ys : List Step) → world_after w (xs ++ ys) 
 after_append w [] ys = refl
 after_append w (e ∷ xs) ys = after_append (step w e).world xs ys
 
--- what a worker does puts nothing into a line
-no_changes : (c : Configuration) (user : ℕ) (held : List OwnItem) (part : Part) (item : OwnItem) (moment : ℕ) → (serve c user held part item moment).changes ≡ []
-unfolding serve
-no_changes c user held part (Message process thread) moment = refl
+-- a change that puts nothing into a line
 
-performed_lines : (w : World) (held : Held) (moment : ℕ) (part : Option Part) → (performed_part w held moment part).lines ≡ w.lines
-performed_lines w held moment None = refl
-performed_lines w held moment (Some part) = ap (lines_after held.user.0 w.lines) (no_changes w.config held.user.0 _ part held.item moment)
+abbrev TakesOut : List Change → Type 0
+TakesOut [] = ⊤
+TakesOut (Put manager item prio ∷ changes) = ⊥
+TakesOut (Remove manager item ∷ changes) = TakesOut changes
+
+takes_on : {A : Type 0} (part : Part) (first : Result A Outcome) (next : A → Result Served Outcome) → ((value : A) → TakesOut (or_kept part (next value)).changes) → TakesOut (or_kept part (first >>= next)).changes
+takes_on part (Ok value) next h = h value
+takes_on part (Err outcome) next h = tt
+
+-- what a worker does puts nothing into a line
+serve_takes : (c : Configuration) (user : ℕ) (held : List OwnItem) (part : Part) (item : OwnItem) (moment : ℕ) → TakesOut (serve c user held part item moment).changes
+unfolding serve
+serve_takes c user held part (Message process thread) moment =
+    takes_on part (found (row_at part.processes process) WrongState) _ (λ its. takes_on part (found (row_at its.threads thread) WrongState) _ (λ row. takes_on part (found (taken_in row.state) WrongState) _ (λ sent. tt)))
+serve_takes c user held part (Unblock process thread call) moment = tt
+
+without_fewer : (user : ℕ) (item : OwnItem) (line : List Queued) → length (line_without user item line) ≤ length line
+without_fewer user item [] = omega arith
+without_fewer user item (first ∷ line) = by_first (first.user.0 == user && is_same_item first.item item) (line_without user item line) (without_fewer user item line)
+  where
+    by_first : (b : Bool) (rest : List Queued) → length rest ≤ length line → length (if b then line else first ∷ rest) ≤ length (first ∷ line)
+    by_first true rest fewer = omega arith
+    by_first false rest fewer = omega (arith, fewer)
+
+line_fewer : (lines : List (List Queued)) (number : ℕ) (change : List Queued → List Queued) → ((line : List Queued) → length (change line) ≤ length line) → sum_by length (with_line lines number change) ≤ sum_by length lines
+line_fewer [] number change fewer = omega arith
+line_fewer (line ∷ lines) zero change fewer =
+    omega (arith, sum_by-cons length (change line) lines, sum_by-cons length line lines, fewer line)
+line_fewer (line ∷ lines) (suc number) change fewer =
+    omega (arith, sum_by-cons length line (with_line lines number change), sum_by-cons length line lines, line_fewer lines number change fewer)
+
+lines_fewer : (user : ℕ) (lines : List (List Queued)) (changes : List Change) → TakesOut changes → sum_by length (lines_after user lines changes) ≤ sum_by length lines
+lines_fewer user lines [] takes = omega arith
+lines_fewer user lines (Put manager item prio ∷ changes) takes = absurd takes
+lines_fewer user lines (Remove manager item ∷ changes) takes =
+    let after = with_line lines (manager_number manager) (line_without user item) in
+    omega (arith, lines_fewer user after changes takes, line_fewer lines (manager_number manager) (line_without user item) (without_fewer user item))
+
+performed_fewer : (w : World) (held : Held) (moment : ℕ) (part : Option Part) → waiting (performed_part w held moment part) ≤ waiting w
+performed_fewer w held moment None = omega arith
+performed_fewer w held moment (Some part) = lines_fewer held.user.0 w.lines (serve w.config held.user.0 (own_held held.user.0 w.hands) part held.item moment).changes (serve_takes w.config held.user.0 (own_held held.user.0 w.hands) part held.item moment)
 
 chosen : (b : Bool) (x y : After) → b ≡ true → (if b then x else y) ≡ x
 chosen true x y e = refl
@@ -141,9 +180,9 @@ at_one [] row room = absurd (omega arith)
 at_one (first ∷ []) row room = absurd (omega arith)
 at_one (first ∷ second ∷ rest) row room = refl
 
--- the first worker does what it holds: its hand is empty, and the lines stay
+-- the first worker does what it holds: its hand is empty, and no more waits
 pub record Emptied (w u : World) : Type 0 where
-  pub lines : u.lines ≡ w.lines
+  pub lines : waiting u ≤ waiting w
   pub free : row_at u.hands 1 ≡ None
 
 pub does_item : (n : ℕ) (w : World) (moment : ℕ) (held : Held) → 1 ≤ n → Keeps w n → row_at w.hands 1 ≡ Some held → Emptied w (step w (Perform first_worker moment)).world
@@ -152,13 +191,13 @@ does_item n w moment held some k full =
     let part = row_at w.parts held.user.0 in
     let room : 1 < length w.hands = omega (arith, k.hands) in
     record {
-      lines = ap (λ v. v.lines) u ∙ performed_lines (with_empty_hand w 1) held moment part;
+      lines = subst (λ v. waiting v ≤ waiting w) (sym u) (performed_fewer (with_empty_hand w 1) held moment part);
       free = ap (λ v. row_at v.hands 1) u ∙ ap (λ hands. row_at hands 1) (performed_hands (with_empty_hand w 1) held moment part) ∙ at_one w.hands None room;
     }
 
--- the hand is empty, and one item less waits
+-- the hand is empty, and fewer items wait
 pub record Round (w u : World) : Type 0 where
-  pub fewer : waiting u + 1 ≡ waiting w
+  pub fewer : waiting u + 1 ≤ waiting w
   pub free : row_at u.hands 1 ≡ None
 
 -- the first worker takes the first item of a line
@@ -196,7 +235,7 @@ one_round n w moment manager first rest some k free e =
     let t : Took w v first = subst (λ x. Took w x first) (sym is) (took w manager first rest room e) in
     let d = does_item n v moment _ some (kept n w _ k) t.full in
     record {
-      fewer = ap (λ lines. sum_by length lines + 1) d.lines ∙ t.fewer;
+      fewer = omega (arith, d.lines, t.fewer);
       free = d.free;
     }
 
@@ -273,23 +312,45 @@ line_of_each w all = line_of_each_among w managers w.lines all (line_under w)
 some_next : (n : ℕ) (w : World) (items : ℕ) → Keeps w n → waiting w ≡ suc items → Next w managers
 some_next n w items k e = next_among w managers items (ap (sum_by length) (line_of_each w k.lines) ∙ e)
 
+-- where none waits, none is next
+none_next : (w : World) (among : List Manager) → sum_by length (map (line_of w) among) ≡ 0 → find (has_waiting w) among ≡ None
+none_next w [] e = refl
+none_next w (manager ∷ others) e =
+    let empty : length (line_of w manager) ≡ 0 = omega (arith, e, sum_by-cons length (line_of w manager) (map (line_of w) others)) in
+    let rest = none_next w others (omega (arith, e, sum_by-cons length (line_of w manager) (map (line_of w) others))) in
+    ap (λ count. cond (nat_lt 0 count) (Some manager) (find (has_waiting w) others)) empty ∙ rest
+
+-- and no round is taken
+pub stays : (items : ℕ) (config : Configuration) (moment : ℕ) (steps : List Step) → next_manager (world_of config steps) ≡ None → rounds (suc items) config moment steps ≡ steps
+stays items config moment steps e =
+    ap (λ next. elim next as (λ _. List Step) [ None ↦ steps | Some other ↦ rounds items config moment (round moment steps other) ]) e
+
 pub turn : (items : ℕ) (config : Configuration) (moment : ℕ) (steps : List Step) (manager : Manager) → next_manager (world_of config steps) ≡ Some manager
     → rounds (suc items) config moment steps ≡ rounds items config moment (round moment steps manager)
 turn items config moment steps manager e =
     ap (λ next. elim next as (λ _. List Step) [ None ↦ steps | Some other ↦ rounds items config moment (round moment steps other) ]) e
 
+some_or_none : (n : ℕ) → (n ≡ 0) ⊎ ((m : ℕ) × (n ≡ suc m))
+some_or_none zero = inl refl
+some_or_none (suc m) = inr (m, refl)
+
 all_rounds : (items n : ℕ) (config : Configuration) (moment : ℕ) (steps : List Step) → 1 ≤ n → Keeps (world_of config steps) n → row_at (world_of config steps).hands 1 ≡ None
-    → waiting (world_of config steps) ≡ items → waiting (world_of config (rounds items config moment steps)) ≡ 0
-all_rounds zero n config moment steps some k free e = e
-all_rounds (suc items) n config moment steps some k free e =
+    → waiting (world_of config steps) ≤ items → waiting (world_of config (rounds items config moment steps)) ≡ 0
+all_rounds zero n config moment steps some k free few = omega (arith, few)
+all_rounds (suc items) n config moment steps some k free few = elim (some_or_none (waiting (world_of config steps))) [
+  | inl e ↦
+    let none : next_manager (world_of config steps) ≡ None = none_next (world_of config steps) managers (ap (sum_by length) (line_of_each (world_of config steps) k.lines) ∙ e) in
+    ap (λ taken. waiting (world_of config taken)) (stays items config moment steps none) ∙ e
+  | inr more_wait ↦
     let w = world_of config steps in
-    let f = some_next n w items k e in
+    let f = some_next n w more_wait.0 k more_wait.1 in
     let last = Receive first_worker f.manager ∷ Perform first_worker moment ∷ [] in
     let same : world_after w last ≡ world_of config (round moment steps f.manager) = sym (after_append (boot config) steps last) in
     let r : Round w (world_of config (round moment steps f.manager)) = subst (λ u. Round w u) same (one_round n w moment f.manager f.first f.rest some k free f.there) in
     let more : Keeps (world_of config (round moment steps f.manager)) n = subst (λ u. Keeps u n) same (kept_after n w last k) in
     subst (λ l. waiting (world_of config l) ≡ 0) (sym (turn items config moment steps f.manager f.next))
-    (all_rounds items n config moment (round moment steps f.manager) some more r.free (omega (arith, r.fewer, e)))
+    (all_rounds items n config moment (round moment steps f.manager) some more r.free (omega (arith, r.fewer, few)))
+]
 
 booted : (config : Configuration) → Keeps (boot config) config.workers
 unfolding boot
@@ -314,4 +375,4 @@ unfolding served all_served
 none_waits config moment steps some =
     let begun = hand_emptied config moment steps in
     all_rounds (waiting (world_of config begun)) config.workers config moment begun some (keeps_all config begun)
-    (hand_free config moment steps (row_at (world_of config steps).hands 1) some refl) refl
+    (hand_free config moment steps (row_at (world_of config steps).hands 1) some refl) (omega arith)

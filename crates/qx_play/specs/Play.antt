@@ -61,7 +61,8 @@ hand_emptied config moment steps =
 abbrev pub waiting : World → ℕ
 waiting w = sum_by length w.lines
 
--- every item that waits is served: each round takes one from its line and puts none there
+-- every item that waits is served: each round takes one from its line, and what is done puts none there; an answer may take an unblock
+-- pulse out
 unfoldable pub all_served : Configuration → ℕ → List Step → List Step
 all_served config moment steps = rounds (waiting (world_of config steps)) config moment steps
 
