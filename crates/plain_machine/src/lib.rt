@@ -5,7 +5,7 @@ mod rows;
 
 use plain_messages::{Kind, Reading, read, write};
 use qx_types::{
-    Answer, Bytes, Coid, Config, Errno, Item, Manager, OFlags, Outcome, Prio, Proc, Request, Step,
+    Answer, Bytes, Coid, Config, Errno, Item, Manager, OFlags, Outcome, Prio, Proc, ReplyBytes, Request, Step,
     Thread, User, Worker,
 };
 pub use rows::{Over, Post, Row, Sent, State};
@@ -297,9 +297,9 @@ impl Plain {
         };
         match (sent.manager, kind) {
             (Manager::Ram, Kind::Open) => self.open(proc, sent),
-            (Manager::Ram, Kind::Stat) => self.stat(proc.user, sent),
-            (Manager::Ram, Kind::Close) => self.close(proc, sent),
-            (Manager::Ram, Kind::Fstat) => self.fstat(proc, sent),
+            (Manager::Ram, Kind::Stat) => Ok(self.stat(proc.user, sent)),
+            (Manager::Ram, Kind::Close) => Ok(self.close(proc, sent)),
+            (Manager::Ram, Kind::Fstat) => Ok(self.fstat(proc, sent)),
             _ => Ok(Answer::Failed(Errno::ENOSYS)),
         }
     }
@@ -317,34 +317,34 @@ impl Plain {
         };
         self.blocks.push((proc.user, block))?;
         self.set_block(proc, coid, block);
-        Ok(Answer::Reply(u64::from(coid.0), Bytes::new(self.alloc)))
+        Ok(Answer::Reply(u64::from(coid.0), ReplyBytes::inline(self.alloc, &[])))
     }
 
     /// A path's rest stands behind the header's 8 bytes.
-    fn stat(&self, user: User, sent: &Sent) -> Result<Answer, AllocError> {
+    fn stat(&self, user: User, sent: &Sent) -> Answer {
         if sent.over != Over::Side {
-            return Ok(Answer::Failed(Errno::EINVAL));
+            return Answer::Failed(Errno::EINVAL);
         }
         if sent.bytes.len() > 8 {
-            return Ok(Answer::Failed(Errno::ENOENT));
+            return Answer::Failed(Errno::ENOENT);
         }
         self.root_status(user)
     }
 
-    fn close(&mut self, proc: Proc, sent: &Sent) -> Result<Answer, AllocError> {
+    fn close(&mut self, proc: Proc, sent: &Sent) -> Answer {
         match self.opened(proc, sent) {
-            Err(error) => Ok(Answer::Failed(error)),
+            Err(error) => Answer::Failed(error),
             Ok((coid, block)) => {
                 self.detach(proc, coid);
                 self.blocks.retain(|taken| *taken != (proc.user, block));
-                Ok(Answer::Reply(0, Bytes::new(self.alloc)))
+                Answer::Reply(0, ReplyBytes::inline(self.alloc, &[]))
             }
         }
     }
 
-    fn fstat(&self, proc: Proc, sent: &Sent) -> Result<Answer, AllocError> {
+    fn fstat(&self, proc: Proc, sent: &Sent) -> Answer {
         match self.opened(proc, sent) {
-            Err(error) => Ok(Answer::Failed(error)),
+            Err(error) => Answer::Failed(error),
             Ok(_) => self.root_status(proc.user),
         }
     }
@@ -363,9 +363,8 @@ impl Plain {
         }
     }
 
-    fn root_status(&self, user: User) -> Result<Answer, AllocError> {
-        let bytes = Bytes::from_slice(self.alloc, &status_bytes(user))?;
-        Ok(Answer::Reply(0, bytes))
+    fn root_status(&self, user: User) -> Answer {
+        Answer::Reply(0, ReplyBytes::inline(self.alloc, &status_bytes(user)))
     }
 
     /// The threads that were started.

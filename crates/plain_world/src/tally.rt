@@ -144,7 +144,7 @@ fn outcome_word(outcome: &Outcome) -> &'static str {
         Outcome::Done => "done",
         Outcome::Sent => "sent",
         Outcome::Reply(_, bytes) => {
-            if bytes.is_empty() {
+            if bytes.as_slice().is_empty() {
                 "reply"
             } else {
                 "reply with bytes"

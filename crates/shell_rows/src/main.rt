@@ -9,7 +9,7 @@ use std::fs::File;
 use std::io;
 
 /// The names of the scripts, in the order in which they are run.
-const SCRIPTS: [&str; 40] = [
+const SCRIPTS: [&str; 49] = [
     "empty",
     "first_path",
     "bad_line",
@@ -50,6 +50,15 @@ const SCRIPTS: [&str; 40] = [
     "traced_order",
     "kept_priorities",
     "traced_lines",
+    "raw_messages",
+    "interrupted",
+    "interrupted_trace",
+    "every_call",
+    "too_much",
+    "late_pulse",
+    "hex_of_odd_length",
+    "offset_with_plus",
+    "interrupt_of_nobody",
 ];
 
 fn main(rt: HostRuntime) -> io::Result<()> {
