@@ -1,32 +1,13 @@
 -- What a user's rows are once an item is done, and which items want memory.
-use Rattle.std.specs.Prelude.{◌≡◌, ℕ, List, Bool, true, false, Option, Some, None, Result, Ok, Err, ⊤}
-use Rattle.qx_types.specs.declared.errno.Errno.{Errno}
-use Rattle.qx_wire.specs.declared.message.Meaning.{Meaning}
-use Rattle.qx_wire.specs.declared.message.Meaning.TheVariants.{Known}
-use Rattle.qx_wire.specs.declared.message.Message.TheVariants.{Open}
+use Rattle.std.specs.Prelude.{◌≡◌, ℕ, List, Bool, false, Option, Some, None, ⊤}
 use Rattle.qx_wire.specs.Reading.{meaning}
-use Rattle.qx_machine.specs.declared.rows.Opened.{Opened}
 use Rattle.qx_machine.specs.declared.rows.OwnItem.{OwnItem}
 use Rattle.qx_machine.specs.declared.rows.OwnItem.TheVariants as item
 use Rattle.qx_machine.specs.declared.rows.Sent.{Sent}
-use Rattle.qx_machine.specs.declared.rows.Target.{Target}
 use Rattle.qx_machine.specs.declared.rows.ThreadRow.{ThreadRow}
-use Rattle.qx_machine.specs.Judgements.{◌>>=◌}
-use Rattle.qx_machine.specs.Parts.{Part, Resources, thread_at}
-use Rattle.qx_machine.specs.Performing.{Deed, or_kept, opened_by, serve_message, taken_in}
-use Rattle.qx_machine.specs.Processes.{Process}
-use Rattle.qx_parts.specs.declared.resources.Done.{Done}
-
--- what is done, with the resources that it leaves
-abbrev pub deed_with : Resources → Result Done Errno → Result Deed Errno
-deed_with resources (Ok done) = Ok (record { status = done.status; bytes = done.bytes.items; resources = resources; effect = done.effect })
-deed_with resources (Err error) = Err error
-
--- what a function does with what a message's connection has open
-abbrev pub used_deed : (Resources → Opened → Result Deed Errno) → Resources → Process → Target → Result Deed Errno
-used_deed function resources process target = do
-  opened ← opened_by resources process target
-  function resources opened
+use Rattle.qx_machine.specs.Parts.{Part, thread_at}
+use Rattle.qx_machine.specs.Performing.{or_kept, serve_message, taken_in}
+use Rattle.qx_resources.specs.Deeds.{wants_memory}
 
 -- a user's rows once an item of it is done
 abbrev pub served_part : Part → OwnItem → Part
@@ -51,11 +32,6 @@ taken_item_of item (Some part) = taken_item part item
 abbrev pub IsReadOf : Option (List ℕ) → Option Sent → Type 0
 IsReadOf (Some bytes) (Some sent) = bytes ≡ sent.bytes
 IsReadOf _ _ = ⊤
-
--- the one message whose performing may want memory is an open
-abbrev pub wants_memory : Meaning → Bool
-wants_memory (Known (Open flags mode rest)) = true
-wants_memory _ = false
 
 abbrev pub sent_wants_memory : Option Sent → Bool
 sent_wants_memory None = false

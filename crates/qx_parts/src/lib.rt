@@ -5,8 +5,6 @@ pub mod content;
 mod judge;
 pub mod part;
 pub mod parts;
-pub mod resources;
-mod status;
 
 pub use content::encoded;
 pub use part::Part;

@@ -13,14 +13,15 @@ ghost use Rattle.qx_machine.specs.Processes.{after_effect, asked_thread, with_qu
 ghost use Rattle.qx_machine.specs.Rows.{row_at};
 ghost use Rattle.qx_machine.specs.Users as users;
 ghost use Rattle.qx_process.specs.Reads.{is_thread_blocked, IsPriority};
-ghost use Rattle.qx_parts.specs.Deeds.{deed_with, served_part, taken_item, taken_of, wants_memory_item, IsReadOf};
+ghost use Rattle.qx_resources.specs.Deeds.{deed_with};
+ghost use Rattle.qx_parts.specs.Deeds.{served_part, taken_item, taken_of, wants_memory_item, IsReadOf};
 ghost use Rattle.qx_parts.specs.Reads.{CanSend};
 
 use crate::judge;
-use crate::resources::{Done, Resources};
 use qx_machine::{Effect, Over, OwnItem, Sent, State, Target, ThreadRow};
 use qx_process::Process;
 use qx_procs::Processes;
+use qx_resources::{Done, Resources};
 use qx_types::{Answer, Bytes, Errno, Outcome, Prio, Request, Thread, User};
 use qx_wire::{Meaning, Parsed, meaning};
 use std::alloc::{AllocError, Global};

@@ -5,7 +5,7 @@ ghost use Rattle.qx_machine.specs.Attributes.{root_attribute};
 ghost use Rattle.qx_machine.specs.Performing as performing;
 ghost use Rattle.qx_machine.specs.Performing.{close_deed, deed_of, fstat_deed, manager_deed, open_deed, stat_deed};
 ghost use Rattle.qx_wire.specs.declared.message.Meaning.TheVariants.{Known};
-ghost use Rattle.qx_parts.specs.Deeds.{deed_with, used_deed, wants_memory};
+ghost use Rattle.qx_resources.specs.Deeds.{deed_with, used_deed, wants_memory};
 
 use crate::status::{Status, stat_bytes};
 use arrayvec::ArrayVec;
