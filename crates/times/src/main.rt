@@ -16,6 +16,8 @@ fn main(rt: HostRuntime) -> anyhow::Result<()> {
             lists::make_calls(alloc, "put", 10, 10)?;
             let answered = worlds::take_steps(alloc, "line", 4, 200, 1000)?;
             println!(rt; "{answered}")?;
+            let closed = worlds::take_steps(alloc, "closed", 1, 64, 2)?;
+            println!(rt; "{closed}")?;
             let bytes = messages::make_calls(alloc, "read", "open", 20, 1000)?;
             println!(rt; "{bytes}")?;
         }

@@ -36,9 +36,19 @@ pub fn take_steps(
     count: u16,
     rounds: u32,
 ) -> anyhow::Result<u64> {
+    let coid = Coid(3);
     match steps {
-        "line" => answered_in_line(alloc, users, count, rounds),
+        "line" => answered_in_line(alloc, users, count, rounds, &Request::Fstat { coid }),
+        "read" => answered_in_line(
+            alloc,
+            users,
+            count,
+            rounds,
+            &Request::Read { coid, count: 1 },
+        ),
         "spawn" => spawned(alloc, users, count, rounds),
+        "opened" => opened_anew(alloc, count, rounds, false),
+        "closed" => opened_anew(alloc, count, rounds, true),
         _ => opened_and_closed(alloc, users, count, rounds),
     }
 }
@@ -88,33 +98,66 @@ fn opened_and_closed(
     let mut world = boot(alloc, users)?;
     spawn_each(&mut world, users, 1)?;
     let open = open_root(alloc, 1)?;
-    let thread = thread_at(1, 1, 1);
     let mut answered: u64 = 0;
     for _ in 0..rounds {
-        for _ in 0..connections {
-            answered = answered.saturating_add(exchange(&mut world, thread, &open).1);
-        }
-        for (coid, _) in (3..=66).zip(0..connections) {
-            let close = Request::Close { coid: Coid(coid) };
-            answered = answered.saturating_add(exchange(&mut world, thread, &close).1);
+        answered = answered.saturating_add(open_many(&mut world, &open, connections));
+        answered = answered.saturating_add(close_many(&mut world, connections));
+    }
+    Ok(answered)
+}
+
+/// A new world in each round, in which a thread opens so many connections, and closes them or not.
+fn opened_anew(alloc: Global, connections: u16, rounds: u32, closes: bool) -> anyhow::Result<u64> {
+    let open = open_root(alloc, 1)?;
+    let mut answered: u64 = 0;
+    for _ in 0..rounds {
+        let mut world = boot(alloc, 1)?;
+        spawn_each(&mut world, 1, 1)?;
+        answered = answered.saturating_add(open_many(&mut world, &open, connections));
+        if closes {
+            answered = answered.saturating_add(close_many(&mut world, connections));
         }
     }
     Ok(answered)
 }
 
-/// Each user starts 16 processes, and each opens a connection. All threads but one call until one less than so many
+/// The first thread of the first user opens so many connections. Tells how many opens were answered.
+fn open_many(world: &mut World, open: &Request, connections: u16) -> u64 {
+    let mut answered: u64 = 0;
+    for _ in 0..connections {
+        answered = answered.saturating_add(exchange(world, thread_at(1, 1, 1), open).1);
+    }
+    answered
+}
+
+/// It closes so many. Tells how many closes were answered.
+fn close_many(world: &mut World, connections: u16) -> u64 {
+    let mut answered: u64 = 0;
+    for (coid, _) in (3..=66).zip(0..connections) {
+        let close = Request::Close { coid: Coid(coid) };
+        answered = answered.saturating_add(exchange(world, thread_at(1, 1, 1), &close).1);
+    }
+    answered
+}
+
+/// Each user starts 16 processes, and each opens a connection. All threads but one ask this until one less than so many
 /// wait; then in each round the one that waits for nothing calls, and the first of the line is served.
-fn answered_in_line(alloc: Global, users: usize, items: u16, rounds: u32) -> anyhow::Result<u64> {
+fn answered_in_line(
+    alloc: Global,
+    users: usize,
+    items: u16,
+    rounds: u32,
+    request: &Request,
+) -> anyhow::Result<u64> {
     let mut world = boot(alloc, users)?;
     spawn_each(&mut world, users, 16)?;
     open_each(alloc, &mut world, users)?;
-    let fstat = Request::Fstat { coid: Coid(3) };
-    let mut thread = line_up(&mut world, users, items, &fstat);
+    let mut thread = line_up(&mut world, users, items, request);
     let mut answered: u64 = 0;
     for _ in 0..rounds {
-        let (first, replies) = exchange(&mut world, thread, &fstat);
+        let (first, answers) = exchange(&mut world, thread, request);
         thread = first;
-        answered = answered.saturating_add(replies);
+        answered = answered.saturating_add(answers);
     }
     Ok(answered)
 }
@@ -146,8 +189,8 @@ fn line_up(world: &mut World, users: usize, items: u16, request: &Request) -> Th
     thread_at(1, 1, 1)
 }
 
-/// A thread calls, the first of the line is received and performed, and its thread takes the reply. Tells that thread,
-/// and how many replies it got, none or one.
+/// A thread calls, the first of the line is received and performed, and its thread takes the answer. Tells that thread,
+/// and how many answers it got, none or one.
 fn exchange(world: &mut World, thread: Thread, request: &Request) -> (Thread, u64) {
     let _ = world.call(thread, request);
     let Outcome::Took(Item::Message(first)) = world.receive(WORKER, Manager::Ram) else {
@@ -155,7 +198,7 @@ fn exchange(world: &mut World, thread: Thread, request: &Request) -> (Thread, u6
     };
     let _ = world.perform_held(WORKER, 5);
     match world.take_reply(first) {
-        Outcome::Reply(..) => (first, 1),
+        Outcome::Reply(..) | Outcome::Failed(_) => (first, 1),
         _ => (first, 0),
     }
 }

@@ -8,6 +8,8 @@ mod nodes;
 #[cfg(test)]
 mod paths;
 #[cfg(test)]
+mod pulses;
+#[cfg(test)]
 mod same;
 #[cfg(test)]
 mod script;

@@ -10,7 +10,7 @@ use std::process::Abort;
 
 /// Every kind of step, for two users and two workers. A test names the line whose step is at stake.
 const LINES: &str = "\
-    spawn bob 1 10\n\
+    spawn bob 4 10\n\
     spawn ann 1 10\n\
     open ann.1.1 /ann r 000\n\
     open bob.1.1 /bob r 000\n\
@@ -26,7 +26,13 @@ const LINES: &str = "\
     close ann.1.1 3\n\
     receive 1 pipe\n\
     receive 1 ram\n\
-    perform 1 7\n";
+    perform 1 7\n\
+    perform 2 8\n\
+    reply bob.1.1\n\
+    stat bob.1.2 /bob\n\
+    dup bob.1.3 3\n\
+    raw bob.1.4 3 00\n\
+    write bob.1.1 3 01020304\n";
 
 /// The steps through the one of a line.
 fn through<'a>(steps: &'a [Step], line: &str) -> Option<&'a [Step]> {
@@ -91,7 +97,7 @@ fn is_taken_at_last(rt: &impl Abort, alloc: Global, line: &str) -> Result<(), No
 
 #[test]
 fn the_first_spawn_is_taken_at_last(rt: HostRuntime) -> Result<(), NoMemory> {
-    is_taken_at_last(&rt, rt.alloc(), "spawn bob 1 10")
+    is_taken_at_last(&rt, rt.alloc(), "spawn bob 4 10")
 }
 
 #[test]
@@ -149,9 +155,29 @@ fn a_close_is_performed_at_last(rt: HostRuntime) -> Result<(), NoMemory> {
     is_taken_at_last(&rt, rt.alloc(), "perform 1 7")
 }
 
-/// Lines after which a reply of ann waits to be taken, and an open of bob to be received.
+#[test]
+fn a_stat_is_called_at_last(rt: HostRuntime) -> Result<(), NoMemory> {
+    is_taken_at_last(&rt, rt.alloc(), "stat bob.1.2 /bob")
+}
+
+#[test]
+fn a_dup_is_called_at_last(rt: HostRuntime) -> Result<(), NoMemory> {
+    is_taken_at_last(&rt, rt.alloc(), "dup bob.1.3 3")
+}
+
+#[test]
+fn raw_bytes_are_called_at_last(rt: HostRuntime) -> Result<(), NoMemory> {
+    is_taken_at_last(&rt, rt.alloc(), "raw bob.1.4 3 00")
+}
+
+#[test]
+fn a_write_is_called_at_last(rt: HostRuntime) -> Result<(), NoMemory> {
+    is_taken_at_last(&rt, rt.alloc(), "write bob.1.1 3 01020304")
+}
+
+/// Lines after which a reply of ann waits to be taken, her second thread is ready, and an open of bob is to be received.
 const BEFORE_SURE_LINES: &str = "\
-    spawn ann 1 10\n\
+    spawn ann 2 10\n\
     spawn bob 1 10\n\
     open ann.1.1 /ann r 000\n\
     receive 1 ram\n\
@@ -168,7 +194,19 @@ const SURE_LINES: &str = "\
     prio ann.1.1 20\n\
     receive 1 ram\n";
 
-/// The run before the sure steps, with room for them.
+/// Interrupts of a thread that is answered, of one that is ready, and of one whose message waits.
+const INTERRUPTS: &str = "\
+    interrupt ann.1.1\n\
+    interrupt ann.1.2\n\
+    interrupt bob.1.1\n";
+
+/// Interrupts of a thread whose message was received, and of the same one when its manager was asked.
+const RECEIVED_INTERRUPTS: &str = "\
+    receive 1 ram\n\
+    interrupt bob.1.1\n\
+    interrupt bob.1.1\n";
+
+/// The run before three sure steps, with room for them.
 fn before_sure_steps(rt: &impl Abort, alloc: Global) -> Result<Traced, NoMemory> {
     let mut traced = ran(rt, alloc, BEFORE_SURE_LINES)?;
     traced.reserve(3)?;
@@ -180,14 +218,14 @@ fn is_byte_refused(alloc: Global) -> bool {
     byte.is_err()
 }
 
-/// With all memory taken, whether a byte is refused while steps are stored.
+/// With all memory taken, whether a byte is refused and steps are stored. They may give memory back.
 fn stores_without_memory(
     alloc: Global,
     traced: &mut Traced,
     steps: &[Step],
 ) -> Result<bool, AllocError> {
     let pieces = take_all_memory(alloc)?;
-    let stored = store_all(traced, steps).is_ok() && is_byte_refused(alloc);
+    let stored = is_byte_refused(alloc) && store_all(traced, steps).is_ok();
     drop(pieces);
     Ok(stored)
 }
@@ -198,19 +236,35 @@ fn store_sure_steps(
     alloc: Global,
     traced: &mut Traced,
     untroubled: &mut Traced,
+    lines: &str,
 ) -> Result<(), NoMemory> {
-    let steps = steps(rt, alloc, SURE_LINES)?;
+    let steps = steps(rt, alloc, lines)?;
     assert!(rt; stores_without_memory(alloc, traced, &steps)?);
     store_all(untroubled, &steps)?;
     assert!(rt; is_same(traced, untroubled)?);
     Ok(())
 }
 
+/// Lines are taken with all memory taken.
+fn are_sure(rt: &impl Abort, alloc: Global, lines: &str) -> Result<(), NoMemory> {
+    let mut traced = before_sure_steps(rt, alloc)?;
+    let mut untroubled = before_sure_steps(rt, alloc)?;
+    store_sure_steps(rt, alloc, &mut traced, &mut untroubled, lines)
+}
+
 #[test]
 fn steps_are_taken_while_all_memory_is_refused(rt: HostRuntime) -> Result<(), NoMemory> {
-    let mut traced = before_sure_steps(&rt, rt.alloc())?;
-    let mut untroubled = before_sure_steps(&rt, rt.alloc())?;
-    store_sure_steps(&rt, rt.alloc(), &mut traced, &mut untroubled)
+    are_sure(&rt, rt.alloc(), SURE_LINES)
+}
+
+#[test]
+fn interrupts_are_taken_while_all_memory_is_refused(rt: HostRuntime) -> Result<(), NoMemory> {
+    are_sure(&rt, rt.alloc(), INTERRUPTS)
+}
+
+#[test]
+fn received_calls_are_interrupted_without_memory(rt: HostRuntime) -> Result<(), NoMemory> {
+    are_sure(&rt, rt.alloc(), RECEIVED_INTERRUPTS)
 }
 
 /// Whether a step is refused and comes back.

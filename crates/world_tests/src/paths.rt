@@ -2,11 +2,12 @@
 
 use crate::same::has_same_transcript;
 use crate::script::{booted, config, ran, run};
-use qx_machine::{Entry, Message};
+use qx_machine::Entry;
 use qx_types::{
     Bytes, Item, Manager, NoMemory, OFlags, Outcome, Prio, Proc, Request, Step, Thread, User,
     Worker,
 };
+use qx_wire::Parsed;
 use qx_world::{PerformFault, Traced, Work, WorkRef, World};
 use std::alloc::Global;
 use std::process::Abort;
@@ -85,49 +86,58 @@ const RECEIVED: &str = "\
     open ann.1.1 /ann r 000\n\
     receive 1 ram\n";
 
-/// The message that the worker holds.
-fn held(world: &World) -> Option<Message> {
-    match world.held(RAM_WORKER)? {
-        WorkRef::Message(message) => Some(*message),
-        WorkRef::Pulse => None,
+/// A message of these bytes, read.
+fn message(bytes: Bytes) -> Work {
+    Work::Message(Parsed::read(bytes))
+}
+
+/// The message that the worker holds, read from a copy of its bytes.
+fn held(world: &World) -> Result<Option<Work>, NoMemory> {
+    match world.held(RAM_WORKER) {
+        Some(WorkRef::Message(bytes)) => Ok(Some(message(bytes.clone()?))),
+        Some(WorkRef::Pulse) | None => Ok(None),
     }
 }
 
-/// Whether a message is another than what is held.
-fn is_stale(traced: &mut Traced, message: Message) -> bool {
-    match traced.perform(RAM_WORKER, &Work::Message(message), 5) {
+/// Whether the work is another than what is held.
+fn is_stale(traced: &mut Traced, work: &Work) -> bool {
+    match traced.perform(RAM_WORKER, work, 5) {
         Err(PerformFault::Stale) => true,
         Ok(_) | Err(PerformFault::NoMemory) => false,
     }
 }
 
-/// Whether a message is held and is performed.
-fn is_performed(traced: &mut Traced, message: Message) -> bool {
-    match traced.perform(RAM_WORKER, &Work::Message(message), 5) {
+/// Whether the work is held and is performed.
+fn is_performed(traced: &mut Traced, work: &Work) -> bool {
+    match traced.perform(RAM_WORKER, work, 5) {
         Ok(Outcome::Handled) => true,
         _ => false,
     }
 }
 
-/// Another message is stale, and the one that is held is performed.
-fn perform_what_is_held(rt: &impl Abort, traced: &mut Traced) {
+/// A message of no bytes and a pulse are stale, and the message that is held is performed.
+fn perform_what_is_held(
+    rt: &impl Abort,
+    alloc: Global,
+    traced: &mut Traced,
+) -> Result<(), NoMemory> {
     let ann = first_thread(User(1));
     assert!(rt; traced.world().blocked(ann));
-    let Some(message) = held(traced.world()) else {
+    let Some(held) = held(traced.world())? else {
         panic!(rt; "no message is held");
     };
-    assert!(rt; is_stale(traced, Message::Close));
+    assert!(rt; is_stale(traced, &message(Bytes::new(alloc))) && is_stale(traced, &Work::Pulse));
     assert_eq!(rt; traced.entries().len(), 3);
-    assert!(rt; is_performed(traced, message));
+    assert!(rt; is_performed(traced, &held));
     assert!(rt; traced.world().answered(ann));
     assert_eq!(rt; traced.config().user_count(), 2);
+    Ok(())
 }
 
 #[test]
 fn performs_what_is_held(rt: HostRuntime) -> Result<(), NoMemory> {
     let mut traced = ran(&rt, rt.alloc(), RECEIVED)?;
-    perform_what_is_held(&rt, &mut traced);
-    Ok(())
+    perform_what_is_held(&rt, rt.alloc(), &mut traced)
 }
 
 /// The receive of the worker.
@@ -161,7 +171,7 @@ fn took(outcome: &Outcome, user: User) -> bool {
 /// Whether an outcome is the reply of an open: connection 3, and no bytes.
 fn opens_third(outcome: &Outcome) -> bool {
     match outcome {
-        Outcome::Reply(3, content) => content.is_empty(),
+        Outcome::Reply(3, content) => content.as_slice().is_empty(),
         _ => false,
     }
 }

@@ -1,7 +1,7 @@
 //! Whether two traces are the same, as far as can be seen of them.
 
 use crate::paths::first_thread;
-use qx_machine::{Entry, Message, Seen};
+use qx_machine::{Entry, Seen};
 use qx_types::{Manager, NoMemory, User, Worker};
 use qx_world::{Traced, WorkRef, World};
 
@@ -29,7 +29,7 @@ fn is_same_entry(one: &Entry, other: &Entry) -> bool {
     one.step == other.step && one.outcome == other.outcome
 }
 
-fn is_same_world(one: &World, other: &World) -> bool {
+pub(crate) fn is_same_world(one: &World, other: &World) -> bool {
     has_same_worker(one, other, Worker(1))
         && has_same_worker(one, other, Worker(2))
         && has_same_thread(one, other, User(1))
@@ -39,14 +39,15 @@ fn is_same_world(one: &World, other: &World) -> bool {
 }
 
 fn has_same_worker(one: &World, other: &World, worker: Worker) -> bool {
-    one.holds(worker) == other.holds(worker) && message_of(one, worker) == message_of(other, worker)
+    one.holds(worker) == other.holds(worker) && is_same_held(one.held(worker), other.held(worker))
 }
 
-/// The message that a worker holds.
-fn message_of(world: &World, worker: Worker) -> Option<Message> {
-    match world.held(worker)? {
-        WorkRef::Message(message) => Some(*message),
-        WorkRef::Pulse => None,
+/// Whether two workers hold messages of the same bytes, or a pulse each, or nothing.
+fn is_same_held(one: Option<WorkRef<'_>>, other: Option<WorkRef<'_>>) -> bool {
+    match (one, other) {
+        (Some(WorkRef::Message(bytes)), Some(WorkRef::Message(other))) => bytes == other,
+        (Some(WorkRef::Pulse), Some(WorkRef::Pulse)) | (None, None) => true,
+        _ => false,
     }
 }
 
