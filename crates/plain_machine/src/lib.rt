@@ -5,8 +5,8 @@ mod rows;
 
 use plain_messages::{Kind, Reading, read, write};
 use qx_types::{
-    Answer, Bytes, Coid, Config, Errno, Item, Manager, OFlags, Outcome, Prio, Proc, ReplyBytes, Request, Step,
-    Thread, User, Worker,
+    Answer, Bytes, Coid, Config, Errno, Item, Manager, OFlags, Outcome, Prio, Proc, ReplyBytes,
+    Request, Step, Thread, User, Worker,
 };
 pub use rows::{Over, Post, Row, Sent, State};
 use rows::{Connection, Queued, first_out, line_up};

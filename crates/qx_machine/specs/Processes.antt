@@ -1,5 +1,5 @@
 -- Processes with their threads and connections, and how these change.
-use Rattle.std.specs.Prelude.{ℕ, true, ◌+◌, List, [], ◌∷◌, Option, Some, None, replicate, slice_set}
+use Rattle.std.specs.Prelude.{ℕ, true, ◌+◌, List, ◌∷◌, Option, Some, None, replicate, slice_set}
 use Rattle.qx_types.specs.declared.limits.TheConstants.Limits.{FIRST_CONNECTION, THREADS}
 use Rattle.qx_types.specs.declared.names.Manager.{Manager}
 use Rattle.qx_types.specs.declared.names.TheConstants.Manager.{COUNT}

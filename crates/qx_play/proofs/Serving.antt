@@ -339,17 +339,17 @@ all_rounds : (items n : ℕ) (config : Configuration) (moment : ℕ) (steps : Li
 all_rounds zero n config moment steps some k free few = omega (arith, few)
 all_rounds (suc items) n config moment steps some k free few = elim (some_or_none (waiting (world_of config steps))) [
   | inl e ↦
-    let none : next_manager (world_of config steps) ≡ None = none_next (world_of config steps) managers (ap (sum_by length) (line_of_each (world_of config steps) k.lines) ∙ e) in
-    ap (λ taken. waiting (world_of config taken)) (stays items config moment steps none) ∙ e
+      let none : next_manager (world_of config steps) ≡ None = none_next (world_of config steps) managers (ap (sum_by length) (line_of_each (world_of config steps) k.lines) ∙ e) in
+      ap (λ taken. waiting (world_of config taken)) (stays items config moment steps none) ∙ e
   | inr more_wait ↦
-    let w = world_of config steps in
-    let f = some_next n w more_wait.0 k more_wait.1 in
-    let last = Receive first_worker f.manager ∷ Perform first_worker moment ∷ [] in
-    let same : world_after w last ≡ world_of config (round moment steps f.manager) = sym (after_append (boot config) steps last) in
-    let r : Round w (world_of config (round moment steps f.manager)) = subst (λ u. Round w u) same (one_round n w moment f.manager f.first f.rest some k free f.there) in
-    let more : Keeps (world_of config (round moment steps f.manager)) n = subst (λ u. Keeps u n) same (kept_after n w last k) in
-    subst (λ l. waiting (world_of config l) ≡ 0) (sym (turn items config moment steps f.manager f.next))
-    (all_rounds items n config moment (round moment steps f.manager) some more r.free (omega (arith, r.fewer, few)))
+      let w = world_of config steps in
+      let f = some_next n w more_wait.0 k more_wait.1 in
+      let last = Receive first_worker f.manager ∷ Perform first_worker moment ∷ [] in
+      let same : world_after w last ≡ world_of config (round moment steps f.manager) = sym (after_append (boot config) steps last) in
+      let r : Round w (world_of config (round moment steps f.manager)) = subst (λ u. Round w u) same (one_round n w moment f.manager f.first f.rest some k free f.there) in
+      let more : Keeps (world_of config (round moment steps f.manager)) n = subst (λ u. Keeps u n) same (kept_after n w last k) in
+      subst (λ l. waiting (world_of config l) ≡ 0) (sym (turn items config moment steps f.manager f.next))
+      (all_rounds items n config moment (round moment steps f.manager) some more r.free (omega (arith, r.fewer, few)))
 ]
 
 booted : (config : Configuration) → Keeps (boot config) config.workers

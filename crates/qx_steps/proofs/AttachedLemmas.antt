@@ -11,14 +11,13 @@ use Rattle.qx_types.specs.declared.names.Manager.{Manager}
 use Rattle.qx_types.specs.declared.names.Manager.TheVariants.{Ram, Pipe}
 use Rattle.qx_types.specs.declared.names.Proc.{Proc}
 use Rattle.qx_types.specs.declared.names.TheConstants.Manager.{COUNT}
-use Rattle.qx_machine.specs.declared.rows.Connection.{Connection}
 use Rattle.qx_machine.specs.declared.rows.Effect.{Effect}
 use Rattle.qx_machine.specs.declared.rows.Effect.TheVariants.{Keeps, Opens, Closes}
 use Rattle.qx_machine.specs.declared.rows.Over.{Over}
 use Rattle.qx_machine.specs.declared.rows.Over.TheVariants.{New, Existing, Side}
 use Rattle.qx_machine.specs.Processes.{Process, with_over, without_connection, after_effect, after_error, after_reply, with_block, with_side}
-use Rattle.qx_machine.specs.Rows.{row_at, put_row, with_row}
-use Rattle.qx_machine.specs.Servers.{connects, is_attached, is_numbered, sides_with}
+use Rattle.qx_machine.specs.Rows.{put_row, with_row}
+use Rattle.qx_machine.specs.Servers.{connects, is_numbered, sides_with}
 use Rattle.qx_chan.specs.Channel.{is_same_server}
 use Rattle.qx_steps.specs.Kept.{attached_at, attaches}
 
@@ -96,20 +95,20 @@ pub attached-connected : (thread : ℕ) (manager : Manager) (over : Over) (x : P
 attached-connected thread manager (Existing coid) x number is = inl is
 attached-connected thread manager (New coid) x number is =
     elim (or_cases (list_any (connects number) (put_row x.connections coid.0 (record { manager = manager; block = None }))) (list_any (sides_with number) x.sides) is) [
-  | inr side ↦ inl (rw side (or_true (list_any (connects number) x.connections)))
-  | inl connection ↦ elim (or_cases (list_any (connects number) x.connections) (is_numbered number manager) (any-put (connects number) refl x.connections coid.0 (record { manager = manager; block = None }) connection)) [
-    | inl before ↦ inl (rw before refl)
-    | inr new ↦ inr new
-  ]
-]
+      | inr side ↦ inl (rw side (or_true (list_any (connects number) x.connections)))
+      | inl connection ↦ elim (or_cases (list_any (connects number) x.connections) (is_numbered number manager) (any-put (connects number) refl x.connections coid.0 (record { manager = manager; block = None }) connection)) [
+        | inl before ↦ inl (rw before refl)
+        | inr new ↦ inr new
+      ]
+    ]
 attached-connected thread manager Side x number is =
     elim (or_cases (list_any (connects number) x.connections) (list_any (sides_with number) (slice_set x.sides thread (Some manager))) is) [
-  | inl connection ↦ inl (rw connection refl)
-  | inr side ↦ elim (or_cases (list_any (sides_with number) x.sides) (is_numbered number manager) (any-set (sides_with number) refl x.sides thread manager side)) [
-    | inl before ↦ inl (rw before (or_true (list_any (connects number) x.connections)))
-    | inr new ↦ inr new
-  ]
-]
+      | inl connection ↦ inl (rw connection refl)
+      | inr side ↦ elim (or_cases (list_any (sides_with number) x.sides) (is_numbered number manager) (any-set (sides_with number) refl x.sides thread manager side)) [
+        | inl before ↦ inl (rw before (or_true (list_any (connects number) x.connections)))
+        | inr new ↦ inr new
+      ]
+    ]
 
 pub threads-connected : (thread : ℕ) (manager : Manager) (over : Over) (x : Process) → (with_over thread manager over x).threads ≡ x.threads
 threads-connected thread manager (New coid) x = refl

@@ -1,6 +1,5 @@
 -- A thread is interrupted: what the step comes to, and that rows, lines and nodes stand together still.
-use Rattle.std.proofs.Common.{◌≡◌, ◌≢◌, ◌⊎◌, subst, inl, inr, eq-eqb, ℕ, List, [], ◌∷◌, ◌&&◌, Bool, true, false, Option, Some, None, refl, sym, ◌∙◌, ap}
-use Rattle.std.specs.Prelude.{option_map, if◌then◌else◌}
+use Rattle.std.proofs.Common.{◌≡◌, ◌⊎◌, subst, inl, inr, eq-eqb, ℕ, List, [], true, false, Option, Some, None, refl, sym, ◌∙◌}
 use Rattle.qx_types.specs.Managers.{manager_number}
 use Rattle.qx_types.specs.declared.names.Thread.{Thread}
 use Rattle.qx_types.specs.declared.outcome.Answer.{Answer}
@@ -8,7 +7,6 @@ use Rattle.qx_types.specs.declared.outcome.Outcome.TheVariants.{Done, WrongState
 use Rattle.qx_types.specs.declared.step.Step.TheVariants.{Interrupt}
 use Rattle.qx_machine.specs.declared.rows.Queued.{Queued}
 use Rattle.qx_machine.specs.declared.rows.Sent.{Sent}
-use Rattle.qx_machine.specs.declared.rows.State.{State}
 use Rattle.qx_machine.specs.declared.rows.State.TheVariants.{Ready, Queued as queued, Taken, Answered}
 use Rattle.qx_machine.specs.declared.rows.Target.{Target}
 use Rattle.qx_machine.specs.declared.rows.ThreadRow.{ThreadRow}
@@ -16,19 +14,19 @@ use Rattle.qx_machine.specs.Clients.{interrupt_in}
 use Rattle.qx_machine.specs.Lines.{into, line_at}
 use Rattle.qx_machine.specs.Machine.{World, rank, step}
 use Rattle.qx_machine.specs.Parts.{Part, thread_at, with_thread_of}
-use Rattle.qx_machine.specs.Processes.{Process, asked_thread, with_thread}
+use Rattle.qx_machine.specs.Processes.{asked_thread, with_thread}
 use Rattle.qx_machine.specs.Rows.{row_at, with_row}
 use Rattle.qx_machine.specs.Users.{client, settle}
 use Rattle.qx_process.proofs.RowLemmas.{set-row}
-use Rattle.qx_chan.specs.Channel.{Channel, stands, unblock_call, unblock_of, with_channel_line}
+use Rattle.qx_chan.specs.Channel.{Channel, unblock_call, unblock_of, with_channel_line}
 use Rattle.qx_parts.specs.Reads.{thread_row}
 use Rattle.qx_steps.specs.Calls.{after_asking, after_dismissal}
-use Rattle.qx_steps.specs.Kept.{Kept, asked_at, stands_at}
-use Rattle.qx_steps.specs.Reads.{IsQueuedTo, IsUnasked}
+use Rattle.qx_steps.specs.Kept.{Kept}
+use Rattle.qx_steps.specs.Reads.{IsUnasked}
 use Rattle.qx_chan.proofs.EntryLemmas.{is_same_thread-differs, is_same_thread-self}
 use Rattle.qx_chan.proofs.LineLemmas.{call-asked, stands-asked}
 use Rattle.qx_steps.proofs.RowReads.{option_cases}
-use Rattle.qx_steps.proofs.ThreadLemmas.{Kept-changed, OneThread, Own, OwnLine, one_thread}
+use Rattle.qx_steps.proofs.ThreadLemmas.{Kept-changed, OneThread, Own, one_thread}
 
 -- ---- what the step comes to
 
@@ -114,9 +112,9 @@ module _ (parts : List (Option Part)) (channel : Channel) (thread : Thread) (tar
     stand = stands-asked rank line thread row.calls target.prio.0 thread ∙ kept.lines thread number ∙ rw (one.own, there, is) refl;
     stand_other = λ at differs. kept.lines thread at ∙ rw (one.own, there, is) refl;
     calls = λ call its.
-      let same : Some row.calls ≡ Some call = sym (call-asked rank line thread row.calls target.prio.0 thread (no_pulse number) ∙ rw (is_same_thread-self thread) refl) ∙ its in
-      let equal : row.calls ≡ call = cc in
-      rw (one.own, there, is, to, eq-eqb number number refl, equal) (eq-eqb call call refl);
+        let same : Some row.calls ≡ Some call = sym (call-asked rank line thread row.calls target.prio.0 thread (no_pulse number) ∙ rw (is_same_thread-self thread) refl) ∙ its in
+        let equal : row.calls ≡ call = cc in
+        rw (one.own, there, is, to, eq-eqb number number refl, equal) (eq-eqb call call refl);
     calls_other = λ at call differs its. let clash : None ≡ Some call = sym (no_pulse at) ∙ its in absurd (cc);
   }
 

@@ -1,7 +1,6 @@
 -- Rows, lines and nodes stand together still as a line's first item is received.
-use Rattle.std.proofs.Common.{◌≡◌, ◌≢◌, ℕ, zero, suc, ◌∷◌, [], Bool, true, false, List, Option, Some, None, drop, slice_get, is_some, refl, sym, ◌∙◌, ap}
+use Rattle.std.proofs.Common.{◌≡◌, ◌≢◌, ℕ, zero, suc, ◌∷◌, [], true, false, List, Option, Some, None, drop, slice_get, refl, sym, ◌∙◌, ap}
 use Rattle.std.specs.Prelude.{option_map}
-use Rattle.std.specs.Option.{option_or}
 use Rattle.std.proofs.lemmas.Bool.{eqb-true}
 use Rattle.qx_types.specs.Managers.{manager_number}
 use Rattle.qx_types.specs.declared.names.Manager.{Manager}
@@ -14,17 +13,17 @@ use Rattle.qx_machine.specs.declared.rows.State.TheVariants as state
 use Rattle.qx_machine.specs.declared.rows.ThreadRow.{ThreadRow}
 use Rattle.qx_machine.specs.Lines.{line_at, with_line}
 use Rattle.qx_machine.specs.Parts.{Part}
-use Rattle.qx_machine.specs.Processes.{Process, taken_state, taken_thread, with_thread}
+use Rattle.qx_machine.specs.Processes.{taken_state, taken_thread, with_thread}
 use Rattle.qx_machine.specs.Rows.{row_at, with_row}
 use Rattle.qx_machine.specs.Users.{take}
 use Rattle.qx_process.proofs.RowLemmas.{set-row, with_row-none}
-use Rattle.qx_chan.specs.Channel.{Channel, IsGone, call_in, first_told, message_in, sender, sender_of, stands, told, unblock_call, with_channel_line}
-use Rattle.qx_parts.specs.Reads.{process_of, thread_row}
+use Rattle.qx_chan.specs.Channel.{Channel, IsGone, sender, stands, unblock_call, with_channel_line}
+use Rattle.qx_parts.specs.Reads.{thread_row}
 use Rattle.qx_steps.specs.Kept.{Kept, asked_at, is_asked_at, is_queued_at, stands_at}
 use Rattle.qx_chan.proofs.EntryLemmas.{is_same_thread-self}
 use Rattle.qx_chan.proofs.LineLemmas.{call-received, call-received_other, stands-received, stands-received_other}
 use Rattle.qx_steps.proofs.AttachedLemmas.{eqb-differs}
-use Rattle.qx_steps.proofs.ThreadLemmas.{Kept-changed, OneThread, Own, OwnLine, one_thread}
+use Rattle.qx_steps.proofs.ThreadLemmas.{Kept-changed, OneThread, Own, one_thread}
 
 pub first_of-line : (line : List Queued) (first : Queued) → Some first ≡ slice_get line 0 → line ≡ first ∷ drop 1 line
 first_of-line [] first is = cc

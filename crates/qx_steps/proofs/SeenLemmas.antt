@@ -1,10 +1,8 @@
 -- What lines and nodes are told by: of each thread whether it is there and where its message stands, of each process where it is
 -- attached. Most changes of rows leave all of it.
-use Rattle.std.proofs.Common.{◌≡◌, ◌≢◌, inl, inr, ℕ, List, Option, Some, None, length, is_some, false, true, refl, sym, ◌∙◌, ap}
-use Rattle.std.specs.Prelude.{option_map}
-use Rattle.std.proofs.lemmas.Bool.{cases_Bool, cases_eq}
+use Rattle.std.proofs.Common.{◌≡◌, inl, inr, ℕ, List, Option, Some, None, is_some, false, refl, sym, ◌∙◌}
+use Rattle.std.proofs.lemmas.Bool.{cases_Bool}
 use Rattle.qx_types.specs.Managers.{manager_number}
-use Rattle.qx_types.specs.declared.names.Proc.{Proc}
 use Rattle.qx_types.specs.declared.names.Thread.{Thread}
 use Rattle.qx_machine.specs.declared.rows.State.{State}
 use Rattle.qx_machine.specs.declared.rows.State.TheVariants.{Ready, Queued, Taken, Answered}
@@ -15,9 +13,9 @@ use Rattle.qx_machine.specs.Parts.{Part, thread_at, thread_of}
 use Rattle.qx_machine.specs.Processes.{Process, ranked_thread, ready_thread, with_thread}
 use Rattle.qx_machine.specs.Rows.{row_at, with_row}
 use Rattle.qx_chan.specs.Channel.{Channel}
-use Rattle.qx_parts.specs.Reads.{process_in, process_of, thread_row}
+use Rattle.qx_parts.specs.Reads.{process_in}
 use Rattle.qx_steps.specs.Kept.{Kept, asked_at, attached_at, is_asked_at, is_queued_at, stands_at}
-use Rattle.qx_steps.proofs.RowReads.{length-with_row, option_cases, read-with_row, row_at-with_other, row_at-with_same}
+use Rattle.qx_steps.proofs.RowReads.{length-with_row, option_cases, read-with_row}
 
 -- of one process
 pub record SameProcess (new old : Process) : Type 0 where

@@ -1,7 +1,6 @@
 -- Rows, lines and nodes stand together still as a message goes out.
-use Rattle.std.proofs.Common.{◌≡◌, ◌≢◌, inl, inr, eq-eqb, ℕ, ◌||◌, ◌&&◌, Bool, true, false, List, Option, Some, None, length, is_some, refl, sym, ◌∙◌, ap}
+use Rattle.std.proofs.Common.{◌≡◌, ◌≢◌, inl, inr, eq-eqb, ℕ, ◌||◌, ◌&&◌, true, false, List, Option, Some, None, is_some, refl, sym, ◌∙◌, ap}
 use Rattle.std.specs.Prelude.{option_map}
-use Rattle.std.specs.List.{list_any}
 use Rattle.std.proofs.lemmas.Bool.{cases_Bool, cond_both}
 use Rattle.qx_types.specs.Managers.{manager_number, managers}
 use Rattle.qx_types.specs.declared.names.Manager.{Manager}
@@ -10,16 +9,14 @@ use Rattle.qx_types.specs.declared.names.Thread.{Thread}
 use Rattle.qx_machine.specs.declared.rows.Over.{Over}
 use Rattle.qx_machine.specs.declared.rows.Queued.{Queued}
 use Rattle.qx_machine.specs.declared.rows.Sent.{Sent}
-use Rattle.qx_machine.specs.declared.rows.State.{State}
-use Rattle.qx_machine.specs.declared.rows.State.TheVariants as state
 use Rattle.qx_machine.specs.declared.rows.ThreadRow.{ThreadRow}
 use Rattle.qx_machine.specs.Lines.{into, line_at}
 use Rattle.qx_machine.specs.Machine.{rank}
 use Rattle.qx_machine.specs.Parts.{Part, with_process}
 use Rattle.qx_machine.specs.Processes.{Process, queued_thread, with_queued, with_thread}
-use Rattle.qx_machine.specs.Rows.{row_at, with_row}
+use Rattle.qx_machine.specs.Rows.{with_row}
 use Rattle.qx_machine.specs.Servers.{is_numbered}
-use Rattle.qx_chan.specs.Channel.{Channel, has_server, has_thread, is_same_thread, message_of, stands, unblock_call, with_channel_line, with_server}
+use Rattle.qx_chan.specs.Channel.{Channel, has_server, has_thread, message_of, stands, unblock_call, with_channel_line, with_server}
 use Rattle.qx_parts.specs.Reads.{process_of, thread_row}
 use Rattle.qx_steps.specs.Kept.{Kept, asked_at, attached_at, attaches, is_queued_at, settled, stands_at, with_attached}
 use Rattle.qx_steps.specs.Reads.{IsReady}
@@ -27,9 +24,8 @@ use Rattle.qx_chan.proofs.EntryLemmas.{is_same_thread-differs, is_same_thread-se
 use Rattle.qx_chan.proofs.LineLemmas.{call-sent, stands-sent}
 use Rattle.qx_chan.proofs.SetLemmas.{has-server, is_same_server-differs}
 use Rattle.qx_steps.proofs.AttachedLemmas.{attached-connected, eqb-differs, same_server-self, threads-connected}
-use Rattle.qx_steps.proofs.RowReads.{option_cases}
 use Rattle.qx_steps.proofs.SettleLemmas.{Kept-settled}
-use Rattle.qx_steps.proofs.ThreadLemmas.{OneThread, Own, OwnLine, Unsettled-changed, one_thread}
+use Rattle.qx_steps.proofs.ThreadLemmas.{OneThread, Own, Unsettled-changed, one_thread}
 
 -- a thread that waits for nothing
 
@@ -127,11 +123,11 @@ module _ (parts : List (Option Part)) (channel : Channel) (thread : Thread) (sen
       (settled thread.proc (process_of (with_row parts thread.proc.user.0 (with_process thread.proc.num (with_queued thread.tid sent))) thread.proc) managers (channel_sent channel thread sent))
   Kept-sent = Kept-settled new (channel_sent channel thread sent) thread.proc
       (Unsettled-changed parts new channel thread f (queued_thread sent) one kept sent.target.manager change own (channel_sent channel thread sent)
-        (rw (lines-attached channel thread.proc sent.target.manager sent.target.over) refl)
-        (users-attached channel thread.proc sent.target.manager sent.target.over)
-        (threads-attached channel thread.proc sent.target.manager sent.target.over)
-        (has-attached-other channel thread.proc sent.target.manager sent.target.over)
-        (λ m is. has-attached-self channel thread.proc sent.target.manager sent.target.over (manager_number m) ∙ attached_new m (process_of parts thread.proc) (kept.servers thread.proc m) is))
+      (rw (lines-attached channel thread.proc sent.target.manager sent.target.over) refl)
+      (users-attached channel thread.proc sent.target.manager sent.target.over)
+      (threads-attached channel thread.proc sent.target.manager sent.target.over)
+      (has-attached-other channel thread.proc sent.target.manager sent.target.over)
+      (λ m is. has-attached-self channel thread.proc sent.target.manager sent.target.over (manager_number m) ∙ attached_new m (process_of parts thread.proc) (kept.servers thread.proc m) is))
     where
       attached_new : (m : Manager) (o : Option Process) → has_server channel thread.proc (manager_number m) ≡ attached_at (manager_number m) o → attached_at (manager_number m) (option_map f o) ≡ true
           → (has_server channel thread.proc (manager_number m) || (attaches sent.target.over && is_numbered (manager_number m) sent.target.manager)) ≡ true

@@ -1,5 +1,5 @@
 -- What is known of a call that is not refused.
-use Rattle.std.proofs.Common.{◌≡◌, inl, inr, ℕ, ◌<◌, ◌≤◌, List, Bool, true, false, Option, Some, None, Result, Ok, Err, nat_le, refl, sym, ◌∙◌, arith}
+use Rattle.std.proofs.Common.{◌≡◌, inl, inr, ℕ, ◌<◌, ◌≤◌, List, true, Option, Some, Ok, Err, nat_le, refl, arith}
 use Rattle.std.specs.Prelude.{nat_lt}
 use Rattle.std.specs.Str.{bytes_eq}
 use Rattle.std.proofs.lemmas.Bool.{cases_Bool}
@@ -9,23 +9,20 @@ use Rattle.qx_types.specs.declared.limits.TheConstants.Limits.{CALLS, FIRST_CONN
 use Rattle.qx_types.specs.declared.names.Manager.TheVariants.{Ram}
 use Rattle.qx_types.specs.declared.names.Prio.{Prio}
 use Rattle.qx_types.specs.declared.names.Thread.{Thread}
-use Rattle.qx_types.specs.declared.outcome.Outcome.{Outcome}
 use Rattle.qx_types.specs.declared.outcome.Outcome.TheVariants.{Refused, WrongState}
 use Rattle.qx_types.specs.declared.request.Request.{Request}
-use Rattle.qx_machine.specs.declared.rows.Over.{Over}
 use Rattle.qx_machine.specs.declared.rows.Over.TheVariants.{New, Existing, Side}
 use Rattle.qx_machine.specs.declared.rows.State.{State}
 use Rattle.qx_machine.specs.declared.rows.State.TheVariants.{Ready, Queued, Taken, Answered}
 use Rattle.qx_machine.specs.declared.rows.Target.{Target}
 use Rattle.qx_machine.specs.declared.rows.ThreadRow.{ThreadRow}
 use Rattle.qx_machine.specs.Calls.{Address, Opens, Looks, Uses, Doubles, address, can_serve, connection_at, free_connection, in_ranges, is_ready, target_at, target_of}
-use Rattle.qx_machine.specs.Clients.{own_path, target_by}
+use Rattle.qx_machine.specs.Clients.{own_path}
 use Rattle.qx_machine.specs.Machine.{World}
-use Rattle.qx_machine.specs.Parts.{Part}
 use Rattle.qx_machine.specs.Processes.{Process}
 use Rattle.qx_machine.specs.Rows.{row_at, lowest_from}
 use Rattle.qx_process.specs.Reads.{HasNumber, IsPriority}
-use Rattle.qx_parts.specs.Reads.{CanSend, process_of, thread_row}
+use Rattle.qx_parts.specs.Reads.{CanSend, thread_row}
 use Rattle.qx_steps.specs.Calls.{target_in}
 use Rattle.qx_steps.specs.Reads.{IsReady}
 use Rattle.qx_steps.proofs.RowReads.{option_cases, result_cases}

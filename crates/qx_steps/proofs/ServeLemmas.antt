@@ -1,5 +1,5 @@
 -- Rows, lines and nodes stand together still as a thread is answered: as a worker does what it holds, or as its queued message goes.
-use Rattle.std.proofs.Common.{◌≡◌, ◌≢◌, inl, inr, ℕ, ◌∷◌, [], ◌&&◌, ◌==◌, Bool, true, false, List, Option, Some, None, Result, Ok, Err, refl, sym, ◌∙◌, ap}
+use Rattle.std.proofs.Common.{◌≡◌, ◌≢◌, inl, inr, ℕ, ◌&&◌, ◌==◌, Bool, true, false, List, Option, Some, None, Result, Ok, Err, refl, sym, ◌∙◌, ap}
 use Rattle.std.specs.Prelude.{option_map, IfSome}
 use Rattle.std.proofs.lemmas.Bool.Decides.{eqb_tells}
 use Rattle.qx_types.specs.Managers.{manager_number, managers}
@@ -19,24 +19,24 @@ use Rattle.qx_machine.specs.declared.rows.State.{State}
 use Rattle.qx_machine.specs.declared.rows.State.TheVariants.{Ready, Queued as queued, Taken, Answered}
 use Rattle.qx_machine.specs.declared.rows.Target.{Target}
 use Rattle.qx_machine.specs.declared.rows.ThreadRow.{ThreadRow}
-use Rattle.qx_machine.specs.Lines.{line_at, with_line}
+use Rattle.qx_machine.specs.Lines.{line_at}
 use Rattle.qx_machine.specs.Machine.{line_without}
-use Rattle.qx_machine.specs.Parts.{Part, thread_at, thread_of}
+use Rattle.qx_machine.specs.Parts.{Part, thread_at}
 use Rattle.qx_machine.specs.Performing.{Deed, after_answer, deed_of, or_kept, serve_message, taken_in}
 use Rattle.qx_machine.specs.Processes.{Process, after_effect, after_error, after_reply, answered_thread, with_thread}
 use Rattle.qx_machine.specs.Rows.{row_at, with_row}
 use Rattle.qx_process.proofs.RowLemmas.{set-row, with_row-none}
-use Rattle.qx_chan.specs.Channel.{Channel, has_server, sender_of, stands, unblock_call, with_channel_line}
+use Rattle.qx_chan.specs.Channel.{Channel, sender_of, stands, unblock_call, with_channel_line}
 use Rattle.qx_parts.specs.Deeds.{served_part}
-use Rattle.qx_parts.specs.Reads.{process_in, process_of, thread_row}
-use Rattle.qx_steps.specs.Kept.{Kept, asked_at, attached_at, is_asked_at, is_queued_at, settled, stands_at}
+use Rattle.qx_parts.specs.Reads.{process_of, thread_row}
+use Rattle.qx_steps.specs.Kept.{Kept, attached_at, settled, stands_at}
 use Rattle.qx_steps.specs.Reads.{IsQueuedTo}
 use Rattle.qx_steps.specs.Workers.{answered_call, call_of, channel_answered, IsPulseGone}
 use Rattle.qx_chan.proofs.LineLemmas.{call-replied_other, call-withdrawn, replied-none, stands-replied, stands-withdrawn_other}
 use Rattle.qx_steps.proofs.AttachedLemmas.{fewer-done, fewer-given_back, fewer-let_go, threads-done, threads-given_back, threads-let_go}
 use Rattle.qx_steps.proofs.ReceiveLemmas.{queued-unasked, stands_once}
 use Rattle.qx_steps.proofs.RowReads.{option_cases}
-use Rattle.qx_steps.proofs.SettleLemmas.{Kept-settled, Unsettled}
+use Rattle.qx_steps.proofs.SettleLemmas.{Kept-settled}
 use Rattle.qx_steps.proofs.ThreadLemmas.{OneThread, Own, OwnLine, Unsettled-changed, one_thread}
 
 -- an answer, as a change of the process
@@ -102,8 +102,8 @@ module _ (parts : List (Option Part)) (channel : Channel) (thread : Thread) (h :
     pub Kept-left : Kept new (settled thread.proc (process_of new thread.proc) managers (with_channel_line channel number change))
     Kept-left = Kept-settled new (with_channel_line channel number change) thread.proc
         (Unsettled-changed parts new channel thread (answered thread.tid over given) (answered_thread (answer_of given)) one kept manager change own
-          (with_channel_line channel number change) refl refl (λ t. refl) (λ other at differs. refl)
-          (λ m is. kept.servers thread.proc m ∙ as_before (manager_number m) (process_of parts thread.proc) is))
+        (with_channel_line channel number change) refl refl (λ t. refl) (λ other at differs. refl)
+        (λ m is. kept.servers thread.proc m ∙ as_before (manager_number m) (process_of parts thread.proc) is))
       where
         as_before : (at : ℕ) (o : Option Process) → attached_at at (option_map (answered thread.tid over given) o) ≡ true → attached_at at o ≡ true
         as_before at None is = is
@@ -131,8 +131,8 @@ module _ (parts : List (Option Part)) (channel : Channel) (thread : Thread) (tar
 
   pub Kept-dismissed : (error : Errno) → stands (drop_message (line_at channel.lines (manager_number target.manager))) thread ≡ false
       → Kept (with_row parts thread.proc.user.0 (λ part. after_answer part thread.proc.num thread.tid target.over (Err error)))
-          (settled thread.proc (process_of (with_row parts thread.proc.user.0 (λ part. after_answer part thread.proc.num thread.tid target.over (Err error))) thread.proc) managers
-            (with_channel_line channel (manager_number target.manager) drop_message))
+      (settled thread.proc (process_of (with_row parts thread.proc.user.0 (λ part. after_answer part thread.proc.num thread.tid target.over (Err error))) thread.proc) managers
+      (with_channel_line channel (manager_number target.manager) drop_message))
   Kept-dismissed error gone = Kept-left parts channel thread (λ part. after_answer part thread.proc.num thread.tid target.over (Err error)) target.over (Err error) kept (λ part is. refl) target.manager drop_message
       (record {
         own_line = record {
@@ -293,10 +293,10 @@ none_served parts user own is = elim (option_cases (row_at parts user)) [
 
 kept-one : (parts : List (Option Part)) (channel : Channel) (user : ℕ) (own : OwnItem) (call : Manager × ℕ) → Serves parts user own call → Kept parts channel → IsPulseGone channel (sender_of user own) call
     → Kept (with_row parts user (λ part. served_part part own))
-        (settled (sender_of user own).proc (process_of (with_row parts user (λ part. served_part part own)) (sender_of user own).proc) managers (channel_answered channel (sender_of user own) (Some call)))
+    (settled (sender_of user own).proc (process_of (with_row parts user (λ part. served_part part own)) (sender_of user own).proc) managers (channel_answered channel (sender_of user own) (Some call)))
 kept-one parts channel user own call known kept gone = rw (known.its_call, known.message)
     (Kept-answered parts channel (sender_of user (item.Message known.process known.tid)) (λ part. served_part part (item.Message known.process known.tid)) known.row known.sent known.given kept
-      (rw known.message at known.there) known.taken (rw known.message at known.changes) (rw (known.its_call, known.message) at gone))
+    (rw known.message at known.there) known.taken (rw known.message at known.changes) (rw (known.its_call, known.message) at gone))
 
 -- where nothing is answered, disconnect nodes are settled as they were
 Kept-idle : (parts : List (Option Part)) (channel : Channel) (proc : Proc) → Kept parts channel → Kept parts (settled proc (process_of parts proc) managers channel)
@@ -313,8 +313,8 @@ Kept-idle parts channel proc kept = Kept-settled parts channel proc (record {
 -- an item is done, its call's unblock pulse goes, and the disconnect nodes of its process are settled
 pub Kept-served : (parts : List (Option Part)) (channel : Channel) (user : ℕ) (own : OwnItem) → Kept parts channel → IfSome (answered_call own (row_at parts user)) (IsPulseGone channel (sender_of user own))
     → Kept (with_row parts user (λ part. served_part part own))
-        (settled (sender_of user own).proc (process_of (with_row parts user (λ part. served_part part own)) (sender_of user own).proc) managers
-          (channel_answered channel (sender_of user own) (answered_call own (row_at parts user))))
+    (settled (sender_of user own).proc (process_of (with_row parts user (λ part. served_part part own)) (sender_of user own).proc) managers
+    (channel_answered channel (sender_of user own) (answered_call own (row_at parts user))))
 Kept-served parts channel user own kept gone = elim (option_cases (answered_call own (row_at parts user))) [
   | inl none ↦ rw (none, none_served parts user own none) (Kept-idle parts channel (sender_of user own).proc kept)
   | inr call ↦
@@ -347,8 +347,8 @@ dismisses-stands parts channel thread target is kept =
 pub dismisses-kept : (parts : List (Option Part)) (channel : Channel) (thread : Thread) (target : Target) (error : Errno) → IsQueuedTo target (thread_row parts thread) → Kept parts channel
     → stands (line_without thread.proc.user.0 (item.Message thread.proc.num thread.tid) (line_at channel.lines (manager_number target.manager))) thread ≡ false
     → Kept (with_row parts thread.proc.user.0 (λ part. after_answer part thread.proc.num thread.tid target.over (Err error)))
-        (settled thread.proc (process_of (with_row parts thread.proc.user.0 (λ part. after_answer part thread.proc.num thread.tid target.over (Err error))) thread.proc) managers
-          (with_channel_line channel (manager_number target.manager) (line_without thread.proc.user.0 (item.Message thread.proc.num thread.tid))))
+    (settled thread.proc (process_of (with_row parts thread.proc.user.0 (λ part. after_answer part thread.proc.num thread.tid target.over (Err error))) thread.proc) managers
+    (with_channel_line channel (manager_number target.manager) (line_without thread.proc.user.0 (item.Message thread.proc.num thread.tid))))
 dismisses-kept parts channel thread target error is kept gone =
     let it = queued_from parts thread target is in
     Kept-dismissed parts channel thread target it.row it.sent kept it.there it.is it.to error gone

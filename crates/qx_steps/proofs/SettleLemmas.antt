@@ -1,5 +1,5 @@
 -- Disconnect nodes are settled by what is attached: rows, lines and nodes stand together once they are.
-use Rattle.std.proofs.Common.{◌≡◌, ◌≢◌, inl, inr, ◌+◌, add-one, ℕ, zero, suc, ◌∷◌, [], ◌||◌, ◌&&◌, not, take, Bool, true, false, List, Option, Some, None, slice_get, length, is_some, refl, sym, ◌∙◌, ap}
+use Rattle.std.proofs.Common.{◌≡◌, ◌≢◌, inl, inr, ◌+◌, add-one, ℕ, zero, suc, ◌∷◌, [], ◌||◌, ◌&&◌, not, take, Bool, true, false, List, Option, Some, slice_get, length, is_some, refl, sym, ◌∙◌, ap}
 use Rattle.std.specs.FinSet as set
 use Rattle.std.specs.List.{list_any}
 use Rattle.std.proofs.lemmas.Bool.{cases_Bool, cond_both, eqb-true}

@@ -1,7 +1,7 @@
 -- Rows, lines and nodes stand together still as a process starts, and at boot.
-use Rattle.std.proofs.Common.{eq-eqb, ◌≡◌, ◌≢◌, inl, inr, ℕ, zero, suc, ◌+◌, ◌<◌, ◌≤◌, ◌∷◌, [], ◌||◌, ◌&&◌, add-one, nat_le, Bool, true, false, List, Option, Some, None, Result, Ok, Err, option_map, replicate, length, is_some, refl, sym, ◌∙◌, ap, arith}
+use Rattle.std.proofs.Common.{eq-eqb, ◌≡◌, ◌≢◌, inl, inr, ℕ, zero, suc, ◌+◌, ◌<◌, ◌≤◌, ◌∷◌, [], ◌&&◌, add-one, nat_le, Bool, true, false, List, Option, Some, None, Result, Ok, Err, replicate, length, is_some, refl, sym, ◌∙◌, ap, arith}
 use Rattle.std.specs.FinSet as set
-use Rattle.std.proofs.lemmas.Bool.{cases_Bool, cases_eq, cases_lt}
+use Rattle.std.proofs.lemmas.Bool.{cases_Bool, cases_lt}
 use Rattle.std.proofs.lemmas.Bool.Decides.{eqb_tells, nat_tests}
 use Rattle.std.proofs.lemmas.List.{get_or-replicate, length-replicate}
 use Rattle.qx_types.specs.Configuration.{Configuration}
@@ -24,7 +24,7 @@ use Rattle.qx_machine.specs.Processes.{Process, new_process, new_thread}
 use Rattle.qx_machine.specs.Rows.{row_at, lowest_from, put_row, with_row}
 use Rattle.qx_machine.specs.Users.{boot_part}
 use Rattle.qx_machine.proofs.Places.{lowest_from_free}
-use Rattle.qx_chan.specs.Channel.{Channel, has_server, has_thread, is_thread_of, no_channel, stands, unblock_call, thread_cmp, server_cmp, with_process}
+use Rattle.qx_chan.specs.Channel.{Channel, has_thread, is_thread_of, no_channel, stands, unblock_call, thread_cmp, server_cmp, with_process}
 use Rattle.qx_chan.proofs.PresenceLemmas.{has-process, lines-process, servers-process, users-process}
 use Rattle.qx_parts.specs.Reads.{HasPlace, process_in, process_of, thread_row}
 use Rattle.qx_process.proofs.RowLemmas.{row_at-get_or}
@@ -152,11 +152,11 @@ module _ (parts : List (Option Part)) (proc : Proc) (threads prio : ℕ) (begun 
         | inl same ↦ rw (same, old_none, here) (sym (new_waits threads other.tid prio number))
       ];
       pulses = λ other number call is.
-        let before : asked_at number call (thread_row parts other) ≡ true = kept.pulses other number call (ap (λ lines. unblock_call (line_at lines number) other) (sym (lines-process channel proc threads)) ∙ is) in
-        elim (same_proc other.proc proc) [
-          | inr differs ↦ ap (λ o. asked_at number call (thread_of other.tid o)) (elsewhere other.proc differs) ∙ before
-          | inl same ↦ let clash : false ≡ true = rw (same, old_none) at before in absurd (cc)
-        ];
+          let before : asked_at number call (thread_row parts other) ≡ true = kept.pulses other number call (ap (λ lines. unblock_call (line_at lines number) other) (sym (lines-process channel proc threads)) ∙ is) in
+          elim (same_proc other.proc proc) [
+            | inr differs ↦ ap (λ o. asked_at number call (thread_of other.tid o)) (elsewhere other.proc differs) ∙ before
+            | inl same ↦ let clash : false ≡ true = rw (same, old_none) at before in absurd (cc)
+          ];
       servers = λ other manager. ap (λ s. set.contains s (other, manager_number manager)) (servers-process channel proc threads) ∙ kept.servers other manager ∙ elim (same_proc other proc) [
         | inr differs ↦ ap (attached_at (manager_number manager)) (sym (elsewhere other differs))
         | inl same ↦ rw (same, old_none, here) (sym (new_attached threads prio manager))

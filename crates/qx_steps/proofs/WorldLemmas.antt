@@ -1,5 +1,5 @@
 -- What a client's step comes to, by the rows of its user.
-use Rattle.std.proofs.Common.{◌≡◌, inl, inr, ℕ, List, [], ◌∷◌, Option, Some, None, Ok, Err, slice_set, refl, sym, ◌∙◌, ap}
+use Rattle.std.proofs.Common.{◌≡◌, inl, inr, ℕ, [], Some, None, Ok, Err, slice_set, refl, ap}
 use Rattle.std.proofs.lemmas.Bool.{cases_Bool}
 use Rattle.qx_types.specs.declared.names.Prio.{Prio}
 use Rattle.qx_types.specs.declared.names.Thread.{Thread}
@@ -8,12 +8,11 @@ use Rattle.qx_types.specs.declared.outcome.Outcome.{Outcome}
 use Rattle.qx_types.specs.declared.outcome.Outcome.TheVariants.{Spawned, Sent, WrongState}
 use Rattle.qx_types.specs.declared.request.Request.{Request}
 use Rattle.qx_types.specs.declared.step.Step.TheVariants.{Spawn, Call, TakeReply, SetPrio}
-use Rattle.qx_machine.specs.declared.rows.OwnItem.{OwnItem}
 use Rattle.qx_machine.specs.declared.rows.Target.{Target}
-use Rattle.qx_machine.specs.Clients.{ClientStep, answer_in, is_prio, or_unchanged, own_path, set_prio, spawn, spawn_number, take_reply, target_by}
-use Rattle.qx_machine.specs.Machine.{World, step, client_end, client_step}
-use Rattle.qx_machine.specs.Parts.{Part, Change, thread_at}
-use Rattle.qx_machine.specs.Rows.{row_at, with_row}
+use Rattle.qx_machine.specs.Clients.{ClientStep, answer_in, is_prio, or_unchanged, own_path, set_prio, spawn_number, take_reply, target_by}
+use Rattle.qx_machine.specs.Machine.{World, step, client_end}
+use Rattle.qx_machine.specs.Parts.{Part, thread_at}
+use Rattle.qx_machine.specs.Rows.{row_at}
 use Rattle.qx_machine.specs.Users.{client, settle}
 use Rattle.qx_process.proofs.RowLemmas.{set-row}
 use Rattle.qx_steps.specs.Calls.{after_sending, after_start, sent_to, spawn_number_in, target_in}

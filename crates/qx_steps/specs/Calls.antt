@@ -1,8 +1,6 @@
 -- A spawn and a call in two parts: how it is judged, and the world once it is done.
-use Rattle.std.specs.Prelude.{ℕ, false, List, [], ◌∷◌, Option, Some, None, Result, Ok, Err}
+use Rattle.std.specs.Prelude.{ℕ, false, List, Option, Some, None, Result, Err}
 use Rattle.qx_types.specs.declared.errno.Errno.TheVariants.{EINTR}
-use Rattle.qx_types.specs.declared.names.Prio.{Prio}
-use Rattle.qx_types.specs.declared.names.Proc.{Proc}
 use Rattle.qx_types.specs.declared.names.Thread.{Thread}
 use Rattle.qx_types.specs.declared.outcome.Outcome.{Outcome}
 use Rattle.qx_types.specs.declared.outcome.Outcome.TheVariants.{WrongState}

@@ -178,7 +178,8 @@ impl World {
         requires priority { IsPriority target.prio.0 }
         ensures { self.new ≡ after_asking self.old thread call target }
     {
-        self.channel.ask_unblock(target.manager, thread, call, target.prio);
+        self.channel
+            .ask_unblock(target.manager, thread, call, target.prio);
         self.parts.ask_unblock(thread);
     }
 
@@ -331,12 +332,7 @@ impl World {
     /// Does an item that a worker holds, and empties the hand. An answer takes a queued unblock pulse of its call out of
     /// the line.
     #[tactic(auto, unfolding(qx_machine::specs::Users::settle, qx_machine::specs::Users::serve))]
-    fn serve(
-        &mut self,
-        worker: Worker,
-        held: Held,
-        read: Option<&Parsed>,
-    ) -> Result<(), NoMemory>
+    fn serve(&mut self, worker: Worker, held: Held, read: Option<&Parsed>) -> Result<(), NoMemory>
         requires read { IsReadOf (option_copied read) (taken_item_of held.item (row_at self.old.parts held.user.0)) }
         ensures ok { OnOk result (self.new ≡ after_serving self.old worker.0 held) }
         ensures err { OnErr result (self.new ≡ self.old) }
@@ -539,7 +535,12 @@ fn named_thread(user: User, item: OwnItem) -> Thread
     ensures { result ≡ sender_of user.0 item }
 {
     match item {
-        OwnItem::Message { process, thread } | OwnItem::Unblock { process, thread, .. } => Thread {
+        OwnItem::Message { process, thread }
+        | OwnItem::Unblock {
+            process,
+            thread,
+            ..
+        } => Thread {
             proc: Proc { user, num: process },
             tid: thread,
         },

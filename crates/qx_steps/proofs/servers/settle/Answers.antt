@@ -1,4 +1,4 @@
-use Rattle.std.proofs.Common.{sym, ◌∙◌, ap}
+use Rattle.std.proofs.Common.{sym}
 use Rattle.qx_types.specs.Managers.{managers}
 use Rattle.qx_parts.specs.Reads.{process_of}
 use Rattle.qx_steps.proofs.SettleLemmas.{settled-next}

@@ -1,4 +1,3 @@
-use Rattle.std.proofs.Common.{◌≡◌}
 use Rattle.qx_parts.specs.Reads.{thread_row}
 use Rattle.qx_steps.specs.Reads.{IsUnasked}
 use Rattle.qx_steps.proofs.InterruptLemmas.{asks-idle, asks-kept}

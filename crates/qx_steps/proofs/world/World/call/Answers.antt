@@ -1,4 +1,4 @@
-use Rattle.std.proofs.Common.{◌≡◌, Ok, Err, refl, rules}
+use Rattle.std.proofs.Common.{◌≡◌, Ok, refl, rules}
 use Rattle.std.proofs.lemmas.Bool.{false≢true}
 use Rattle.qx_steps.specs.Calls.{target_in}
 use Rattle.qx_steps.proofs.SentLemmas.{called, called-can_send, called-ready}

@@ -1,4 +1,4 @@
-use Rattle.std.proofs.Common.{◌≡◌, ◌∷◌, [], true, false, drop, is_some, sym, ap, rules}
+use Rattle.std.proofs.Common.{◌≡◌, ◌∷◌, [], true, false, drop, is_some, ap, rules}
 use Rattle.qx_types.specs.Managers.{manager_number}
 use Rattle.qx_types.specs.declared.outcome.Outcome.TheVariants.{Took}
 use Rattle.qx_machine.specs.Lines.{line_at}

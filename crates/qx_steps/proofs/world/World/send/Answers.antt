@@ -1,6 +1,3 @@
-use Rattle.std.proofs.Common.{◌≡◌, ◌∙◌, ap}
-use Rattle.qx_chan.specs.Channel.{has_thread, stands}
-use Rattle.qx_machine.specs.Lines.{line_at}
 use Rattle.qx_parts.specs.Reads.{thread_row}
 use Rattle.qx_steps.specs.Reads.{IsReady}
 use Rattle.qx_steps.proofs.SendLemmas.{Kept-sent, has-sender}

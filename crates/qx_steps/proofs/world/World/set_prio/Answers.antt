@@ -1,4 +1,4 @@
-use Rattle.std.proofs.Common.{◌≡◌, Some, None, ap, sym, rules}
+use Rattle.std.proofs.Common.{◌≡◌, Some, None, sym, rules}
 use Rattle.qx_machine.specs.Rows.{row_at}
 use Rattle.qx_machine.specs.Clients.{or_unchanged, set_prio}
 use Rattle.qx_steps.proofs.RowReads.{put-with_row}

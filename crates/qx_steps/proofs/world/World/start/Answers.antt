@@ -1,4 +1,4 @@
-use Rattle.std.proofs.Common.{◌≡◌, Ok, sym, rules}
+use Rattle.std.proofs.Common.{◌≡◌, Ok}
 use Rattle.qx_machine.specs.Rows.{row_at}
 use Rattle.qx_chan.proofs.PresenceLemmas.{lines-process}
 use Rattle.qx_steps.specs.Calls.{spawn_number_in}
