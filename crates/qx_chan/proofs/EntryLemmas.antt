@@ -195,9 +195,6 @@ module _ {A : Type 0} (lines : List (List A)) (number : ℕ) (change : List A �
   pub line_at-other : (other : ℕ) → other ≢ number → line_at (with_line lines number change) other ≡ line_at lines other
   line_at-other other differs = unwrap_or-slice_get (with_line lines number change) other [] ∙ get_or-set_other lines number other (change (line_at lines number)) [] differs ∙ sym (unwrap_or-slice_get lines other [])
 
-  pub length-with_line : length (with_line lines number change) ≡ length lines
-  length-with_line = length-set lines number (change (line_at lines number))
-
 -- a line that stays as it is
 pub with_line-same : (lines : List (List Queued)) (number : ℕ) (change : List Queued → List Queued) → change (line_at lines number) ≡ line_at lines number → lines ≡ with_line lines number change
 with_line-same lines number change same = sym (ap (slice_set lines number) same ∙ set_same lines number)

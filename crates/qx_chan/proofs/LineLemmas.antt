@@ -250,10 +250,6 @@ module _ (line : List Queued) (thread : Thread) (call : ℕ) where
   pub call-replied_other : (other : Thread) → other ≢ thread → unblock_call replied other ≡ unblock_call line other
   call-replied_other other differs = told-without call_in other thread.proc.user.0 (item.Unblock thread.proc.num thread.tid call) line (λ a is. absurd (some_of_none a _ (if_not thread other (Some call) differs) is))
 
-  -- a thread that another call, or none, is to be unblocked from
-  pub call-replied_not : unblock_call line thread ≢ Some call → unblock_call replied thread ≡ unblock_call line thread
-  call-replied_not not = told-without call_in thread thread.proc.user.0 (item.Unblock thread.proc.num thread.tid call) line (λ a is some. not (some ∙ sym is ∙ rw (is_same_thread-self thread) refl))
-
   pub replied-none : unblock_call line thread ≡ None → replied ≡ line
   replied-none none = without-none call_in thread thread.proc.user.0 (item.Unblock thread.proc.num thread.tid call) line (rw (is_same_thread-self thread) refl) none
 

@@ -49,9 +49,6 @@ row_at-none n i = unwrap_or-slice_get (replicate n None) i None ∙ default_of n
 same_proc_of : (u v p q : ℕ) → u ≡ v → p ≡ q → ◌≡◌ {A = Proc} (record { user = record { 0 = u }; num = p }) (record { user = record { 0 = v }; num = q })
 same_proc_of u v p q user process = rw (user, process) refl
 
-pub same_process_names : (one other : Proc) → one.user.0 ≡ other.user.0 → one.num ≡ other.num → one ≡ other
-same_process_names one other user process = same_proc_of _ _ _ _ user process
-
 pub same_proc : (one other : Proc) → (one ≡ other) ⊎ (one ≢ other)
 same_proc one other = elim (cases_eq one.user.0 other.user.0) [
   | inr apart ↦ inr (λ same. apart (ap (λ p. p.user.0) same))

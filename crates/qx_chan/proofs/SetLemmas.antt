@@ -97,9 +97,6 @@ server_exact one other is =
     let same = is_same_thread-same (record { proc = one.0; tid = one.1 }) (record { proc = other.0; tid = other.1 }) (sym (eq-server one.0 other.0 one.1 other.1) ∙ ap is_eq is) in
     λ i. ((same i).proc, (same i).tid)
 
-pub is_same_server-self : (proc : Proc) (number : ℕ) → is_same_server proc number proc number ≡ true
-is_same_server-self proc number = sym (eq-server proc proc number number) ∙ (eq_by_cmp_equiv server_total).refl (proc, number)
-
 pub is_same_server-differs : (proc other : Proc) (number at : ℕ) → (other ≡ proc → at ≢ number) → is_same_server proc number other at ≡ false
 is_same_server-differs proc other number at differs = sym (eq-server proc other number at) ∙ other_key server_total server_exact (proc, number) (other, at) (λ same. differs (λ i. (sym same i).0) (λ i. (sym same i).1))
 

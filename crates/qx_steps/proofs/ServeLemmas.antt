@@ -125,10 +125,6 @@ module _ (parts : List (Option Part)) (channel : Channel) (thread : Thread) (tar
         | inr differs ↦ absurd (differs.1 refl)
       ]
 
-  -- it stands in the line
-  pub dismissed-stands : stands (line_at channel.lines (manager_number target.manager)) thread ≡ true
-  dismissed-stands = kept.lines thread (manager_number target.manager) ∙ at_target
-
   pub Kept-dismissed : (error : Errno) → stands (drop_message (line_at channel.lines (manager_number target.manager))) thread ≡ false
       → Kept (with_row parts thread.proc.user.0 (λ part. after_answer part thread.proc.num thread.tid target.over (Err error)))
       (settled thread.proc (process_of (with_row parts thread.proc.user.0 (λ part. after_answer part thread.proc.num thread.tid target.over (Err error))) thread.proc) managers
@@ -338,11 +334,6 @@ queued_from parts thread target is = elim (option_cases (thread_row parts thread
       let its : IsQueuedTo target (Some row.0) = rw row.1 at is in
       record { row = row.0; there = row.1; sent = its.0; is = its.1.0; to = its.1.1 }
 ]
-
-pub dismisses-stands : (parts : List (Option Part)) (channel : Channel) (thread : Thread) (target : Target) → IsQueuedTo target (thread_row parts thread) → Kept parts channel → stands (line_at channel.lines (manager_number target.manager)) thread ≡ true
-dismisses-stands parts channel thread target is kept =
-    let it = queued_from parts thread target is in
-    dismissed-stands parts channel thread target it.row it.sent kept it.there it.is it.to
 
 pub dismisses-kept : (parts : List (Option Part)) (channel : Channel) (thread : Thread) (target : Target) (error : Errno) → IsQueuedTo target (thread_row parts thread) → Kept parts channel
     → stands (line_without thread.proc.user.0 (item.Message thread.proc.num thread.tid) (line_at channel.lines (manager_number target.manager))) thread ≡ false
