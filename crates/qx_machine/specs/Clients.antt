@@ -21,7 +21,7 @@ use Rattle.qx_machine.specs.declared.rows.State.{State}
 use Rattle.qx_machine.specs.declared.rows.State.TheVariants.{Queued, Taken, Answered}
 use Rattle.qx_machine.specs.Calls.{bytes_of, content_of, is_ready, own_name, target_of}
 use Rattle.qx_machine.specs.Judgements.{◌>>=◌, found, need, or_refused}
-use Rattle.qx_machine.specs.Mounting.{mounted_at}
+use Rattle.qx_machine.specs.Mounting.{new_mount, with_mount}
 use Rattle.qx_machine.specs.Parts.{Part, Change, Put, Remove, thread_at, with_process, with_thread_of}
 use Rattle.qx_machine.specs.Performing.{after_answer}
 use Rattle.qx_machine.specs.Processes.{Process, asked_thread, new_process, with_queued, ranked_thread, ready_thread}
@@ -126,8 +126,8 @@ abbrev pub mount : Configuration → ℕ → Part → Thread → List ℕ → Ma
 mount config user part thread path manager = do
   row ← found (thread_at part thread.proc.num thread.tid) WrongState
   ready ← need (is_ready row.state) WrongState
-  resources ← or_refused (mounted_at user (own_name config user) path manager part.resources)
-  Ok (record { outcome = Done; part = record part { resources = resources }; changes = [] })
+  mount ← or_refused (new_mount (own_name config user) path manager part.resources)
+  Ok (record { outcome = Done; part = record part { resources = with_mount user mount part.resources }; changes = [] })
 
 -- what a client's step gives, or the outcome of one that changes nothing
 abbrev pub client_given : Configuration → ℕ → List OwnItem → Part → Step → Result ClientStep Outcome

@@ -4,4 +4,4 @@
 pub mod resources;
 mod status;
 
-pub use resources::{Done, Resources};
+pub use resources::{Done, NewMount, Resources};
