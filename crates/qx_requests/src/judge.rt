@@ -1,20 +1,49 @@
 //! How a call of a thread is judged, by the rows of its user.
 
-ghost use Rattle.std.specs.Prelude.{◌≡◌, ◌∷◌, IsTrue, IfOk};
+ghost use Rattle.std.specs.Prelude.{◌≡◌, ◌∷◌, IsTrue, IfOk, Ok, Err, if◌then◌else◌};
 ghost use Rattle.std.specs.Str.{bytes_eq};
+ghost use Rattle.qx_types.specs.declared.errno.Errno.TheVariants.{ENOENT};
+ghost use Rattle.qx_types.specs.declared.outcome.Outcome.TheVariants.{Refused};
 ghost use Rattle.qx_machine.specs.Calls as calls;
 ghost use Rattle.qx_machine.specs.Calls.{address, can_send, content_of, in_ranges};
+ghost use Rattle.qx_machine.specs.Clients as clients;
+ghost use Rattle.qx_machine.specs.Parts.{Resources};
 ghost use Rattle.qx_process.specs.Reads.{IsPriority};
-ghost use Rattle.qx_parts.specs.Reads.{IsConnection};
+ghost use Rattle.qx_requests.specs.Targets as targets;
+ghost use Rattle.qx_requests.specs.Targets.{IsConnection};
 
 use crate::content::is_in_ranges;
 use qx_machine::{Connection, Over, State, Target, ThreadRow};
 use qx_process::Process;
 use qx_procs::Processes;
-use qx_types::{Coid, Errno, Limits, Manager, Outcome, Prio, Request};
+use qx_types::{Coid, Errno, Limits, Manager, Outcome, Prio, Request, Thread};
 
-/// Where a thread's call goes, or the outcome of one that sends nothing. What is judged so can be sent.
-pub fn target_of(
+/// Where a call of a thread goes, by the processes and the name of its user, or the outcome of one that sends nothing:
+/// `WrongState` where the thread is not there or not ready; then EINVAL for fields out of their ranges, EAGAIN where the
+/// thread's calls are used up; for a path, ENOENT where it is not the user's own root; for a connection, EBADF where it
+/// is not there; EMFILE where no connection is free for a new one; EAGAIN where the user has all its server connections at
+/// the manager. What is judged so can be sent.
+pub fn target_by(
+    processes: &Processes,
+    name: &[u8],
+    thread: Thread,
+    request: &Request,
+) -> Result<Target, Outcome>
+    ensures priority { IfOk result (λ target. IsPriority target.prio.0) }
+    ensures sendable { IfOk result (λ _. IsTrue (can_send (content_of request.now))) }
+    ensures target { (resources : Resources) → result ≡ clients.target_by (47 ∷ name.now) (record { processes = processes.now; resources = resources }) thread request.now }
+{
+    let Some(process) = processes.process(thread.proc.num) else {
+        return Err(Outcome::WrongState);
+    };
+    let Some(row) = process.thread(thread.tid) else {
+        return Err(Outcome::WrongState);
+    };
+    target_of(processes, process, row, name, request)
+}
+
+/// Where the call of a thread that is there goes.
+fn target_of(
     processes: &Processes,
     process: &Process,
     row: &ThreadRow,
@@ -52,10 +81,13 @@ fn target_at(
 {
     match request {
         Request::OpenPath { path, .. } => {
-            open_target(processes, process, name, prio, path.as_slice())
+            own_root(name, path.as_slice())?;
+            let coid = Coid(free_connection(process)?);
+            root_target(processes, process, prio, Over::New(coid))
         }
         Request::StatPath { path } | Request::Unlink { path } | Request::Mkdir { path, .. } => {
-            side_target(processes, process, name, prio, path.as_slice())
+            own_root(name, path.as_slice())?;
+            root_target(processes, process, prio, Over::Side)
         }
         Request::Dup { coid } => Ok(Target {
             manager: connection_at(process, *coid)?.manager,
@@ -78,49 +110,31 @@ fn target_at(
     }
 }
 
-/// The root of the user's mount, over the lowest free connection.
-fn open_target(
-    processes: &Processes,
-    process: &Process,
-    name: &[u8],
-    prio: Prio,
-    path: &[u8],
-) -> Result<Target, Outcome>
-    ensures { result ≡ calls.target_at (47 ∷ name.now) processes.now process.now prio (calls.Opens path.now) }
+/// The path is that of the user's own root.
+fn own_root(name: &[u8], path: &[u8]) -> Result<(), Outcome>
+    ensures { result ≡ (if bytes_eq path.now (47 ∷ name.now) then Ok tt else Err (Refused ENOENT)) }
 {
     if !is_own_path(name, path) {
         return Err(Outcome::Refused(Errno::ENOENT));
     }
-    let coid = Coid(free_connection(process)?);
-    if !processes.can_serve(process, Manager::Ram) {
-        return Err(Outcome::Refused(Errno::EAGAIN));
-    }
-    Ok(Target {
-        manager: Manager::Ram,
-        over: Over::New(coid),
-        prio,
-    })
+    Ok(())
 }
 
-/// The root of the user's mount, over a side connection.
-fn side_target(
+/// The manager of the user's root, which the user can have a server connection at.
+fn root_target(
     processes: &Processes,
     process: &Process,
-    name: &[u8],
     prio: Prio,
-    path: &[u8],
+    over: Over,
 ) -> Result<Target, Outcome>
-    ensures { result ≡ calls.target_at (47 ∷ name.now) processes.now process.now prio (calls.Looks path.now) }
+    ensures { result ≡ targets.root_target processes.now process.now prio over }
 {
-    if !is_own_path(name, path) {
-        return Err(Outcome::Refused(Errno::ENOENT));
-    }
     if !processes.can_serve(process, Manager::Ram) {
         return Err(Outcome::Refused(Errno::EAGAIN));
     }
     Ok(Target {
         manager: Manager::Ram,
-        over: Over::Side,
+        over,
         prio,
     })
 }
