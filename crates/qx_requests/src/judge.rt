@@ -1,14 +1,17 @@
 //! How a call of a thread is judged, by the rows of its user.
 
-ghost use Rattle.std.specs.Prelude.{◌≡◌, ◌∷◌, IsTrue, IfOk, Ok, Err, if◌then◌else◌};
+ghost use Rattle.std.specs.Prelude.{◌≡◌, ◌∷◌, ◌<◌, ◌≤◌, IsTrue, IfOk, Ok, Err, Some, option_map, if◌then◌else◌};
 ghost use Rattle.std.specs.Str.{bytes_eq};
 ghost use Rattle.qx_types.specs.declared.errno.Errno.TheVariants.{ENOENT};
+ghost use Rattle.qx_types.specs.declared.limits.TheConstants.Limits.{CALLS, LAST_CONNECTION};
 ghost use Rattle.qx_types.specs.declared.outcome.Outcome.TheVariants.{Refused};
+ghost use Rattle.qx_machine.specs.declared.rows.State.TheVariants.{Ready};
 ghost use Rattle.qx_machine.specs.Calls as calls;
 ghost use Rattle.qx_machine.specs.Calls.{address, can_send, content_of, in_ranges};
 ghost use Rattle.qx_machine.specs.Clients as clients;
-ghost use Rattle.qx_machine.specs.Parts.{Resources};
-ghost use Rattle.qx_process.specs.Reads.{IsPriority};
+ghost use Rattle.qx_machine.specs.Parts.{Resources, thread_of};
+ghost use Rattle.qx_machine.specs.Rows.{row_at};
+ghost use Rattle.qx_process.specs.Reads.{CanCall, CanGo, IsPriority};
 ghost use Rattle.qx_requests.specs.Targets as targets;
 ghost use Rattle.qx_requests.specs.Targets.{IsConnection};
 
@@ -29,7 +32,9 @@ pub fn target_by(
     thread: Thread,
     request: &Request,
 ) -> Result<Target, Outcome>
-    ensures priority { IfOk result (λ target. IsPriority target.prio.0) }
+    ensures ready { IfOk result (λ _. option_map (λ row. row.state) (thread_of thread.tid (row_at processes.now thread.proc.num)) ≡ Some Ready) }
+    ensures countable { IfOk result (λ _. CanCall (thread_of thread.tid (row_at processes.now thread.proc.num))) }
+    ensures goes { IfOk result (λ target. CanGo target) }
     ensures sendable { IfOk result (λ _. IsTrue (can_send (content_of request.now))) }
     ensures target { (resources : Resources) → result ≡ clients.target_by (47 ∷ name.now) (record { processes = processes.now; resources = resources }) thread request.now }
 {
@@ -51,7 +56,9 @@ fn target_of(
     request: &Request,
 ) -> Result<Target, Outcome>
     requires { IsPriority row.now.prio.0 }
-    ensures priority { IfOk result (λ target. IsPriority target.prio.0) }
+    ensures ready { IfOk result (λ _. row.now.state ≡ Ready) }
+    ensures countable { IfOk result (λ _. row.now.calls < CALLS) }
+    ensures goes { IfOk result (λ target. CanGo target) }
     ensures sendable { IfOk result (λ _. IsTrue (can_send (content_of request.now))) }
     ensures target { result ≡ calls.target_of (47 ∷ name.now) processes.now process.now row.now request.now }
 {
@@ -75,7 +82,8 @@ fn target_at(
     prio: Prio,
     request: &Request,
 ) -> Result<Target, Outcome>
-    ensures priority { IfOk result (λ target. target.prio ≡ prio) }
+    requires { IsPriority prio.0 }
+    ensures goes { IfOk result (λ target. CanGo target) }
     ensures sendable { IsTrue (in_ranges request.now) → IfOk result (λ _. IsTrue (can_send (content_of request.now))) }
     ensures target { result ≡ calls.target_at (47 ∷ name.now) processes.now process.now prio (address request.now) }
 {
@@ -127,7 +135,8 @@ fn root_target(
     prio: Prio,
     over: Over,
 ) -> Result<Target, Outcome>
-    ensures { result ≡ targets.root_target processes.now process.now prio over }
+    ensures goes { IfOk result (λ target. (target.over ≡ over) × (target.prio ≡ prio)) }
+    ensures target { result ≡ targets.root_target processes.now process.now prio over }
 {
     if !processes.can_serve(process, Manager::Ram) {
         return Err(Outcome::Refused(Errno::EAGAIN));
@@ -156,7 +165,8 @@ fn connection_at(process: &Process, coid: Coid) -> Result<Connection, Outcome>
 
 /// The number of a connection that is free.
 fn free_connection(process: &Process) -> Result<u8, Outcome>
-    ensures { result ≡ calls.free_connection process.now }
+    ensures number { IfOk result (λ coid. coid ≤ LAST_CONNECTION) }
+    ensures free { result ≡ calls.free_connection process.now }
 {
     let number = process.free_connection();
     if number > Limits::LAST_CONNECTION {
