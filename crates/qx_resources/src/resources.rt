@@ -1,9 +1,10 @@
 //! What the managers keep for a user, and what messages do to it.
 
-ghost use Rattle.std.specs.Prelude.{◌≡◌, [], ◌∷◌, None, IsFalse, IsOk, IfOk, OnErr};
-ghost use Rattle.qx_machine.specs.Attributes.{root_attribute};
+ghost use Rattle.std.specs.Prelude.{◌≡◌, IsFalse, IsOk, IfOk, OnErr};
+ghost use Rattle.qx_types.specs.Configuration.{Configuration};
 ghost use Rattle.qx_machine.specs.Performing as performing;
 ghost use Rattle.qx_machine.specs.Performing.{close_deed, deed_of, fstat_deed, manager_deed, open_deed, stat_deed};
+ghost use Rattle.qx_machine.specs.Users.{boot_part};
 ghost use Rattle.qx_wire.specs.declared.message.Meaning.TheVariants.{Known};
 ghost use Rattle.qx_resources.specs.Deeds.{deed_with, used_deed, wants_memory};
 
@@ -44,8 +45,9 @@ pub struct Done {
 
 impl Resources {
     /// A user's resources at boot.
+    #[tactic(auto, unfolding(qx_machine::specs::Users::boot_part))]
     pub fn boot(alloc: Global, user: User) -> Result<Self, AllocError>
-        ensures { IfOk result (λ resources. resources ≡ record { root = root_attribute user.0; blocks = None ∷ [] }) }
+        ensures { IfOk result (λ resources. (config : Configuration) → resources ≡ (boot_part config user.0).resources) }
     {
         let root = Attribute {
             kind: Kind::Directory,
