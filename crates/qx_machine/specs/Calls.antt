@@ -1,6 +1,6 @@
 -- How a call of a thread is judged, and what it sends.
-use Rattle.std.specs.Prelude.{ℕ, List, [], ◌==◌, ◌&&◌, ◌||◌, Bool, true, false, Option, Some, None, Result, Ok, length, nat_le, nat_lt, count_by, is_some, unwrap_or}
-use Rattle.qx_types.specs.Configuration.{Configuration, name_of}
+use Rattle.std.specs.Prelude.{ℕ, List, [], ◌==◌, ◌&&◌, ◌||◌, Bool, true, false, Option, Some, None, Result, Ok, length, nat_le, nat_lt, count_by, is_some}
+use Rattle.qx_types.specs.Configuration.{Configuration, name_bytes}
 use Rattle.qx_types.specs.Managers.{manager_number}
 use Rattle.qx_types.specs.declared.errno.Errno.{Errno}
 use Rattle.qx_types.specs.declared.errno.Errno.TheVariants.{EAGAIN, EBADF, EINVAL, EMFILE}
@@ -112,15 +112,11 @@ connection_at coid process = do
   possible ← need (nat_le FIRST_CONNECTION coid && nat_le coid LAST_CONNECTION) (Refused EBADF)
   found (row_at process.connections coid) (Refused EBADF)
 
--- the user's name
-abbrev pub own_name : Configuration → ℕ → List ℕ
-own_name config user = unwrap_or (name_of config user) []
-
 -- where a path leads a user (C Library Reference: open)
 abbrev pub place_of : Configuration → ℕ → List MountPoint → List ℕ → Result Resolved Errno
 place_of config user mounts path = do
   names ← read_path path
-  resolve config.users (own_name config user) mounts names
+  resolve config.users (name_bytes config user) mounts names
 
 -- a message to where a path leads
 abbrev pub to_place : Resolved → Over → Prio → Addressed

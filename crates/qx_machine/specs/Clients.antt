@@ -1,6 +1,6 @@
 -- What a client's step does to the rows of its user.
 use Rattle.std.specs.Prelude.{ℕ, Bool, false, if◌then◌else◌, List, [], ◌∷◌, ◌&&◌, Option, Some, None, Result, Ok, Err, nat_le}
-use Rattle.qx_types.specs.Configuration.{Configuration}
+use Rattle.qx_types.specs.Configuration.{Configuration, name_bytes}
 use Rattle.qx_types.specs.declared.errno.Errno.TheVariants.{EAGAIN, EINTR, EINVAL}
 use Rattle.qx_types.specs.declared.limits.TheConstants.Limits.{PRIORITY, PROCESSES, THREADS}
 use Rattle.qx_types.specs.declared.names.Manager.{Manager}
@@ -19,7 +19,7 @@ use Rattle.qx_machine.specs.declared.rows.OwnItem.TheVariants as item
 use Rattle.qx_machine.specs.declared.rows.Sent.{Sent}
 use Rattle.qx_machine.specs.declared.rows.State.{State}
 use Rattle.qx_machine.specs.declared.rows.State.TheVariants.{Queued, Taken, Answered}
-use Rattle.qx_machine.specs.Calls.{bytes_of, content_of, is_ready, own_name, target_of}
+use Rattle.qx_machine.specs.Calls.{bytes_of, content_of, is_ready, target_of}
 use Rattle.qx_machine.specs.Judgements.{◌>>=◌, found, need, or_refused}
 use Rattle.qx_machine.specs.Mounting.{new_mount, with_mount}
 use Rattle.qx_machine.specs.Parts.{Part, Change, Put, Remove, thread_at, with_process, with_thread_of}
@@ -126,7 +126,7 @@ abbrev pub mount : Configuration → ℕ → Part → Thread → List ℕ → Ma
 mount config user part thread path manager = do
   row ← found (thread_at part thread.proc.num thread.tid) WrongState
   ready ← need (is_ready row.state) WrongState
-  mount ← or_refused (new_mount (own_name config user) path manager part.resources)
+  mount ← or_refused (new_mount (name_bytes config user) path manager part.resources)
   Ok (record { outcome = Done; part = record part { resources = with_mount user mount part.resources }; changes = [] })
 
 -- what a client's step gives, or the outcome of one that changes nothing

@@ -5,10 +5,11 @@ ghost use Rattle.std.specs.Option.{option_copied};
 ghost use Rattle.qx_paths.specs.Mounts.{mount_fault};
 ghost use Rattle.qx_machine.specs.Attributes as attributes;
 ghost use Rattle.qx_machine.specs.Mounting as mounting;
-ghost use Rattle.qx_machine.specs.Mounting.{boot_resources, with_mount};
+ghost use Rattle.qx_machine.specs.Mounting.{with_mount};
 ghost use Rattle.qx_machine.specs.Performing as performing;
 ghost use Rattle.qx_machine.specs.Performing.{close_deed, deed_of, fstat_deed, manager_deed, open_deed, stat_deed};
 ghost use Rattle.qx_machine.specs.Rows.{row_at};
+ghost use Rattle.qx_machine.specs.Users.{boot_part};
 ghost use Rattle.qx_wire.specs.declared.message.Meaning.TheVariants.{Known};
 ghost use Rattle.qx_resources.specs.Deeds.{deed_with, used_deed, wants_memory};
 
@@ -17,7 +18,7 @@ use arrayvec::ArrayVec;
 use qx_machine::{Attribute, Block, Effect, Kind, Opened, Over, Target};
 use qx_paths::{MountFault, Mounts, Path, read_path};
 use qx_process::{Process, places};
-use qx_types::{Errno, Limits, Manager, NoMemory, User};
+use qx_types::{Config, Errno, Limits, Manager, NoMemory, User};
 use qx_wire::{Meaning, Message, Rest};
 use std::alloc::{AllocError, Global};
 use std::marker::Model;
@@ -66,14 +67,15 @@ pub struct Done {
 }
 
 impl Resources {
-    /// The resources at boot of a user with that name.
-    pub fn boot(alloc: Global, user: User, name: &[u8]) -> Result<Self, NoMemory>
-        ensures { IfOk result (λ resources. resources ≡ boot_resources user.0 name.now) }
+    /// A user's resources at boot.
+    #[tactic(auto, unfolding(qx_machine::specs::Users::boot_part))]
+    pub fn boot(alloc: Global, config: &Config, user: User) -> Result<Self, NoMemory>
+        ensures { IfOk result (λ resources. resources ≡ (boot_part config.now user.0).resources) }
     {
         let mut inodes = places::empty(alloc)?;
         places::put(&mut inodes, TOP_INODE as usize, root_attribute(user))?;
         Ok(Resources {
-            mounts: Mounts::boot(alloc, name, TOP_INODE)?,
+            mounts: Mounts::boot(alloc, config.name_bytes(user), TOP_INODE)?,
             inodes,
             blocks: places::empty(alloc)?,
         })
