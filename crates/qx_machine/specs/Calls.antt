@@ -118,25 +118,25 @@ place_of config user mounts path = do
   names ← read_path path
   resolve config.users (name_bytes config user) mounts names
 
--- a message to where a path leads
-abbrev pub to_place : Resolved → Over → Prio → Addressed
-to_place place over prio = record { target = record { manager = place.manager; root = Some place.root; over = over; prio = prio }; rest = place.rest }
+-- a message to where a path leads, over a server connection of the process there (EAGAIN is this profile)
+abbrev pub to_place : List (Option Process) → Process → Resolved → Over → Prio → Result Addressed Outcome
+to_place processes process place over prio = do
+  served ← need (can_serve processes process place.manager) (Refused EAGAIN)
+  Ok (record { target = record { manager = place.manager; root = Some place.root; over = over; prio = prio }; rest = place.rest })
 
 -- a message to what a connection has open
 abbrev pub to_connection : Connection → Over → Prio → Addressed
 to_connection connection over prio = record { target = record { manager = connection.manager; root = None; over = over; prio = prio }; rest = [] }
 
--- to which manager a message goes and over what (C Library Reference: open; EAGAIN for server connections is this profile)
+-- to which manager a message goes and over what (C Library Reference: open, dup)
 abbrev pub target_at : Configuration → ℕ → List MountPoint → List (Option Process) → Process → Prio → Address → Result Addressed Outcome
 target_at config user mounts processes process prio (Opens path) = do
   place ← or_refused (place_of config user mounts path)
   coid ← free_connection process
-  served ← need (can_serve processes process place.manager) (Refused EAGAIN)
-  Ok (to_place place (New (record { 0 = coid })) prio)
+  to_place processes process place (New (record { 0 = coid })) prio
 target_at config user mounts processes process prio (Connects path) = do
   place ← or_refused (place_of config user mounts path)
-  served ← need (can_serve processes process place.manager) (Refused EAGAIN)
-  Ok (to_place place Side prio)
+  to_place processes process place Side prio
 target_at config user mounts processes process prio (Uses coid) = do
   connection ← connection_at coid process
   Ok (to_connection connection (Existing (record { 0 = coid })) prio)

@@ -13,6 +13,7 @@ use Rattle.qx_types.specs.declared.outcome.Outcome.TheVariants.{Spawned, Refused
 use Rattle.qx_types.specs.declared.request.Request.{Request}
 use Rattle.qx_types.specs.declared.step.Step.{Step}
 use Rattle.qx_types.specs.declared.step.Step.TheVariants.{Spawn, Call, TakeReply, SetPrio, Interrupt, Mount}
+use Rattle.qx_paths.specs.Prefixes.{MountPoint}
 use Rattle.qx_machine.specs.declared.rows.Addressed.{Addressed}
 use Rattle.qx_machine.specs.declared.rows.OwnItem.{OwnItem}
 use Rattle.qx_machine.specs.declared.rows.OwnItem.TheVariants as item
@@ -50,16 +51,16 @@ spawn part threads prio = do
   Ok (record { outcome = Spawned number; part = record part { processes = put_row part.processes number (new_process threads prio) }; changes = [] })
 
 -- where a call of a thread goes
-abbrev pub target_by : Configuration → ℕ → Part → Thread → Request → Result Addressed Outcome
-target_by config user part thread request = do
-  process ← found (row_at part.processes thread.proc.num) WrongState
+abbrev pub target_by : Configuration → ℕ → List MountPoint → List (Option Process) → Thread → Request → Result Addressed Outcome
+target_by config user mounts processes thread request = do
+  process ← found (row_at processes thread.proc.num) WrongState
   row ← found (row_at process.threads thread.tid) WrongState
-  target_of config user part.resources.mounts part.processes process row request
+  target_of config user mounts processes process row request
 
 -- the message goes into its manager's line with its thread's priority (System Architecture: the channel's line of messages)
 abbrev pub call : Configuration → ℕ → Part → Thread → Request → Result ClientStep Outcome
 call config user part thread request = do
-  addressed ← target_by config user part thread request
+  addressed ← target_by config user part.resources.mounts part.processes thread request
   Ok (record {
     outcome = outcome.Sent;
     part = with_process thread.proc.num (with_queued thread.tid (record { target = addressed.target; is_asked = false; bytes = bytes_of (content_of request addressed.rest) })) part;
