@@ -20,7 +20,7 @@ use Rattle.qx_machine.specs.declared.rows.OwnItem.TheVariants as item
 use Rattle.qx_machine.specs.declared.rows.Sent.{Sent}
 use Rattle.qx_machine.specs.declared.rows.State.{State}
 use Rattle.qx_machine.specs.declared.rows.State.TheVariants.{Queued, Taken, Answered}
-use Rattle.qx_machine.specs.Calls.{bytes_of, content_of, is_ready, target_of}
+use Rattle.qx_machine.specs.Calls.{address, bytes_of, content_of, is_ready, may_call, target_at}
 use Rattle.qx_machine.specs.Judgements.{◌>>=◌, found, need, or_refused}
 use Rattle.qx_machine.specs.Mounting.{new_mount, with_mount}
 use Rattle.qx_machine.specs.Parts.{Part, Change, Put, Remove, thread_at, with_process, with_thread_of}
@@ -55,7 +55,8 @@ abbrev pub target_by : Configuration → ℕ → List MountPoint → List (Optio
 target_by config user mounts processes thread request = do
   process ← found (row_at processes thread.proc.num) WrongState
   row ← found (row_at process.threads thread.tid) WrongState
-  target_of config user mounts processes process row request
+  may ← may_call row request
+  target_at config user mounts processes process row.prio (address request)
 
 -- the message goes into its manager's line with its thread's priority (System Architecture: the channel's line of messages)
 abbrev pub call : Configuration → ℕ → Part → Thread → Request → Result ClientStep Outcome
