@@ -13,8 +13,11 @@ use Rattle.qx_machine.specs.Rows.{row_at, with_row}
 use Rattle.qx_process.proofs.RowLemmas.{set-row}
 use Rattle.qx_procs.specs.Calls.{after_or, with_prio}
 use Rattle.qx_queues.specs.Queues.{Queues}
+use Rattle.qx_machine.specs.declared.rows.Queued.{Queued as Item}
+use Rattle.qx_chan.specs.Channel.{Channel, after_taking}
 use Rattle.qx_chan.specs.Kept.{Kept, asked_at, is_asked_at, is_queued_at, stands_at}
 use Rattle.qx_chan.specs.Users.{Users, thread_row, with_thread_row}
+use Rattle.qx_chan.proofs.ProcessLemmas.{with_thread-put, with_thread-same}
 use Rattle.qx_chan.proofs.RowReads.{option_cases}
 use Rattle.qx_chan.proofs.ThreadLemmas.{Kept-thread}
 
@@ -43,6 +46,14 @@ module _ (users : Users) (queues : Queues) (thread : Thread) (row after : Thread
   pub Kept-answer : (result : Option Answer) → result ≡ answer_in row.state → MatchOption result (after ≡ row) (λ _. after ≡ ready_thread row) → Kept (with_thread_row users thread (λ _. after)) queues
   Kept-answer None is same = stays same
   Kept-answer (Some given) is same = readies given is same
+
+-- the channel's value then
+pub after_answer : (users : Users) (lines : List (List Item)) (thread : Thread) (row after : ThreadRow) (result : Option Answer) → Some row ≡ thread_row users thread → result ≡ answer_in row.state → MatchOption result (after ≡ row) (λ _. after ≡ ready_thread row)
+    → ◌≡◌ {A = Channel} (record { users = with_thread_row users thread (λ _. after); lines = lines }) (after_taking (record { users = users; lines = lines }) thread)
+after_answer users lines thread row after None there is same =
+    rw (same, with_thread-same users thread row (sym there), ← there, ← is) refl
+after_answer users lines thread row after (Some given) there is same =
+    rw (same, with_thread-put users thread ready_thread row (sym there), ← there, ← is) refl
 
 -- another priority changes one row or none
 ranked : (rows : List (Option Process)) (process thread prio : ℕ) → (after_or rows (with_prio rows process thread prio) ≡ rows) ⊎ (after_or rows (with_prio rows process thread prio) ≡ with_row rows process (with_thread thread (ranked_thread prio)))

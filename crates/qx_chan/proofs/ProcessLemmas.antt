@@ -75,6 +75,18 @@ with_thread-same users thread row there = elim (option_cases (process_of users t
       with_process-fixed users thread.proc (with_thread thread.tid (λ _. row)) process.0 process.1 same
 ]
 
+-- a row that was read and is put back changed
+pub with_thread-put : (users : Users) (thread : Thread) (g : ThreadRow → ThreadRow) (row : ThreadRow) → thread_row users thread ≡ Some row → with_thread_row users thread (λ _. g row) ≡ with_thread_row users thread g
+with_thread-put users thread g row there = elim (option_cases (row_at users thread.proc.user.0)) [
+  | inl nobody ↦ let clash : None ≡ Some row = rw nobody at there in absurd (cc)
+  | inr rows ↦ elim (option_cases (row_at rows.0 thread.proc.num)) [
+    | inl nobody ↦ let clash : None ≡ Some row = rw (rows.1, nobody) at there in absurd (cc)
+    | inr process ↦
+        let its : row_at process.0.threads thread.tid ≡ Some row = rw (rows.1, process.1) at there in
+        rw (rows.1, process.1, its) refl
+  ]
+]
+
 pub ruleset lends = (with_process-none, with_process-same, with_thread-none, with_thread-same, with_row-none)
 
 -- a row that a refused call put back
