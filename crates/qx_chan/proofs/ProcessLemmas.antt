@@ -87,7 +87,7 @@ with_thread-put users thread g row there = elim (option_cases (row_at users thre
   ]
 ]
 
-pub ruleset lends = (with_process-none, with_process-same, with_thread-none, with_thread-same, with_row-none)
+pub ruleset lends = (with_process-same, with_thread-none, with_row-none)
 
 -- a row that a refused call put back
 pub put_back : {A R E : Type 0} (xs : List (Option A)) (n : ℕ) (x y : A) (r : Result R E) → Some x ≡ row_at xs n → OnErr r (y ≡ x) → OnErr r (slice_set xs n (Some y) ≡ xs)

@@ -143,7 +143,6 @@ impl Users {
     }
 
     /// A blocked thread gets a reply, once its message has done what it does to the connection that it came over.
-    #[tactic(auto, using(crate::proofs::ProcessLemmas::lends))]
     pub fn reply(&mut self, thread: Thread, over: Over, effect: Effect, status: u64, bytes: &[u8])
         requires blocked { IsTrue (is_thread_blocked (thread_row self.old thread)) }
         requires fits { length bytes.now ≤ BODY }
@@ -156,7 +155,6 @@ impl Users {
     }
 
     /// A blocked thread gets an error, which gives back what its call attached.
-    #[tactic(auto, using(crate::proofs::ProcessLemmas::lends))]
     pub fn fail(&mut self, thread: Thread, over: Over, error: Errno)
         requires blocked { IsTrue (is_thread_blocked (thread_row self.old thread)) }
         ensures failed { self.new ≡ with_process_of self.old thread.proc (failed thread.tid error over) }
