@@ -1,5 +1,5 @@
 -- Where a process is attached, as its connections and side connections come and go.
-use Rattle.std.proofs.Common.{◌≡◌, ◌≢◌, ◌⊎◌, inl, inr, eq-eqb, ℕ, zero, suc, ◌<◌, ◌++◌, ◌∷◌, [], ◌||◌, ◌&&◌, Bool, true, false, List, Option, Some, None, slice_set, length, refl, sym, ◌∙◌, ap, arith}
+use Rattle.std.proofs.Common.{◌≡◌, ◌≢◌, ◌⊎◌, inl, inr, eq-eqb, ℕ, zero, suc, ◌<◌, ◌++◌, ◌∷◌, [], ◌||◌, Bool, true, false, List, Option, Some, None, slice_set, length, refl, sym, ◌∙◌, ap, arith}
 use Rattle.std.specs.Prelude.{◌==◌, nat_lt}
 use Rattle.std.specs.List.{list_any}
 use Rattle.std.proofs.lemmas.Bool.{cases_Bool}

@@ -1,5 +1,5 @@
 -- The call that a thread waits for, and what its row and the lines then say.
-use Rattle.std.proofs.Common.{◌≡◌, inl, inr, eq-eqb, true, false, List, Option, Some, None, refl, sym, ◌∙◌, ap}
+use Rattle.std.proofs.Common.{◌≡◌, inl, inr, eq-eqb, true, false, Option, Some, None, refl, sym, ◌∙◌, ap}
 use Rattle.std.specs.Prelude.{Bool, if◌then◌else◌}
 use Rattle.qx_types.specs.Managers.{manager_number}
 use Rattle.qx_types.specs.declared.names.Thread.{Thread}

@@ -1,6 +1,6 @@
 -- What is read of a row, where a row of the table changes or comes.
-use Rattle.std.proofs.Common.{◌≡◌, ◌≢◌, inl, inr, ℕ, ◌-◌, ◌<◌, ◌≤◌, ◌∷◌, ◌++◌, [], ◌⊎◌, List, Option, Some, None, Result, Ok, Err, option_map, get_or, slice_set, length, refl, sym, ◌∙◌, ap, arith}
-use Rattle.std.proofs.lemmas.Bool.{cases_eq, cases_lt}
+use Rattle.std.proofs.Common.{◌≡◌, ◌≢◌, inl, inr, ℕ, ◌-◌, ◌<◌, ◌≤◌, ◌∷◌, ◌++◌, [], ◌⊎◌, List, Option, Some, None, option_map, get_or, slice_set, length, refl, sym, ◌∙◌, ap, arith}
+use Rattle.std.proofs.lemmas.Bool.{cases_lt}
 use Rattle.std.proofs.lemmas.Bool.Decides.{nat_tests}
 use Rattle.std.proofs.lemmas.Grind.{common_steps}
 use Rattle.std.proofs.lemmas.List.{get_or-set_same, get_or-set_other, length-set}
@@ -12,10 +12,6 @@ use Rattle.qx_process.proofs.RowLemmas.{row_at-get_or}
 pub option_cases : {A : Type 0} (o : Option A) → (o ≡ None) ⊎ ((x : A) × (o ≡ Some x))
 option_cases None = inl refl
 option_cases (Some x) = inr (x, refl)
-
-pub result_cases : {A E : Type 0} (r : Result A E) → ((x : A) × (r ≡ Ok x)) ⊎ ((e : E) × (r ≡ Err e))
-result_cases (Ok x) = inl (x, refl)
-result_cases (Err e) = inr (e, refl)
 
 past : {A : Type 0} (xs : List A) (i : ℕ) (d : A) → length xs ≤ i → get_or xs i d ≡ d
 past xs i d beyond = grind (arith, common_steps)
@@ -50,21 +46,6 @@ row_at-with_same xs n f = elim (cases_lt n (length xs)) [
 
 pub row_at-with_other : {A : Type 0} (xs : List (Option A)) (n m : ℕ) (f : A → A) → m ≢ n → row_at (with_row xs n f) m ≡ row_at xs m
 row_at-with_other xs n m f differs = row_at-set_other xs n m (option_map f (row_at xs n)) differs
-
--- what is read of each row stays, where the change of the one row leaves it
-pub read-with_row : {A B : Type 0} (read : Option A → B) (xs : List (Option A)) (n m : ℕ) (f : A → A) → ((x : A) → row_at xs n ≡ Some x → read (Some (f x)) ≡ read (Some x)) → read (row_at (with_row xs n f) m) ≡ read (row_at xs m)
-read-with_row {A = A} read xs n m f same = elim (cases_eq m n) [
-  | inl here ↦ rw (here, row_at-with_same xs n f) (by_row (row_at xs n) refl)
-  | inr differs ↦ ap read (row_at-with_other xs n m f differs)
-]
-  where
-    by_row : (o : Option A) → row_at xs n ≡ o → read (option_map f o) ≡ read o
-    by_row None is = refl
-    by_row (Some x) is = same x is
-
--- a row that is put back changed
-pub put-with_row : {A : Type 0} (xs : List (Option A)) (n : ℕ) (x : A) (f : A → A) → row_at xs n ≡ Some x → with_row xs n f ≡ slice_set xs n (Some (f x))
-put-with_row xs n x f is = rw is refl
 
 -- a row that comes
 

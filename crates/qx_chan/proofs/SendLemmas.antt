@@ -1,8 +1,8 @@
 -- Rows, lines and nodes stand together still as a message goes out.
-use Rattle.std.proofs.Common.{◌≡◌, ◌≢◌, ◌≤◌, inl, inr, eq-eqb, ℕ, ◌||◌, ◌&&◌, true, false, List, Option, Some, None, is_some, refl, sym, ◌∙◌, ap, arith}
+use Rattle.std.proofs.Common.{◌≡◌, ◌≢◌, ◌≤◌, inl, inr, eq-eqb, ℕ, ◌||◌, true, false, List, Option, Some, None, is_some, refl, sym, ◌∙◌, ap, arith}
 use Rattle.std.specs.Prelude.{option_map}
 use Rattle.std.proofs.lemmas.Bool.{cases_Bool, cond_both}
-use Rattle.qx_types.specs.Managers.{manager_number, managers}
+use Rattle.qx_types.specs.Managers.{manager_number}
 use Rattle.qx_types.specs.declared.names.Manager.{Manager}
 use Rattle.qx_types.specs.declared.names.Proc.{Proc}
 use Rattle.qx_types.specs.declared.names.Thread.{Thread}
@@ -13,7 +13,6 @@ use Rattle.qx_machine.specs.declared.rows.ThreadRow.{ThreadRow}
 use Rattle.qx_machine.specs.Lines.{into, line_at}
 use Rattle.qx_machine.specs.Machine.{rank}
 use Rattle.qx_machine.specs.Processes.{Process, queued_thread, with_queued, with_thread}
-use Rattle.qx_machine.specs.Rows.{with_row}
 use Rattle.qx_machine.specs.Servers.{is_numbered}
 use Rattle.qx_queues.specs.Queues.{Queues, has_server, has_thread, message_of, stands, unblock_call, with_queues_line, with_server}
 use Rattle.qx_chan.specs.Users.{IsReady, Users, process_of, thread_row, with_process_of}

@@ -1,5 +1,5 @@
 -- Rows, lines and nodes stand together still as a process starts, and at boot.
-use Rattle.std.proofs.Common.{eq-eqb, ◌≡◌, ◌≢◌, inl, inr, ℕ, zero, suc, ◌+◌, ◌<◌, ◌≤◌, ◌∷◌, [], ◌&&◌, add-one, nat_le, Bool, true, false, List, Option, Some, None, Result, Ok, Err, replicate, length, is_some, refl, sym, ◌∙◌, ap, arith}
+use Rattle.std.proofs.Common.{eq-eqb, ◌≡◌, ◌≢◌, inl, inr, ℕ, zero, suc, ◌<◌, ◌≤◌, ◌∷◌, [], ◌&&◌, add-one, nat_le, Bool, true, false, List, Option, Some, None, Ok, Err, replicate, length, is_some, refl, sym, ◌∙◌, ap, arith}
 use Rattle.std.specs.FinSet as set
 use Rattle.std.proofs.lemmas.Bool.{cases_Bool, cases_lt}
 use Rattle.std.proofs.lemmas.Bool.Decides.{eqb_tells, nat_tests}

@@ -1,5 +1,5 @@
 -- What contracts see of a channel, and what its calls make of it.
-use Rattle.std.specs.Prelude.{ℕ, [], List, Option, Some, None, Result, Ok, Err, drop, replicate, slice_get}
+use Rattle.std.specs.Prelude.{ℕ, [], List, Option, Some, None, drop, replicate, slice_get}
 use Rattle.qx_types.specs.Managers.{manager_number}
 use Rattle.qx_types.specs.declared.errno.Errno.{Errno}
 use Rattle.qx_types.specs.declared.errno.Errno.TheVariants.{EINTR}
@@ -18,7 +18,7 @@ use Rattle.qx_machine.specs.Clients.{spawn_number}
 use Rattle.qx_machine.specs.Lines.{into, line_at, with_line}
 use Rattle.qx_machine.specs.Machine.{line_without, rank}
 use Rattle.qx_machine.specs.Processes.{Process, after_effect, after_error, after_reply, answered_thread, asked_thread, ready_thread, taken_thread, with_queued, with_thread}
-use Rattle.qx_machine.specs.Rows.{row_at, with_row}
+use Rattle.qx_machine.specs.Rows.{with_row}
 use Rattle.qx_procs.specs.Calls.{after_or, spawned, with_prio}
 use Rattle.qx_queues.specs.Queues.{message_of, sender, unblock_of}
 use Rattle.qx_chan.specs.Calls.{answer_of, queued_call, taken_call, unasked_call}

@@ -1,4 +1,3 @@
-use Rattle.std.proofs.Common.{◌≡◌}
 use Rattle.qx_chan.specs.Users.{IsReady, thread_row}
 use Rattle.qx_chan.proofs.SendLemmas.{Kept-sent, Kept-with_room, has-sender}
 use Rattle.qx_chan.proofs.channel.Channel.send.Goals as goal
