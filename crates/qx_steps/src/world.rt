@@ -11,7 +11,7 @@ ghost use Rattle.qx_machine.specs.Rows.{row_at};
 ghost use Rattle.qx_process.specs.Reads.{is_thread_blocked, CanCall, CanGo};
 ghost use Rattle.qx_chan.specs.Users.{IsReady};
 ghost use Rattle.qx_steps.specs.Held.{bytes_in, hand_wants_memory, held_work, holds_wanting, sent_wants_memory, taken_item, work_now, IsReadFor, IsReadOf, IsStale};
-ghost use Rattle.qx_steps.specs.Reads.{is_thread_answered, taken_of, thread_row};
+ghost use Rattle.qx_steps.specs.Reads.{is_thread_answered, is_thread_ready, taken_of, thread_row};
 ghost use Rattle.qx_steps.specs.Steps.{after_message, after_mount, mount_in, target_in, CanMount};
 
 use crate::work::{PerformFault, Work, WorkRef};
@@ -196,19 +196,23 @@ impl World {
         ensures free { IfOk result (λ mount. CanMount (row_at self.now.parts thread.proc.user.0) mount.prefix) }
         ensures mount { result ≡ mount_in self.now thread path.now manager }
     {
-        let Some(row) = self.channel.thread(thread) else {
-            return Err(Outcome::WrongState);
-        };
-        let State::Ready = &row.state else {
-            return Err(Outcome::WrongState);
-        };
         let user = thread.proc.user;
-        let Some(resources) = self.resources.user(user) else {
-            return Err(Outcome::WrongState);
-        };
-        resources
-            .new_mount(self.config.name_bytes(user), path.as_slice(), manager)
-            .map_err(Outcome::Refused)
+        match self.resources.user(user) {
+            Some(resources) if self.is_ready(thread) => resources
+                .new_mount(self.config.name_bytes(user), path.as_slice(), manager)
+                .map_err(Outcome::Refused),
+            _ => Err(Outcome::WrongState),
+        }
+    }
+
+    /// Whether a thread is there and ready.
+    fn is_ready(&self, thread: Thread) -> bool
+        ensures { result ≡ is_thread_ready (thread_row self.now.parts thread) }
+    {
+        match self.channel.thread(thread) {
+            Some(row) => matches!(row.state, State::Ready),
+            None => false,
+        }
     }
 
     /// A manager is attached for a user.
