@@ -50,12 +50,14 @@ fn push_odd(
     path.push(b'/')?;
     path.extend_from_slice(top_word(dice, user).as_bytes())?;
     path.push(b'/')?;
-    if dice.one_in(2) {
-        return path.extend_from_slice(next_name(alloc, dice)?.as_slice());
-    }
-    let length = 1_024 + usize::from(dice.below(2));
-    let left = length.saturating_sub(path.len());
-    path.extend_from_slice(long_rest(alloc, left)?.as_slice())
+    let name = if dice.one_in(2) {
+        next_name(alloc, dice)?
+    } else {
+        let length = 1_024 + usize::from(dice.below(2));
+        long_rest(alloc, length.saturating_sub(path.len()))?
+    };
+    path.extend_from_slice(name.as_slice())?;
+    Ok(())
 }
 
 /// A top and so many names, with a slash before each, and now and then one more slash.
@@ -81,7 +83,8 @@ fn push_slashes(path: &mut Vec<u8>, dice: &mut Dice) -> Result<(), AllocError> {
     if dice.one_in(8) {
         path.push(b'/')?;
     }
-    path.push(b'/')
+    path.push(b'/')?;
+    Ok(())
 }
 
 /// The user's own name, and now and then another user's or nobody's.
