@@ -1,150 +1,123 @@
 -- What contracts see of a channel, and what its calls make of it.
-use Rattle.std.specs.Prelude.{◌≡◌, ℕ, zero, suc, ◌+◌, ◌-◌, ◌==◌, ◌&&◌, if◌then◌else◌, nat_le, refl, IsTrue, Bool, false, List, [], ◌∷◌, Option, Some, None, is_some, replicate}
-use Rattle.std.specs.Coded.{Coded, code_by, coded×, coded_ℕ, coded_list}
-use Rattle.std.specs.FinSet as set
-use Rattle.std.specs.Option.{option_or}
-use Rattle.std.specs.Ordering.{nat_cmp, on, then_cmp}
-use Rattle.std.specs.declared.cmp.Ordering.{Ordering}
-use Rattle.qx_types.specs.contracts.names.Proc as proc_row
-use Rattle.qx_types.specs.contracts.names.Thread as thread_row
-use Rattle.qx_types.specs.declared.names.Proc.{Proc}
+use Rattle.std.specs.Prelude.{ℕ, [], List, Option, Some, None, Result, Ok, Err, drop, replicate, slice_get}
+use Rattle.qx_types.specs.Managers.{manager_number}
+use Rattle.qx_types.specs.declared.errno.Errno.{Errno}
+use Rattle.qx_types.specs.declared.errno.Errno.TheVariants.{EINTR}
+use Rattle.qx_types.specs.declared.names.Manager.{Manager}
 use Rattle.qx_types.specs.declared.names.TheConstants.Manager.{COUNT}
 use Rattle.qx_types.specs.declared.names.Thread.{Thread}
-use Rattle.qx_machine.specs.contracts.rows.Queued as queued_row
+use Rattle.qx_types.specs.declared.outcome.Answer.{Answer}
+use Rattle.qx_types.specs.declared.outcome.Answer.TheVariants.{Reply, Failed}
+use Rattle.qx_machine.specs.declared.rows.Effect.{Effect}
+use Rattle.qx_machine.specs.declared.rows.Over.{Over}
 use Rattle.qx_machine.specs.declared.rows.OwnItem.{OwnItem}
 use Rattle.qx_machine.specs.declared.rows.OwnItem.TheVariants as item
 use Rattle.qx_machine.specs.declared.rows.Queued.{Queued}
-use Rattle.qx_machine.specs.Lines.{line_at, with_line}
-use Rattle.qx_machine.specs.Machine.{queued_item}
+use Rattle.qx_machine.specs.declared.rows.Sent.{Sent}
+use Rattle.qx_machine.specs.Clients.{spawn_number}
+use Rattle.qx_machine.specs.Lines.{into, line_at, with_line}
+use Rattle.qx_machine.specs.Machine.{line_without, rank}
+use Rattle.qx_machine.specs.Processes.{Process, after_effect, after_error, after_reply, answered_thread, asked_thread, ready_thread, taken_thread, with_queued, with_thread}
+use Rattle.qx_machine.specs.Rows.{row_at, with_row}
+use Rattle.qx_procs.specs.Calls.{after_or, spawned, with_prio}
+use Rattle.qx_queues.specs.Queues.{message_of, sender, unblock_of}
+use Rattle.qx_chan.specs.Calls.{answer_of, queued_call, taken_call, unasked_call}
+use Rattle.qx_chan.specs.declared.call.Call.{Call}
+use Rattle.qx_chan.specs.Users.{no_processes, thread_row, with_process_of, with_thread_row}
 
--- processes in order
-abbrev pub proc_cmp : Proc → Proc → Ordering
-proc_cmp = then_cmp (on (λ p. p.user.0) nat_cmp) (on (λ p. p.num) nat_cmp)
-
--- threads in order
-abbrev pub thread_cmp : Thread → Thread → Ordering
-thread_cmp = then_cmp (on (λ t. t.proc) proc_cmp) (on (λ t. t.tid) nat_cmp)
-
--- server connections in order: each is a process at the manager of a number
-abbrev pub server_cmp : Proc × ℕ → Proc × ℕ → Ordering
-server_cmp = then_cmp (on (λ s. s.0) proc_cmp) (on (λ s. s.1) nat_cmp)
-
--- the lines under their managers' numbers, which threads and which server connections have nodes, the number that all users' are below,
--- and how many more nodes can be made with no memory
+-- the processes of all users, both numbered from 1, and the lines under their managers' numbers
 pub record Channel : Type 0 where
+  pub users : List (Option (List (Option Process)))
   pub lines : List (List Queued)
-  pub threads : set.FinSet thread_cmp
-  pub servers : set.FinSet server_cmp
-  pub users : ℕ
-  pub room : ℕ
 
--- a channel is stored as the tuple of its fields
-abbrev pub channel_code : Coded Channel
-channel_code =
-    code_by
-    (List (List Queued) × (set.FinSet thread_cmp × (set.FinSet server_cmp × (ℕ × ℕ))))
-    (coded× (coded_list (coded_list (queued_row.the_row).coded)) (coded× (set.code (thread_row.the_row).coded) (coded× (set.code (coded× (proc_row.the_row).coded coded_ℕ)) (coded× coded_ℕ coded_ℕ))))
-    (λ c. (c.lines, (c.threads, (c.servers, (c.users, c.room)))))
-    (λ p. record { lines = p.0; threads = p.1.0; servers = p.1.1.0; users = p.1.1.1.0; room = p.1.1.1.1 })
-    (λ _. refl)
+-- users from 1 to this many with no process, and empty lines
+abbrev pub empty_channel : ℕ → Channel
+empty_channel users = record { users = no_processes users; lines = replicate COUNT [] }
 
--- nobody has nodes, and the lines are empty
-abbrev pub no_channel : ℕ → Channel
-no_channel users = record { lines = replicate COUNT []; threads = set.empty; servers = set.empty; users = users + 1; room = 0 }
+-- a manager's line
+abbrev pub channel_line : Channel → Manager → List Queued
+channel_line c manager = line_at c.lines (manager_number manager)
 
--- the line of the manager of a number
-abbrev pub channel_line : Channel → ℕ → List Queued
-channel_line c number = line_at c.lines number
+-- one process and one line change
+abbrev pub with_process_and_line : Channel → Thread → (Process → Process) → Manager → (List Queued → List Queued) → Channel
+with_process_and_line c thread process manager line = record {
+  users = with_process_of c.users thread.proc process;
+  lines = with_line c.lines (manager_number manager) line;
+}
 
--- the channel with one line changed
-abbrev pub with_channel_line : Channel → ℕ → (List Queued → List Queued) → Channel
-with_channel_line c number change = record c { lines = with_line c.lines number change }
+-- once a process is started, if that is not refused
+abbrev pub after_spawn : Channel → ℕ → ℕ → ℕ → Channel
+after_spawn c user threads prio = record c { users = with_row c.users user (λ processes. spawned processes threads prio (spawn_number processes threads prio)) }
 
--- a thread's message as it stands in a line
-abbrev pub message_of : Thread → ℕ → Queued
-message_of thread prio = queued_item thread.proc.user.0 (item.Message thread.proc.num thread.tid) prio
+-- once a thread's message is sent
+abbrev pub after_send : Channel → Thread → Sent → Channel
+after_send c thread sent =
+    with_process_and_line c thread (with_queued thread.tid sent) sent.target.manager (λ line. into rank line (message_of thread sent.target.prio.0))
 
--- an unblock pulse of a thread as it stands in a line: it names the call that the thread is to be unblocked from
-abbrev pub unblock_of : Thread → ℕ → ℕ → Queued
-unblock_of thread call prio = queued_item thread.proc.user.0 (item.Unblock thread.proc.num thread.tid call) prio
+-- the thread of a message that is received waits for its answer
+abbrev pub with_taken : List (Option (List (Option Process))) → Thread → OwnItem → List (Option (List (Option Process)))
+with_taken users thread (item.Message process number) = with_thread_row users thread taken_thread
+with_taken users thread (item.Unblock process number call) = users
 
-abbrev pub sender_of : ℕ → OwnItem → Thread
-sender_of user (item.Message process thread) = record { proc = record { user = record { 0 = user }; num = process }; tid = thread }
-sender_of user (item.Unblock process thread call) = record { proc = record { user = record { 0 = user }; num = process }; tid = thread }
+abbrev pub with_first_taken : List (Option (List (Option Process))) → Option Queued → List (Option (List (Option Process)))
+with_first_taken users None = users
+with_first_taken users (Some first) = with_taken users (sender first) first.item
 
--- the thread that an item is of: the one that sent a message, or the one that a pulse asks to unblock
-abbrev pub sender : Queued → Thread
-sender entry = sender_of entry.user.0 entry.item
+-- once the first item of a line is received
+abbrev pub after_receive : Channel → Manager → Channel
+after_receive c manager = record {
+  users = with_first_taken c.users (slice_get (channel_line c manager) 0);
+  lines = with_line c.lines (manager_number manager) (drop 1);
+}
 
-abbrev pub is_same_thread : Thread → Thread → Bool
-is_same_thread one other = (one.proc.user.0 == other.proc.user.0) && (one.proc.num == other.proc.num) && (one.tid == other.tid)
+-- once a thread's call is answered: an unblock pulse of it stands in the line no more
+abbrev pub answered : Channel → Thread → (Over → Process → Process) → Option Call → Channel
+answered c thread change None = c
+answered c thread change (Some call) =
+    with_process_and_line c thread (change call.target.over) call.target.manager (line_without thread.proc.user.0 (item.Unblock thread.proc.num thread.tid call.number))
 
--- one of the first threads of a process
-abbrev pub is_thread_of : Proc → ℕ → Thread → Bool
-is_thread_of proc threads other = (proc.user.0 == other.proc.user.0) && (proc.num == other.proc.num) && nat_le 1 other.tid && nat_le other.tid threads
+-- a thread of a process gets a reply
+abbrev pub replied : ℕ → Effect → ℕ → List ℕ → Over → Process → Process
+replied thread effect status bytes over process = after_reply thread over (with_thread thread (answered_thread (Reply status bytes)) (after_effect effect process))
 
--- the same process at the same manager
-abbrev pub is_same_server : Proc → ℕ → Proc → ℕ → Bool
-is_same_server proc number other at = (proc.user.0 == other.user.0) && (proc.num == other.num) && (number == at)
+-- a thread of a process gets an error
+abbrev pub failed : ℕ → Errno → Over → Process → Process
+failed thread error over process = after_error thread over (with_thread thread (answered_thread (Failed error)) process)
 
--- what an item has, where it is of the thread and has such a thing
-abbrev pub told : {A : Type 0} → (OwnItem → Option A) → Thread → Queued → Option A
-told part thread entry = if is_same_thread (sender entry) thread then part entry.item else None
+-- once the message of a thread that was received is replied to
+abbrev pub after_replying : Channel → Thread → Effect → ℕ → List ℕ → Channel
+after_replying c thread effect status bytes = answered c thread (replied thread.tid effect status bytes) (taken_call (thread_row c.users thread))
 
--- what the first item of the thread has that has such a thing
-abbrev pub first_told : {A : Type 0} → (OwnItem → Option A) → Thread → List Queued → Option A
-first_told part thread [] = None
-first_told part thread (first ∷ line) = option_or (told part thread first) (first_told part thread line)
+-- once it is answered with an error
+abbrev pub after_failing : Channel → Thread → Errno → Channel
+after_failing c thread error = answered c thread (failed thread.tid error) (taken_call (thread_row c.users thread))
 
-abbrev pub message_in : OwnItem → Option Unit
-message_in (item.Message process thread) = Some tt
-message_in (item.Unblock process thread call) = None
+abbrev pub asked : Channel → Thread → Option Call → Channel
+asked c thread None = c
+asked c thread (Some call) =
+    with_process_and_line c thread (with_thread thread.tid asked_thread) call.target.manager (λ line. into rank line (unblock_of thread call.number call.target.prio.0))
 
-abbrev pub call_in : OwnItem → Option ℕ
-call_in (item.Message process thread) = None
-call_in (item.Unblock process thread call) = Some call
+-- once the message of a thread that was received, and is not asked yet, is asked to unblock it
+abbrev pub after_asking : Channel → Thread → Channel
+after_asking c thread = asked c thread (unasked_call (thread_row c.users thread))
 
--- a message of the thread stands in the line
-abbrev pub stands : List Queued → Thread → Bool
-stands line thread = is_some (first_told message_in thread line)
+abbrev pub withdrawn : Channel → Thread → Option Call → Channel
+withdrawn c thread None = c
+withdrawn c thread (Some call) =
+    with_process_and_line c thread (failed thread.tid EINTR call.target.over) call.target.manager (line_without thread.proc.user.0 (item.Message thread.proc.num thread.tid))
 
--- the call that the first unblock pulse of the thread in the line names
-abbrev pub unblock_call : List Queued → Thread → Option ℕ
-unblock_call line thread = first_told call_in thread line
+-- once the message of a thread that stands in a line is gone
+abbrev pub after_withdrawing : Channel → Thread → Channel
+after_withdrawing c thread = withdrawn c thread (queued_call (thread_row c.users thread))
 
-abbrev pub no_other : OwnItem → Thread → List Queued → Type 0
-no_other (item.Message process thread) sender line = stands line sender ≡ false
-no_other (item.Unblock process thread call) sender line = unblock_call line sender ≡ None
+abbrev pub readied : Channel → Thread → Option Answer → Channel
+readied c thread None = c
+readied c thread (Some answer) = record c { users = with_thread_row c.users thread ready_thread }
 
--- no item of the same thread and kind stands in the line
-abbrev pub IsGone : Queued → List Queued → Type 0
-IsGone entry line = no_other entry.item (sender entry) line
+-- once a thread has taken its answer
+abbrev pub after_taking : Channel → Thread → Channel
+after_taking c thread = readied c thread (answer_of (thread_row c.users thread))
 
--- the thread has nodes
-abbrev pub has_thread : Channel → Thread → Bool
-has_thread c thread = set.contains c.threads thread
-
--- the process has a disconnect node at the manager of a number
-abbrev pub has_server : Channel → Proc → ℕ → Bool
-has_server c proc number = set.contains c.servers (proc, number)
-
--- a thread of the process has nodes
-abbrev pub HasThread : Channel → Proc → Type 0
-HasThread c proc = (tid : ℕ) × IsTrue (has_thread c (record { proc = proc; tid = tid }))
-
--- a thread has nodes from now on
-abbrev pub with_thread : Channel → Thread → Channel
-with_thread c thread = record c { threads = set.insert c.threads thread; room = c.room - 2 }
-
--- the first threads of a process have nodes from now on
-abbrev pub with_process : Channel → Proc → ℕ → Channel
-with_process c proc zero = c
-with_process c proc (suc threads) = with_thread (with_process c proc threads) (record { proc = proc; tid = suc threads })
-
--- a process has a disconnect node at a manager from now on
-abbrev pub with_server : Channel → Proc → ℕ → Channel
-with_server c proc number = record c { servers = set.insert c.servers (proc, number); room = if has_server c proc number then c.room else c.room - 1 }
-
--- and has none any more
-abbrev pub without_server : Channel → Proc → ℕ → Channel
-without_server c proc number = record c { servers = set.remove c.servers (proc, number); room = if has_server c proc number then c.room + 1 else c.room }
+-- once a thread has another priority, if that is not refused
+abbrev pub after_ranking : Channel → Thread → ℕ → Channel
+after_ranking c thread prio = record c { users = with_row c.users thread.proc.user.0 (λ processes. after_or processes (with_prio processes thread.proc.num thread.tid prio)) }

@@ -1,82 +1,79 @@
--- How the lines and the nodes stand in the table. No public clause of the channel cites this module.
-use Rattle.std.specs.Prelude.{◌≡◌, ◌⊎◌, ℕ, ◌==◌, Bool, false, Contains, List, Option, None, Some, is_some, map, option_map, slice_get, unwrap_or}
-use Rattle.std.specs.FinMap as maps
+-- How the rows of threads and processes, the lines and the nodes stand together. No public clause of the channel cites this module.
+use Rattle.std.specs.Prelude.{◌≡◌, ℕ, ◌==◌, ◌&&◌, if◌then◌else◌, Bool, true, false, List, [], ◌∷◌, Option, Some, None, length, is_some, max}
+use Rattle.qx_types.specs.Managers.{manager_number, managers}
+use Rattle.qx_types.specs.declared.names.Manager.{Manager}
+use Rattle.qx_types.specs.declared.names.TheConstants.Manager.{COUNT}
+use Rattle.qx_types.specs.declared.names.Proc.{Proc}
 use Rattle.qx_types.specs.declared.names.Thread.{Thread}
-use Rattle.qx_lists.specs.Table.{Table, ContainsNode, IsIn}
-use Rattle.qx_lines.specs.declared.Line.{Line}
-use Rattle.qx_lines.specs.Line.{IsLineOf, IsOwn, nodes_in}
-use Rattle.qx_machine.specs.declared.rows.OwnItem.{OwnItem}
-use Rattle.qx_machine.specs.declared.rows.OwnItem.TheVariants as item
-use Rattle.qx_machine.specs.declared.rows.Queued.{Queued}
-use Rattle.qx_machine.specs.Lines.{into, line_at}
-use Rattle.qx_machine.specs.Machine.{queued_item, rank}
-use Rattle.qx_chan.specs.Channel.{sender, unblock_call}
-use Rattle.qx_chan.specs.Nodes.{Disconnect, Message, Owner, Unblock}
+use Rattle.qx_machine.specs.declared.rows.Over.{Over}
+use Rattle.qx_machine.specs.declared.rows.Over.TheVariants.{Existing}
+use Rattle.qx_machine.specs.declared.rows.State.{State}
+use Rattle.qx_machine.specs.declared.rows.State.TheVariants.{Queued, Taken}
+use Rattle.qx_machine.specs.declared.rows.Target.{Target}
+use Rattle.qx_machine.specs.declared.rows.ThreadRow.{ThreadRow}
+use Rattle.qx_machine.specs.Lines.{line_at}
+use Rattle.qx_machine.specs.Processes.{Process}
+use Rattle.qx_machine.specs.Servers.{is_attached}
+use Rattle.qx_queues.specs.Queues.{Queues, has_server, has_thread, stands, unblock_call, with_server, without_server}
+use Rattle.qx_chan.specs.Users.{process_of, thread_row}
 
-abbrev pub nobodys : Queued
-nobodys = queued_item 0 (item.Message 0 0) 0
+-- the message of a thread in this state stands in the line of that number
+abbrev pub is_queued_at : ℕ → State → Bool
+is_queued_at number (Queued sent) = manager_number sent.target.manager == number
+is_queued_at number _ = false
 
--- what a node stands for
-abbrev pub entry_at : Table Queued → ℕ → Queued
-entry_at table node = unwrap_or (maps.get table.values node) nobodys
+abbrev pub stands_at : ℕ → Option ThreadRow → Bool
+stands_at number None = false
+stands_at number (Some row) = is_queued_at number row.state
 
--- the items of a line in their order
-abbrev pub entries : Table Queued → Line → List Queued
-entries table line = map (entry_at table) (nodes_in table line)
+-- an unblock pulse for that call of a thread in this state may stand in the line of that number
+abbrev pub is_asked_at : ℕ → ℕ → ℕ → State → Bool
+is_asked_at number call calls (Taken sent) = sent.is_asked && (manager_number sent.target.manager == number) && (calls == call)
+is_asked_at number call calls _ = false
 
--- the list of the line of a number
-abbrev pub list_at : List Line → ℕ → Option ℕ
-list_at lines number = option_map (λ line. line.list) (slice_get lines number)
+abbrev pub asked_at : ℕ → ℕ → Option ThreadRow → Bool
+asked_at number call None = false
+asked_at number call (Some row) = is_asked_at number call row.calls row.state
 
-abbrev pub owner_in : Thread → OwnItem → Owner
-owner_in thread (item.Message process number) = Message thread
-owner_in thread (item.Unblock process number call) = Unblock thread
+-- something of the process is attached to the manager of that number
+abbrev pub attached_at : ℕ → Option Process → Bool
+attached_at number None = false
+attached_at number (Some process) = is_attached number process.connections process.sides
 
--- into whose node an item is put
-abbrev pub owner_of : Queued → Owner
-owner_of entry = owner_in (sender entry) entry.item
+-- a thread has nodes exactly if it is there, its message stands in a line exactly if its row says so, and an unblock pulse only while
+-- its call is asked for; and a process has the disconnect node of its server connection at a manager exactly while something of it is
+-- attached there
+pub record Kept (processes : List (Option (List (Option Process)))) (queues : Queues) : Type 0 where
+  pub users : queues.users ≡ length processes
+  pub managers : length queues.lines ≡ COUNT
+  pub threads : (thread : Thread) → has_thread queues thread ≡ is_some (thread_row processes thread)
+  pub lines : (thread : Thread) (number : ℕ) → stands (line_at queues.lines number) thread ≡ stands_at number (thread_row processes thread)
+  pub pulses : (thread : Thread) (number call : ℕ) → unblock_call (line_at queues.lines number) thread ≡ Some call → asked_at number call (thread_row processes thread) ≡ true
+  pub servers : (proc : Proc) (manager : Manager) → has_server queues proc (manager_number manager) ≡ attached_at (manager_number manager) (process_of processes proc)
 
--- whose items a node stands for: its owner's, and a disconnect node for a message of no thread
-abbrev pub named : Owner → Owner
-named (Message thread) = Message thread
-named (Unblock thread) = Unblock thread
-named (Disconnect proc number) = Message (record { proc = proc; tid = 0 })
+-- a call attaches what its message goes over
+abbrev pub attaches : Over → Bool
+attaches (Existing coid) = false
+attaches _ = true
 
--- the lines are lists of the table, each its own; each node of the table is exactly one owner's, and stands for an item of that owner; and
--- nodes of messages and of unblock pulses alone stand in lists, which are the lines'
-pub record Kept (table : Table Queued) (lines : List Line) (node_of : Owner → Option ℕ) : Type 0 where
-  pub line : (number : ℕ) (line : Line) → slice_get lines number ≡ Some line → IsLineOf rank table line
-  pub apart : (one other list : ℕ) → list_at lines one ≡ Some list → list_at lines other ≡ Some list → one ≡ other
-  pub there : (owner : Owner) (node : ℕ) → node_of owner ≡ Some node → ContainsNode table node
-  pub names : (owner : Owner) (node : ℕ) → node_of owner ≡ Some node → owner_of (entry_at table node) ≡ named owner
-  pub owned : (node : ℕ) → ContainsNode table node → (owner : Owner) × (node_of owner ≡ Some node)
-  pub once : (owner other : Owner) (node : ℕ) → node_of owner ≡ Some node → node_of other ≡ Some node → other ≡ owner
-  pub listed : (list node : ℕ) → IsIn table list node → ((number : ℕ) × (list_at lines number ≡ Some list)) × (node_of (owner_of (entry_at table node)) ≡ Some node)
+-- a process keeps its disconnect node at a manager if something of it is attached there
+abbrev pub settled_at : Proc → Option Process → Manager → Queues → Queues
+settled_at proc process manager queues = if attached_at (manager_number manager) process then queues else without_server queues proc (manager_number manager)
 
--- the line of that number is the one of these
-abbrev pub is_at : ℕ → Option ℕ → Bool
-is_at number None = false
-is_at number (Some other) = number == other
+-- at the manager of a number, if there is one
+abbrev pub settled_number : Proc → Option Process → Option Manager → Queues → Queues
+settled_number proc process None queues = queues
+settled_number proc process (Some manager) queues = settled_at proc process manager queues
 
--- an unblock pulse of a thread stands in one line at most, and it is told in which
-abbrev pub IsTold : List (List Queued) → (Thread → Option ℕ) → Type 0
-IsTold lines asked = (thread : Thread) (number : ℕ) → is_some (unblock_call (line_at lines number) thread) ≡ is_at number (asked thread)
+-- at each of these managers
+abbrev pub settled : Proc → Option Process → List Manager → Queues → Queues
+settled proc process [] queues = queues
+settled proc process (manager ∷ managers) queues = settled proc process managers (settled_at proc process manager queues)
 
--- a free node was put into a line, and stands for an item
-pub record PutIn (old new : Table Queued) (before after : Line) (node : ℕ) (entry : Queued) : Type 0 where
-  pub line : IsLineOf rank new after
-  pub entries : entries new after ≡ into rank (entries old before) entry
-  pub values : new.values ≡ maps.insert old.values node entry
-  pub room : new.room ≡ old.room
-  pub among : (other : ℕ) → Contains (nodes_in new after) other → Contains (nodes_in old before) other ⊎ (other ≡ node)
-  pub lists : (list : ℕ) → (IsOwn before list → ⊥) → maps.get new.lists list ≡ maps.get old.lists list
-  pub own : after.list ≡ before.list
+-- the disconnect nodes of a process once its call has attached what its message goes over
+abbrev pub with_attached : Proc → Option Process → Target → Queues → Queues
+with_attached proc process target queues = if attaches target.over then settled proc process managers (with_server queues proc (manager_number target.manager)) else queues
 
--- nodes left a line
-pub record TakenOut (old new : Table Queued) (before after : Line) (change : List ℕ → List ℕ) : Type 0 where
-  pub line : IsLineOf rank new after
-  pub nodes : nodes_in new after ≡ change (nodes_in old before)
-  pub values : new.values ≡ old.values
-  pub room : new.room ≡ old.room
-  pub lists : (list : ℕ) → (IsOwn before list → ⊥) → maps.get new.lists list ≡ maps.get old.lists list
-  pub own : after.list ≡ before.list
+-- room for the disconnect node of what a message goes over
+abbrev pub with_room : Over → Queues → Queues
+with_room over queues = if attaches over then record queues { room = max queues.room 2 } else queues

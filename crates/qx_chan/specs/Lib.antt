@@ -1,3 +1,5 @@
+pub mod Calls
 pub mod Channel
 pub mod Kept
-pub mod Nodes
+pub mod Lends
+pub mod Users

@@ -1,370 +1,265 @@
-//! The managers' lines over one table of nodes, in which the nodes of all users' threads and server connections stand.
+//! The processes of all users, and the managers' lines in which their messages wait. Each call is that of message passing:
+//! what stands beside a thread's message, the room for its reply, and its place in a line change together.
 
-ghost use Rattle.std.specs.Prelude.{◌≡◌, ℕ, ◌-◌, ◌*◌, ◌<◌, ◌≤◌, false, length, drop, slice_get, max, IfOk, IsOk, OnOk, OnErr, IfSome, IsTrue, None, Some};
-ghost use Rattle.std.specs.FinMap as maps;
-ghost use Rattle.qx_types.specs.Managers.{manager_number};
-ghost use Rattle.qx_types.specs.declared.limits.TheConstants.Limits.{PRIORITY, PROCESSES, THREADS};
-ghost use Rattle.qx_lists.specs.Table.{ContainsNode, IsFree, IsIn, with_value, without};
-ghost use Rattle.qx_lines.specs.Line.{IsInLine, IsLineOf};
-ghost use Rattle.qx_machine.specs.Lines.{into};
-ghost use Rattle.qx_machine.specs.Machine as machine;
-ghost use Rattle.qx_machine.specs.declared.rows.OwnItem.TheVariants as item;
-ghost use Rattle.qx_chan.specs.Channel.{HasThread, IsGone, call_in, channel_line, has_server, has_thread, message_of, no_channel, stands, unblock_call, unblock_of, with_channel_line, with_process, with_server, with_thread, without_server};
-ghost use Rattle.qx_chan.specs.Kept.{PutIn, TakenOut, entries, entry_at, owner_of};
-ghost use Rattle.qx_chan.specs.Nodes.{Unblock};
+ghost use Rattle.std.specs.Prelude.{◌≡◌, ◌<◌, ◌≤◌, Ok, length, slice_get, IfOk, IfSome, IsErr, IsOk, OnOk, OnErr};
+ghost use Rattle.std.specs.Option.{option_copied};
+ghost use Rattle.qx_types.specs.declared.limits.TheConstants.Limits.{BODY};
+ghost use Rattle.qx_machine.specs.Rows.{row_at};
+ghost use Rattle.qx_process.specs.Reads.{CanCall, CanGo, IsPriority, IsRanked};
+ghost use Rattle.qx_procs.specs.Calls.{spawn_outcome};
+ghost use Rattle.qx_chan.specs.Calls.{answer_of, queued_call, taken_call, unasked_call};
+ghost use Rattle.qx_chan.specs.Channel.{after_asking, after_failing, after_ranking, after_receive, after_replying, after_send, after_spawn, after_taking, after_withdrawing, channel_line, empty_channel};
+ghost use Rattle.qx_chan.specs.Users.{IsReady, prio_outcome_in, process_of, spawn_number_in, thread_row};
 
-use crate::nodes::{Nodes, ThreadNodes};
-use crate::waiting::Waiting;
-use qx_lines::Line;
-use qx_lists::Table;
-use qx_machine::{OwnItem, Queued};
-use qx_types::{Limits, Manager, Prio, Proc, Thread};
+use crate::call::{self, Call};
+use crate::servers;
+use crate::users::Users;
+use qx_machine::{Effect, OwnItem, Queued, Sent, ThreadRow};
+use qx_process::Process;
+use qx_procs::Processes;
+use qx_queues::Queues;
+use qx_types::{Answer, Errno, Manager, Outcome, Prio, Proc, Thread, User};
 use std::alloc::{AllocError, Global};
 use std::marker::Model;
 
-/// The managers' lines over one table of nodes, in which the nodes of all users' threads and server connections stand.
+/// The processes of all users, with what their threads send and are answered, and the managers' lines in which the
+/// messages wait.
 #[derive(Drop)]
 pub struct Channel {
-    table: Table<Waiting>,
-    lines: Vec<Line>,
-    nodes: Nodes,
+    users: Users,
+    queues: Queues,
 }
 
 impl Model for Channel {
-    ghost use Rattle.std.specs.Prelude.{◌≡◌, length, map};
-    ghost use Rattle.qx_types.specs.declared.names.TheConstants.Manager.{COUNT};
     ghost use Rattle.qx_chan.specs.Channel as words;
-    ghost use Rattle.qx_chan.specs.Kept.{IsTold, Kept, entries};
-    ghost use Rattle.qx_chan.specs.Nodes.{asked_at, node_of, servers_of, threads_of};
+    ghost use Rattle.qx_chan.specs.Kept.{Kept};
 
     ghost Value = { words.Channel };
 
-    ghost coded = { words.channel_code };
+    ghost view = { λ c. record { users = c.users; lines = c.queues.lines } };
 
-    ghost view = { λ c. record { lines = map (entries c.table) c.lines.items; threads = threads_of c.nodes; servers = servers_of c.nodes; users = length c.nodes; room = c.table.room } };
-
-    ghost invariant = { λ c. (length c.lines.items ≡ COUNT) × Kept c.table c.lines.items (node_of c.nodes) × IsTold (map (entries c.table) c.lines.items) (asked_at c.nodes) };
+    ghost invariant = { λ c. Kept c.users c.queues };
 }
 
 impl Channel {
-    /// Empty lines, and no nodes of the users from 1 to this many.
+    /// Users from 1 to this many with no process, and empty lines.
     pub fn new(alloc: Global, users: usize) -> Result<Self, AllocError>
         requires few { users < 256 }
-        ensures empty { IfOk result (λ channel. channel ≡ no_channel users) }
+        ensures empty { IfOk result (λ channel. channel ≡ empty_channel users) }
     {
-        let mut table = Table::new(alloc);
-        let mut lines = Vec::new(alloc);
-        let nodes = Nodes::new(alloc, users)?;
-        'managers: for _ in 0..Manager::COUNT {
-            let line = Line::new(&mut table)?;
-            lines.push(line)?;
+        let queues = Queues::new(alloc, users)?;
+        let users = Users::new(alloc, users)?;
+        Ok(Channel { users, queues })
+    }
+
+    /// The processes of a user; none where the user is not there.
+    pub fn processes(&self, user: User) -> Option<&Processes>
+        ensures row { option_copied result ≡ row_at self.now.users user.0 }
+    {
+        self.users.processes(user)
+    }
+
+    /// A process; none where it is not there.
+    pub fn process(&self, proc: Proc) -> Option<&Process>
+        ensures row { option_copied result ≡ process_of self.now.users proc }
+    {
+        self.users.process(proc)
+    }
+
+    /// A thread's row; none where it is not there.
+    pub fn thread(&self, thread: Thread) -> Option<&ThreadRow>
+        ensures row { option_copied result ≡ thread_row self.now.users thread }
+        ensures priorities { IfSome result (λ row. IsRanked row.now) }
+    {
+        self.users.thread(thread)
+    }
+
+    /// The first item of a manager's line; none where it is empty.
+    pub fn first(&self, manager: Manager) -> Option<Queued>
+        ensures first { result ≡ slice_get (channel_line self.now manager) 0 }
+    {
+        self.queues.first(manager)
+    }
+
+    /// How many items stand in a manager's line.
+    pub fn len(&self, manager: Manager) -> usize
+        ensures count { result ≡ length (channel_line self.now manager) }
+    {
+        self.queues.len(manager)
+    }
+
+    /// Starts a process of 1 to 4 ready threads of a priority from 1 to 63, under the lowest free number (C Library
+    /// Reference: `spawn`). `WrongState` for a user who is not there; EINVAL for other numbers; EAGAIN where the user has 16
+    /// processes. A spawn that is refused wants no memory.
+    pub fn spawn(&mut self, user: User, threads: u8, prio: Prio) -> Result<Outcome, AllocError>
+        ensures outcome { IfOk result (λ outcome. outcome ≡ spawn_outcome (spawn_number_in threads prio.0 (row_at self.old.users user.0))) }
+        ensures ok { OnOk result (self.new ≡ after_spawn self.old user.0 threads prio.0) }
+        ensures sure { IsErr (spawn_number_in threads prio.0 (row_at self.old.users user.0)) → IsOk result }
+        ensures err { OnErr result (self.new ≡ self.old) }
+    {
+        match self.spawn_number(user, threads, prio) {
+            Ok(number) => {
+                self.start(Proc { user, num: number }, threads, prio)?;
+                Ok(Outcome::Spawned(number))
+            }
+            Err(outcome) => Ok(outcome),
         }
-        Ok(Channel {
-            table,
-            lines,
-            nodes,
-        })
     }
 
-    /// Puts a thread's message, which stands in no line, into a line (C Library Reference: `MsgSend`).
-    pub fn send(&mut self, manager: Manager, thread: Thread, prio: Prio)
-        requires own { IsTrue (has_thread self.old thread) }
-        requires idle { (number : ℕ) → stands (channel_line self.old number) thread ≡ false }
-        requires lowest { 1 ≤ prio.0 }
-        requires highest { prio.0 ≤ PRIORITY }
-        ensures sent { self.new ≡ with_channel_line self.old (manager_number manager) (λ line. into machine.rank line (message_of thread prio.0)) }
+    /// The number of a process that would start now, or how the spawn is refused.
+    fn spawn_number(&self, user: User, threads: u8, prio: Prio) -> Result<u8, Outcome>
+        ensures number { result ≡ spawn_number_in threads prio.0 (row_at self.now.users user.0) }
     {
-        let Some(own) = self.nodes.at(thread) else {
-            unreachable!();
-        };
-        let waiting = Waiting::new(queued_message(thread, prio));
-        let line = &mut self.lines[manager.number()];
-        put_in(&mut self.table, line, own.message, waiting);
+        match self.users.processes(user) {
+            Some(processes) => processes.spawn_number(threads, prio),
+            None => Err(Outcome::WrongState),
+        }
     }
 
-    /// Takes the first item of a line, a message or an unblock pulse (C Library Reference: `MsgReceive`).
+    /// Starts a process under the number that it is to have: the room for its threads' nodes, its row, then the nodes.
+    fn start(&mut self, proc: Proc, threads: u8, prio: Prio) -> Result<(), AllocError>
+        requires number { spawn_number_in threads prio.0 (row_at self.old.users proc.user.0) ≡ Ok proc.num }
+        ensures ok { OnOk result (self.new ≡ after_spawn self.old proc.user.0 threads prio.0) }
+        ensures err { OnErr result (self.new ≡ self.old) }
+    {
+        self.queues.reserve(threads)?;
+        self.users.spawn(proc.user, threads, prio)?;
+        self.queues.add_process(proc, threads, prio);
+        Ok(())
+    }
+
+    /// A thread's message goes into its manager's line with its priority, and the thread is blocked, with room for the
+    /// reply; what the message goes over is attached (C Library Reference: `MsgSend`).
+    pub fn send(&mut self, alloc: Global, thread: Thread, sent: Sent) -> Result<(), AllocError>
+        requires ready { IsReady (thread_row self.old.users thread) }
+        requires countable { CanCall (thread_row self.old.users thread) }
+        requires target { CanGo sent.target }
+        ensures ok { OnOk result (self.new ≡ after_send self.old thread sent) }
+        ensures err { OnErr result (self.new ≡ self.old) }
+    {
+        let target = sent.target;
+        servers::reserve(&mut self.queues, target.over)?;
+        self.users.send(alloc, thread, sent)?;
+        self.queues.send(target.manager, thread, target.prio);
+        servers::attach(&mut self.queues, &self.users, thread.proc, target);
+        Ok(())
+    }
+
+    /// Takes the first item of a manager's line; the thread whose message it is waits for its answer (C Library Reference:
+    /// `MsgReceive`). None where the line is empty.
     pub fn receive(&mut self, manager: Manager) -> Option<Queued>
-        ensures first { result ≡ slice_get (channel_line self.old (manager_number manager)) 0 }
-        ensures rest { self.new ≡ with_channel_line self.old (manager_number manager) (drop 1) }
-        ensures gone { IfSome result (λ first. IsGone first (drop 1 (channel_line self.old (manager_number manager)))) }
+        ensures first { result ≡ slice_get (channel_line self.old manager) 0 }
+        ensures rest { self.new ≡ after_receive self.old manager }
     {
-        self.table.know();
-        let first = take_out(&mut self.table, &mut self.lines[manager.number()])?;
-        if let OwnItem::Unblock {
-            process,
-            thread,
-            ..
-        } = first.item
-        {
+        let first = self.queues.receive(manager)?;
+        if let OwnItem::Message { process, thread } = first.item {
             let proc = Proc {
                 user: first.user,
                 num: process,
             };
-            self.nodes.set_asked(Thread { proc, tid: thread }, None);
+            self.users.take(Thread { proc, tid: thread });
         }
         Some(first)
     }
 
-    /// Puts the pulse that asks to unblock a thread from a call, where none of the thread stands in a line (C Library
-    /// Reference: `ChannelCreate`, `_NTO_CHF_UNBLOCK`).
-    pub fn ask_unblock(&mut self, manager: Manager, thread: Thread, call: u64, prio: Prio)
-        requires own { IsTrue (has_thread self.old thread) }
-        requires idle { (number : ℕ) → unblock_call (channel_line self.old number) thread ≡ None }
-        requires lowest { 1 ≤ prio.0 }
-        requires highest { prio.0 ≤ PRIORITY }
-        ensures asked { self.new ≡ with_channel_line self.old (manager_number manager) (λ line. into machine.rank line (unblock_of thread call prio.0)) }
+    /// Answers a thread whose message was received (C Library Reference: `MsgReply`): the message does what it does to the
+    /// connection that it came over, a side connection goes, and an unblock pulse of the call is in the line no more.
+    /// Nothing happens where no message of the thread was received.
+    pub fn reply(&mut self, thread: Thread, effect: Effect, status: u64, bytes: &[u8])
+        requires fits { length bytes.now ≤ BODY }
+        ensures replied { self.new ≡ after_replying self.old thread effect status bytes.now }
     {
-        let Some(own) = self.nodes.at(thread) else {
-            unreachable!();
-        };
-        let waiting = Waiting::new(queued_unblock(thread, call, prio));
-        let line = &mut self.lines[manager.number()];
-        put_in(&mut self.table, line, own.unblock, waiting);
-        self.nodes.set_asked(thread, Some(manager));
-    }
-
-    /// Takes a thread's message out of the line that it stands in, as a call ends early (C Library Reference: `MsgSend`,
-    /// `EINTR`).
-    pub fn withdraw(&mut self, manager: Manager, thread: Thread)
-        requires stands { IsTrue (stands (channel_line self.old (manager_number manager)) thread) }
-        ensures withdrawn { self.new ≡ with_channel_line self.old (manager_number manager) (machine.line_without thread.proc.user.0 (item.Message thread.proc.num thread.tid)) }
-        ensures gone { stands (machine.line_without thread.proc.user.0 (item.Message thread.proc.num thread.tid) (channel_line self.old (manager_number manager))) thread ≡ false }
-    {
-        let Some(own) = self.nodes.at(thread) else {
-            unreachable!();
-        };
-        self.table.know();
-        let line = &mut self.lines[manager.number()];
-        remove(&mut self.table, line, own.message);
-    }
-
-    /// Takes the pulse that asks to unblock a thread from a call out of the line, if it stands there, as the call is
-    /// answered (C Library Reference: `MsgReply`).
-    pub fn reply(&mut self, manager: Manager, thread: Thread, call: u64)
-        ensures replied { self.new ≡ with_channel_line self.old (manager_number manager) (machine.line_without thread.proc.user.0 (item.Unblock thread.proc.num thread.tid call)) }
-        ensures gone { unblock_call (channel_line self.old (manager_number manager)) thread ≡ Some call → unblock_call (machine.line_without thread.proc.user.0 (item.Unblock thread.proc.num thread.tid call) (channel_line self.old (manager_number manager))) thread ≡ None }
-    {
-        let Some(own) = self.nodes.at(thread) else {
+        let Some(call) = self.taken(thread) else {
             return;
         };
-        let Some(asked) = own.asked else {
+        self.users
+            .reply(thread, call.target.over, effect, status, bytes);
+        self.queues.reply(call.target.manager, thread, call.number);
+        servers::settle(&mut self.queues, &self.users, thread.proc);
+    }
+
+    /// Answers a thread whose message was received with an error (C Library Reference: `MsgError`): a new connection or a
+    /// side connection goes, and an unblock pulse of the call is in the line no more. Nothing happens where no message of
+    /// the thread was received.
+    pub fn fail(&mut self, thread: Thread, error: Errno)
+        ensures failed { self.new ≡ after_failing self.old thread error }
+    {
+        let Some(call) = self.taken(thread) else {
             return;
         };
-        if asked.number() != manager.number() {
+        self.users.fail(thread, call.target.over, error);
+        self.queues.reply(call.target.manager, thread, call.number);
+        servers::settle(&mut self.queues, &self.users, thread.proc);
+    }
+
+    /// Asks to unblock a thread whose message was received, once a call: the message is marked, and a pulse goes into its
+    /// line with its priority (C Library Reference: `ChannelCreate`, `_NTO_CHF_UNBLOCK`). Nothing happens to any other
+    /// thread.
+    pub fn ask_unblock(&mut self, thread: Thread)
+        ensures asked { self.new ≡ after_asking self.old thread }
+    {
+        let Some(call) = self.unasked(thread) else {
             return;
-        }
-        if asked_call(&self.table, own.unblock) != call {
+        };
+        let target = call.target;
+        self.queues
+            .ask_unblock(target.manager, thread, call.number, target.prio);
+        self.users.ask_unblock(thread);
+    }
+
+    /// Takes a thread's message out of the line that it stands in: the thread is answered EINTR, and what its call attached
+    /// goes (C Library Reference: `MsgSend`, EINTR). Nothing happens where no message of the thread stands in a line.
+    pub fn withdraw(&mut self, thread: Thread)
+        ensures withdrawn { self.new ≡ after_withdrawing self.old thread }
+    {
+        let Some(call) = self.queued(thread) else {
             return;
-        }
-        self.table.know();
-        let line = &mut self.lines[manager.number()];
-        remove(&mut self.table, line, own.unblock);
-        self.nodes.set_asked(thread, None);
+        };
+        self.queues.withdraw(call.target.manager, thread);
+        self.users.fail(thread, call.target.over, Errno::EINTR);
+        servers::settle(&mut self.queues, &self.users, thread.proc);
     }
 
-    /// The first item of a line.
-    pub fn first(&self, manager: Manager) -> Option<Queued>
-        ensures first { result ≡ slice_get (channel_line self.now (manager_number manager)) 0 }
+    /// A thread takes its answer and is ready (C Library Reference: what `MsgSend` returns). None where it is not there or
+    /// has none, and then nothing changes.
+    pub fn take_reply(&mut self, thread: Thread) -> Option<Answer>
+        ensures answer { result ≡ answer_of (thread_row self.old.users thread) }
+        ensures taken { self.new ≡ after_taking self.old thread }
     {
-        self.table.know();
-        first_of(&self.table, &self.lines[manager.number()])
+        self.users.thread_mut(thread)?.take_answer()
     }
 
-    /// How many items stand in a line.
-    pub fn len(&self, manager: Manager) -> usize
-        ensures count { result ≡ length (channel_line self.now (manager_number manager)) }
+    /// A thread gets another priority, from 1 to 63; a message that it sent keeps its own (C Library Reference: `SchedSet`).
+    /// `WrongState` where the thread is not there, then EINVAL for another number.
+    pub fn set_prio(&mut self, thread: Thread, prio: Prio) -> Outcome
+        ensures outcome { result ≡ prio_outcome_in thread.proc.num thread.tid prio.0 (row_at self.old.users thread.proc.user.0) }
+        ensures ranked { self.new ≡ after_ranking self.old thread prio.0 }
     {
-        self.lines[manager.number()].len()
-    }
-
-    /// Makes room for the nodes of so many threads.
-    pub fn reserve(&mut self, threads: u8) -> Result<(), AllocError>
-        ensures ok { OnOk result (self.new ≡ record self.old { room = max self.old.room (2 * threads) }) }
-        ensures had_room { 2 * threads ≤ self.old.room → IsOk result }
-        ensures err { OnErr result (self.new ≡ self.old) }
-    {
-        self.table.reserve(2 * threads as usize)?;
-        Ok(())
-    }
-
-    /// Makes the nodes of a thread that has none, for which there is room.
-    pub fn add(&mut self, thread: Thread, prio: Prio)
-        requires fresh { has_thread self.old thread ≡ false }
-        requires user { thread.proc.user.0 < self.old.users }
-        requires process { thread.proc.num ≤ PROCESSES }
-        requires thread { thread.tid ≤ THREADS }
-        requires lowest { 1 ≤ prio.0 }
-        requires highest { prio.0 ≤ PRIORITY }
-        requires room { 2 ≤ self.old.room }
-        ensures added { self.new ≡ with_thread self.old thread }
-    {
-        self.table.know();
-        let message = new_node(&mut self.table, Waiting::new(queued_message(thread, prio)));
-        self.table.know();
-        let unblock = new_node(
-            &mut self.table,
-            Waiting::new(queued_unblock(thread, 0, prio)),
-        );
-        let asked = None;
-        self.nodes.set(
-            thread,
-            ThreadNodes {
-                message,
-                unblock,
-                asked,
-            },
-        );
-    }
-
-    /// Makes the nodes of a process' threads, for which there is room, and none of which has any.
-    pub fn add_process(&mut self, proc: Proc, threads: u8, prio: Prio)
-        requires fresh { (thread : ℕ) → has_thread self.old (record { proc = proc; tid = thread }) ≡ false }
-        requires user { proc.user.0 < self.old.users }
-        requires process { proc.num ≤ PROCESSES }
-        requires threads { threads ≤ THREADS }
-        requires lowest { 1 ≤ prio.0 }
-        requires highest { prio.0 ≤ PRIORITY }
-        requires room { 2 * threads ≤ self.old.room }
-        ensures added { self.new ≡ with_process self.old proc threads }
-    {
-        if threads == 0 {
-            return;
-        }
-        self.add_process(proc, threads - 1, prio);
-        self.add(Thread { proc, tid: threads }, prio);
-    }
-
-    /// A process has a disconnect node at a manager from now on: the one that it had, or a new one.
-    pub fn add_server(&mut self, proc: Proc, manager: Manager) -> Result<(), AllocError>
-        requires started { HasThread self.old proc }
-        ensures ok { OnOk result (self.new ≡ with_server self.old proc (manager_number manager)) }
-        ensures had_node { IsTrue (has_server self.old proc (manager_number manager)) → IsOk result }
-        ensures had_room { 1 ≤ self.old.room → IsOk result }
-        ensures err { OnErr result (self.new ≡ self.old) }
-    {
-        if self.nodes.disconnect(proc, manager).is_some() {
-            return Ok(());
-        }
-        self.table.reserve(1)?;
-        self.table.know();
-        // Threads are numbered from 1: until it is put into a line, the node stands for no message that is sent.
-        let nobody = Thread { proc, tid: 0 };
-        let node = new_node(
-            &mut self.table,
-            Waiting::new(queued_message(nobody, Prio(Limits::PRIORITY))),
-        );
-        self.nodes.set_disconnect(proc, manager, Some(node));
-        Ok(())
-    }
-
-    /// A process has no disconnect node at a manager from now on, and room is kept for the one that it had.
-    pub fn remove_server(&mut self, proc: Proc, manager: Manager)
-        ensures removed { self.new ≡ without_server self.old proc (manager_number manager) }
-    {
-        if let Some(node) = self.nodes.disconnect(proc, manager) {
-            self.table.free_node(node);
-            self.nodes.set_disconnect(proc, manager, None);
+        match self.users.processes_mut(thread.proc.user) {
+            Some(processes) => processes.set_prio(thread.proc.num, thread.tid, prio),
+            None => Outcome::WrongState,
         }
     }
-}
 
-/// A thread's message, as it stands in a line.
-fn queued_message(thread: Thread, prio: Prio) -> Queued
-    ensures message { result ≡ message_of thread prio.0 }
-{
-    Queued {
-        user: thread.proc.user,
-        item: OwnItem::Message {
-            process: thread.proc.num,
-            thread: thread.tid,
-        },
-        prio,
+    /// The call of a thread whose message stands in a line.
+    fn queued(&self, thread: Thread) -> Option<Call>
+        ensures call { result ≡ queued_call (thread_row self.now.users thread) }
+    {
+        call::queued(self.users.thread(thread)?)
     }
-}
 
-/// The pulse that asks to unblock a thread from a call, as it stands in a line.
-fn queued_unblock(thread: Thread, call: u64, prio: Prio) -> Queued
-    ensures pulse { result ≡ unblock_of thread call prio.0 }
-{
-    Queued {
-        user: thread.proc.user,
-        item: OwnItem::Unblock {
-            process: thread.proc.num,
-            thread: thread.tid,
-            call,
-        },
-        prio,
+    /// The call of a thread whose message was received and is not answered.
+    fn taken(&self, thread: Thread) -> Option<Call>
+        ensures call { result ≡ taken_call (thread_row self.now.users thread) }
+    {
+        call::taken(self.users.thread(thread)?)
     }
-}
 
-/// Makes a node, for which there is room.
-fn new_node(table: &mut Table<Waiting>, waiting: Waiting) -> usize
-    requires room { 0 < table.old.room }
-    ensures made { table.new ≡ record table.old { values = maps.insert table.old.values result waiting; room = table.old.room - 1 } }
-    ensures was_new { maps.get table.old.values result ≡ None }
-{
-    match table.new_node(waiting) {
-        Ok(node) => node,
-        Err(_) => unreachable!(),
+    /// The call of a thread whose message was received and is not asked to unblock it.
+    fn unasked(&self, thread: Thread) -> Option<Call>
+        ensures call { result ≡ unasked_call (thread_row self.now.users thread) }
+        ensures priority { IfSome result (λ call. IsPriority call.target.prio.0) }
+    {
+        call::unasked(self.users.thread(thread)?)
     }
-}
-
-/// A node stands for another item from now on.
-fn set_entry(table: &mut Table<Waiting>, node: usize, waiting: Waiting)
-    requires there { ContainsNode table.old node }
-    ensures set { table.new ≡ with_value table.old node waiting }
-{
-    *table.value_mut(node) = waiting;
-}
-
-/// Puts a free node, which stands for an item from now on, into a line.
-fn put_in(table: &mut Table<Waiting>, line: &mut Line, node: usize, waiting: Waiting)
-    requires line { IsLineOf machine.rank table.old line.old }
-    requires free { IsFree table.old node }
-    ensures put { PutIn table.old table.new line.old line.new node waiting }
-{
-    set_entry(table, node, waiting);
-    line.put(table, node);
-}
-
-/// Takes the first node out of a line, and tells what it stands for.
-fn take_out(table: &mut Table<Waiting>, line: &mut Line) -> Option<Queued>
-    requires line { IsLineOf machine.rank table.old line.old }
-    requires there { (list node : ℕ) → IsIn table.old list node → ContainsNode table.old node }
-    ensures out { TakenOut table.old table.new line.old line.new (drop 1) }
-    ensures first { result ≡ slice_get (entries table.old line.old) 0 }
-{
-    let node = line.take(table)?;
-    Some(table.value(node).queued())
-}
-
-/// Takes a node out of its line.
-fn remove(table: &mut Table<Waiting>, line: &mut Line, node: usize)
-    requires line { IsLineOf machine.rank table.old line.old }
-    requires in_line { IsInLine table.old line.old node }
-    ensures out { TakenOut table.old table.new line.old line.new (without node) }
-{
-    line.remove(table, node);
-}
-
-/// The call that the pulse of a node names.
-fn asked_call(table: &Table<Waiting>, node: usize) -> u64
-    requires there { ContainsNode table.now node }
-    requires pulse { (thread : Thread) × (owner_of (entry_at table.now node) ≡ Unblock thread) }
-    ensures call { call_in (entry_at table.now node).item ≡ Some result }
-{
-    match table.value(node).queued().item {
-        OwnItem::Unblock { call, .. } => call,
-        OwnItem::Message { .. } => unreachable!(),
-    }
-}
-
-/// What the first node of a line stands for.
-fn first_of(table: &Table<Waiting>, line: &Line) -> Option<Queued>
-    requires line { IsLineOf machine.rank table.now line.now }
-    requires there { (list node : ℕ) → IsIn table.now list node → ContainsNode table.now node }
-    ensures first { result ≡ slice_get (entries table.now line.now) 0 }
-{
-    let node = line.first(table)?;
-    Some(table.value(node).queued())
 }

@@ -1,8 +1,9 @@
-//! The managers' lines, and the nodes that stand in them.
+//! The channel: the processes of all users, and the managers' lines in which their messages wait.
 #![tactic(auto)]
 
+mod call;
 pub mod channel;
-pub mod nodes;
-pub mod waiting;
+mod servers;
+mod users;
 
 pub use channel::Channel;

@@ -1,6 +1,6 @@
 -- How a call of a thread is judged, and what it sends.
-use Rattle.std.specs.Prelude.{ℕ, List, [], ◌==◌, ◌&&◌, ◌||◌, Bool, true, false, Option, Some, None, Result, Ok, length, nat_le, nat_lt, count_by, is_some, unwrap_or}
-use Rattle.qx_types.specs.Configuration.{Configuration, name_of}
+use Rattle.std.specs.Prelude.{ℕ, ⊤, List, [], ◌==◌, ◌&&◌, ◌||◌, Bool, true, false, Option, Some, None, Result, Ok, length, nat_le, nat_lt, count_by, is_some}
+use Rattle.qx_types.specs.Configuration.{Configuration, name_bytes}
 use Rattle.qx_types.specs.Managers.{manager_number}
 use Rattle.qx_types.specs.declared.errno.Errno.{Errno}
 use Rattle.qx_types.specs.declared.errno.Errno.TheVariants.{EAGAIN, EBADF, EINVAL, EMFILE}
@@ -112,35 +112,31 @@ connection_at coid process = do
   possible ← need (nat_le FIRST_CONNECTION coid && nat_le coid LAST_CONNECTION) (Refused EBADF)
   found (row_at process.connections coid) (Refused EBADF)
 
--- the user's name
-abbrev pub own_name : Configuration → ℕ → List ℕ
-own_name config user = unwrap_or (name_of config user) []
-
 -- where a path leads a user (C Library Reference: open)
 abbrev pub place_of : Configuration → ℕ → List MountPoint → List ℕ → Result Resolved Errno
 place_of config user mounts path = do
   names ← read_path path
-  resolve config.users (own_name config user) mounts names
+  resolve config.users (name_bytes config user) mounts names
 
--- a message to where a path leads
-abbrev pub to_place : Resolved → Over → Prio → Addressed
-to_place place over prio = record { target = record { manager = place.manager; root = Some place.root; over = over; prio = prio }; rest = place.rest }
+-- a message to where a path leads, over a server connection of the process there (EAGAIN is this profile)
+abbrev pub to_place : List (Option Process) → Process → Resolved → Over → Prio → Result Addressed Outcome
+to_place processes process place over prio = do
+  served ← need (can_serve processes process place.manager) (Refused EAGAIN)
+  Ok (record { target = record { manager = place.manager; root = Some place.root; over = over; prio = prio }; rest = place.rest })
 
 -- a message to what a connection has open
 abbrev pub to_connection : Connection → Over → Prio → Addressed
 to_connection connection over prio = record { target = record { manager = connection.manager; root = None; over = over; prio = prio }; rest = [] }
 
--- to which manager a message goes and over what (C Library Reference: open; EAGAIN for server connections is this profile)
+-- to which manager a message goes and over what (C Library Reference: open, dup)
 abbrev pub target_at : Configuration → ℕ → List MountPoint → List (Option Process) → Process → Prio → Address → Result Addressed Outcome
 target_at config user mounts processes process prio (Opens path) = do
   place ← or_refused (place_of config user mounts path)
   coid ← free_connection process
-  served ← need (can_serve processes process place.manager) (Refused EAGAIN)
-  Ok (to_place place (New (record { 0 = coid })) prio)
+  to_place processes process place (New (record { 0 = coid })) prio
 target_at config user mounts processes process prio (Connects path) = do
   place ← or_refused (place_of config user mounts path)
-  served ← need (can_serve processes process place.manager) (Refused EAGAIN)
-  Ok (to_place place Side prio)
+  to_place processes process place Side prio
 target_at config user mounts processes process prio (Uses coid) = do
   connection ← connection_at coid process
   Ok (to_connection connection (Existing (record { 0 = coid })) prio)
@@ -153,10 +149,10 @@ abbrev pub is_ready : State → Bool
 is_ready Ready = true
 is_ready _ = false
 
--- where a thread's call goes; only a ready thread calls, and 2^64 - 1 times at most
-abbrev pub target_of : Configuration → ℕ → List MountPoint → List (Option Process) → Process → ThreadRow → Request → Result Addressed Outcome
-target_of config user mounts processes process row asked = do
+-- a thread may make a call with these fields; only a ready thread calls, and 2^64 - 1 times at most
+abbrev pub may_call : ThreadRow → Request → Result ⊤ Outcome
+may_call row asked = do
   ready ← need (is_ready row.state) WrongState
   valid ← need (in_ranges asked) (Refused EINVAL)
   countable ← need (nat_lt row.calls CALLS) (Refused EAGAIN)
-  target_at config user mounts processes process row.prio (address asked)
+  Ok tt

@@ -1,6 +1,6 @@
 -- What a client's step does to the rows of its user.
 use Rattle.std.specs.Prelude.{ℕ, Bool, false, if◌then◌else◌, List, [], ◌∷◌, ◌&&◌, Option, Some, None, Result, Ok, Err, nat_le}
-use Rattle.qx_types.specs.Configuration.{Configuration}
+use Rattle.qx_types.specs.Configuration.{Configuration, name_bytes}
 use Rattle.qx_types.specs.declared.errno.Errno.TheVariants.{EAGAIN, EINTR, EINVAL}
 use Rattle.qx_types.specs.declared.limits.TheConstants.Limits.{PRIORITY, PROCESSES, THREADS}
 use Rattle.qx_types.specs.declared.names.Manager.{Manager}
@@ -13,15 +13,16 @@ use Rattle.qx_types.specs.declared.outcome.Outcome.TheVariants.{Spawned, Refused
 use Rattle.qx_types.specs.declared.request.Request.{Request}
 use Rattle.qx_types.specs.declared.step.Step.{Step}
 use Rattle.qx_types.specs.declared.step.Step.TheVariants.{Spawn, Call, TakeReply, SetPrio, Interrupt, Mount}
+use Rattle.qx_paths.specs.Prefixes.{MountPoint}
 use Rattle.qx_machine.specs.declared.rows.Addressed.{Addressed}
 use Rattle.qx_machine.specs.declared.rows.OwnItem.{OwnItem}
 use Rattle.qx_machine.specs.declared.rows.OwnItem.TheVariants as item
 use Rattle.qx_machine.specs.declared.rows.Sent.{Sent}
 use Rattle.qx_machine.specs.declared.rows.State.{State}
 use Rattle.qx_machine.specs.declared.rows.State.TheVariants.{Queued, Taken, Answered}
-use Rattle.qx_machine.specs.Calls.{bytes_of, content_of, is_ready, own_name, target_of}
+use Rattle.qx_machine.specs.Calls.{address, bytes_of, content_of, is_ready, may_call, target_at}
 use Rattle.qx_machine.specs.Judgements.{◌>>=◌, found, need, or_refused}
-use Rattle.qx_machine.specs.Mounting.{mounted_at}
+use Rattle.qx_machine.specs.Mounting.{new_mount, with_mount}
 use Rattle.qx_machine.specs.Parts.{Part, Change, Put, Remove, thread_at, with_process, with_thread_of}
 use Rattle.qx_machine.specs.Performing.{after_answer}
 use Rattle.qx_machine.specs.Processes.{Process, asked_thread, new_process, with_queued, ranked_thread, ready_thread}
@@ -50,16 +51,17 @@ spawn part threads prio = do
   Ok (record { outcome = Spawned number; part = record part { processes = put_row part.processes number (new_process threads prio) }; changes = [] })
 
 -- where a call of a thread goes
-abbrev pub target_by : Configuration → ℕ → Part → Thread → Request → Result Addressed Outcome
-target_by config user part thread request = do
-  process ← found (row_at part.processes thread.proc.num) WrongState
+abbrev pub target_by : Configuration → ℕ → List MountPoint → List (Option Process) → Thread → Request → Result Addressed Outcome
+target_by config user mounts processes thread request = do
+  process ← found (row_at processes thread.proc.num) WrongState
   row ← found (row_at process.threads thread.tid) WrongState
-  target_of config user part.resources.mounts part.processes process row request
+  may ← may_call row request
+  target_at config user mounts processes process row.prio (address request)
 
 -- the message goes into its manager's line with its thread's priority (System Architecture: the channel's line of messages)
 abbrev pub call : Configuration → ℕ → Part → Thread → Request → Result ClientStep Outcome
 call config user part thread request = do
-  addressed ← target_by config user part thread request
+  addressed ← target_by config user part.resources.mounts part.processes thread request
   Ok (record {
     outcome = outcome.Sent;
     part = with_process thread.proc.num (with_queued thread.tid (record { target = addressed.target; is_asked = false; bytes = bytes_of (content_of request addressed.rest) })) part;
@@ -126,8 +128,8 @@ abbrev pub mount : Configuration → ℕ → Part → Thread → List ℕ → Ma
 mount config user part thread path manager = do
   row ← found (thread_at part thread.proc.num thread.tid) WrongState
   ready ← need (is_ready row.state) WrongState
-  resources ← or_refused (mounted_at user (own_name config user) path manager part.resources)
-  Ok (record { outcome = Done; part = record part { resources = resources }; changes = [] })
+  mount ← or_refused (new_mount (name_bytes config user) path manager part.resources)
+  Ok (record { outcome = Done; part = record part { resources = with_mount user mount part.resources }; changes = [] })
 
 -- what a client's step gives, or the outcome of one that changes nothing
 abbrev pub client_given : Configuration → ℕ → List OwnItem → Part → Step → Result ClientStep Outcome

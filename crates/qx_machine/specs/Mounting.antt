@@ -6,7 +6,7 @@ use Rattle.qx_types.specs.declared.limits.TheConstants.Limits.{INODES}
 use Rattle.qx_types.specs.declared.names.Manager.{Manager}
 use Rattle.qx_paths.specs.Mounts.{boot_mounts, mount_fault, mounted}
 use Rattle.qx_paths.specs.Paths.{read_path, unless}
-use Rattle.qx_paths.specs.Prefixes.{is_under}
+use Rattle.qx_paths.specs.Prefixes.{MountPoint, is_under}
 use Rattle.qx_machine.specs.Attributes.{root_attribute, top_inode}
 use Rattle.qx_machine.specs.Judgements.{◌>>=◌, need}
 use Rattle.qx_machine.specs.Parts.{Resources}
@@ -26,19 +26,19 @@ free_inode resources = do
   free ← need (nat_le (lowest_from 1 resources.inodes) INODES) ENOSPC
   Ok (lowest_from 1 resources.inodes)
 
--- one more mount, with a root of its own
-abbrev pub with_mount : ℕ → List (List ℕ) → Manager → ℕ → Resources → Resources
-with_mount user path manager root resources = record resources {
-  mounts = mounted resources.mounts path manager root;
-  inodes = put_row resources.inodes root (root_attribute user);
-}
-
--- a manager is attached at a path of a user of that name: at the name or below it, where no mount is (C Library Reference:
--- resmgr_attach, EEXIST and ENOSPC; that any other path is EACCES, whoever has its first name, is this profile)
-abbrev pub mounted_at : ℕ → List ℕ → List ℕ → Manager → Resources → Result Resources Errno
-mounted_at user name path manager resources = do
+-- a manager's mount at a path of a user of that name: at the name or below it, where no mount is, with a root of its own (C Library
+-- Reference: resmgr_attach, EEXIST and ENOSPC; that any other path is EACCES, whoever has its first name, is this profile)
+abbrev pub new_mount : List ℕ → List ℕ → Manager → Resources → Result MountPoint Errno
+new_mount name path manager resources = do
   names ← read_path path
   own ← need (is_under name names) EACCES
   free ← unless (mount_fault resources.mounts names) names
   root ← free_inode resources
-  Ok (with_mount user names manager root resources)
+  Ok (record { prefix = names; manager = manager; root = root })
+
+-- the mount and its root are there
+abbrev pub with_mount : ℕ → MountPoint → Resources → Resources
+with_mount user mount resources = record resources {
+  mounts = mounted resources.mounts mount.prefix mount.manager mount.root;
+  inodes = put_row resources.inodes mount.root (root_attribute user);
+}

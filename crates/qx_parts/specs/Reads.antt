@@ -1,6 +1,5 @@
 -- A process and a thread among the rows of all users, and when a message can go out.
-use Rattle.std.specs.Prelude.{ℕ, ◌<◌, ◌≤◌, List, Option, Some, None, length, ⊤}
-use Rattle.qx_types.specs.declared.limits.TheConstants.Limits.{FIRST_CONNECTION, LAST_CONNECTION}
+use Rattle.std.specs.Prelude.{ℕ, ◌<◌, List, Option, Some, None, length, ⊤}
 use Rattle.qx_types.specs.declared.names.Proc.{Proc}
 use Rattle.qx_types.specs.declared.names.Thread.{Thread}
 use Rattle.qx_machine.specs.declared.rows.Target.{Target}
@@ -30,7 +29,3 @@ CanSend row target = CanCall row × CanGo target
 abbrev pub HasPlace : Option Part → Type 0
 HasPlace None = ⊤
 HasPlace (Some part) = 0 < length part.processes
-
--- a number that a connection may have
-abbrev pub IsConnection : ℕ → Type 0
-IsConnection coid = (FIRST_CONNECTION ≤ coid) × (coid ≤ LAST_CONNECTION)

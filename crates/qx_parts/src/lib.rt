@@ -1,11 +1,8 @@
 //! All rows of one user, and the rows of all users.
 #![tactic(auto)]
 
-pub mod content;
-mod judge;
 pub mod part;
 pub mod parts;
 
-pub use content::encoded;
 pub use part::Part;
 pub use parts::Parts;

@@ -17,10 +17,10 @@ ghost use Rattle.qx_resources.specs.Deeds.{deed_with};
 ghost use Rattle.qx_parts.specs.Deeds.{served_part, taken_item, taken_of, wants_memory_item, IsReadOf};
 ghost use Rattle.qx_parts.specs.Reads.{CanSend};
 
-use crate::judge;
 use qx_machine::{Effect, Over, OwnItem, Sent, State, Target, ThreadRow};
 use qx_process::Process;
 use qx_procs::Processes;
+use qx_requests::target_by;
 use qx_resources::{Done, Resources};
 use qx_types::{Answer, Bytes, Errno, Outcome, Prio, Request, Thread, User};
 use qx_wire::{Meaning, Parsed, meaning};
@@ -92,13 +92,7 @@ impl Part {
         ensures sendable { IfOk result (λ _. IsTrue (can_send (content_of request.now))) }
         ensures target { result ≡ clients.target_by (47 ∷ name.now) self.now thread request.now }
     {
-        let Some(process) = self.processes.process(thread.proc.num) else {
-            return Err(Outcome::WrongState);
-        };
-        let Some(row) = process.thread(thread.tid) else {
-            return Err(Outcome::WrongState);
-        };
-        judge::target_of(&self.processes, process, row, name, request)
+        target_by(&self.processes, name, thread, request)
     }
 
     /// A message of a thread goes out.

@@ -46,12 +46,7 @@ impl Mount {
     }
 
     /// A manager attached at one component, a user's name.
-    pub fn top(
-        alloc: Global,
-        name: &[u8],
-        manager: Manager,
-        root: u32,
-    ) -> Result<Mount, NoMemory>
+    pub fn top(alloc: Global, name: &[u8], manager: Manager, root: u32) -> Result<Mount, NoMemory>
         ensures mount { IfOk result (λ mount. mount ≡ record { prefix = name.now ∷ []; manager = manager; root = root }) }
     {
         let mut prefix = Vec::new(alloc);

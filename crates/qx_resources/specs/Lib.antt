@@ -1,1 +1,3 @@
+pub mod Boot
 pub mod Deeds
+pub mod Lends

@@ -1,7 +1,9 @@
-//! What the managers keep for one user, and what messages do to it.
+//! What the managers keep for users, and what messages do to it.
 #![tactic(auto)]
 
+pub mod all;
 pub mod resources;
 mod status;
 
-pub use resources::{Done, Resources};
+pub use all::AllResources;
+pub use resources::{Done, NewMount, Resources};

@@ -20,8 +20,9 @@ use crate::servers;
 use crate::work::{PerformFault, Work, WorkRef};
 use qx_chan::Channel;
 use qx_machine::{Held, OwnItem, Queued, Sent, State, Target};
-use qx_parts::{Part, Parts, encoded};
+use qx_parts::{Part, Parts};
 use qx_process::places;
+use qx_requests::encoded;
 use qx_types::{
     Bytes, Config, Errno, Item, Manager, NoMemory, Outcome, Prio, Proc, Request, Step, Thread,
     User, Worker,

@@ -1,4 +1,0 @@
-use Rattle.qx_chan.proofs.channel.Channel.+add_process.Given as goal
-
-abbrev pub decreases-add_process : goal.decreases-add_process
-decreases-add_process l = l.threads

@@ -1,8 +1,0 @@
-use Rattle.std.proofs.Common.{◌≡◌, length}
-use Rattle.qx_chan.specs.Kept.{Kept}
-use Rattle.qx_chan.specs.Nodes.{no_nodes, node_of}
-use Rattle.qx_chan.proofs.channel.Channel.new.Given as goal
-
--- so many lines, and nobody has a node
-abbrev pub invariant-managers : goal.invariant-managers
-invariant-managers l = (length l.lines.items ≡ l.counter) × (l.table.room ≡ 0) × Kept l.table l.lines.items (node_of (no_nodes l.fn.users))

@@ -1,6 +1,0 @@
-use Rattle.std.proofs.Common.{◌≡◌, replicate}
-use Rattle.qx_chan.specs.Nodes.{no_processes}
-use Rattle.qx_chan.proofs.nodes.Nodes.new.Given as goal
-
-abbrev pub invariant-loop : goal.invariant-loop
-invariant-loop l = l.places.items ≡ replicate l.counter no_processes

@@ -1,0 +1,57 @@
+-- The processes of all users, and one process or thread among them.
+use Rattle.std.specs.Prelude.{◌≡◌, ℕ, ◌<◌, ⊤, [], ◌∷◌, List, Option, Some, None, Result, Err, length, replicate}
+use Rattle.qx_types.specs.declared.names.Proc.{Proc}
+use Rattle.qx_types.specs.declared.names.Thread.{Thread}
+use Rattle.qx_types.specs.declared.outcome.Outcome.{Outcome}
+use Rattle.qx_types.specs.declared.outcome.Outcome.TheVariants.{WrongState}
+use Rattle.qx_machine.specs.declared.rows.State.TheVariants.{Ready}
+use Rattle.qx_machine.specs.declared.rows.ThreadRow.{ThreadRow}
+use Rattle.qx_machine.specs.Clients.{spawn_number}
+use Rattle.qx_machine.specs.Parts.{thread_of}
+use Rattle.qx_machine.specs.Processes.{Process, with_thread}
+use Rattle.qx_machine.specs.Rows.{row_at, with_row}
+use Rattle.qx_procs.specs.Calls.{done_or, with_prio}
+
+-- users from 1 to this many, with no process
+abbrev pub no_processes : ℕ → List (Option (List (Option Process)))
+no_processes users = None ∷ replicate users (Some (None ∷ []))
+
+abbrev pub process_in : ℕ → Option (List (Option Process)) → Option Process
+process_in number None = None
+process_in number (Some processes) = row_at processes number
+
+-- a process of a user
+abbrev pub process_of : List (Option (List (Option Process))) → Proc → Option Process
+process_of users proc = process_in proc.num (row_at users proc.user.0)
+
+-- a thread's row
+abbrev pub thread_row : List (Option (List (Option Process))) → Thread → Option ThreadRow
+thread_row users thread = thread_of thread.tid (process_of users thread.proc)
+
+-- one process changes
+abbrev pub with_process_of : List (Option (List (Option Process))) → Proc → (Process → Process) → List (Option (List (Option Process)))
+with_process_of users proc change = with_row users proc.user.0 (λ processes. with_row processes proc.num change)
+
+-- one thread changes
+abbrev pub with_thread_row : List (Option (List (Option Process))) → Thread → (ThreadRow → ThreadRow) → List (Option (List (Option Process)))
+with_thread_row users thread change = with_process_of users thread.proc (with_thread thread.tid change)
+
+-- the number of a process of a user that would start now
+abbrev pub spawn_number_in : ℕ → ℕ → Option (List (Option Process)) → Result ℕ Outcome
+spawn_number_in threads prio None = Err WrongState
+spawn_number_in threads prio (Some processes) = spawn_number processes threads prio
+
+-- how a change of a thread's priority is judged
+abbrev pub prio_outcome_in : ℕ → ℕ → ℕ → Option (List (Option Process)) → Outcome
+prio_outcome_in process thread prio None = WrongState
+prio_outcome_in process thread prio (Some processes) = done_or (with_prio processes process thread prio)
+
+-- the table of a user's processes has a place for each number below the next one
+abbrev pub HasPlace : Option (List (Option Process)) → Type 0
+HasPlace None = ⊤
+HasPlace (Some processes) = 0 < length processes
+
+-- the thread is there, and waits for nothing
+abbrev pub IsReady : Option ThreadRow → Type 0
+IsReady None = ⊥
+IsReady (Some row) = row.state ≡ Ready

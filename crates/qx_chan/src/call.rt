@@ -1,0 +1,57 @@
+//! The call that a thread waits for.
+
+ghost use Rattle.std.specs.Prelude.{◌≡◌, IfSome};
+ghost use Rattle.qx_machine.specs.declared.rows.State.TheVariants as state;
+ghost use Rattle.qx_machine.specs.Performing.{taken_in};
+ghost use Rattle.qx_process.specs.Reads.{IsPriority, IsRanked};
+ghost use Rattle.qx_chan.specs.Calls.{call_by, queued_in, unasked_in};
+
+use qx_machine::{State, Target, ThreadRow};
+
+/// A call of a thread: where its message went, and the call's number.
+#[derive(Clone, Copy, Debug, PartialEq, Eq)]
+pub struct Call {
+    pub target: Target,
+    pub number: u64,
+}
+
+/// The call whose message stands in a line.
+pub fn queued(row: &ThreadRow) -> Option<Call>
+    ensures call { result ≡ call_by queued_in row.now }
+{
+    match &row.state {
+        State::Queued(sent) => Some(Call {
+            target: sent.target,
+            number: row.calls,
+        }),
+        _ => None,
+    }
+}
+
+/// The call whose message was received and is not answered.
+pub fn taken(row: &ThreadRow) -> Option<Call>
+    ensures call { result ≡ call_by taken_in row.now }
+{
+    match &row.state {
+        State::Taken(sent) => Some(Call {
+            target: sent.target,
+            number: row.calls,
+        }),
+        _ => None,
+    }
+}
+
+/// The call whose message was received and is not asked to unblock its thread.
+pub fn unasked(row: &ThreadRow) -> Option<Call>
+    requires priorities { IsRanked row.now }
+    ensures call { result ≡ call_by unasked_in row.now }
+    ensures priority { IfSome result (λ call. IsPriority call.target.prio.0) }
+{
+    match &row.state {
+        State::Taken(sent) if !sent.is_asked => Some(Call {
+            target: sent.target,
+            number: row.calls,
+        }),
+        _ => None,
+    }
+}

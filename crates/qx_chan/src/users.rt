@@ -1,0 +1,173 @@
+//! The processes of all users, from 1: a place for each number.
+
+ghost use Rattle.std.specs.Prelude.{◌≡◌, ◌≤◌, length, IsTrue, IfOk, IfSome, OnOk, OnErr};
+ghost use Rattle.std.specs.Option.{option_copied, option_copied_mut};
+ghost use Rattle.std.specs.Borrow.{sem};
+ghost use Rattle.qx_types.specs.declared.limits.TheConstants.Limits.{BODY};
+ghost use Rattle.qx_machine.specs.Clients.{spawn_number};
+ghost use Rattle.qx_machine.specs.Processes.{after_effect, asked_thread, taken_thread, with_queued};
+ghost use Rattle.qx_machine.specs.Rows.{row_at, with_row};
+ghost use Rattle.qx_process.specs.Reads.{is_thread_blocked, CanCall, CanGo, IsRanked};
+ghost use Rattle.qx_procs.specs.Calls.{spawned};
+ghost use Rattle.qx_chan.specs.Channel.{failed, replied};
+ghost use Rattle.qx_chan.specs.Users.{HasPlace, no_processes, process_of, thread_row, with_process_of, with_thread_row};
+
+use qx_machine::{Effect, Over, Sent, ThreadRow};
+use qx_process::{Process, ThreadCell, places};
+use qx_procs::Processes;
+use qx_types::{Errno, Prio, Proc, Thread, User};
+use std::alloc::{AllocError, Global};
+use std::marker::Model;
+
+/// The processes of all users.
+#[derive(Drop)]
+pub struct Users {
+    rows: Vec<Option<Processes>>,
+}
+
+impl Model for Users {
+    ghost use Rattle.std.specs.Prelude.{List, Option};
+    ghost use Rattle.qx_machine.specs.Processes as machine;
+
+    ghost Value = { List (Option (List (Option machine.Process))) };
+
+    ghost view = { λ u. u.rows.items };
+}
+
+impl Users {
+    ghost use Rattle.qx_chan.specs.Lends.{lends_process_of, lends_processes, lends_thread_row};
+
+    /// Users from 1 to this many, with no process.
+    pub fn new(alloc: Global, users: usize) -> Result<Self, AllocError>
+        ensures none { IfOk result (λ column. column ≡ no_processes users) }
+    {
+        let mut rows = places::empty(alloc)?;
+        for _ in 0..users {
+            rows.push(Some(Processes::new(alloc)?))?;
+        }
+        Ok(Users { rows })
+    }
+
+    /// The processes of a user.
+    pub fn processes(&self, user: User) -> Option<&Processes>
+        ensures row { option_copied result ≡ row_at self.now user.0 }
+    {
+        places::row(self.rows.as_slice(), user.0 as usize)
+    }
+
+    /// The processes of a user, for writing.
+    pub fn processes_mut(&mut self, user: User) -> Option<&mut Processes>
+        ensures* writes_back { sem 𝓛 (lends_processes self.entry user.0 result) }
+        ensures row { option_copied_mut result ≡ row_at self.old user.0 }
+    {
+        self.rows.get_mut(user.0 as usize)?.as_mut()
+    }
+
+    /// A process.
+    pub fn process(&self, proc: Proc) -> Option<&Process>
+        ensures row { option_copied result ≡ process_of self.now proc }
+    {
+        self.processes(proc.user)?.process(proc.num)
+    }
+
+    /// A process, for writing.
+    pub fn process_mut(&mut self, proc: Proc) -> Option<&mut Process>
+        ensures* writes_back { sem 𝓛 (lends_process_of self.entry proc result) }
+        ensures row { option_copied_mut result ≡ process_of self.old proc }
+    {
+        self.processes_mut(proc.user)?.process_mut(proc.num)
+    }
+
+    /// A thread's row.
+    pub fn thread(&self, thread: Thread) -> Option<&ThreadRow>
+        ensures row { option_copied result ≡ thread_row self.now thread }
+        ensures priorities { IfSome result (λ row. IsRanked row.now) }
+    {
+        self.process(thread.proc)?.thread(thread.tid)
+    }
+
+    /// A thread, for writing.
+    pub fn thread_mut(&mut self, thread: Thread) -> Option<&mut ThreadCell>
+        ensures* writes_back { sem 𝓛 (lends_thread_row self.entry thread result) }
+        ensures row { option_copied_mut result ≡ thread_row self.old thread }
+    {
+        self.process_mut(thread.proc)?.thread_mut(thread.tid)
+    }
+
+    /// Starts a process of a user.
+    pub fn spawn(&mut self, user: User, threads: u8, prio: Prio) -> Result<(), AllocError>
+        ensures ok { OnOk result (self.new ≡ with_row self.old user.0 (λ processes. spawned processes threads prio.0 (spawn_number processes threads prio.0))) }
+        ensures places { HasPlace (row_at self.old user.0) }
+        ensures err { OnErr result (self.new ≡ self.old) }
+    {
+        if let Some(processes) = self.processes_mut(user) {
+            processes.spawn(threads, prio)?;
+        }
+        Ok(())
+    }
+
+    /// A message of a thread goes out.
+    pub fn send(&mut self, alloc: Global, thread: Thread, sent: Sent) -> Result<(), AllocError>
+        requires call { CanCall (thread_row self.old thread) }
+        requires target { CanGo sent.target }
+        ensures ok { OnOk result (self.new ≡ with_process_of self.old thread.proc (with_queued thread.tid sent)) }
+        ensures err { OnErr result (self.new ≡ self.old) }
+    {
+        if let Some(process) = self.process_mut(thread.proc) {
+            process.send(alloc, thread.tid, sent)?;
+        }
+        Ok(())
+    }
+
+    /// A thread's message is received.
+    pub fn take(&mut self, thread: Thread)
+        ensures taken { self.new ≡ with_thread_row self.old thread taken_thread }
+    {
+        if let Some(cell) = self.thread_mut(thread) {
+            cell.take();
+        }
+    }
+
+    /// A thread's message, which was received, is asked to unblock it.
+    pub fn ask_unblock(&mut self, thread: Thread)
+        ensures asked { self.new ≡ with_thread_row self.old thread asked_thread }
+    {
+        if let Some(cell) = self.thread_mut(thread) {
+            cell.ask_unblock();
+        }
+    }
+
+    /// A blocked thread gets a reply, once its message has done what it does to the connection that it came over.
+    pub fn reply(&mut self, thread: Thread, over: Over, effect: Effect, status: u64, bytes: &[u8])
+        requires blocked { IsTrue (is_thread_blocked (thread_row self.old thread)) }
+        requires fits { length bytes.now ≤ BODY }
+        ensures replied { self.new ≡ with_process_of self.old thread.proc (replied thread.tid effect status bytes.now over) }
+    {
+        if let Some(process) = self.process_mut(thread.proc) {
+            apply(process, effect);
+            process.reply(thread.tid, over, status, bytes);
+        }
+    }
+
+    /// A blocked thread gets an error, which gives back what its call attached.
+    pub fn fail(&mut self, thread: Thread, over: Over, error: Errno)
+        requires blocked { IsTrue (is_thread_blocked (thread_row self.old thread)) }
+        ensures failed { self.new ≡ with_process_of self.old thread.proc (failed thread.tid error over) }
+    {
+        if let Some(process) = self.process_mut(thread.proc) {
+            process.fail(thread.tid, over, error);
+        }
+    }
+}
+
+/// What a message does to the connection that it came over.
+fn apply(process: &mut Process, effect: Effect)
+    ensures threads { process.new.threads ≡ process.old.threads }
+    ensures process { process.new ≡ after_effect effect process.old }
+{
+    match effect {
+        Effect::Keeps => {}
+        Effect::Opens { coid, block } => process.set_block(coid, block),
+        Effect::Closes(coid) => process.detach(coid),
+    }
+}

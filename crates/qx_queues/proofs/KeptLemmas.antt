@@ -1,0 +1,521 @@
+-- How the lines and the nodes stand in the table, as a node is made, put into a line, taken out of one or given back.
+use Rattle.std.proofs.Common.{◌≡◌, ◌≢◌, ◌⊎◌, ◌++◌, subst, inl, inr, ℕ, zero, suc, true, false, nat_eq, List, [], ◌∷◌, Contains, Option, Some, None, option_map, map, drop, length, replicate, slice_get, slice_set, unwrap_or, is_some, IfSome, refl, sym, ◌∙◌, ap, arith}
+use Rattle.std.specs.FinMap as maps
+use Rattle.std.specs.Ordering.{nat_cmp}
+use Rattle.std.specs.List.{IsDistinct, AllByRecursion}
+use Rattle.std.proofs.lemmas.Bool.{cases_Bool}
+use Rattle.std.proofs.lemmas.Bool.Decides.{eqb_tells}
+use Rattle.std.proofs.lemmas.Option.{same_Some, slice_get-map}
+use Rattle.qx_types.specs.declared.names.Proc.{Proc}
+use Rattle.qx_types.specs.declared.names.Thread.{Thread}
+use Rattle.qx_lists.specs.Table.{Table, ContainsNode, IsFree, IsIn, nodes_of, without}
+use Rattle.qx_lists.proofs.ListLemmas.{contains_first, contains_later, nowhere_from}
+use Rattle.qx_lists.proofs.MapLemmas.{get-remove_same}
+use Rattle.qx_lines.specs.declared.Line.{Line}
+use Rattle.qx_lines.specs.Line.{IsInLine, IsLineOf, IsOwn, SameElsewhere, nodes_in}
+use Rattle.qx_lines.proofs.LineFacts.{IsLineOf-same, IsLineOf-elsewhere, apart_from_new}
+use Rattle.qx_machine.specs.declared.rows.OwnItem.{OwnItem}
+use Rattle.qx_machine.specs.declared.rows.OwnItem.TheVariants as item
+use Rattle.qx_machine.specs.declared.rows.Queued.{Queued}
+use Rattle.qx_machine.specs.Machine.{line_without, rank}
+use Rattle.qx_machine.specs.Lines.{into, line_at, with_line}
+use Rattle.qx_queues.specs.Queues.{IsGone, pulse_call, first_field, is_same_thread, as_message, no_other, sender, stands, own_field, unblock_call}
+use Rattle.qx_queues.specs.Kept.{Kept, PutIn, TakenOut, entries, entry_at, list_at, named, owner_in, owner_of}
+use Rattle.qx_queues.specs.Nodes.{Disconnect, Message, Owner, Unblock}
+use Rattle.qx_queues.proofs.EntryLemmas.{Reads, differs_from, reads-call, reads-message, some_of, field-entry, field-find, field-part}
+use Rattle.qx_queues.proofs.LineLemmas.{is_this, other-unblock, owner-this, this-message, this-unblock, without-absent, without-map}
+use Rattle.qx_queues.proofs.NodesLemmas.{none_of}
+use Rattle.qx_queues.proofs.TableLemmas.{absent_is, contained-other, contains-insert, contains-other, contains-self, entries-kept, entry-other, entry-same, inserted, line-kept, none_some, nowhere, removed, some_same}
+
+-- a place that was written, and the others
+pub slice_get-set : {A : Type 0} (xs : List A) (i j : ℕ) (x y : A) → slice_get (slice_set xs i x) j ≡ Some y → ((j ≡ i) × (y ≡ x)) ⊎ ((j ≢ i) × (slice_get xs j ≡ Some y))
+slice_get-set [] i j x y is = absurd (none_some y None refl is)
+slice_get-set (z ∷ zs) zero zero x y is = inl (refl, sym (same_Some x y is))
+slice_get-set (z ∷ zs) zero (suc j) x y is = inr (λ same. omega (arith, same), is)
+slice_get-set (z ∷ zs) (suc i) zero x y is = inr (λ same. omega (arith, same), is)
+slice_get-set (z ∷ zs) (suc i) (suc j) x y is = elim (slice_get-set zs i j x y is) [
+  | inl here ↦ inl (ap suc here.0, here.1)
+  | inr there ↦ inr (λ same. there.0 (omega (arith, same)), there.1)
+]
+
+slice_get-more : {A : Type 0} (xs : List A) (x y : A) (i : ℕ) → slice_get (xs ++ x ∷ []) i ≡ Some y → ((i ≡ length xs) × (y ≡ x)) ⊎ (slice_get xs i ≡ Some y)
+slice_get-more [] x y zero is = inl (refl, sym (same_Some x y is))
+slice_get-more [] x y (suc i) is = absurd (none_some y None refl is)
+slice_get-more (z ∷ zs) x y zero is = inr is
+slice_get-more (z ∷ zs) x y (suc i) is = elim (slice_get-more zs x y i is) [
+  | inl last ↦ inl (omega (arith, last.0), last.1)
+  | inr there ↦ inr there
+]
+
+list_at-more : (lines : List Line) (line : Line) (number list : ℕ) → list_at lines number ≡ Some list → list_at (lines ++ line ∷ []) number ≡ Some list
+list_at-more [] line number list is = absurd (none_some list None refl is)
+list_at-more (first ∷ lines) line zero list is = is
+list_at-more (first ∷ lines) line (suc number) list is = list_at-more lines line number list is
+
+-- the line of a number whose list is known
+pub line_of : (lines : List Line) (number list : ℕ) → list_at lines number ≡ Some list → (line : Line) × ((slice_get lines number ≡ Some line) × (line.list ≡ list))
+line_of [] number list is = absurd (none_some list None refl is)
+line_of (line ∷ lines) zero list is = (line, (refl, same_Some line.list list is))
+line_of (line ∷ lines) (suc number) list is = line_of lines number list is
+
+pub list_of : (lines : List Line) (number : ℕ) (line : Line) → slice_get lines number ≡ Some line → list_at lines number ≡ Some line.list
+list_of lines number line is = ap (option_map (λ l. l.list)) is
+
+-- the items of the line of a number
+pub line_at-shown : (t : Table Queued) (lines : List Line) (number : ℕ) (line : Line) → slice_get lines number ≡ Some line → line_at (map (entries t) lines) number ≡ entries t line
+line_at-shown t lines number line is = ap (λ o. unwrap_or o []) (slice_get-map (entries t) lines number ∙ ap (option_map (entries t)) is)
+
+-- a line that changes keeps its list
+list_at-set : (before after : Line) → after.list ≡ before.list → (lines : List Line) (number other : ℕ) → slice_get lines number ≡ Some before → list_at (slice_set lines number after) other ≡ list_at lines other
+list_at-set before after own [] number other is = refl
+list_at-set before after own (line ∷ lines) zero zero is = ap Some (own ∙ ap (λ l. l.list) (sym (same_Some line before is)))
+list_at-set before after own (line ∷ lines) zero (suc other) is = refl
+list_at-set before after own (line ∷ lines) (suc number) zero is = refl
+list_at-set before after own (line ∷ lines) (suc number) (suc other) is = list_at-set before after own lines number other is
+
+-- lines that show what they showed, but for one
+shown-set : (old new : Table Queued) (lines : List Line) (number : ℕ) (after : Line) → ((other : ℕ) (line : Line) → other ≢ number → slice_get lines other ≡ Some line → entries new line ≡ entries old line) → map (entries new) (slice_set lines number after) ≡ slice_set (map (entries old) lines) number (entries new after)
+shown-set old new [] number after same = refl
+shown-set old new (line ∷ lines) zero after same = ap (λ l. entries new after ∷ l) (all lines (λ other line at. same (suc other) line (λ is. omega (arith, is)) at))
+  where
+    all : (lines : List Line) → ((other : ℕ) (line : Line) → slice_get lines other ≡ Some line → entries new line ≡ entries old line) → map (entries new) lines ≡ map (entries old) lines
+    all [] same = refl
+    all (line ∷ lines) same = rw (same zero line refl, all lines (λ other line at. same (suc other) line at)) refl
+shown-set old new (line ∷ lines) (suc number) after same = rw (same zero line (λ is. omega (arith, is)) refl, shown-set old new lines number after (λ other line differs at. same (suc other) line (λ is. differs (omega (arith, is))) at)) refl
+
+-- all lines show what they showed
+pub shown-kept : (old new : Table Queued) (lines : List Line) → ((line : Line) → entries new line ≡ entries old line) → map (entries new) lines ≡ map (entries old) lines
+shown-kept old new [] same = refl
+shown-kept old new (line ∷ lines) same = rw (same line, shown-kept old new lines same) refl
+
+-- the same nodes in another room
+pub Kept-room : (old new : Table Queued) (lines : List Line) (node_of : Owner → Option ℕ) → new.lists ≡ old.lists → new.values ≡ old.values → Kept old lines node_of → Kept new lines node_of
+Kept-room old new lines node_of same_lists values kept = record {
+  line = λ number line at. IsLineOf-same rank old new line (kept.line number line at) (λ list own. rw same_lists refl) (λ node in_line. rw values refl);
+  apart = kept.apart;
+  there = rw values kept.there;
+  names = rw values kept.names;
+  owned = rw values kept.owned;
+  once = kept.once;
+  listed = rw (same_lists, values) kept.listed;
+}
+
+-- the same nodes of the same owners
+pub Kept-owners : (t : Table Queued) (lines : List Line) (node_of after : Owner → Option ℕ) → ((owner : Owner) → after owner ≡ node_of owner) → Kept t lines node_of → Kept t lines after
+Kept-owners t lines node_of after same kept =
+    let all : node_of ≡ after = λ i owner. sym (same owner) i in
+    subst (Kept t lines) all kept
+
+not_disconnect : (thread : Thread) (it : OwnItem) (proc : Proc) (number : ℕ) → owner_in thread it ≡ Disconnect proc number → ⊥
+not_disconnect thread (item.Message process n) proc number is = cc
+not_disconnect thread (item.Unblock process n call) proc number is = cc
+
+-- a disconnect node stands in no list
+pub IsFree-disconnect : (t : Table Queued) (lines : List Line) (node_of : Owner → Option ℕ) (proc : Proc) (number node : ℕ) → Kept t lines node_of → node_of (Disconnect proc number) ≡ Some node → IsFree t node
+IsFree-disconnect t lines node_of proc number node kept has = record {
+  there = kept.there (Disconnect proc number) node has;
+  in_no_list = nowhere_from t.lists node (λ list at. not_disconnect _ _ proc number (kept.once (Disconnect proc number) (owner_of (entry_at t node)) node has (kept.listed list node at).1));
+}
+
+-- what a line tells of a thread is told by the node of its messages or of its unblock pulses
+module _ {A : Type 0} (part : OwnItem → Option A) (thread : Thread) (owner : Owner) (reads : Reads part thread owner) (t : Table Queued) (lines : List Line) (node_of : Owner → Option ℕ) (kept : Kept t lines node_of) where
+  found-own : (a : A) (line : Line) (xs : List ℕ) → ((x : ℕ) → Contains xs x → IsInLine t line x) → first_field part thread (map (entry_at t) xs) ≡ Some a → (x : ℕ) × (Contains xs x × ((node_of owner ≡ Some x) × (part (entry_at t x).item ≡ Some a)))
+  found-own a line xs members is =
+      let found = field-find (entry_at t) part thread a xs is in
+      let own = reads.of (entry_at t found.0) (ap is_some found.1.1) in
+      (found.0, (found.1.0, (ap node_of (sym own) ∙ (kept.listed line.list found.0 (members found.0 found.1.0)).1, field-part (is_same_thread (sender (entry_at t found.0)) thread) (part (entry_at t found.0).item) a found.1.1)))
+
+  pub stands-owned : (number : ℕ) → is_some (first_field part thread (line_at (map (entries t) lines) number)) ≡ true → node_of owner ≡ None → ⊥
+  stands-owned number some none =
+      let line = line_there lines number some in
+      let told = some_of (first_field part thread (entries t line.0)) (sym (ap (λ l. is_some (first_field part thread l)) (line_at-shown t lines number line.0 line.1)) ∙ some) in
+      let found = found-own told.0 line.0 (nodes_in t line.0) (λ x at. at) told.1 in
+      none_some found.0 (node_of owner) none found.1.1.0
+    where
+      line_there : (lines : List Line) (number : ℕ) → is_some (first_field part thread (line_at (map (entries t) lines) number)) ≡ true → (line : Line) × (slice_get lines number ≡ Some line)
+      line_there [] number some = cc
+      line_there (line ∷ lines) zero some = (line, refl)
+      line_there (line ∷ lines) (suc number) some = line_there lines number some
+
+-- what the lines tell of a thread, and the node of its messages or of its unblock pulses
+module _ {A : Type 0} (part : OwnItem → Option A) (thread : Thread) (owner : Owner) (reads : Reads part thread owner) (own_name : named owner ≡ owner) (t : Table Queued) (lines : List Line) (node_of : Owner → Option ℕ) (node : ℕ) (kept : Kept t lines node_of) (has : node_of owner ≡ Some node) where
+  tells : is_some (own_field part thread (entry_at t node)) ≡ true
+  tells = reads.from (entry_at t node) (kept.names owner node has ∙ own_name)
+
+  -- where nothing is told of the thread, the node stands in no list
+  pub IsFree-own : ((number : ℕ) → is_some (first_field part thread (line_at (map (entries t) lines) number)) ≡ false) → IsFree t node
+  IsFree-own idle = record {
+    there = kept.there owner node has;
+    in_no_list = nowhere_from t.lists node (λ list at.
+        let of = (kept.listed list node at).0 in
+        let line = line_of lines of.0 list of.1 in
+        let here : Contains (nodes_in t line.0) node = rw (← line.1.1) at at in
+        let in_line : is_some (first_field part thread (entries t line.0)) ≡ true = field-entry (entry_at t) part thread (nodes_in t line.0) node here tells in
+        let clash : true ≡ false = sym in_line ∙ ap (λ l. is_some (first_field part thread l)) (sym (line_at-shown t lines of.0 line.0 line.1.0)) ∙ idle of.0 in
+        cc);
+  }
+
+  only : (x : ℕ) → node_of (owner_of (entry_at t x)) ≡ Some x → owner_of (entry_at t x) ≡ owner → x ≡ node
+  only x own is = some_same x node (node_of owner) (ap node_of (sym is) ∙ own) has
+
+  -- where something is, the node stands in that line
+  pub in_line-own : (line : Line) → is_some (first_field part thread (entries t line)) ≡ true → IsInLine t line node
+  in_line-own line some =
+      let told = some_of (first_field part thread (entries t line)) some in
+      let found = found-own part thread owner reads t lines node_of kept told.0 line (nodes_in t line) (λ x at. at) told.1 in
+      let same : found.0 ≡ node = some_same found.0 node (node_of owner) found.1.1.0 has in
+      rw (← same) found.1.0
+
+  pub part-own : (a : A) (line : Line) → first_field part thread (entries t line) ≡ Some a → part (entry_at t node).item ≡ Some a
+  part-own a line is =
+      let found = found-own part thread owner reads t lines node_of kept a line (nodes_in t line) (λ x at. at) is in
+      let same : found.0 ≡ node = some_same found.0 node (node_of owner) found.1.1.0 has in
+      rw (← same) found.1.1.1
+
+  -- once the node is gone, nothing is told of the thread
+  pub gone-own : (line : Line) (xs : List ℕ) → ((x : ℕ) → Contains xs x → IsInLine t line x) → (Contains xs node → ⊥) → is_some (first_field part thread (map (entry_at t) xs)) ≡ false
+  gone-own line xs members gone = elim (cases_Bool (is_some (first_field part thread (map (entry_at t) xs)))) [
+    | inr none ↦ none
+    | inl some ↦
+        let told = some_of (first_field part thread (map (entry_at t) xs)) some in
+        let found = found-own part thread owner reads t lines node_of kept told.0 line xs members told.1 in
+        let same : found.0 ≡ node = some_same found.0 node (node_of owner) found.1.1.0 has in
+        absurd (gone (rw (← same) found.1.0))
+  ]
+
+  -- a user's item goes as the node that stands for it does
+  items-without : (line : Line) (user : ℕ) (it : OwnItem) → IsDistinct nat_eq (nodes_in t line) → is_this user it (entry_at t node) ≡ true → ((entry : Queued) → is_this user it entry ≡ true → owner_of entry ≡ owner) → map (entry_at t) (without node (nodes_in t line)) ≡ line_without user it (entries t line)
+  items-without line user it distinct this names = without-map (entry_at t) user it node (nodes_in t line) distinct (λ x at. elim (eqb_tells x node) [
+    | inl same ↦ rw same.0 (ap (λ y. is_this user it (entry_at t y)) same.1 ∙ this)
+    | inr differs ↦ rw differs.0 (elim (cases_Bool (is_this user it (entry_at t x))) [
+      | inr other ↦ other
+      | inl is ↦ absurd (differs.1 (only x (kept.listed line.list x at).1 (names (entry_at t x) is)))
+    ])
+  ])
+
+  -- where the node stands for another item, that item is in no line
+  items-other : (line : Line) (user : ℕ) (it : OwnItem) → is_this user it (entry_at t node) ≡ false → ((entry : Queued) → is_this user it entry ≡ true → owner_of entry ≡ owner) → line_without user it (entries t line) ≡ entries t line
+  items-other line user it not names = without-absent (entry_at t) user it (nodes_in t line) (λ x at. elim (cases_Bool (is_this user it (entry_at t x))) [
+    | inr other ↦ other
+    | inl is ↦
+        let same = only x (kept.listed line.list x at).1 (names (entry_at t x) is) in
+        let clash : true ≡ false = sym is ∙ ap (λ y. is_this user it (entry_at t y)) same ∙ not in
+        absurd (cc)
+  ])
+
+-- a thread's message goes out of a line as its node does, and so does the pulse that names a call
+module _ (t : Table Queued) (lines : List Line) (node_of : Owner → Option ℕ) (thread : Thread) (node : ℕ) (kept : Kept t lines node_of) (line : Line) where
+  pub message-leaves : node_of (Message thread) ≡ Some node → IsDistinct nat_eq (nodes_in t line) → map (entry_at t) (without node (nodes_in t line)) ≡ line_without thread.proc.user.0 (item.Message thread.proc.num thread.tid) (entries t line)
+  message-leaves has distinct = items-without as_message thread (Message thread) (reads-message thread) refl t lines node_of node kept has line thread.proc.user.0 (item.Message thread.proc.num thread.tid) distinct
+      (this-message thread (entry_at t node) (kept.names (Message thread) node has)) (λ entry at. owner-this thread.proc.user.0 (item.Message thread.proc.num thread.tid) entry at)
+
+  module _ (has : node_of (Unblock thread) ≡ Some node) (call : ℕ) where
+    pub pulse-leaves : pulse_call (entry_at t node).item ≡ Some call → IsDistinct nat_eq (nodes_in t line) → map (entry_at t) (without node (nodes_in t line)) ≡ line_without thread.proc.user.0 (item.Unblock thread.proc.num thread.tid call) (entries t line)
+    pulse-leaves names distinct = items-without pulse_call thread (Unblock thread) (reads-call thread) refl t lines node_of node kept has line thread.proc.user.0 (item.Unblock thread.proc.num thread.tid call) distinct
+        (this-unblock thread call (entry_at t node) (kept.names (Unblock thread) node has) names) (λ entry at. owner-this thread.proc.user.0 (item.Unblock thread.proc.num thread.tid call) entry at)
+
+    -- where the pulse names another call, nothing goes
+    pub pulse-stays : (other : ℕ) → pulse_call (entry_at t node).item ≡ Some other → other ≢ call → line_without thread.proc.user.0 (item.Unblock thread.proc.num thread.tid call) (entries t line) ≡ entries t line
+    pulse-stays other names differs = items-other pulse_call thread (Unblock thread) (reads-call thread) refl t lines node_of node kept has line thread.proc.user.0 (item.Unblock thread.proc.num thread.tid call)
+        (other-unblock thread call other (entry_at t node) names differs) (λ entry at. owner-this thread.proc.user.0 (item.Unblock thread.proc.num thread.tid call) entry at)
+
+-- what holds of no items and of the items of each line, holds of the line of each number
+at_any : (t : Table Queued) (P : List Queued → Type 0) → P [] → ((line : Line) → P (entries t line)) → (lines : List Line) (number : ℕ) → P (line_at (map (entries t) lines) number)
+at_any t P none all [] number = none
+at_any t P none all (line ∷ lines) zero = all line
+at_any t P none all (line ∷ lines) (suc number) = at_any t P none all lines number
+
+-- a pulse that names another call
+module _ (t : Table Queued) (lines : List Line) (node_of : Owner → Option ℕ) (thread : Thread) (node : ℕ) (kept : Kept t lines node_of) (has : node_of (Unblock thread) ≡ Some node) (call other number : ℕ) (names : pulse_call (entry_at t node).item ≡ Some other) (differs : other ≢ call) where
+  pub other-stays : line_without thread.proc.user.0 (item.Unblock thread.proc.num thread.tid call) (line_at (map (entries t) lines) number) ≡ line_at (map (entries t) lines) number
+  other-stays = at_any t (λ l. line_without thread.proc.user.0 (item.Unblock thread.proc.num thread.tid call) l ≡ l) refl (λ line. pulse-stays t lines node_of thread node kept line has call other names differs) lines number
+
+  pub other-field : unblock_call (line_at (map (entries t) lines) number) thread ≢ Some call
+  other-field is =
+      let part : pulse_call (entry_at t node).item ≡ Some call = at_any t (λ l. unblock_call l thread ≡ Some call → pulse_call (entry_at t node).item ≡ Some call) (λ none. absurd (none_some call None refl none)) (λ line is. part-own pulse_call thread (Unblock thread) (reads-call thread) refl t lines node_of node kept has call line is) lines number is in
+      differs (some_same other call (pulse_call (entry_at t node).item) names part)
+
+-- one line changes
+module _ (old new : Table Queued) (lines : List Line) (number : ℕ) (before after : Line) (node_of : Owner → Option ℕ) (kept : Kept old lines node_of) (is : slice_get lines number ≡ Some before) (own : after.list ≡ before.list) (elsewhere : (list : ℕ) → (IsOwn before list → ⊥) → maps.get new.lists list ≡ maps.get old.lists list) where
+  not_own : (other : ℕ) (line : Line) → other ≢ number → slice_get lines other ≡ Some line → line.list ≢ before.list
+  not_own other line differs at same = differs (kept.apart other number line.list (list_of lines other line at) (list_of lines number before is ∙ ap Some (sym same)))
+
+  changed : IsLineOf rank new after → ((line : Line) → IsLineOf rank old line → maps.get new.lists line.list ≡ maps.get old.lists line.list → IsLineOf rank new line) → ((node : ℕ) → is_some (maps.get new.values node) ≡ is_some (maps.get old.values node)) → ((node : ℕ) → owner_of (entry_at new node) ≡ owner_of (entry_at old node)) → ((node : ℕ) → Contains (nodes_in new after) node → Contains (nodes_in old before) node ⊎ (node_of (owner_of (entry_at old node)) ≡ Some node)) → Kept new (slice_set lines number after) node_of
+  changed line others same same_owner among = record {
+    line = λ other found at. elim (slice_get-set lines number other after found at) [
+      | inl here ↦ rw here.1 line
+      | inr there ↦ others found (kept.line other found there.1) (elsewhere found.list (not_own other found there.0 there.1))
+    ];
+    apart = λ one other list a b. kept.apart one other list (sym (stays one) ∙ a) (sym (stays other) ∙ b);
+    there = λ owner node has. same node ∙ kept.there owner node has;
+    names = λ owner node has. same_owner node ∙ kept.names owner node has;
+    owned = λ node there. kept.owned node (sym (same node) ∙ there);
+    once = kept.once;
+    listed = λ list node at. elim (eqb_tells list before.list) [
+      | inl here ↦
+          let in_after : Contains (nodes_in new after) node = rw (own ∙ sym here.1) at in (
+            (number, here_now list here.1),
+            ap node_of (same_owner node) ∙ elim (among node in_after) [
+              | inl earlier ↦ (kept.listed before.list node earlier).1
+              | inr it ↦ it
+            ],
+          )
+      | inr differs ↦
+          let earlier : IsIn old list node = rw (ap (λ o. unwrap_or o []) (elsewhere list differs.1)) at at in
+          let was = kept.listed list node earlier in
+          ((was.0.0, stays was.0.0 ∙ was.0.1), ap node_of (same_owner node) ∙ was.1)
+    ];
+  }
+    where
+      stays : (other : ℕ) → list_at (slice_set lines number after) other ≡ list_at lines other
+      stays other = list_at-set before after own lines number other is
+
+      here_now : (list : ℕ) → list ≡ before.list → list_at (slice_set lines number after) number ≡ Some list
+      here_now list here = stays number ∙ list_of lines number before is ∙ ap Some (sym here)
+
+-- a free node is put into a line, and stands for another item of its owner
+module _ (old new : Table Queued) (lines : List Line) (number : ℕ) (before after : Line) (node_of : Owner → Option ℕ) (owner : Owner) (node : ℕ) (entry : Queued) (kept : Kept old lines node_of) (is : slice_get lines number ≡ Some before) (own : node_of owner ≡ Some node) (free : IsFree old node) (put : PutIn old new before after node entry) where
+  pub Kept-put : owner_of entry ≡ owner → named owner ≡ owner → Kept new (slice_set lines number after) node_of
+  Kept-put names own_name = changed old new lines number before after node_of kept is put.own put.lists put.line
+      (λ line stands lists. line-kept old new node (inserted old new _ _ put.values) line stands lists (nowhere old free line.list))
+      (λ other. elim (eqb_tells other node) [
+        | inl same ↦ rw same.1 (contains-self old new node entry put.values ∙ sym free.there)
+        | inr differs ↦ ap is_some (inserted old new node entry put.values other differs.1)
+      ])
+      (λ other. elim (eqb_tells other node) [
+        | inl same ↦ rw same.1 (ap owner_of (entry-same old new node entry put.values) ∙ names ∙ sym was)
+        | inr differs ↦ ap owner_of (entry-other old new node (inserted old new _ _ put.values) other differs.1)
+      ])
+      (λ other at. elim (put.among other at) [
+        | inl earlier ↦ inl earlier
+        | inr same ↦ inr (rw same (ap node_of was ∙ own))
+      ])
+    where
+      was : owner_of (entry_at old node) ≡ owner
+      was = kept.names owner node own ∙ own_name
+
+  pub shown-put : map (entries new) (slice_set lines number after) ≡ with_line (map (entries old) lines) number (λ line. into rank line entry)
+  shown-put =
+      shown-set old new lines number after (λ other line differs at. entries-kept old new node (inserted old new _ _ put.values) line (put.lists line.list (not_own old new lines number before after node_of kept is put.own put.lists other line differs at)) (nowhere old free line.list))
+      ∙ ap (slice_set (map (entries old) lines) number) (put.entries ∙ ap (λ line. into rank line entry) (sym (line_at-shown old lines number before is)))
+
+-- nodes leave a line
+module _ (old new : Table Queued) (lines : List Line) (number : ℕ) (before after : Line) (change : List ℕ → List ℕ) (node_of : Owner → Option ℕ) (kept : Kept old lines node_of) (is : slice_get lines number ≡ Some before) (taken : TakenOut old new before after change) where
+  pub Kept-taken : ((x : ℕ) → Contains (change (nodes_in old before)) x → Contains (nodes_in old before) x) → Kept new (slice_set lines number after) node_of
+  Kept-taken fewer = changed old new lines number before after node_of kept is taken.own taken.lists taken.line
+      (λ line stands lists. IsLineOf-same rank old new line stands (λ list own. rw own lists) (λ node at. rw taken.values refl))
+      (λ node. rw taken.values refl)
+      (λ node. rw taken.values refl)
+      (λ node at. let rest : Contains (change (nodes_in old before)) node = rw taken.nodes at at in inl (fewer node rest))
+
+  pub shown-taken : (items : List Queued → List Queued) → map (entry_at old) (change (nodes_in old before)) ≡ items (entries old before) → map (entries new) (slice_set lines number after) ≡ with_line (map (entries old) lines) number items
+  shown-taken items same =
+      let rest : entries new after ≡ items (entries old before) = rw (taken.nodes, taken.values) same in
+      shown-set old new lines number after (λ other line differs at.
+      let nodes : nodes_in new line ≡ nodes_in old line = ap (λ o. unwrap_or o []) (taken.lists line.list (not_own old new lines number before after node_of kept is taken.own taken.lists other line differs at)) in
+      rw (nodes, taken.values) refl)
+      ∙ ap (slice_set (map (entries old) lines) number) (rest ∙ ap items (sym (line_at-shown old lines number before is)))
+
+-- an owner that had no node gets a new one
+module _ (old new : Table Queued) (node : ℕ) (entry : Queued) (room : ℕ) (is : new ≡ record old { values = maps.insert old.values node entry; room = room }) (absent : maps.get old.values node ≡ None) (contained : (list other : ℕ) → IsIn old list other → ContainsNode old other) where
+  values_made : new.values ≡ maps.insert old.values node entry
+  values_made = ap (λ t. t.values) is
+
+  lists_made : (list : ℕ) → maps.get new.lists list ≡ maps.get old.lists list
+  lists_made list = ap (λ t. maps.get t.lists list) is
+
+  not_listed : (list : ℕ) → IsIn old list node → ⊥
+  not_listed list at = absent_is (maps.get old.values node) (contained list node at) absent
+
+  was_there : (other : ℕ) → ContainsNode old other → other ≢ node
+  was_there other there same = absent_is (maps.get old.values node) (rw (← same) there) absent
+
+  pub entries-made : (line : Line) → entries new line ≡ entries old line
+  entries-made line = entries-kept old new node (inserted old new _ _ values_made) line (lists_made line.list) (not_listed line.list)
+
+  pub Kept-made : (lines : List Line) (node_of after : Owner → Option ℕ) (owner : Owner) → node_of owner ≡ None → after owner ≡ Some node → ((other : Owner) → (other ≡ owner) ⊎ ((other ≢ owner) × (after other ≡ node_of other))) → owner_of entry ≡ named owner → Kept old lines node_of → Kept new lines after
+  Kept-made lines node_of after owner lacked gets others names kept = record {
+    line = λ number line at. line-kept old new node (inserted old new _ _ values_made) line (kept.line number line at) (lists_made line.list) (not_listed line.list);
+    apart = kept.apart;
+    there = λ one x has. elim (whose one x has) [
+      | inl made ↦ rw made.1 (contains-self old new node entry values_made)
+      | inr was ↦ contains-insert old new node entry values_made x (kept.there one x was)
+    ];
+    names = λ one x has. elim (whose one x has) [
+      | inl made ↦ rw (made.0, made.1) (ap owner_of (entry-same old new node entry values_made) ∙ names)
+      | inr was ↦ ap owner_of (entry-other old new node (inserted old new _ _ values_made) x (was_there x (kept.there one x was))) ∙ kept.names one x was
+    ];
+    owned = λ x there. elim (eqb_tells x node) [
+      | inl same ↦ (owner, rw same.1 gets)
+      | inr differs ↦ let was = kept.owned x (contained-other old new node (inserted old new _ _ values_made) x differs.1 there) in (was.0, still was.0 x was.1)
+    ];
+    once = λ one other x has also. elim (whose one x has) [
+      | inl made ↦ elim (whose other x also) [
+        | inl again ↦ again.0 ∙ sym made.0
+        | inr was ↦ absurd (was_there x (kept.there other x was) made.1)
+      ]
+      | inr had ↦ elim (whose other x also) [
+        | inl made ↦ absurd (was_there x (kept.there one x had) made.1)
+        | inr was ↦ kept.once one other x had was
+      ]
+    ];
+    listed = λ list x at.
+        let earlier : IsIn old list x = rw (ap (λ o. unwrap_or o []) (lists_made list)) at at in
+        let was = kept.listed list x earlier in
+        let same = entry-other old new node (inserted old new _ _ values_made) x (was_there x (contained list x earlier)) in
+        (was.0, still (owner_of (entry_at new x)) x (ap (λ entry. node_of (owner_of entry)) same ∙ was.1));
+  }
+    where
+      whose : (one : Owner) (x : ℕ) → after one ≡ Some x → ((one ≡ owner) × (x ≡ node)) ⊎ (node_of one ≡ Some x)
+      whose one x has = elim (others one) [
+        | inl same ↦ let here : after owner ≡ Some x = rw same at has in inl (same, some_same x node _ here gets)
+        | inr other ↦ inr (sym other.1 ∙ has)
+      ]
+
+      still : (one : Owner) (x : ℕ) → node_of one ≡ Some x → after one ≡ Some x
+      still one x has = elim (others one) [
+        | inl same ↦ let here : node_of owner ≡ Some x = rw same at has in absurd (none_some x _ lacked here)
+        | inr other ↦ other.1 ∙ has
+      ]
+
+-- an owner gives its node back, which stands in no list
+module _ (old new : Table Queued) (node room : ℕ) (is : new ≡ record old { values = maps.remove old.values node; room = room }) (free : IsFree old node) where
+  values_freed : new.values ≡ maps.remove old.values node
+  values_freed = ap (λ t. t.values) is
+
+  lists_freed : (list : ℕ) → maps.get new.lists list ≡ maps.get old.lists list
+  lists_freed list = ap (λ t. maps.get t.lists list) is
+
+  pub entries-freed : (line : Line) → entries new line ≡ entries old line
+  entries-freed line = entries-kept old new node (removed old new node values_freed) line (lists_freed line.list) (nowhere old free line.list)
+
+  pub Kept-freed : (lines : List Line) (node_of after : Owner → Option ℕ) (owner : Owner) → node_of owner ≡ Some node → after owner ≡ None → ((other : Owner) → (other ≡ owner) ⊎ ((other ≢ owner) × (after other ≡ node_of other))) → Kept old lines node_of → Kept new lines after
+  Kept-freed lines node_of after owner had gone others kept = record {
+    line = λ number line at. line-kept old new node (removed old new node values_freed) line (kept.line number line at) (lists_freed line.list) (nowhere old free line.list);
+    apart = kept.apart;
+    there = λ one x has. let was = before one x has in contains-other old new node (removed old new node values_freed) x was.0 (kept.there one x was.1);
+    names = λ one x has. let was = before one x has in ap owner_of (entry-other old new node (removed old new node values_freed) x was.0) ∙ kept.names one x was.1;
+    owned = λ x there.
+        let differs : x ≢ node = λ same. absent_is (maps.get new.values node) (rw same at there) (rw values_freed (get-remove_same old.values node)) in
+        let was = kept.owned x (contained-other old new node (removed old new node values_freed) x differs there) in
+        (was.0, still was.0 x differs was.1);
+    once = λ one other x has also. kept.once one other x (before one x has).1 (before other x also).1;
+    listed = λ list x at.
+        let earlier : IsIn old list x = rw (ap (λ o. unwrap_or o []) (lists_freed list)) at at in
+        let was = kept.listed list x earlier in
+        let differs : x ≢ node = λ same. nowhere old free list (rw same at earlier) in
+        (was.0, still (owner_of (entry_at new x)) x differs (ap (λ entry. node_of (owner_of entry)) (entry-other old new node (removed old new node values_freed) x differs) ∙ was.1));
+  }
+    where
+      before : (one : Owner) (x : ℕ) → after one ≡ Some x → (x ≢ node) × (node_of one ≡ Some x)
+      before one x has = elim (others one) [
+        | inl same ↦ let here : after owner ≡ Some x = rw same at has in absurd (none_some x _ gone here)
+        | inr other ↦ let was = sym other.1 ∙ has in (λ same. other.0 (kept.once owner one node had (rw same at was)), was)
+      ]
+
+      still : (one : Owner) (x : ℕ) → x ≢ node → node_of one ≡ Some x → after one ≡ Some x
+      still one x differs has = elim (others one) [
+        | inl same ↦ let here : node_of owner ≡ Some x = rw same at has in absurd (differs (some_same x node _ here had))
+        | inr other ↦ other.1 ∙ has
+      ]
+
+-- nobody has a node at first, and there are no lines
+pub Kept-none : (t : Table Queued) (node_of : Owner → Option ℕ) → t.values ≡ maps.empty → ((list : ℕ) → nodes_of t list ≡ []) → ((owner : Owner) → node_of owner ≡ None) → Kept t [] node_of
+Kept-none t node_of values no_list none = record {
+  line = λ number line at. absurd (none_some line None refl at);
+  apart = λ one other list at also. absurd (none_some list None refl at);
+  there = λ owner node has. absurd (none_some node _ (none owner) has);
+  names = λ owner node has. absurd (none_some node _ (none owner) has);
+  owned = λ node there. absurd (absent_is (maps.get t.values node) there (rw values (maps.get-empty nat_cmp node)));
+  once = λ owner other node has also. absurd (none_some node _ (none owner) has);
+  listed = λ list node at. absurd (nothing_in node (rw (no_list list) at at));
+}
+  where
+    nothing_in : (node : ℕ) → Contains [] node → ⊥
+    nothing_in node at = omega (arith, at.1)
+
+-- one more line
+pub Kept-line : (old new : Table Queued) (lines : List Line) (line : Line) (node_of : Owner → Option ℕ) → nodes_in new line ≡ [] → IsLineOf rank new line → ((list : ℕ) → IsOwn line list → maps.get old.lists list ≡ None) → SameElsewhere old new line → Kept old lines node_of → Kept new (lines ++ line ∷ []) node_of
+Kept-line old new lines line node_of none stands was_new elsewhere kept = record {
+  line = λ number found at. elim (slice_get-more lines line found number at) [
+    | inl last ↦ rw last.1 stands
+    | inr earlier ↦ IsLineOf-elsewhere rank old new found line (kept.line number found earlier) elsewhere (unlike number found earlier)
+  ];
+  apart = λ one other list at also.
+      let first = line_of (lines ++ line ∷ []) one list at in
+      let second = line_of (lines ++ line ∷ []) other list also in
+      elim (slice_get-more lines line first.0 one first.1.0) [
+        | inl last ↦ elim (slice_get-more lines line second.0 other second.1.0) [
+          | inl again ↦ last.0 ∙ sym again.0
+          | inr earlier ↦ absurd (unlike other second.0 earlier list (sym second.1.1) (sym first.1.1 ∙ ap (λ l. l.list) last.1))
+        ]
+        | inr earlier ↦ elim (slice_get-more lines line second.0 other second.1.0) [
+          | inl last ↦ absurd (unlike one first.0 earlier list (sym first.1.1) (sym second.1.1 ∙ ap (λ l. l.list) last.1))
+          | inr too ↦ kept.apart one other list (list_of lines one first.0 earlier ∙ ap Some first.1.1) (list_of lines other second.0 too ∙ ap Some second.1.1)
+        ]
+      ];
+  there = rw elsewhere.values kept.there;
+  names = rw elsewhere.values kept.names;
+  owned = rw elsewhere.values kept.owned;
+  once = kept.once;
+  listed = λ list node at. elim (eqb_tells list line.list) [
+    | inl own ↦ let here : Contains [] node = rw (own.1, none) at at in absurd (omega (arith, here.1))
+    | inr differs ↦
+        let earlier : IsIn old list node = rw (ap (λ o. unwrap_or o []) (elsewhere.lists list differs.1)) at at in
+        let was = kept.listed list node earlier in
+        ((was.0.0, list_at-more lines line was.0.0 list was.0.1), rw elsewhere.values was.1)
+  ];
+}
+  where
+    unlike : (number : ℕ) (found : Line) → slice_get lines number ≡ Some found → (list : ℕ) → IsOwn found list → IsOwn line list → ⊥
+    unlike number found at = apart_from_new rank old found line (kept.line number found at) was_new
+
+-- where nobody has a node, no line has an item
+pub shown-none : (t : Table Queued) (lines : List Line) (node_of : Owner → Option ℕ) → Kept t lines node_of → ((owner : Owner) → node_of owner ≡ None) → map (entries t) lines ≡ replicate (length lines) []
+shown-none t lines node_of kept none = all lines
+  where
+    no_nodes : (xs : List ℕ) → ((x : ℕ) → Contains xs x → ⊥) → xs ≡ []
+    no_nodes [] empty = refl
+    no_nodes (x ∷ xs) empty = absurd (empty x (contains_first x xs))
+
+    empty_line : (line : Line) → entries t line ≡ []
+    empty_line line =
+        let nodes : nodes_in t line ≡ [] = no_nodes (nodes_in t line) (λ node at. none_some node _ (none (owner_of (entry_at t node))) (kept.listed line.list node at).1) in
+        rw nodes refl
+
+    all : (lines : List Line) → map (entries t) lines ≡ replicate (length lines) []
+    all [] = refl
+    all (line ∷ lines) = rw (empty_line line, all lines) refl
+
+gone_by : (it : OwnItem) (thread : Thread) (line : List Queued) → (owner_in thread it ≡ Message thread → stands line thread ≡ false) → (owner_in thread it ≡ Unblock thread → unblock_call line thread ≡ None) → no_other it thread line
+gone_by (item.Message process number) thread line message pulse = message refl
+gone_by (item.Unblock process number call) thread line message pulse = pulse refl
+
+-- the first item of a line stands there once
+module _ (t : Table Queued) (lines : List Line) (node_of : Owner → Option ℕ) (line : Line) (kept : Kept t lines node_of) where
+  gone_from : (x : ℕ) (xs : List ℕ) (first : Queued) → x ∷ xs ≡ nodes_in t line → AllByRecursion (λ y. nat_eq x y ≡ false) xs → entry_at t x ≡ first → IsGone first (map (entry_at t) xs)
+  gone_from x xs first nodes apart is =
+      let inside : (y : ℕ) → Contains (x ∷ xs) y → IsInLine t line y = λ y at. rw (← nodes) at in
+      let own : node_of (owner_of first) ≡ Some x = ap (λ entry. node_of (owner_of entry)) (sym is) ∙ (kept.listed line.list x (inside x (contains_first x xs))).1 in
+      gone_by first.item (sender first) (map (entry_at t) xs)
+      (λ message. gone-own as_message (sender first) (Message (sender first)) (reads-message (sender first)) refl t lines node_of x kept (ap node_of (sym message) ∙ own) line xs (λ y at. inside y (contains_later x y xs at)) (λ at. differs_from x x xs apart at refl))
+      (λ pulse. none_of _ (gone-own pulse_call (sender first) (Unblock (sender first)) (reads-call (sender first)) refl t lines node_of x kept (ap node_of (sym pulse) ∙ own) line xs (λ y at. inside y (contains_later x y xs at)) (λ at. differs_from x x xs apart at refl)))
+
+  gone_first : (nodes : List ℕ) (first : Queued) → nodes ≡ nodes_in t line → IsDistinct nat_eq nodes → slice_get (map (entry_at t) nodes) 0 ≡ Some first → IsGone first (drop 1 (map (entry_at t) nodes))
+  unfolding IsDistinct
+  gone_first [] first same distinct is = absurd (none_some first None refl is)
+  gone_first (x ∷ xs) first same distinct is = gone_from x xs first same distinct.0 (same_Some (entry_at t x) first is)
+
+  -- and the node of its owner stands for it
+  pub first-owned : (first : Queued) → Some first ≡ slice_get (entries t line) 0 → (node : ℕ) × (node_of (owner_of first) ≡ Some node)
+  first-owned first is = of (nodes_in t line) refl (sym is)
+    where
+      of : (nodes : List ℕ) → nodes ≡ nodes_in t line → slice_get (map (entry_at t) nodes) 0 ≡ Some first → (node : ℕ) × (node_of (owner_of first) ≡ Some node)
+      of [] same is = absurd (none_some first None refl is)
+      of (x ∷ xs) same is =
+          let inside : IsInLine t line x = rw (← same) (contains_first x xs) in
+          (x, ap (λ entry. node_of (owner_of entry)) (sym (same_Some (entry_at t x) first is)) ∙ (kept.listed line.list x inside).1)
+
+  pub gone-if : (first : Option Queued) → IsDistinct nat_eq (nodes_in t line) → first ≡ slice_get (entries t line) 0 → IfSome first (λ taken. IsGone taken (drop 1 (entries t line)))
+  gone-if None distinct is = tt
+  gone-if (Some first) distinct is = gone_first (nodes_in t line) first refl distinct (sym is)

@@ -1,0 +1,16 @@
+-- Lists of entries, the nodes that stand for them, and whose they are; the lines under their numbers.
+pub mod EntryLemmas
+-- What a line tells of threads, as items come and go.
+pub mod LineLemmas
+-- What nodes stand for and which lines there are, as one node of the table changes.
+pub mod TableLemmas
+-- In which line a thread's unblock pulse stands, as items come and go.
+pub mod PulseLemmas
+-- The invariant, call by call.
+pub mod KeptLemmas
+-- The columns of nodes, as a thread or a server connection gets its own or gives it back.
+pub mod NodesLemmas
+-- Sets of threads and of server connections.
+pub mod SetLemmas
+-- Which threads and server connections have nodes, as sets, and what calls make of the value.
+pub mod PresenceLemmas

@@ -1,0 +1,3 @@
+pub mod Queues
+pub mod Kept
+pub mod Nodes

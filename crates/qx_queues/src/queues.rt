@@ -1,0 +1,370 @@
+//! The managers' lines over one table of nodes, in which the nodes of all users' threads and server connections stand.
+
+ghost use Rattle.std.specs.Prelude.{◌≡◌, ℕ, ◌-◌, ◌*◌, ◌<◌, ◌≤◌, false, length, drop, slice_get, max, IfOk, IsOk, OnOk, OnErr, IfSome, IsTrue, None, Some};
+ghost use Rattle.std.specs.FinMap as maps;
+ghost use Rattle.qx_types.specs.Managers.{manager_number};
+ghost use Rattle.qx_types.specs.declared.limits.TheConstants.Limits.{PRIORITY, PROCESSES, THREADS};
+ghost use Rattle.qx_lists.specs.Table.{ContainsNode, IsFree, IsIn, with_value, without};
+ghost use Rattle.qx_lines.specs.Line.{IsInLine, IsLineOf};
+ghost use Rattle.qx_machine.specs.Lines.{into};
+ghost use Rattle.qx_machine.specs.Machine as machine;
+ghost use Rattle.qx_machine.specs.declared.rows.OwnItem.TheVariants as item;
+ghost use Rattle.qx_queues.specs.Queues.{HasThread, IsGone, pulse_call, queues_line, has_server, has_thread, message_of, no_queues, stands, unblock_call, unblock_of, with_queues_line, with_process, with_server, with_thread, without_server};
+ghost use Rattle.qx_queues.specs.Kept.{PutIn, TakenOut, entries, entry_at, owner_of};
+ghost use Rattle.qx_queues.specs.Nodes.{Unblock};
+
+use crate::nodes::{Nodes, ThreadNodes};
+use crate::waiting::Waiting;
+use qx_lines::Line;
+use qx_lists::Table;
+use qx_machine::{OwnItem, Queued};
+use qx_types::{Limits, Manager, Prio, Proc, Thread};
+use std::alloc::{AllocError, Global};
+use std::marker::Model;
+
+/// The managers' lines over one table of nodes, in which the nodes of all users' threads and server connections stand.
+#[derive(Drop)]
+pub struct Queues {
+    table: Table<Waiting>,
+    lines: Vec<Line>,
+    nodes: Nodes,
+}
+
+impl Model for Queues {
+    ghost use Rattle.std.specs.Prelude.{◌≡◌, length, map};
+    ghost use Rattle.qx_types.specs.declared.names.TheConstants.Manager.{COUNT};
+    ghost use Rattle.qx_queues.specs.Queues as words;
+    ghost use Rattle.qx_queues.specs.Kept.{KnowsPulses, Kept, entries};
+    ghost use Rattle.qx_queues.specs.Nodes.{asked_at, node_of, servers_of, threads_of};
+
+    ghost Value = { words.Queues };
+
+    ghost coded = { words.queues_code };
+
+    ghost view = { λ c. record { lines = map (entries c.table) c.lines.items; threads = threads_of c.nodes; servers = servers_of c.nodes; users = length c.nodes; room = c.table.room } };
+
+    ghost invariant = { λ c. (length c.lines.items ≡ COUNT) × Kept c.table c.lines.items (node_of c.nodes) × KnowsPulses (map (entries c.table) c.lines.items) (asked_at c.nodes) };
+}
+
+impl Queues {
+    /// Empty lines, and no nodes of the users from 1 to this many.
+    pub fn new(alloc: Global, users: usize) -> Result<Self, AllocError>
+        requires few { users < 256 }
+        ensures empty { IfOk result (λ queues. queues ≡ no_queues users) }
+    {
+        let mut table = Table::new(alloc);
+        let mut lines = Vec::new(alloc);
+        let nodes = Nodes::new(alloc, users)?;
+        'managers: for _ in 0..Manager::COUNT {
+            let line = Line::new(&mut table)?;
+            lines.push(line)?;
+        }
+        Ok(Queues {
+            table,
+            lines,
+            nodes,
+        })
+    }
+
+    /// Puts a thread's message, which stands in no line, into a line (C Library Reference: `MsgSend`).
+    pub fn send(&mut self, manager: Manager, thread: Thread, prio: Prio)
+        requires own { IsTrue (has_thread self.old thread) }
+        requires idle { (number : ℕ) → stands (queues_line self.old number) thread ≡ false }
+        requires lowest { 1 ≤ prio.0 }
+        requires highest { prio.0 ≤ PRIORITY }
+        ensures sent { self.new ≡ with_queues_line self.old (manager_number manager) (λ line. into machine.rank line (message_of thread prio.0)) }
+    {
+        let Some(own) = self.nodes.at(thread) else {
+            unreachable!();
+        };
+        let waiting = Waiting::new(queued_message(thread, prio));
+        let line = &mut self.lines[manager.number()];
+        put_in(&mut self.table, line, own.message, waiting);
+    }
+
+    /// Takes the first item of a line, a message or an unblock pulse (C Library Reference: `MsgReceive`).
+    pub fn receive(&mut self, manager: Manager) -> Option<Queued>
+        ensures first { result ≡ slice_get (queues_line self.old (manager_number manager)) 0 }
+        ensures rest { self.new ≡ with_queues_line self.old (manager_number manager) (drop 1) }
+        ensures gone { IfSome result (λ first. IsGone first (drop 1 (queues_line self.old (manager_number manager)))) }
+    {
+        self.table.know();
+        let first = take_out(&mut self.table, &mut self.lines[manager.number()])?;
+        if let OwnItem::Unblock {
+            process,
+            thread,
+            ..
+        } = first.item
+        {
+            let proc = Proc {
+                user: first.user,
+                num: process,
+            };
+            self.nodes.set_asked(Thread { proc, tid: thread }, None);
+        }
+        Some(first)
+    }
+
+    /// Puts the pulse that asks to unblock a thread from a call, where none of the thread stands in a line (C Library
+    /// Reference: `ChannelCreate`, `_NTO_CHF_UNBLOCK`).
+    pub fn ask_unblock(&mut self, manager: Manager, thread: Thread, call: u64, prio: Prio)
+        requires own { IsTrue (has_thread self.old thread) }
+        requires idle { (number : ℕ) → unblock_call (queues_line self.old number) thread ≡ None }
+        requires lowest { 1 ≤ prio.0 }
+        requires highest { prio.0 ≤ PRIORITY }
+        ensures asked { self.new ≡ with_queues_line self.old (manager_number manager) (λ line. into machine.rank line (unblock_of thread call prio.0)) }
+    {
+        let Some(own) = self.nodes.at(thread) else {
+            unreachable!();
+        };
+        let waiting = Waiting::new(queued_unblock(thread, call, prio));
+        let line = &mut self.lines[manager.number()];
+        put_in(&mut self.table, line, own.unblock, waiting);
+        self.nodes.set_asked(thread, Some(manager));
+    }
+
+    /// Takes a thread's message out of the line that it stands in, as a call ends early (C Library Reference: `MsgSend`,
+    /// `EINTR`).
+    pub fn withdraw(&mut self, manager: Manager, thread: Thread)
+        requires stands { IsTrue (stands (queues_line self.old (manager_number manager)) thread) }
+        ensures withdrawn { self.new ≡ with_queues_line self.old (manager_number manager) (machine.line_without thread.proc.user.0 (item.Message thread.proc.num thread.tid)) }
+        ensures gone { stands (machine.line_without thread.proc.user.0 (item.Message thread.proc.num thread.tid) (queues_line self.old (manager_number manager))) thread ≡ false }
+    {
+        let Some(own) = self.nodes.at(thread) else {
+            unreachable!();
+        };
+        self.table.know();
+        let line = &mut self.lines[manager.number()];
+        remove(&mut self.table, line, own.message);
+    }
+
+    /// Takes the pulse that asks to unblock a thread from a call out of the line, if it stands there, as the call is
+    /// answered (C Library Reference: `MsgReply`).
+    pub fn reply(&mut self, manager: Manager, thread: Thread, call: u64)
+        ensures replied { self.new ≡ with_queues_line self.old (manager_number manager) (machine.line_without thread.proc.user.0 (item.Unblock thread.proc.num thread.tid call)) }
+        ensures gone { unblock_call (queues_line self.old (manager_number manager)) thread ≡ Some call → unblock_call (machine.line_without thread.proc.user.0 (item.Unblock thread.proc.num thread.tid call) (queues_line self.old (manager_number manager))) thread ≡ None }
+    {
+        let Some(own) = self.nodes.at(thread) else {
+            return;
+        };
+        let Some(asked) = own.asked else {
+            return;
+        };
+        if asked.number() != manager.number() {
+            return;
+        }
+        if asked_call(&self.table, own.unblock) != call {
+            return;
+        }
+        self.table.know();
+        let line = &mut self.lines[manager.number()];
+        remove(&mut self.table, line, own.unblock);
+        self.nodes.set_asked(thread, None);
+    }
+
+    /// The first item of a line.
+    pub fn first(&self, manager: Manager) -> Option<Queued>
+        ensures first { result ≡ slice_get (queues_line self.now (manager_number manager)) 0 }
+    {
+        self.table.know();
+        first_of(&self.table, &self.lines[manager.number()])
+    }
+
+    /// How many items stand in a line.
+    pub fn len(&self, manager: Manager) -> usize
+        ensures count { result ≡ length (queues_line self.now (manager_number manager)) }
+    {
+        self.lines[manager.number()].len()
+    }
+
+    /// Makes room for the nodes of so many threads.
+    pub fn reserve(&mut self, threads: u8) -> Result<(), AllocError>
+        ensures ok { OnOk result (self.new ≡ record self.old { room = max self.old.room (2 * threads) }) }
+        ensures had_room { 2 * threads ≤ self.old.room → IsOk result }
+        ensures err { OnErr result (self.new ≡ self.old) }
+    {
+        self.table.reserve(2 * threads as usize)?;
+        Ok(())
+    }
+
+    /// Makes the nodes of a thread that has none, for which there is room.
+    pub fn add(&mut self, thread: Thread, prio: Prio)
+        requires fresh { has_thread self.old thread ≡ false }
+        requires user { thread.proc.user.0 < self.old.users }
+        requires process { thread.proc.num ≤ PROCESSES }
+        requires thread { thread.tid ≤ THREADS }
+        requires lowest { 1 ≤ prio.0 }
+        requires highest { prio.0 ≤ PRIORITY }
+        requires room { 2 ≤ self.old.room }
+        ensures added { self.new ≡ with_thread self.old thread }
+    {
+        self.table.know();
+        let message = new_node(&mut self.table, Waiting::new(queued_message(thread, prio)));
+        self.table.know();
+        let unblock = new_node(
+            &mut self.table,
+            Waiting::new(queued_unblock(thread, 0, prio)),
+        );
+        let asked = None;
+        self.nodes.set(
+            thread,
+            ThreadNodes {
+                message,
+                unblock,
+                asked,
+            },
+        );
+    }
+
+    /// Makes the nodes of a process' threads, for which there is room, and none of which has any.
+    pub fn add_process(&mut self, proc: Proc, threads: u8, prio: Prio)
+        requires fresh { (thread : ℕ) → has_thread self.old (record { proc = proc; tid = thread }) ≡ false }
+        requires user { proc.user.0 < self.old.users }
+        requires process { proc.num ≤ PROCESSES }
+        requires threads { threads ≤ THREADS }
+        requires lowest { 1 ≤ prio.0 }
+        requires highest { prio.0 ≤ PRIORITY }
+        requires room { 2 * threads ≤ self.old.room }
+        ensures added { self.new ≡ with_process self.old proc threads }
+    {
+        if threads == 0 {
+            return;
+        }
+        self.add_process(proc, threads - 1, prio);
+        self.add(Thread { proc, tid: threads }, prio);
+    }
+
+    /// A process has a disconnect node at a manager from now on: the one that it had, or a new one.
+    pub fn add_server(&mut self, proc: Proc, manager: Manager) -> Result<(), AllocError>
+        requires started { HasThread self.old proc }
+        ensures ok { OnOk result (self.new ≡ with_server self.old proc (manager_number manager)) }
+        ensures had_node { IsTrue (has_server self.old proc (manager_number manager)) → IsOk result }
+        ensures had_room { 1 ≤ self.old.room → IsOk result }
+        ensures err { OnErr result (self.new ≡ self.old) }
+    {
+        if self.nodes.disconnect(proc, manager).is_some() {
+            return Ok(());
+        }
+        self.table.reserve(1)?;
+        self.table.know();
+        // Threads are numbered from 1: until it is put into a line, the node stands for no message that is sent.
+        let nobody = Thread { proc, tid: 0 };
+        let node = new_node(
+            &mut self.table,
+            Waiting::new(queued_message(nobody, Prio(Limits::PRIORITY))),
+        );
+        self.nodes.set_disconnect(proc, manager, Some(node));
+        Ok(())
+    }
+
+    /// A process has no disconnect node at a manager from now on, and room is kept for the one that it had.
+    pub fn remove_server(&mut self, proc: Proc, manager: Manager)
+        ensures removed { self.new ≡ without_server self.old proc (manager_number manager) }
+    {
+        if let Some(node) = self.nodes.disconnect(proc, manager) {
+            self.table.free_node(node);
+            self.nodes.set_disconnect(proc, manager, None);
+        }
+    }
+}
+
+/// A thread's message, as it stands in a line.
+fn queued_message(thread: Thread, prio: Prio) -> Queued
+    ensures message { result ≡ message_of thread prio.0 }
+{
+    Queued {
+        user: thread.proc.user,
+        item: OwnItem::Message {
+            process: thread.proc.num,
+            thread: thread.tid,
+        },
+        prio,
+    }
+}
+
+/// The pulse that asks to unblock a thread from a call, as it stands in a line.
+fn queued_unblock(thread: Thread, call: u64, prio: Prio) -> Queued
+    ensures pulse { result ≡ unblock_of thread call prio.0 }
+{
+    Queued {
+        user: thread.proc.user,
+        item: OwnItem::Unblock {
+            process: thread.proc.num,
+            thread: thread.tid,
+            call,
+        },
+        prio,
+    }
+}
+
+/// Makes a node, for which there is room.
+fn new_node(table: &mut Table<Waiting>, waiting: Waiting) -> usize
+    requires room { 0 < table.old.room }
+    ensures made { table.new ≡ record table.old { values = maps.insert table.old.values result waiting; room = table.old.room - 1 } }
+    ensures was_new { maps.get table.old.values result ≡ None }
+{
+    match table.new_node(waiting) {
+        Ok(node) => node,
+        Err(_) => unreachable!(),
+    }
+}
+
+/// A node stands for another item from now on.
+fn set_entry(table: &mut Table<Waiting>, node: usize, waiting: Waiting)
+    requires there { ContainsNode table.old node }
+    ensures set { table.new ≡ with_value table.old node waiting }
+{
+    *table.value_mut(node) = waiting;
+}
+
+/// Puts a free node, which stands for an item from now on, into a line.
+fn put_in(table: &mut Table<Waiting>, line: &mut Line, node: usize, waiting: Waiting)
+    requires line { IsLineOf machine.rank table.old line.old }
+    requires free { IsFree table.old node }
+    ensures put { PutIn table.old table.new line.old line.new node waiting }
+{
+    set_entry(table, node, waiting);
+    line.put(table, node);
+}
+
+/// Takes the first node out of a line, and tells what it stands for.
+fn take_out(table: &mut Table<Waiting>, line: &mut Line) -> Option<Queued>
+    requires line { IsLineOf machine.rank table.old line.old }
+    requires there { (list node : ℕ) → IsIn table.old list node → ContainsNode table.old node }
+    ensures out { TakenOut table.old table.new line.old line.new (drop 1) }
+    ensures first { result ≡ slice_get (entries table.old line.old) 0 }
+{
+    let node = line.take(table)?;
+    Some(table.value(node).queued())
+}
+
+/// Takes a node out of its line.
+fn remove(table: &mut Table<Waiting>, line: &mut Line, node: usize)
+    requires line { IsLineOf machine.rank table.old line.old }
+    requires in_line { IsInLine table.old line.old node }
+    ensures out { TakenOut table.old table.new line.old line.new (without node) }
+{
+    line.remove(table, node);
+}
+
+/// The call that the pulse of a node names.
+fn asked_call(table: &Table<Waiting>, node: usize) -> u64
+    requires there { ContainsNode table.now node }
+    requires pulse { (thread : Thread) × (owner_of (entry_at table.now node) ≡ Unblock thread) }
+    ensures call { pulse_call (entry_at table.now node).item ≡ Some result }
+{
+    match table.value(node).queued().item {
+        OwnItem::Unblock { call, .. } => call,
+        OwnItem::Message { .. } => unreachable!(),
+    }
+}
+
+/// What the first node of a line stands for.
+fn first_of(table: &Table<Waiting>, line: &Line) -> Option<Queued>
+    requires line { IsLineOf machine.rank table.now line.now }
+    requires there { (list node : ℕ) → IsIn table.now list node → ContainsNode table.now node }
+    ensures first { result ≡ slice_get (entries table.now line.now) 0 }
+{
+    let node = line.first(table)?;
+    Some(table.value(node).queued())
+}

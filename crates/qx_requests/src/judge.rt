@@ -1,0 +1,176 @@
+//! How a call of a thread is judged, by the mounts and the processes of its user.
+
+ghost use Rattle.std.specs.Prelude.{◌≡◌, ◌<◌, ◌≤◌, IsTrue, IfOk, Some, option_map, true};
+ghost use Rattle.qx_types.specs.declared.limits.TheConstants.Limits.{LAST_CONNECTION};
+ghost use Rattle.qx_wire.specs.Rests.{is_rest};
+ghost use Rattle.qx_machine.specs.declared.rows.State.TheVariants.{Ready};
+ghost use Rattle.qx_machine.specs.Calls as calls;
+ghost use Rattle.qx_machine.specs.Calls.{can_send, content_of};
+ghost use Rattle.qx_machine.specs.Clients as clients;
+ghost use Rattle.qx_machine.specs.Judgements.{or_refused};
+ghost use Rattle.qx_machine.specs.Parts.{thread_of};
+ghost use Rattle.qx_machine.specs.Rows.{row_at};
+ghost use Rattle.qx_process.specs.Reads.{CanCall, CanGo};
+ghost use Rattle.qx_requests.specs.Targets.{IsConnection};
+
+use crate::content::is_in_ranges;
+use qx_machine::{Addressed, Connection, Over, State, Target, ThreadRow};
+use qx_paths::{Mounts, Path, Resolved, read_path};
+use qx_process::Process;
+use qx_procs::Processes;
+use qx_types::{Config, Coid, Errno, Limits, Outcome, Prio, Request, Thread, User};
+
+/// Where a call of a thread goes, by the mounts and the processes of its user, or the outcome of one that sends nothing:
+/// `WrongState` where the thread is not there or not ready; then EINVAL for fields out of their ranges, EAGAIN where the
+/// thread's calls are used up; for a path, the errors of `read_path`, then those of `Mounts::resolve`; for a connection,
+/// EBADF where it is not there; EMFILE where no connection is free for a new one; EAGAIN where the user has all its server
+/// connections at the manager. What is judged so can be sent.
+pub fn target_by<'a>(
+    config: &Config,
+    mounts: &Mounts,
+    processes: &Processes,
+    thread: Thread,
+    request: &'a Request,
+) -> Result<Addressed<'a>, Outcome>
+    ensures ready { IfOk result (λ _. option_map (λ row. row.state) (thread_of thread.tid (row_at processes.now thread.proc.num)) ≡ Some Ready) }
+    ensures countable { IfOk result (λ _. CanCall (thread_of thread.tid (row_at processes.now thread.proc.num))) }
+    ensures goes { IfOk result (λ addressed. CanGo addressed.target) }
+    ensures sendable { IfOk result (λ addressed. IsTrue (can_send (content_of request.now addressed.rest))) }
+    ensures target { result ≡ clients.target_by config.now thread.proc.user.0 mounts.now processes.now thread request.now }
+{
+    let Some(process) = processes.process(thread.proc.num) else {
+        return Err(Outcome::WrongState);
+    };
+    let Some(row) = process.thread(thread.tid) else {
+        return Err(Outcome::WrongState);
+    };
+    may_call(row, request)?;
+    match request {
+        Request::OpenPath { path, .. } => {
+            let place = place_of(config, thread.proc.user, mounts, path.as_slice())?;
+            let coid = Coid(free_connection(process)?);
+            to_place(processes, process, place, Over::New(coid), row.prio)
+        }
+        Request::StatPath { path } | Request::Unlink { path } | Request::Mkdir { path, .. } => {
+            let place = place_of(config, thread.proc.user, mounts, path.as_slice())?;
+            to_place(processes, process, place, Over::Side, row.prio)
+        }
+        Request::Dup { coid } => {
+            let connection = connection_at(process, *coid)?;
+            let other = Coid(free_connection(process)?);
+            Ok(to_connection(connection, Over::New(other), row.prio))
+        }
+        Request::Read { coid, .. }
+        | Request::Write { coid, .. }
+        | Request::Close { coid }
+        | Request::Seek { coid, .. }
+        | Request::Fstat { coid }
+        | Request::List { coid, .. }
+        | Request::Chmod { coid, .. }
+        | Request::Notify { coid, .. }
+        | Request::Raw { coid, .. } => {
+            let connection = connection_at(process, *coid)?;
+            Ok(to_connection(connection, Over::Existing(*coid), row.prio))
+        }
+    }
+}
+
+/// Whether a thread may make a call with these fields.
+fn may_call(row: &ThreadRow, request: &Request) -> Result<(), Outcome>
+    ensures { result ≡ calls.may_call row.now request.now }
+{
+    let State::Ready = &row.state else {
+        return Err(Outcome::WrongState);
+    };
+    if !is_in_ranges(request) {
+        return Err(Outcome::Refused(Errno::EINVAL));
+    }
+    if row.calls >= Limits::CALLS {
+        return Err(Outcome::Refused(Errno::EAGAIN));
+    }
+    Ok(())
+}
+
+/// Where a path leads a user.
+fn place_of<'a>(
+    config: &Config,
+    user: User,
+    mounts: &Mounts,
+    path: &'a [u8],
+) -> Result<Resolved<'a>, Outcome>
+    ensures rest { IfOk result (λ place. is_rest place.rest ≡ true) }
+    ensures place { result ≡ or_refused (calls.place_of config.now user.0 mounts.now path.now) }
+{
+    let path = read_path(path).map_err(Outcome::Refused)?;
+    let place = mounts
+        .resolve(config.names(), config.name_bytes(user), &path)
+        .map_err(Outcome::Refused)?;
+    place.rest.know();
+    Ok(place)
+}
+
+/// A message to where a path leads.
+fn to_place<'a>(
+    processes: &Processes,
+    process: &Process,
+    place: Resolved<'a>,
+    over: Over,
+    prio: Prio,
+) -> Result<Addressed<'a>, Outcome>
+    ensures { result ≡ calls.to_place processes.now process.now place.entry over prio }
+{
+    if !processes.can_serve(process, place.manager) {
+        return Err(Outcome::Refused(Errno::EAGAIN));
+    }
+    Ok(Addressed {
+        target: Target {
+            manager: place.manager,
+            root: Some(place.root),
+            over,
+            prio,
+        },
+        rest: place.rest,
+    })
+}
+
+/// A message to what a connection has open.
+fn to_connection<'a>(connection: Connection, over: Over, prio: Prio) -> Addressed<'a>
+    ensures { result ≡ calls.to_connection connection over prio }
+{
+    Addressed {
+        target: Target {
+            manager: connection.manager,
+            root: None,
+            over,
+            prio,
+        },
+        rest: Path::empty(),
+    }
+}
+
+/// A connection that is there, which has a number from 3 to 66.
+fn connection_at(process: &Process, coid: Coid) -> Result<Connection, Outcome>
+    ensures number { IfOk result (λ _. IsConnection coid.0) }
+    ensures connection { result ≡ calls.connection_at coid.0 process.now }
+{
+    let number = usize::from(coid.0);
+    if number < Limits::FIRST_CONNECTION || number > Limits::LAST_CONNECTION {
+        return Err(Outcome::Refused(Errno::EBADF));
+    }
+    match process.conn_of(coid) {
+        Some(connection) => Ok(*connection),
+        None => Err(Outcome::Refused(Errno::EBADF)),
+    }
+}
+
+/// The number of a connection that is free.
+fn free_connection(process: &Process) -> Result<u8, Outcome>
+    ensures number { IfOk result (λ coid. coid ≤ LAST_CONNECTION) }
+    ensures free { result ≡ calls.free_connection process.now }
+{
+    let number = process.free_connection();
+    if number > Limits::LAST_CONNECTION {
+        return Err(Outcome::Refused(Errno::EMFILE));
+    }
+    Ok(number as u8)
+}

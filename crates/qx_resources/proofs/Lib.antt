@@ -1,0 +1,2 @@
+-- the resources of one more user at boot
+mod BootLemmas
