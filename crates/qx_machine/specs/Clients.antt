@@ -122,13 +122,18 @@ interrupt part thread = do
   row ← found (thread_at part thread.proc.num thread.tid) WrongState
   Ok (interrupt_in part thread row.calls row.state)
 
--- a manager is attached at a path (C Library Reference: resmgr_attach; that a client's thread does it, when it is ready, is this
+-- what a ready thread mounts
+abbrev pub mount_by : Configuration → ℕ → Part → Thread → List ℕ → Manager → Result MountPoint Outcome
+mount_by config user part thread path manager = do
+  row ← found (thread_at part thread.proc.num thread.tid) WrongState
+  ready ← need (is_ready row.state) WrongState
+  or_refused (new_mount (name_bytes config user) path manager part.resources)
+
+-- a manager is attached at a path (C Library Reference: resmgr_attach; that a client's thread does it for its own user alone is this
 -- profile)
 abbrev pub mount : Configuration → ℕ → Part → Thread → List ℕ → Manager → Result ClientStep Outcome
 mount config user part thread path manager = do
-  row ← found (thread_at part thread.proc.num thread.tid) WrongState
-  ready ← need (is_ready row.state) WrongState
-  mount ← or_refused (new_mount (name_bytes config user) path manager part.resources)
+  mount ← mount_by config user part thread path manager
   Ok (record { outcome = Done; part = record part { resources = with_mount user mount part.resources }; changes = [] })
 
 -- what a client's step gives, or the outcome of one that changes nothing

@@ -1,31 +1,37 @@
 -- What a worker holds, as the work that it has to do.
 use Rattle.std.specs.Prelude.{◌≡◌, ◌≢◌, ⊤, ℕ, List, Bool, false, Option, Some, None, if◌then◌else◌}
+use Rattle.qx_wire.specs.Reading.{meaning}
 use Rattle.qx_machine.specs.declared.rows.Held.{Held}
 use Rattle.qx_machine.specs.declared.rows.OwnItem.{OwnItem}
 use Rattle.qx_machine.specs.declared.rows.OwnItem.TheVariants as item
 use Rattle.qx_machine.specs.declared.rows.Sent.{Sent}
-use Rattle.qx_machine.specs.Machine.{World, is_worker}
-use Rattle.qx_machine.specs.Parts.{Part, thread_at}
+use Rattle.qx_machine.specs.Machine.{World, is_worker, named_thread}
+use Rattle.qx_machine.specs.Parts.{Part}
 use Rattle.qx_machine.specs.Rows.{row_at}
-use Rattle.qx_parts.specs.Deeds.{taken_of, wants_memory_of}
+use Rattle.qx_resources.specs.Deeds.{wants_memory}
 use Rattle.qx_steps.specs.declared.work.Work.{Work}
 use Rattle.qx_steps.specs.declared.work.Work.TheVariants as work
 use Rattle.qx_steps.specs.declared.work.WorkRef.{WorkRef}
 use Rattle.qx_steps.specs.declared.work.WorkRef.TheVariants as lent
+use Rattle.qx_steps.specs.Reads.{taken_of, thread_row}
+
+-- the message of an item that was received and is not answered
+abbrev pub taken_item : List (Option Part) → ℕ → OwnItem → Option Sent
+taken_item parts user (item.Message process thread) = taken_of (thread_row parts (named_thread user process thread))
+taken_item parts user (item.Unblock process thread call) = None
 
 abbrev pub work_of_sent : Option Sent → Option Work
 work_of_sent None = None
 work_of_sent (Some sent) = Some (work.Message sent.bytes)
 
 -- the work of an item of a user: the bytes of a received message, or a pulse
-abbrev pub work_of : OwnItem → Option Part → Option Work
-work_of (item.Message process thread) None = None
-work_of (item.Message process thread) (Some part) = work_of_sent (taken_of (thread_at part process thread))
-work_of (item.Unblock process thread call) there = Some work.Pulse
+abbrev pub work_of : List (Option Part) → ℕ → OwnItem → Option Work
+work_of parts user (item.Message process thread) = work_of_sent (taken_of (thread_row parts (named_thread user process thread)))
+work_of parts user (item.Unblock process thread call) = Some work.Pulse
 
 abbrev pub work_in_hand : World → Option Held → Option Work
 work_in_hand w None = None
-work_in_hand w (Some held) = work_of held.item (row_at w.parts held.user.0)
+work_in_hand w (Some held) = work_of w.parts held.user.0 held.item
 
 -- what a worker holds; none where there is no such worker or it holds nothing
 abbrev pub held_work : World → ℕ → Option Work
@@ -46,10 +52,19 @@ abbrev pub IsReadFor : Option (List ℕ) → Option Work → Type 0
 IsReadFor (Some bytes) (Some held) = held ≡ work.Message bytes
 IsReadFor _ _ = ⊤
 
+-- bytes that were read before are those of the message
+abbrev pub IsReadOf : Option (List ℕ) → Option Sent → Type 0
+IsReadOf (Some bytes) (Some sent) = bytes ≡ sent.bytes
+IsReadOf _ _ = ⊤
+
+abbrev pub sent_wants_memory : Option Sent → Bool
+sent_wants_memory None = false
+sent_wants_memory (Some sent) = wants_memory (meaning sent.bytes)
+
 -- doing what is held may want memory
 abbrev pub hand_wants_memory : World → Option Held → Bool
 hand_wants_memory w None = false
-hand_wants_memory w (Some held) = wants_memory_of held.item (row_at w.parts held.user.0)
+hand_wants_memory w (Some held) = sent_wants_memory (taken_item w.parts held.user.0 held.item)
 
 abbrev pub holds_wanting : World → ℕ → Bool
 holds_wanting w worker = hand_wants_memory w (row_at w.hands worker)

@@ -1,5 +1,4 @@
-pub mod Calls
 pub mod Held
-pub mod Kept
+pub mod Parts
 pub mod Reads
-pub mod Workers
+pub mod Steps

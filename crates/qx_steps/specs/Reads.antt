@@ -1,10 +1,27 @@
--- What a thread's row tells.
-use Rattle.std.specs.Prelude.{◌≡◌, ℕ, Bool, true, false, Option, Some, None}
+-- A thread's row among the rows of all users, and what it tells.
+use Rattle.std.specs.Prelude.{ℕ, Bool, true, false, List, Option, Some, None}
+use Rattle.qx_types.specs.declared.names.Proc.{Proc}
+use Rattle.qx_types.specs.declared.names.Thread.{Thread}
 use Rattle.qx_machine.specs.declared.rows.Sent.{Sent}
 use Rattle.qx_machine.specs.declared.rows.State.{State}
-use Rattle.qx_machine.specs.declared.rows.Target.{Target}
-use Rattle.qx_machine.specs.declared.rows.State.TheVariants.{Ready, Queued, Taken, Answered}
+use Rattle.qx_machine.specs.declared.rows.State.TheVariants.{Answered}
 use Rattle.qx_machine.specs.declared.rows.ThreadRow.{ThreadRow}
+use Rattle.qx_machine.specs.Parts.{Part, thread_of}
+use Rattle.qx_machine.specs.Performing.{taken_in}
+use Rattle.qx_machine.specs.Processes.{Process}
+use Rattle.qx_machine.specs.Rows.{row_at}
+
+abbrev pub process_in : ℕ → Option Part → Option Process
+process_in number None = None
+process_in number (Some part) = row_at part.processes number
+
+-- a process among the rows of all users
+abbrev pub process_of : List (Option Part) → Proc → Option Process
+process_of parts proc = process_in proc.num (row_at parts proc.user.0)
+
+-- a thread's row among the rows of all users
+abbrev pub thread_row : List (Option Part) → Thread → Option ThreadRow
+thread_row parts thread = thread_of thread.tid (process_of parts thread.proc)
 
 abbrev pub is_answered : State → Bool
 is_answered (Answered answer) = true
@@ -14,17 +31,7 @@ abbrev pub is_thread_answered : Option ThreadRow → Bool
 is_thread_answered None = false
 is_thread_answered (Some row) = is_answered row.state
 
--- the thread is there, and waits for nothing
-abbrev pub IsReady : Option ThreadRow → Type 0
-IsReady None = ⊥
-IsReady (Some row) = row.state ≡ Ready
-
--- the thread's message, sent there, stands in a line
-abbrev pub IsQueuedTo : Target → Option ThreadRow → Type 0
-IsQueuedTo target None = ⊥
-IsQueuedTo target (Some row) = (sent : Sent) × ((row.state ≡ Queued sent) × (sent.target ≡ target))
-
--- the message of the thread's call of that number, sent there, was received and is not asked to unblock it
-abbrev pub IsUnasked : Target → ℕ → Option ThreadRow → Type 0
-IsUnasked target call None = ⊥
-IsUnasked target call (Some row) = (row.calls ≡ call) × ((sent : Sent) × ((row.state ≡ Taken sent) × ((sent.target ≡ target) × (sent.is_asked ≡ false))))
+-- the message that was received and is not answered
+abbrev pub taken_of : Option ThreadRow → Option Sent
+taken_of None = None
+taken_of (Some row) = taken_in row.state

@@ -1,7 +1,6 @@
 //! The world that the machine describes, in memory: one call for each step.
 #![tactic(auto)]
 
-mod servers;
 pub mod work;
 pub mod world;
 

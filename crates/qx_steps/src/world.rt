@@ -1,33 +1,30 @@
 //! The rows of all users, the managers' lines and what each worker holds, with one call for each step.
 
-ghost use Rattle.std.specs.Prelude.{◌≡◌, ◌<◌, ◌∷◌, ◌↔◌, ◌≢◌, [], None, Some, Err, IfOk, IfSome, IsOk, IsTrue, IsFalse, OnOk, OnErr, IsErrOf, length, is_some, option_map, replicate, slice_set, unwrap_or, if◌then◌else◌};
+ghost use Rattle.std.specs.Prelude.{◌≡◌, ℕ, ◌∷◌, ◌↔◌, ◌≢◌, [], None, Some, Err, IfOk, IfSome, IsOk, IsTrue, IsFalse, OnOk, OnErr, IsErrOf, length, is_some, option_map, replicate, slice_set, unwrap_or, if◌then◌else◌};
 ghost use Rattle.std.specs.Option.{option_copied};
+ghost use Rattle.qx_wire.specs.Reading as reading;
 ghost use Rattle.qx_machine.specs.Clients as clients;
 ghost use Rattle.qx_machine.specs.Laws.{is_refusal};
 ghost use Rattle.qx_machine.specs.Machine as machine;
 ghost use Rattle.qx_machine.specs.Calls.{can_send, content_of};
 ghost use Rattle.qx_machine.specs.Rows.{row_at};
-ghost use Rattle.qx_chan.specs.Channel.{sender_of};
-ghost use Rattle.qx_process.specs.Reads.{is_thread_blocked, IsPriority};
-ghost use Rattle.qx_parts.specs.Deeds.{IsReadOf, taken_item_of};
-ghost use Rattle.qx_parts.specs.Reads.{CanSend, thread_row};
-ghost use Rattle.qx_steps.specs.Calls.{after_asking, after_dismissal, after_sending, after_start, spawn_number_in, target_in};
-ghost use Rattle.qx_steps.specs.Held.{bytes_in, hand_wants_memory, held_work, holds_wanting, work_now, IsReadFor, IsStale};
-ghost use Rattle.qx_steps.specs.Reads.{is_thread_answered, IsQueuedTo, IsReady, IsUnasked};
-ghost use Rattle.qx_steps.specs.Workers.{after_serving, answered_call, channel_answered, IsPulseGone};
+ghost use Rattle.qx_process.specs.Reads.{is_thread_blocked, CanCall, CanGo};
+ghost use Rattle.qx_chan.specs.Users.{IsReady};
+ghost use Rattle.qx_steps.specs.Held.{bytes_in, hand_wants_memory, held_work, holds_wanting, sent_wants_memory, taken_item, work_now, IsReadFor, IsReadOf, IsStale};
+ghost use Rattle.qx_steps.specs.Reads.{is_thread_answered, taken_of, thread_row};
+ghost use Rattle.qx_steps.specs.Steps.{after_message, after_mount, mount_in, target_in, CanMount};
 
-use crate::servers;
 use crate::work::{PerformFault, Work, WorkRef};
 use qx_chan::Channel;
-use qx_machine::{Held, OwnItem, Queued, Sent, State, Target};
-use qx_parts::{Part, Parts};
-use qx_process::places;
-use qx_requests::encoded;
+use qx_machine::{Addressed, Held, OwnItem, Queued, Sent, State};
+use qx_process::{Process, places};
+use qx_requests::{encoded, target_by};
+use qx_resources::{AllResources, NewMount};
 use qx_types::{
-    Bytes, Config, Errno, Item, Manager, NoMemory, Outcome, Prio, Proc, Request, Step, Thread,
+    Answer, Bytes, Config, Item, Manager, NoMemory, Outcome, Prio, Proc, Request, Step, Thread,
     User, Worker,
 };
-use qx_wire::Parsed;
+use qx_wire::{Meaning, Parsed, meaning};
 use std::alloc::{AllocError, Global};
 use std::marker::Model;
 
@@ -36,36 +33,36 @@ use std::marker::Model;
 pub struct World {
     alloc: Global,
     config: Config,
-    parts: Parts,
     channel: Channel,
+    resources: AllResources,
     hands: Vec<Option<Held>>,
 }
 
 impl Model for World {
     ghost use Rattle.qx_machine.specs.Machine as machine;
-    ghost use Rattle.qx_steps.specs.Kept.{Kept};
+    ghost use Rattle.qx_steps.specs.Parts.{world_of, SameUsers};
 
     ghost Value = { machine.World };
 
-    ghost view = { λ w. record { config = w.config; parts = w.parts; lines = w.channel.lines; hands = w.hands.items } };
+    ghost view = { λ w. world_of w.config w.channel w.resources w.hands.items };
 
-    ghost invariant = { λ w. Kept w.parts w.channel };
+    ghost invariant = { λ w. SameUsers w.channel.users w.resources };
 }
 
 impl World {
-    /// The system at boot: each user has an empty mount, the lines are empty and the workers idle.
+    /// The system at boot: each user has the top, which is empty, the lines are empty and the workers idle.
     #[tactic(auto, unfolding(qx_machine::specs::Machine::boot))]
-    pub fn new(alloc: Global, config: Config) -> Result<Self, AllocError>
+    pub fn new(alloc: Global, config: Config) -> Result<Self, NoMemory>
         ensures { IfOk result (λ world. world ≡ machine.boot config) }
     {
-        let parts = boot_parts(alloc, &config)?;
-        let hands = empty_hands(alloc, config.workers())?;
         let channel = Channel::new(alloc, config.user_count())?;
+        let resources = AllResources::boot(alloc, &config)?;
+        let hands = empty_hands(alloc, config.workers())?;
         Ok(World {
             alloc,
             config,
-            parts,
             channel,
+            resources,
             hands,
         })
     }
@@ -79,35 +76,7 @@ impl World {
         ensures sure { IsTrue (is_refusal (machine.step self.old (Step.Spawn user threads prio)).outcome) → IsOk result }
         ensures err { OnErr result (self.new ≡ self.old) }
     {
-        match self.spawn_number(user, threads, prio) {
-            Ok(number) => {
-                self.start(Proc { user, num: number }, threads, prio)?;
-                Ok(Outcome::Spawned(number))
-            }
-            Err(outcome) => Ok(outcome),
-        }
-    }
-
-    /// The number of a process that would start now, or how the spawn is refused.
-    fn spawn_number(&self, user: User, threads: u8, prio: Prio) -> Result<u8, Outcome>
-        ensures { result ≡ spawn_number_in threads prio.0 (row_at self.now.parts user.0) }
-    {
-        match self.parts.part(user) {
-            Some(part) => part.spawn_number(threads, prio),
-            None => Err(Outcome::WrongState),
-        }
-    }
-
-    /// Starts a process under the number that it is to have: the room for its threads' nodes, its rows, then the nodes.
-    fn start(&mut self, proc: Proc, threads: u8, prio: Prio) -> Result<(), AllocError>
-        requires { spawn_number_in threads prio.0 (row_at self.old.parts proc.user.0) ≡ Ok proc.num }
-        ensures ok { OnOk result (self.new ≡ after_start self.old proc.user.0 threads prio.0) }
-        ensures err { OnErr result (self.new ≡ self.old) }
-    {
-        self.channel.reserve(threads)?;
-        self.parts.spawn(proc.user, threads, prio)?;
-        self.channel.add_process(proc, threads, prio);
-        Ok(())
+        self.channel.spawn(user, threads, prio)
     }
 
     /// A thread takes its answer and is ready (C Library Reference: what `MsgSend` returns). `WrongState` where the thread
@@ -116,10 +85,10 @@ impl World {
         ensures outcome { result ≡ (machine.step self.old (Step.TakeReply thread)).outcome }
         ensures world { self.new ≡ (machine.step self.old (Step.TakeReply thread)).world }
     {
-        let Some(part) = self.parts.part_mut(thread.proc.user) else {
-            return Outcome::WrongState;
-        };
-        part.take_reply(thread)
+        match self.channel.take_reply(thread) {
+            Some(answer) => outcome_of(answer),
+            None => Outcome::WrongState,
+        }
     }
 
     /// A thread gets another priority, from 1 to 63; a message that it sent keeps the one that it was sent with (C Library
@@ -128,67 +97,33 @@ impl World {
         ensures outcome { result ≡ (machine.step self.old (Step.SetPrio thread prio)).outcome }
         ensures world { self.new ≡ (machine.step self.old (Step.SetPrio thread prio)).world }
     {
-        let Some(part) = self.parts.part_mut(thread.proc.user) else {
-            return Outcome::WrongState;
-        };
-        part.set_prio(thread, prio)
+        self.channel.set_prio(thread, prio)
     }
 
     /// Asks to unblock a thread (System Architecture: the unblock pulse; C Library Reference: `MsgSend`, EINTR). A thread
     /// whose message stands in a line is answered EINTR, and the message goes, with what its call attached. One whose
     /// message was received stays blocked, and its manager gets an unblock pulse, once a call. `WrongState` where the
     /// thread is not there; nothing happens where it waits for nothing.
-    #[tactic(auto, using(crate::proofs::InterruptLemmas::interrupt_steps))]
     pub fn interrupt(&mut self, thread: Thread) -> Outcome
         ensures outcome { result ≡ (machine.step self.old (Step.Interrupt thread)).outcome }
         ensures world { self.new ≡ (machine.step self.old (Step.Interrupt thread)).world }
     {
-        let Some(row) = self.parts.thread(thread) else {
+        let Some(row) = self.channel.thread(thread) else {
             return Outcome::WrongState;
         };
         match &row.state {
-            State::Queued(sent) => {
-                let target = sent.target;
-                self.dismiss(thread, target);
-                Outcome::Done
-            }
-            State::Taken(sent) => {
-                if !sent.is_asked {
-                    let (target, call) = (sent.target, row.calls);
-                    self.ask_unblock(thread, target, call);
-                }
-                Outcome::Done
-            }
-            State::Ready | State::Answered(_) => Outcome::Done,
+            State::Queued(_) => self.channel.withdraw(thread),
+            State::Taken(_) => self.channel.ask_unblock(thread),
+            State::Ready | State::Answered(_) => {}
         }
-    }
-
-    /// A thread's message leaves its line, and the thread is answered EINTR.
-    fn dismiss(&mut self, thread: Thread, target: Target)
-        requires queued { IsQueuedTo target (thread_row self.old.parts thread) }
-        ensures { self.new ≡ after_dismissal self.old thread target }
-    {
-        self.channel.withdraw(target.manager, thread);
-        self.parts.fail(thread, target.over, Errno::EINTR);
-        servers::settle(&mut self.channel, &self.parts, thread.proc);
-    }
-
-    /// A thread's received message is marked, and an unblock pulse goes into its line.
-    fn ask_unblock(&mut self, thread: Thread, target: Target, call: u64)
-        requires unasked { IsUnasked target call (thread_row self.old.parts thread) }
-        requires priority { IsPriority target.prio.0 }
-        ensures { self.new ≡ after_asking self.old thread call target }
-    {
-        self.channel
-            .ask_unblock(target.manager, thread, call, target.prio);
-        self.parts.ask_unblock(thread);
+        Outcome::Done
     }
 
     /// A client's request goes as a message into its manager's line, and the thread is blocked (C Library Reference:
     /// `MsgSend`). `WrongState` where the thread is not there or not ready; then EINVAL for fields out of their ranges,
-    /// EAGAIN where the thread's calls are used up; for a path, ENOENT where it is not the user's own root; for a
-    /// connection, EBADF where it is not there; EMFILE where no connection is free for a new one; EAGAIN where the user
-    /// has all its server connections at the manager. A call that is refused wants no memory.
+    /// EAGAIN where the thread's calls are used up; for a path, the errors of `read_path`, EACCES and ENOENT by whose
+    /// name is its first; for a connection, EBADF where it is not there; EMFILE where no connection is free for a new one;
+    /// EAGAIN where the user has all its server connections at the manager. A call that is refused wants no memory.
     pub fn call(&mut self, thread: Thread, request: &Request) -> Result<Outcome, NoMemory>
         ensures outcome { IfOk result (λ outcome. outcome ≡ (machine.step self.old (Step.Call thread request.now)).outcome) }
         ensures world { OnOk result (self.new ≡ (machine.step self.old (Step.Call thread request.now)).world) }
@@ -196,13 +131,13 @@ impl World {
         ensures err { OnErr result (self.new ≡ self.old) }
     {
         match self.judge(thread, request) {
-            Ok(target) => {
+            Ok(addressed) => {
                 let sent = Sent {
-                    target,
+                    target: addressed.target,
                     is_asked: false,
-                    bytes: encoded(self.alloc, request)?,
+                    bytes: encoded(self.alloc, request, &addressed.rest)?,
                 };
-                self.send(thread, sent)?;
+                self.channel.send(self.alloc, thread, sent)?;
                 Ok(Outcome::Sent)
             }
             Err(outcome) => Ok(outcome),
@@ -210,34 +145,82 @@ impl World {
     }
 
     /// Where a call goes, or the outcome of one that goes nowhere.
-    fn judge(&self, thread: Thread, request: &Request) -> Result<Target, Outcome>
-        ensures priority { IfOk result (λ target. IsPriority target.prio.0) }
-        ensures sendable { IfOk result (λ _. IsTrue (can_send (content_of request.now))) }
+    fn judge<'a>(&self, thread: Thread, request: &'a Request) -> Result<Addressed<'a>, Outcome>
+        ensures ready { IfOk result (λ _. IsReady (thread_row self.now.parts thread)) }
+        ensures countable { IfOk result (λ _. CanCall (thread_row self.now.parts thread)) }
+        ensures goes { IfOk result (λ addressed. CanGo addressed.target) }
+        ensures sendable { IfOk result (λ addressed. IsTrue (can_send (content_of request.now addressed.rest))) }
         ensures target { result ≡ target_in self.now thread request.now }
     {
         let user = thread.proc.user;
-        match self.parts.part(user) {
-            Some(part) => part.judge(name_bytes(self.config.name(user)), thread, request),
-            None => Err(Outcome::WrongState),
+        let Some(processes) = self.channel.processes(user) else {
+            return Err(Outcome::WrongState);
+        };
+        let Some(resources) = self.resources.user(user) else {
+            return Err(Outcome::WrongState);
+        };
+        target_by(&self.config, resources.mounts(), processes, thread, request)
+    }
+
+    /// A manager is attached at a path of the thread's user, with a root of its own (C Library Reference:
+    /// `resmgr_attach`). `WrongState` where the thread is not there or not ready; then the errors of `read_path`, EACCES
+    /// outside of the user's top, whoever has the path's first name, EEXIST where a mount is, and ENOSPC where the user has
+    /// 8 mounts or 1,024 inodes. A mount that is refused wants no memory.
+    pub fn mount(
+        &mut self,
+        thread: Thread,
+        path: &Bytes,
+        manager: Manager,
+    ) -> Result<Outcome, NoMemory>
+        ensures outcome { IfOk result (λ outcome. outcome ≡ (machine.step self.old (Step.Mount thread path.now manager)).outcome) }
+        ensures world { OnOk result (self.new ≡ (machine.step self.old (Step.Mount thread path.now manager)).world) }
+        ensures sure { IsTrue (is_refusal (machine.step self.old (Step.Mount thread path.now manager)).outcome) → IsOk result }
+        ensures err { OnErr result (self.new ≡ self.old) }
+    {
+        match self.judge_mount(thread, path, manager) {
+            Ok(mount) => {
+                self.attach(thread.proc.user, &mount)?;
+                Ok(Outcome::Done)
+            }
+            Err(outcome) => Ok(outcome),
         }
     }
 
-    /// A message goes into its manager's line, and its thread is blocked: the memory that it wants first, then its rows,
-    /// its nodes and its place in the line.
-    #[tactic(auto, unfolding(qx_machine::specs::Users::settle))]
-    fn send(&mut self, thread: Thread, sent: Sent) -> Result<(), NoMemory>
-        requires sendable { CanSend (thread_row self.old.parts thread) sent.target }
-        requires ready { IsReady (thread_row self.old.parts thread) }
-        ensures ok { OnOk result (self.new ≡ after_sending self.old thread sent) }
+    /// What a thread mounts, or the outcome of a step that mounts nothing.
+    fn judge_mount<'a>(
+        &self,
+        thread: Thread,
+        path: &'a Bytes,
+        manager: Manager,
+    ) -> Result<NewMount<'a>, Outcome>
+        ensures free { IfOk result (λ mount. CanMount (row_at self.now.parts thread.proc.user.0) mount.prefix) }
+        ensures mount { result ≡ mount_in self.now thread path.now manager }
+    {
+        let Some(row) = self.channel.thread(thread) else {
+            return Err(Outcome::WrongState);
+        };
+        let State::Ready = &row.state else {
+            return Err(Outcome::WrongState);
+        };
+        let user = thread.proc.user;
+        let Some(resources) = self.resources.user(user) else {
+            return Err(Outcome::WrongState);
+        };
+        resources
+            .new_mount(self.config.name_bytes(user), path.as_slice(), manager)
+            .map_err(Outcome::Refused)
+    }
+
+    /// A manager is attached for a user.
+    fn attach(&mut self, user: User, mount: &NewMount<'_>) -> Result<(), NoMemory>
+        requires free { CanMount (row_at self.old.parts user.0) mount.now.prefix }
+        ensures ok { OnOk result (self.new ≡ after_mount self.old user.0 mount.now) }
         ensures err { OnErr result (self.new ≡ self.old) }
     {
-        let target = sent.target;
-        self.channel.reserve(1)?;
-        self.parts.send(self.alloc, thread, sent)?;
-        servers::attach(&mut self.channel, thread.proc, target);
-        self.channel.send(target.manager, thread, target.prio);
-        servers::settle(&mut self.channel, &self.parts, thread.proc);
-        Ok(())
+        match self.resources.user_mut(user) {
+            Some(resources) => resources.mount(self.alloc, user, mount),
+            None => Ok(()),
+        }
     }
 
     /// Whether a worker is configured.
@@ -256,7 +239,6 @@ impl World {
 
     /// A worker takes the first item of a line (C Library Reference: `MsgReceive`). `WrongState` where there is no such
     /// worker, `Busy` where it holds an item, `Idle` on an empty line.
-    #[tactic(auto, using(crate::proofs::WorkerLemmas::receive_steps))]
     pub fn receive(&mut self, worker: Worker, manager: Manager) -> Outcome
         ensures outcome { result ≡ (machine.step self.old (Step.Receive worker manager)).outcome }
         ensures world { self.new ≡ (machine.step self.old (Step.Receive worker manager)).world }
@@ -271,7 +253,6 @@ impl World {
             return Outcome::Idle;
         };
         hold_in(&mut self.hands, worker, first);
-        self.parts.take(first.user, first.item);
         Outcome::Took(shown_item(first.user, first.item))
     }
 
@@ -330,36 +311,45 @@ impl World {
         Ok(Outcome::Handled)
     }
 
-    /// Does an item that a worker holds, and empties the hand. An answer takes a queued unblock pulse of its call out of
-    /// the line.
-    #[tactic(auto, unfolding(qx_machine::specs::Users::settle, qx_machine::specs::Users::serve))]
+    /// Does an item that a worker holds, and empties the hand. A pulse asks for nothing yet.
     fn serve(&mut self, worker: Worker, held: Held, read: Option<&Parsed>) -> Result<(), NoMemory>
-        requires read { IsReadOf (option_copied read) (taken_item_of held.item (row_at self.old.parts held.user.0)) }
-        ensures ok { OnOk result (self.new ≡ after_serving self.old worker.0 held) }
+        requires read { IsReadOf (option_copied read) (taken_item self.old.parts held.user.0 held.item) }
+        ensures ok { OnOk result ((moment : ℕ) → self.new ≡ machine.performed_part (machine.with_empty_hand self.old worker.0) held moment (row_at self.old.parts held.user.0)) }
         ensures err { OnErr result (self.new ≡ self.old) }
         ensures sure { IsFalse (hand_wants_memory self.old (Some held)) → IsOk result }
     {
-        let answered = self.answered_call(held);
-        self.parts.serve(held.user, held.item, read)?;
-        let thread = named_thread(held.user, held.item);
-        reply_in(&mut self.channel, thread, answered);
-        servers::settle(&mut self.channel, &self.parts, thread.proc);
+        if let OwnItem::Message { process, thread } = held.item {
+            self.answer(named_thread(held.user, process, thread), read)?;
+        }
         places::free(&mut self.hands, worker.0 as usize);
         Ok(())
     }
 
-    /// The call that doing an item answers: to which manager it went, and its number.
-    fn answered_call(&self, held: Held) -> Option<(Manager, u64)>
-        ensures { result ≡ answered_call held.item (row_at self.now.parts held.user.0) }
+    /// Does what the message of a thread, which was received, asks for, and answers it.
+    fn answer(&mut self, thread: Thread, read: Option<&Parsed>) -> Result<(), AllocError>
+        requires read { IsReadOf (option_copied read) (taken_of (thread_row self.old.parts thread)) }
+        ensures ok { OnOk result (self.new ≡ after_message self.old thread) }
+        ensures err { OnErr result (self.new ≡ self.old) }
+        ensures sure { IsFalse (sent_wants_memory (taken_of (thread_row self.old.parts thread))) → IsOk result }
     {
-        let OwnItem::Message { process, thread } = held.item else {
-            return None;
+        let Some(process) = self.channel.process(thread.proc) else {
+            return Ok(());
         };
-        let row = self.parts.part(held.user)?.thread(process, thread)?;
-        match &row.state {
-            State::Taken(sent) => Some((sent.target.manager, row.calls)),
-            _ => None,
+        let Some(sent) = taken(process, thread.tid) else {
+            return Ok(());
+        };
+        let Some(resources) = self.resources.user_mut(thread.proc.user) else {
+            return Ok(());
+        };
+        let given = resources.perform(process, sent.target, meaning_of(&sent.bytes, read))?;
+        match given {
+            Ok(done) => {
+                self.channel
+                    .reply(thread, done.effect, done.status, done.bytes.as_slice());
+            }
+            Err(error) => self.channel.fail(thread, error),
         }
+        Ok(())
     }
 
     /// Whether something is held that the work is not.
@@ -384,7 +374,9 @@ impl World {
         let OwnItem::Message { process, thread } = held.item else {
             return Some(WorkRef::Pulse);
         };
-        let row = self.parts.part(held.user)?.thread(process, thread)?;
+        let row = self
+            .channel
+            .thread(named_thread(held.user, process, thread))?;
         match &row.state {
             State::Taken(sent) => Some(WorkRef::Message(&sent.bytes)),
             _ => None,
@@ -402,7 +394,7 @@ impl World {
     pub fn answered(&self, thread: Thread) -> bool
         ensures { result ≡ is_thread_answered (thread_row self.now.parts thread) }
     {
-        match self.parts.thread(thread) {
+        match self.channel.thread(thread) {
             Some(row) => matches!(row.state, State::Answered(_)),
             None => false,
         }
@@ -413,7 +405,7 @@ impl World {
     pub fn blocked(&self, thread: Thread) -> bool
         ensures { result ≡ is_thread_blocked (thread_row self.now.parts thread) }
     {
-        match self.parts.thread(thread) {
+        match self.channel.thread(thread) {
             Some(row) => matches!(row.state, State::Queued(_) | State::Taken(_)),
             None => false,
         }
@@ -477,18 +469,6 @@ impl World {
     }
 }
 
-/// Each user's rows at boot.
-#[tactic(auto, using(crate::proofs::BootLemmas::boot_parts_steps))]
-fn boot_parts(alloc: Global, config: &Config) -> Result<Parts, AllocError>
-    ensures { IfOk result (λ parts. parts ≡ None ∷ machine.boot_parts config.now 1 config.now.users) }
-{
-    let mut parts = Parts::new(alloc)?;
-    for number in 0..config.user_count() {
-        parts.push(Part::boot(alloc, User(number as u8 + 1))?)?;
-    }
-    Ok(parts)
-}
-
 /// A hand for each worker, all of them empty.
 fn empty_hands(alloc: Global, workers: u8) -> Result<Vec<Option<Held>>, AllocError>
     ensures { IfOk result (λ hands. hands.items ≡ None ∷ replicate workers None) }
@@ -511,40 +491,44 @@ fn hold_in(hands: &mut Vec<Option<Held>>, worker: Worker, first: Queued)
     places::set(hands, worker.0 as usize, held);
 }
 
-/// A call of a thread, if there is one, is answered: an unblock pulse of it stands in the line no more.
-fn reply_in(channel: &mut Channel, thread: Thread, call: Option<(Manager, u64)>)
-    ensures replied { channel.new ≡ channel_answered channel.old thread call }
-    ensures gone { IfSome call (IsPulseGone channel.old thread) }
+/// What a thread that takes its answer is told.
+fn outcome_of(answer: Answer) -> Outcome
+    ensures { result ≡ clients.outcome_of answer }
 {
-    if let Some((manager, call)) = call {
-        channel.reply(manager, thread, call);
+    match answer {
+        Answer::Reply(status, bytes) => Outcome::Reply(status, bytes),
+        Answer::Failed(error) => Outcome::Failed(error),
     }
 }
 
-/// The bytes of a user's name.
-fn name_bytes(name: Option<&Bytes>) -> &[u8]
-    ensures { result.now ≡ unwrap_or (option_copied name.entry) [] }
+/// The message of a thread, if it was received and is not answered.
+fn taken(process: &Process, thread: u8) -> Option<&Sent>
+    ensures { option_copied result ≡ taken_of (row_at process.now.threads thread) }
 {
-    match name {
-        Some(name) => name.as_slice(),
-        None => &[],
+    match &process.thread(thread)?.state {
+        State::Taken(sent) => Some(sent),
+        _ => None,
     }
 }
 
-/// The thread that an item names.
-fn named_thread(user: User, item: OwnItem) -> Thread
-    ensures { result ≡ sender_of user.0 item }
+/// What the bytes of a message mean, which may have been read before.
+fn meaning_of<'a>(bytes: &'a Bytes, read: Option<&'a Parsed>) -> Meaning<'a>
+    requires { IfSome read (λ read. read.now ≡ bytes.now) }
+    ensures { result ≡ reading.meaning bytes.now }
 {
-    match item {
-        OwnItem::Message { process, thread }
-        | OwnItem::Unblock {
-            process,
-            thread,
-            ..
-        } => Thread {
-            proc: Proc { user, num: process },
-            tid: thread,
-        },
+    match read {
+        Some(read) => read.meaning(),
+        None => meaning(bytes.as_slice()),
+    }
+}
+
+/// A thread of a user.
+fn named_thread(user: User, process: u8, thread: u8) -> Thread
+    ensures { result ≡ machine.named_thread user.0 process thread }
+{
+    Thread {
+        proc: Proc { user, num: process },
+        tid: thread,
     }
 }
 
@@ -553,8 +537,10 @@ fn shown_item(user: User, item: OwnItem) -> Item
     ensures { result ≡ machine.shown_item user.0 item }
 {
     match item {
-        OwnItem::Message { .. } => Item::Message(named_thread(user, item)),
-        OwnItem::Unblock { .. } => Item::Unblock(named_thread(user, item)),
+        OwnItem::Message { process, thread } => Item::Message(named_thread(user, process, thread)),
+        OwnItem::Unblock {
+            process, thread, ..
+        } => Item::Unblock(named_thread(user, process, thread)),
     }
 }
 

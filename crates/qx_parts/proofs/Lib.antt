@@ -1,2 +1,0 @@
--- rows that were lent, and left changed or as they were
-mod LentRows

@@ -1,3 +1,0 @@
-pub mod Deeds
-pub mod Lends
-pub mod Reads
