@@ -5,7 +5,7 @@ mod rows;
 
 use plain_messages::{Kind, Reading, read, write};
 use qx_types::{
-    Answer, Bytes, Coid, Config, Errno, Item, Manager, OFlags, Outcome, Prio, Proc, ReplyBytes,
+    Answer, Bytes, Coid, Config, Errno, Item, Manager, MessageBytes, OFlags, Outcome, Prio, Proc,
     Request, Step, Thread, User, Worker,
 };
 pub use rows::{Over, Post, Row, Sent, State};
@@ -317,7 +317,7 @@ impl Plain {
         };
         self.blocks.push((proc.user, block))?;
         self.set_block(proc, coid, block);
-        Ok(Answer::Reply(u64::from(coid.0), ReplyBytes::inline(self.alloc, &[])))
+        Ok(Answer::Reply(u64::from(coid.0), MessageBytes::inline(self.alloc, &[])))
     }
 
     /// A path's rest stands behind the header's 8 bytes.
@@ -337,7 +337,7 @@ impl Plain {
             Ok((coid, block)) => {
                 self.detach(proc, coid);
                 self.blocks.retain(|taken| *taken != (proc.user, block));
-                Answer::Reply(0, ReplyBytes::inline(self.alloc, &[]))
+                Answer::Reply(0, MessageBytes::inline(self.alloc, &[]))
             }
         }
     }
@@ -364,7 +364,7 @@ impl Plain {
     }
 
     fn root_status(&self, user: User) -> Answer {
-        Answer::Reply(0, ReplyBytes::inline(self.alloc, &status_bytes(user)))
+        Answer::Reply(0, MessageBytes::inline(self.alloc, &status_bytes(user)))
     }
 
     /// The threads that were started.

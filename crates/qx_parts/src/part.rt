@@ -22,7 +22,7 @@ use qx_machine::{Effect, Over, OwnItem, Sent, State, Target, ThreadRow};
 use qx_process::Process;
 use qx_procs::Processes;
 use qx_resources::{Done, Resources};
-use qx_types::{Answer, Bytes, Errno, Outcome, Prio, Request, Thread, User};
+use qx_types::{Answer, Errno, MessageBytes, Outcome, Prio, Request, Thread, User};
 use qx_wire::{Meaning, Parsed, meaning};
 use std::alloc::{AllocError, Global};
 use std::marker::Model;
@@ -224,7 +224,7 @@ fn taken(process: &Process, thread: u8) -> Option<&Sent>
 }
 
 /// What the bytes of a message mean, which may have been read before.
-fn meaning_of<'a>(bytes: &'a Bytes, read: Option<&'a Parsed>) -> Meaning<'a>
+fn meaning_of<'a>(bytes: &'a MessageBytes, read: Option<&'a Parsed>) -> Meaning<'a>
     requires { IfSome read (λ read. read.now ≡ bytes.now) }
     ensures { result ≡ reading.meaning bytes.now }
 {
