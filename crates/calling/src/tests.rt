@@ -1,5 +1,5 @@
 use super::*;
-use qx_types::{Bytes, Config, OFlags, Prio, Proc, ReplyBytes, User};
+use qx_types::{Bytes, Config, MessageBytes, OFlags, Prio, Proc, User};
 use std::alloc::Global;
 use std::test::Fail;
 
@@ -35,7 +35,7 @@ fn opens_the_root(rt: HostRuntime) -> Result<(), Fail> {
     };
     assert_eq!(rt;
         ask(&mut traced, ann, open, 5)?,
-        Outcome::Reply(3, ReplyBytes::inline(alloc, b""))
+        Outcome::Reply(3, MessageBytes::inline(alloc, b""))
     );
     Ok(())
 }

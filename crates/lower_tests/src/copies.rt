@@ -2,7 +2,7 @@
 
 use qx_types::errno::errors_told_apart;
 use qx_types::{
-    Answer, Bytes, Coid, Errno, Limits, Manager, NoMemory, OFlags, Outcome, Proc, ReplyBytes,
+    Answer, Bytes, Coid, Errno, Limits, Manager, MessageBytes, NoMemory, OFlags, Outcome, Proc,
     Request, Step, Thread, User, Worker,
 };
 use std::alloc::{AllocError, AllocFailed, Global};
@@ -34,35 +34,38 @@ fn bytes_hold_what_they_are_given(rt: HostRuntime) -> Result<(), Fail> {
     Ok(())
 }
 
-/// Whether the bytes of an answer of so many bytes are those, and are copied.
+/// Whether the bytes of a message of so many bytes are those, and are copied, and are the same where they came in two
+/// parts.
 fn is_held(alloc: Global, count: usize) -> Result<bool, AllocError> {
     let items = vec![in alloc; 7; count]?;
-    let none = ReplyBytes::inline(alloc, b"");
-    let bytes = ReplyBytes::from_vec(items.clone()?);
-    Ok(bytes.as_slice() == items.as_slice() && is_copied(&bytes, &none)?)
+    let none = MessageBytes::inline(alloc, b"");
+    let bytes = MessageBytes::from_vec(items.clone()?);
+    let mut parts = MessageBytes::from_slice(alloc, &items[..count / 2])?;
+    parts.extend_from_slice(&items[count / 2..])?;
+    Ok(bytes.as_slice() == items.as_slice() && is_copied(&bytes, &none)? && parts == bytes)
 }
 
 #[test]
-fn answers_hold_few_bytes_and_many(rt: HostRuntime) -> Result<(), Fail> {
-    for count in [1, ReplyBytes::INLINE, ReplyBytes::INLINE + 1, Limits::BODY] {
+fn messages_hold_few_bytes_and_many(rt: HostRuntime) -> Result<(), Fail> {
+    for count in [1, MessageBytes::INLINE, MessageBytes::INLINE + 1, Limits::BODY] {
         assert!(rt; is_held(rt.alloc(), count)?, "{count} bytes");
     }
-    let few = ReplyBytes::inline(rt.alloc(), &[7; ReplyBytes::INLINE]);
-    let many = ReplyBytes::from_vec(vec![in rt.alloc(); 7; ReplyBytes::INLINE + 1]?);
-    assert!(rt; few != many && few.as_slice() == &many.as_slice()[..ReplyBytes::INLINE]);
+    let few = MessageBytes::inline(rt.alloc(), &[7; MessageBytes::INLINE]);
+    let many = MessageBytes::from_vec(vec![in rt.alloc(); 7; MessageBytes::INLINE + 1]?);
+    assert!(rt; few != many && few.as_slice() == &many.as_slice()[..MessageBytes::INLINE]);
     Ok(())
 }
 
 #[test]
 fn answers_are_copied(rt: HostRuntime) -> Result<(), Fail> {
-    let answer = Answer::Reply(4, ReplyBytes::inline(rt.alloc(), b"data"));
+    let answer = Answer::Reply(4, MessageBytes::inline(rt.alloc(), b"data"));
     assert!(rt; is_copied(&answer, &Answer::Failed(Errno::EPIPE))?);
     Ok(())
 }
 
 #[test]
 fn outcomes_are_copied(rt: HostRuntime) -> Result<(), Fail> {
-    let outcome = Outcome::Reply(4, ReplyBytes::inline(rt.alloc(), b"data"));
+    let outcome = Outcome::Reply(4, MessageBytes::inline(rt.alloc(), b"data"));
     assert!(rt; is_copied(&outcome, &Outcome::Done)?);
     Ok(())
 }

@@ -7,7 +7,7 @@ ghost use Rattle.qx_process.specs.Reads.{is_blocked};
 use all_memory::take_all_memory;
 use qx_machine::{Over, Sent, Target};
 use qx_process::ThreadCell;
-use qx_types::{Answer, Bytes, Coid, Limits, Manager, Prio, ReplyBytes};
+use qx_types::{Answer, Coid, Limits, Manager, MessageBytes, Prio};
 use std::alloc::{AllocError, Global};
 use std::test::Fail;
 
@@ -22,7 +22,7 @@ fn sent(alloc: Global) -> Sent
             prio: Prio(10),
         },
         is_asked: false,
-        bytes: Bytes::new(alloc),
+        bytes: MessageBytes::inline(alloc, b""),
     }
 }
 
@@ -51,8 +51,8 @@ fn is_answered(alloc: Global, bytes: &[u8]) -> Result<bool, AllocError>
 #[test]
 fn answers_of_each_length_come(rt: HostRuntime) -> Result<(), Fail> {
     assert!(rt; is_answered(rt.alloc(), b"")?);
-    assert!(rt; is_answered(rt.alloc(), &[7; ReplyBytes::INLINE])?);
-    assert!(rt; is_answered(rt.alloc(), &[7; ReplyBytes::INLINE + 1])?);
+    assert!(rt; is_answered(rt.alloc(), &[7; MessageBytes::INLINE])?);
+    assert!(rt; is_answered(rt.alloc(), &[7; MessageBytes::INLINE + 1])?);
     assert!(rt; is_answered(rt.alloc(), &[7; Limits::BODY])?);
     Ok(())
 }
@@ -71,8 +71,8 @@ fn calls_again(alloc: Global, bytes: &[u8]) -> Result<bool, Fail>
 
 #[test]
 fn few_bytes_leave_the_room(rt: HostRuntime) -> Result<(), Fail> {
-    assert!(rt; calls_again(rt.alloc(), &[7; ReplyBytes::INLINE])?);
-    assert!(rt; !calls_again(rt.alloc(), &[7; ReplyBytes::INLINE + 1])?);
+    assert!(rt; calls_again(rt.alloc(), &[7; MessageBytes::INLINE])?);
+    assert!(rt; !calls_again(rt.alloc(), &[7; MessageBytes::INLINE + 1])?);
     Ok(())
 }
 
@@ -90,7 +90,7 @@ fn gives_back(alloc: Global, bytes: &[u8]) -> Result<bool, Fail>
 
 #[test]
 fn more_bytes_take_the_room_and_no_more_of_it(rt: HostRuntime) -> Result<(), Fail> {
-    assert!(rt; !gives_back(rt.alloc(), &[7; ReplyBytes::INLINE])?);
-    assert!(rt; gives_back(rt.alloc(), &[7; ReplyBytes::INLINE + 1])?);
+    assert!(rt; !gives_back(rt.alloc(), &[7; MessageBytes::INLINE])?);
+    assert!(rt; gives_back(rt.alloc(), &[7; MessageBytes::INLINE + 1])?);
     Ok(())
 }

@@ -6,7 +6,7 @@ mod rows;
 use plain_messages::{Kind, Reading, read, write};
 use plain_paths::{Mount, Mounts, judge_form, text_of};
 use qx_types::{
-    Answer, Bytes, Coid, Config, Errno, Item, Manager, OFlags, Outcome, Prio, Proc, ReplyBytes,
+    Answer, Bytes, Coid, Config, Errno, Item, Manager, MessageBytes, OFlags, Outcome, Prio, Proc,
     Request, Step, Thread, User, Worker,
 };
 pub use rows::{Over, Post, Row, Sent, State};
@@ -385,7 +385,7 @@ impl Plain {
             inode,
         })?;
         self.set_block(proc, coid, number);
-        Ok(Answer::Reply(u64::from(coid.0), ReplyBytes::inline(self.alloc, &[])))
+        Ok(Answer::Reply(u64::from(coid.0), MessageBytes::inline(self.alloc, &[])))
     }
 
     /// A path's rest stands behind the header's 8 bytes.
@@ -406,7 +406,7 @@ impl Plain {
                 self.detach(proc, coid);
                 self.blocks
                     .retain(|other| other.user != block.user || other.number != block.number);
-                Answer::Reply(0, ReplyBytes::inline(self.alloc, &[]))
+                Answer::Reply(0, MessageBytes::inline(self.alloc, &[]))
             }
         }
     }
@@ -439,7 +439,7 @@ impl Plain {
     }
 
     fn status(&self, owner: User, inode: u16) -> Answer {
-        Answer::Reply(0, ReplyBytes::inline(self.alloc, &status_bytes(owner, inode)))
+        Answer::Reply(0, MessageBytes::inline(self.alloc, &status_bytes(owner, inode)))
     }
 
     /// The threads that were started.

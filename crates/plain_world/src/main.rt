@@ -8,7 +8,9 @@ use anyhow::bail;
 use deeds::deed;
 use plain_machine::{Held, Plain, State};
 use plain_steps::{Dice, next_step};
-use qx_types::{Bytes, Config, Manager, Outcome, Proc, Request, Step, Thread, User, Worker};
+use qx_types::{
+    Bytes, Config, Manager, MessageBytes, Outcome, Proc, Request, Step, Thread, User, Worker,
+};
 use qx_wire::Parsed;
 use qx_world::{PerformFault, Work, WorkRef, World};
 use std::alloc::{AllocError, Global};
@@ -144,7 +146,9 @@ fn call(world: &mut World, thread: Thread, request: &Request) -> anyhow::Result<
 /// The work that the plain rows say a worker holds. Where it holds nothing, any work will do.
 fn held_work(plain: &Plain, worker: Worker) -> Result<Work, AllocError> {
     match plain.held(worker) {
-        Some(Held::Message(bytes)) => Ok(Work::Message(Parsed::read(bytes.clone()?))),
+        Some(Held::Message(bytes)) => Ok(Work::Message(Parsed::read(MessageBytes::from_vec(
+            bytes.clone()?.into_vec(),
+        )))),
         Some(Held::Pulse) | None => Ok(Work::Pulse),
     }
 }
@@ -185,17 +189,20 @@ fn other_work(
                 Ok(Some(Work::Message(Parsed::read(other_bytes(bytes)?))))
             }
         }
-        Some(Held::Pulse) => Ok(Some(Work::Message(Parsed::read(Bytes::new(alloc))))),
+        Some(Held::Pulse) => {
+            let none = MessageBytes::inline(alloc, b"");
+            Ok(Some(Work::Message(Parsed::read(none))))
+        }
         None => Ok(None),
     }
 }
 
 /// As many bytes, of which the last is another one; one byte where there are none.
-fn other_bytes(bytes: &Bytes) -> Result<Bytes, AllocError> {
+fn other_bytes(bytes: &Bytes) -> Result<MessageBytes, AllocError> {
     let mut others = bytes.clone()?.into_vec();
     let last = others.pop().unwrap_or(0);
     others.push(last ^ 1)?;
-    Ok(Bytes::from_vec(others))
+    Ok(MessageBytes::from_vec(others))
 }
 
 /// Whether all that can be read of the threads that were started, the workers and the lines is the same.
@@ -221,7 +228,9 @@ fn workers_agree(world: &World, plain: &Plain) -> bool {
 
 fn worker_agrees(world: &World, plain: &Plain, worker: Worker) -> bool {
     match (world.held(worker), plain.held(worker)) {
-        (Some(WorkRef::Message(bytes)), Some(Held::Message(wanted))) => bytes == wanted,
+        (Some(WorkRef::Message(bytes)), Some(Held::Message(wanted))) => {
+            bytes.as_slice() == wanted.as_slice()
+        }
         (Some(WorkRef::Pulse), Some(Held::Pulse)) => true,
         (None, None) => !world.holds(worker),
         _ => false,

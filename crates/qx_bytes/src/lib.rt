@@ -1,16 +1,16 @@
 //! Bytes as plain data.
 #![tactic(auto)]
 
-pub mod reply;
+pub mod message;
 
 ghost use Rattle.std.specs.Prelude.{◌≡◌, ◌==◌, IfOk, length, []};
 ghost use Rattle.std.specs.Str.{bytes_eq};
 
-pub use reply::ReplyBytes;
+pub use message::MessageBytes;
 use std::alloc::{AllocError, Global};
 use std::marker::Model;
 
-/// Bytes of a path, a name or a message, which contracts see as a list of numbers.
+/// Bytes of a path, a name or a request, which contracts see as a list of numbers.
 #[derive(Debug, Drop)]
 pub struct Bytes {
     items: Vec<u8>,

@@ -1,5 +1,5 @@
 use qx_paths::Path;
-use qx_types::{Actor, Answer, Bytes, Coid, Manager, Outcome, Prio, Step, User};
+use qx_types::{Actor, Answer, Coid, Manager, MessageBytes, Outcome, Prio, Step, User};
 use qx_wire::{BorrowedBytes, Message};
 
 /// What a call sends (C Library Reference: `MsgSend`): a message of the table, or bytes as they are.
@@ -43,7 +43,7 @@ pub struct Addressed<'a> {
 pub struct Sent {
     pub target: Target,
     pub is_asked: bool,
-    pub bytes: Bytes,
+    pub bytes: MessageBytes,
 }
 
 /// What a thread is doing (System Architecture: the SEND-blocked and REPLY-blocked states).

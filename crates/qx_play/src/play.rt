@@ -54,16 +54,9 @@ fn play_line(
         Command::Serve(moment) => serve(traced, moment),
         Command::Do(moment, thread, request) => call(traced, moment, thread, request),
         Command::Show(user) => {
-            let seen = traced.transcript(user)?;
-            let lines = text::transcript(alloc, traced.config(), &seen)?;
-            text.extend_from_slice(&lines)?;
-            Ok(())
+            text::push_transcript(alloc, text, traced.config(), traced.entries(), user)
         }
-        Command::Trace => {
-            let lines = text::trace(alloc, traced.config(), traced.entries())?;
-            text.extend_from_slice(&lines)?;
-            Ok(())
-        }
+        Command::Trace => text::push_trace(alloc, text, traced.config(), traced.entries()),
     }
 }
 

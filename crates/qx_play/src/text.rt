@@ -1,35 +1,46 @@
 //! The text of outcomes, of what a user was shown, and of a trace.
 
-ghost use Rattle.std.specs.Prelude.{◌≡◌, ◌++◌, IfOk, OnOk, codes, decimal};
+ghost use Rattle.std.specs.Prelude.{◌≡◌, ◌++◌, OnOk, codes, decimal};
+ghost use Rattle.qx_types.specs.Step.{actor_of};
+ghost use Rattle.qx_machine.specs.Runs.{received, seen_by};
 ghost use Rattle.qx_play.specs.Printed.{actor_text, entry_text, item_text, outcome_text, seen_text, trace_text, transcript_text};
 ghost use Rattle.qx_words.specs.WordText.{bytes_text};
 
-use qx_machine::{Entry, Seen};
+use qx_machine::Entry;
 use qx_script::text::push_step;
-use qx_types::{Actor, Bytes, Config, Item, NoMemory, Outcome};
+use qx_types::{Actor, Config, Item, NoMemory, Outcome, User};
 use qx_words::text::{push_bytes, push_number, push_process, push_thread, push_user};
 use std::alloc::Global;
 
-/// The lines of what a user was shown.
-pub fn transcript(alloc: Global, config: &Config, seen: &[Seen]) -> Result<Vec<u8>, NoMemory>
-    ensures text { IfOk result (λ text. text.items ≡ transcript_text config.now seen.now) }
+/// The lines of what the steps gave to a user.
+pub fn push_transcript(
+    alloc: Global,
+    text: &mut Vec<u8>,
+    config: &Config,
+    entries: &[Entry],
+    user: User,
+) -> Result<(), NoMemory>
+    ensures ok { OnOk result (text.new.items ≡ text.old.items ++ transcript_text config.now (received user.0 entries.now)) }
 {
-    let mut text = Vec::new(alloc);
-    'lines: for line in seen {
-        push_seen(alloc, &mut text, config, line)?;
+    'lines: for entry in entries {
+        push_seen_by(alloc, text, config, entry, user)?;
     }
-    Ok(text)
+    Ok(())
 }
 
 /// The lines of all steps, numbered from 1.
-pub fn trace(alloc: Global, config: &Config, entries: &[Entry]) -> Result<Vec<u8>, NoMemory>
-    ensures text { IfOk result (λ text. text.items ≡ trace_text config.now entries.now) }
+pub fn push_trace(
+    alloc: Global,
+    text: &mut Vec<u8>,
+    config: &Config,
+    entries: &[Entry],
+) -> Result<(), NoMemory>
+    ensures ok { OnOk result (text.new.items ≡ text.old.items ++ trace_text config.now entries.now) }
 {
-    let mut text = Vec::new(alloc);
     'lines: for (index, entry) in entries.iter().enumerate() {
-        push_entry(alloc, &mut text, config, index as u64 + 1, entry)?;
+        push_entry(alloc, text, config, index as u64 + 1, entry)?;
     }
-    Ok(text)
+    Ok(())
 }
 
 /// One line: the step's number, the step, and what came of it.
@@ -52,19 +63,38 @@ fn push_entry(
     Ok(())
 }
 
+/// The line of a step, if it is a client step of the user.
+fn push_seen_by(
+    alloc: Global,
+    text: &mut Vec<u8>,
+    config: &Config,
+    entry: &Entry,
+    user: User,
+) -> Result<(), NoMemory>
+    ensures ok { OnOk result (text.new.items ≡ text.old.items ++ transcript_text config.now (seen_by user.0 entry.now.outcome (actor_of entry.now.step))) }
+{
+    match entry.step.actor() {
+        Some(actor) if actor.user() == user => {
+            push_seen(alloc, text, config, actor, &entry.outcome)
+        }
+        _ => Ok(()),
+    }
+}
+
 /// One line: who, and what came of it.
 #[tactic(auto, unfolding(crate::specs::Printed::seen_text))]
 fn push_seen(
     alloc: Global,
     text: &mut Vec<u8>,
     config: &Config,
-    seen: &Seen,
+    actor: Actor,
+    outcome: &Outcome,
 ) -> Result<(), NoMemory>
-    ensures ok { OnOk result (text.new.items ≡ text.old.items ++ seen_text config.now seen.now) }
+    ensures ok { OnOk result (text.new.items ≡ text.old.items ++ seen_text config.now (record { actor = actor; outcome = outcome.now })) }
 {
-    push_actor(text, config, seen.actor)?;
+    push_actor(text, config, actor)?;
     text.extend_from_slice(b" ")?;
-    push_outcome(alloc, text, config, &seen.outcome)?;
+    push_outcome(alloc, text, config, outcome)?;
     text.extend_from_slice(b"\n")?;
     Ok(())
 }

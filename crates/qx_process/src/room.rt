@@ -1,8 +1,8 @@
 ghost use Rattle.std.specs.Prelude.{◌≡◌, ◌≤◌, ◌<◌, length, IsSome, IfOk, None};
-ghost use Rattle.qx_bytes.specs.declared.reply.TheConstants.ReplyBytes.{INLINE};
+ghost use Rattle.qx_bytes.specs.declared.message.TheConstants.MessageBytes.{INLINE};
 ghost use Rattle.qx_types.specs.declared.limits.TheConstants.Limits.{BODY};
 
-use qx_bytes::ReplyBytes;
+use qx_bytes::MessageBytes;
 use qx_types::Limits;
 use std::alloc::{AllocError, Global};
 use std::marker::Model;
@@ -36,16 +36,16 @@ impl Room {
     }
 
     /// Few bytes of a reply, which stand inline and leave the room.
-    pub fn inline(&self, reply: &[u8]) -> ReplyBytes
+    pub fn inline(&self, reply: &[u8]) -> MessageBytes
         requires few { length reply.now ≤ INLINE }
         ensures bytes { result ≡ reply.now }
     {
-        ReplyBytes::inline(*self.bytes.allocator(), reply)
+        MessageBytes::inline(*self.bytes.allocator(), reply)
     }
 
     /// The room filled with the bytes of a reply and shrunk to them. Where it can't be shrunk it stays whole, so nothing is
     /// refused.
-    pub fn filled(self, reply: &[u8]) -> ReplyBytes
+    pub fn filled(self, reply: &[u8]) -> MessageBytes
         requires fits { length reply.now ≤ BODY }
         ensures bytes { result ≡ reply.now }
     {
@@ -53,7 +53,7 @@ impl Room {
         match bytes.extend_from_slice(reply) {
             Ok(()) => {
                 bytes.shrink_to_fit();
-                ReplyBytes::from_vec(bytes)
+                MessageBytes::from_vec(bytes)
             }
             Err(_) => unreachable!(),
         }
@@ -61,7 +61,7 @@ impl Room {
 }
 
 /// The bytes of a reply: few leave the room where it is, and more take it along.
-pub fn reply_bytes(room: &mut Option<Room>, reply: &[u8]) -> ReplyBytes
+pub fn reply_bytes(room: &mut Option<Room>, reply: &[u8]) -> MessageBytes
     requires room { IsSome room.old }
     requires fits { length reply.now ≤ BODY }
     ensures bytes { result ≡ reply.now }
@@ -69,7 +69,7 @@ pub fn reply_bytes(room: &mut Option<Room>, reply: &[u8]) -> ReplyBytes
     ensures goes { INLINE < length reply.now → room.new ≡ None }
 {
     match room {
-        Some(room) if reply.len() <= ReplyBytes::INLINE => room.inline(reply),
+        Some(room) if reply.len() <= MessageBytes::INLINE => room.inline(reply),
         _ => match room.take() {
             Some(room) => room.filled(reply),
             None => unreachable!(),

@@ -6,20 +6,20 @@ ghost use Rattle.qx_machine.specs.Calls.{bytes_of, can_send, content_of, in_rang
 
 use qx_machine::Content;
 use qx_paths::Path;
-use qx_types::{Bytes, Limits, NoMemory, OFlags, Request};
+use qx_types::{Limits, MessageBytes, NoMemory, OFlags, Request};
 use qx_wire::{BorrowedBytes, Message, Rest, encode};
 use std::alloc::Global;
 
 /// The bytes that a request sends: the spelling of its message, with what its path has behind the mount, or a copy of its
 /// bytes (C Library Reference: `MsgSend`).
-pub fn encoded(alloc: Global, request: &Request, rest: &Path<'_>) -> Result<Bytes, NoMemory>
+pub fn encoded(alloc: Global, request: &Request, rest: &Path<'_>) -> Result<MessageBytes, NoMemory>
     requires sendable { IsTrue (can_send (content_of request.now rest.now)) }
     ensures bytes { IfOk result (λ bytes. bytes ≡ bytes_of (content_of request.now rest.now)) }
 {
     let joined = rest.joined(alloc)?;
     match content_of(request, Rest::new(joined.as_slice())) {
         Content::Spelled(message) => encode(alloc, &message),
-        Content::Raw(bytes) => Ok(Bytes::from_slice(alloc, bytes.as_slice())?),
+        Content::Raw(bytes) => Ok(MessageBytes::from_slice(alloc, bytes.as_slice())?),
     }
 }
 

@@ -2,7 +2,7 @@ ghost use Rattle.std.specs.Prelude.{◌≡◌};
 ghost use Rattle.std.specs.Option.{option_copied};
 ghost use Rattle.qx_steps.specs.Held.{bytes_in};
 
-use qx_types::{Bytes, NoMemory};
+use qx_types::{MessageBytes, NoMemory};
 use qx_wire::Parsed;
 use thiserror::Error;
 
@@ -30,7 +30,7 @@ impl Work {
 #[derive(Clone, Copy, Debug)]
 pub enum WorkRef<'a> {
     /// The bytes of a message.
-    Message(&'a Bytes),
+    Message(&'a MessageBytes),
     Pulse,
 }
 

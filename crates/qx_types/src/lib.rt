@@ -20,6 +20,6 @@ pub use limits::Limits;
 pub use names::{Actor, Coid, Item, Manager, Prio, Proc, Thread, User, Worker};
 pub use nodes::{Ranked, Waiter};
 pub use outcome::{Answer, Outcome};
-pub use qx_bytes::{Bytes, ReplyBytes};
+pub use qx_bytes::{Bytes, MessageBytes};
 pub use request::Request;
 pub use step::Step;

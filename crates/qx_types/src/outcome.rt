@@ -2,14 +2,14 @@ ghost use Rattle.std.specs.Prelude.{◌≡◌};
 
 use crate::errno::Errno;
 use crate::names::Item;
-use qx_bytes::ReplyBytes;
+use qx_bytes::MessageBytes;
 use std::alloc::AllocError;
 
 /// What a server answers to a message (C Library Reference: `MsgReply`, `MsgError`).
 #[derive(Debug, Drop, PartialEq, Eq)]
 pub enum Answer {
     /// The status and the bytes of the reply.
-    Reply(u64, ReplyBytes),
+    Reply(u64, MessageBytes),
     Failed(Errno),
 }
 
@@ -24,7 +24,7 @@ pub enum Outcome {
     /// The message stands in its manager's line, and the thread is blocked.
     Sent,
     /// The server's reply: its status and its bytes.
-    Reply(u64, ReplyBytes),
+    Reply(u64, MessageBytes),
     /// The server's error.
     Failed(Errno),
     /// The code and the value of a pulse.

@@ -5,13 +5,13 @@ ghost use Rattle.qx_wire.specs.Table.{Spells};
 
 use crate::message::Meaning;
 use crate::reading::{cut, judged};
-use qx_types::Bytes;
+use qx_types::MessageBytes;
 use std::marker::Model;
 
 /// The bytes of a message together with what they mean; contracts see the bytes.
 #[derive(Debug, Drop)]
 pub struct Parsed {
-    bytes: Bytes,
+    bytes: MessageBytes,
     is_malformed: bool,
 }
 
@@ -31,7 +31,7 @@ impl Parsed {
     /// Reads the bytes and keeps them. The bytes of paths and names are looked at here, and not again by `meaning`; the
     /// bytes that a WRITE has are looked at by neither.
     #[tactic(auto, unfolding(crate::specs::Reading::meaning))]
-    pub fn read(bytes: Bytes) -> Parsed
+    pub fn read(bytes: MessageBytes) -> Parsed
         ensures bytes { result ≡ bytes }
     {
         let is_malformed = matches!(meaning(bytes.as_slice()), Meaning::Malformed);
@@ -42,14 +42,14 @@ impl Parsed {
     }
 
     /// The bytes that were read.
-    pub fn bytes(&self) -> &Bytes
+    pub fn bytes(&self) -> &MessageBytes
         ensures bytes { result.now ≡ self.now }
     {
         &self.bytes
     }
 
     /// The bytes that were read, in their memory.
-    pub fn into_bytes(self) -> Bytes
+    pub fn into_bytes(self) -> MessageBytes
         ensures bytes { result ≡ self }
     {
         let Parsed { bytes, .. } = self;

@@ -1,15 +1,17 @@
-ghost use Rattle.std.specs.Prelude.{◌≡◌, ◌≤◌, IsTrue, IfOk, length};
+ghost use Rattle.std.specs.Prelude.{◌≡◌, ◌≤◌, ◌++◌, IsTrue, IfOk, length};
+ghost use Rattle.std.specs.Int.{w16, w32, to_le_bytes};
 ghost use Rattle.std.specs.List.{flat_map};
 ghost use Rattle.qx_types.specs.declared.limits.TheConstants.Limits.{BODY};
 ghost use Rattle.qx_wire.specs.Table.{action_number, framed, in_ranges, spelling, whence_number};
 
 use crate::message::Message;
-use qx_types::{Bytes, NoMemory, NotifyAction, Whence};
+use qx_types::{MessageBytes, NoMemory, NotifyAction, Whence};
 use std::alloc::Global;
 
-/// The one spelling of a message whose values are in their ranges, in one vector of that length.
+/// The one spelling of a message whose values are in their ranges. Memory is taken for the last field alone, where the
+/// bytes stand inline no more, and for just so many.
 #[tactic(auto, unfolding(crate::specs::Table::spelling))]
-pub fn encode(alloc: Global, message: &Message<'_>) -> Result<Bytes, NoMemory>
+pub fn encode(alloc: Global, message: &Message<'_>) -> Result<MessageBytes, NoMemory>
     requires in_ranges { IsTrue (in_ranges message.now) }
     ensures spelling { IfOk result (λ bytes. bytes ≡ spelling message.now) }
 {
@@ -79,23 +81,31 @@ fn action_number(action: NotifyAction) -> u16
 }
 
 /// A header, and the fields behind it.
-fn framed(alloc: Global, kind: u16, subtype: u16, fields: &[&[u8]]) -> Result<Bytes, NoMemory>
+fn framed(
+    alloc: Global,
+    kind: u16,
+    subtype: u16,
+    fields: &[&[u8]],
+) -> Result<MessageBytes, NoMemory>
     requires fits { length (flat_map (λ f. f.now) fields.now) ≤ BODY }
     ensures framed { IfOk result (λ bytes. bytes ≡ framed kind subtype (flat_map (λ f. f.now) fields.now)) }
 {
-    let len = total(fields);
-    let mut bytes = Vec::with_capacity(alloc, HEADER + len)?;
-    bytes.extend_from_slice(&kind.to_le_bytes())?;
-    bytes.extend_from_slice(&subtype.to_le_bytes())?;
-    bytes.extend_from_slice(&(len as u32).to_le_bytes())?;
+    let mut bytes = header(alloc, kind, subtype, total(fields) as u32);
     for field in fields {
         bytes.extend_from_slice(field)?;
     }
-    Ok(Bytes::from_vec(bytes))
+    Ok(bytes)
 }
 
-/// The bytes of a header.
-const HEADER: usize = 8;
+/// A header: the type, the subtype and the length of the body.
+fn header(alloc: Global, kind: u16, subtype: u16, len: u32) -> MessageBytes
+    ensures header { result ≡ to_le_bytes w16 kind ++ (to_le_bytes w16 subtype ++ to_le_bytes w32 len) }
+{
+    let [k0, k1] = kind.to_le_bytes();
+    let [s0, s1] = subtype.to_le_bytes();
+    let [l0, l1, l2, l3] = len.to_le_bytes();
+    MessageBytes::inline(alloc, &[k0, k1, s0, s1, l0, l1, l2, l3])
+}
 
 /// How many bytes the fields have.
 fn total(fields: &[&[u8]]) -> usize

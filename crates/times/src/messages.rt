@@ -4,7 +4,7 @@ ghost use Rattle.std.specs.Prelude.{IsTrue};
 ghost use Rattle.qx_wire.specs.Table.{in_ranges};
 
 use anyhow::bail;
-use qx_types::{Bytes, OFlags};
+use qx_types::{MessageBytes, OFlags};
 use qx_wire::{BorrowedBytes, Meaning, Message, Parsed, Rest, encode, in_ranges};
 use std::alloc::{AllocError, Global};
 
@@ -70,19 +70,19 @@ fn encoded(alloc: Global, message: &Message<'_>, rounds: u32) -> u64
     let mut total: u64 = 0;
     for _ in 0..rounds {
         if let Ok(spelling) = encode(alloc, message) {
-            total = total.saturating_add(spelling.len() as u64);
+            total = total.saturating_add(spelling.as_slice().len() as u64);
         }
     }
     total
 }
 
 /// The bytes of all that was known, which is read and asked for its meaning in each round.
-fn read(mut bytes: Bytes, rounds: u32) -> u64 {
+fn read(mut bytes: MessageBytes, rounds: u32) -> u64 {
     let mut total: u64 = 0;
     for _ in 0..rounds {
         let parsed = Parsed::read(bytes);
         if let Meaning::Known(_) = parsed.meaning() {
-            total = total.saturating_add(parsed.bytes().len() as u64);
+            total = total.saturating_add(parsed.bytes().as_slice().len() as u64);
         }
         bytes = parsed.into_bytes();
     }

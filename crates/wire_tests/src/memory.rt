@@ -1,11 +1,10 @@
-//! Reading, the meaning and a walk take no memory. To encode takes one vector, of the length that it needs.
+//! Reading, the meaning and a walk take no memory. To encode takes memory only for more than 40 bytes.
 
-use crate::reading::from_hex;
+use crate::reading::{framed, from_hex, is_encoded_again};
 use crate::spellings::OPEN;
 use all_memory::take_all_memory;
-use qx_types::{Bytes, NoMemory};
-use qx_wire::{Meaning, Message, Parsed, encode};
-use std::alloc::Global;
+use qx_types::{MessageBytes, NoMemory};
+use qx_wire::{Meaning, Message, Parsed};
 use std::test::Fail;
 
 /// The last component of the rest that the bytes open; none of other bytes.
@@ -16,25 +15,24 @@ fn last_component(parsed: &Parsed) -> Option<&[u8]> {
     }
 }
 
-/// The length of the spelling of what they mean, and the room of its vector.
-fn spelled_room(alloc: Global, parsed: &Parsed) -> Result<(usize, usize), NoMemory> {
-    match parsed.meaning() {
-        Meaning::Known(message) => {
-            let spelling = encode(alloc, &message)?.into_vec();
-            Ok((spelling.len(), spelling.capacity()))
-        }
-        _ => Ok((0, 0)),
-    }
-}
-
 #[test]
 fn reads_without_memory(rt: HostRuntime) -> Result<(), Fail> {
-    let bytes = Bytes::from_vec(from_hex(rt.alloc(), OPEN)?);
+    let bytes = MessageBytes::from_vec(from_hex(rt.alloc(), OPEN)?);
     let taken = take_all_memory(rt.alloc())?;
     let parsed = Parsed::read(bytes);
     assert_eq!(rt; last_component(&parsed), Some(b"b".as_slice()));
-    assert_eq!(rt; spelled_room(rt.alloc(), &parsed), Err(NoMemory));
     drop(taken);
-    assert_eq!(rt; spelled_room(rt.alloc(), &parsed), Ok((15, 15)));
+    Ok(())
+}
+
+#[test]
+fn encodes_40_bytes_without_memory(rt: HostRuntime) -> Result<(), Fail> {
+    let few = Parsed::read(framed(rt.alloc(), "02010000", &[7; 32])?);
+    let more = Parsed::read(framed(rt.alloc(), "02010000", &[7; 33])?);
+    let taken = take_all_memory(rt.alloc())?;
+    assert_eq!(rt; is_encoded_again(rt.alloc(), &few), Ok(true));
+    assert_eq!(rt; is_encoded_again(rt.alloc(), &more), Err(NoMemory));
+    drop(taken);
+    assert_eq!(rt; is_encoded_again(rt.alloc(), &more), Ok(true));
     Ok(())
 }

@@ -1,7 +1,7 @@
 //! What the other tests read with.
 
 use hex::FromHexError;
-use qx_types::{Bytes, NoMemory};
+use qx_types::{MessageBytes, NoMemory};
 use qx_wire::{Meaning, Message, Parsed, encode};
 use std::alloc::{AllocError, Global};
 use std::process::Abort;
@@ -33,12 +33,12 @@ pub fn is_encoded_again(alloc: Global, parsed: &Parsed) -> Result<bool, NoMemory
 }
 
 /// The bytes of a header, given as hexadecimal digits of type and subtype, and of the body behind it.
-pub fn framed(alloc: Global, kind: &str, body: &[u8]) -> Result<Bytes, Fail> {
+pub fn framed(alloc: Global, kind: &str, body: &[u8]) -> Result<MessageBytes, Fail> {
     let mut bytes = from_hex(alloc, kind)?;
     let [b0, b1, b2, b3, ..] = (body.len() as u64).to_le_bytes();
     bytes.extend_from_slice(&[b0, b1, b2, b3])?;
     bytes.extend_from_slice(body)?;
-    Ok(Bytes::from_vec(bytes))
+    Ok(MessageBytes::from_vec(bytes))
 }
 
 /// The bytes of hexadecimal digits.

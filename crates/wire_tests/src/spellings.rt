@@ -1,7 +1,7 @@
 //! Spellings that were written by hand from the table of `docs/FORMATS.md`.
 
 use crate::reading::{Verdict, from_hex, is_encoded_again, judge};
-use qx_types::Bytes;
+use qx_types::MessageBytes;
 use qx_wire::{Meaning, Parsed};
 use std::alloc::Global;
 use std::test::Fail;
@@ -78,7 +78,7 @@ fn is_printed(alloc: Global, parsed: &Parsed, expected: &str) -> Result<bool, Fa
 #[test]
 fn reads_what_is_spelled_by_hand(rt: HostRuntime) -> Result<(), Fail> {
     for (digits, fields) in SPELLINGS {
-        let parsed = Parsed::read(Bytes::from_vec(from_hex(rt.alloc(), digits)?));
+        let parsed = Parsed::read(MessageBytes::from_vec(from_hex(rt.alloc(), digits)?));
         assert!(rt; is_printed(rt.alloc(), &parsed, fields)?, "{fields}");
         assert!(rt; is_encoded_again(rt.alloc(), &parsed)?, "{fields}");
     }
@@ -99,7 +99,7 @@ const RAW: &[(&str, Verdict)] = &[
 #[test]
 fn judges_raw_messages(rt: HostRuntime) -> Result<(), Fail> {
     for (digits, expected) in RAW {
-        let parsed = Parsed::read(Bytes::from_vec(from_hex(rt.alloc(), digits)?));
+        let parsed = Parsed::read(MessageBytes::from_vec(from_hex(rt.alloc(), digits)?));
         assert_eq!(rt; judge(&parsed), *expected, "{digits}");
     }
     Ok(())

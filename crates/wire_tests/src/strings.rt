@@ -5,7 +5,7 @@ ghost use Rattle.std.specs.Prelude.{◌<◌};
 
 use crate::reading::{Verdict, from_hex, is_encoded_again, judge};
 use crate::spellings::SPELLINGS;
-use qx_types::Bytes;
+use qx_types::MessageBytes;
 use qx_wire::Parsed;
 use rand_core::utils::NextWord;
 use rand_pcg::Pcg32;
@@ -103,7 +103,7 @@ fn encodes_again_what_is_known(rt: HostRuntime) -> Result<(), Fail> {
     let mut dice = Pcg32::new(42, 54);
     let mut counts = Counts::default();
     for _ in 0..100_000 {
-        let parsed = Parsed::read(Bytes::from_vec(next_string(rt.alloc(), &mut dice)?));
+        let parsed = Parsed::read(MessageBytes::from_vec(next_string(rt.alloc(), &mut dice)?));
         assert!(rt; is_encoded_again(rt.alloc(), &parsed)?, "{parsed:?}");
         counts.count(judge(&parsed));
     }

@@ -4,7 +4,7 @@ use crate::same::has_same_transcript;
 use crate::script::{booted, config, ran, run};
 use qx_machine::Entry;
 use qx_types::{
-    Bytes, Item, Manager, NoMemory, OFlags, Outcome, Prio, Proc, Request, Step, Thread, User,
+    Bytes, Item, Manager, MessageBytes, NoMemory, OFlags, Outcome, Prio, Proc, Request, Step, Thread, User,
     Worker,
 };
 use qx_wire::Parsed;
@@ -87,7 +87,7 @@ const RECEIVED: &str = "\
     receive 1 ram\n";
 
 /// A message of these bytes, read.
-fn message(bytes: Bytes) -> Work {
+fn message(bytes: MessageBytes) -> Work {
     Work::Message(Parsed::read(bytes))
 }
 
@@ -126,7 +126,7 @@ fn perform_what_is_held(
     let Some(held) = held(traced.world())? else {
         panic!(rt; "no message is held");
     };
-    assert!(rt; is_stale(traced, &message(Bytes::new(alloc))) && is_stale(traced, &Work::Pulse));
+    assert!(rt; is_stale(traced, &message(MessageBytes::inline(alloc, b""))) && is_stale(traced, &Work::Pulse));
     assert_eq!(rt; traced.entries().len(), 3);
     assert!(rt; is_performed(traced, &held));
     assert!(rt; traced.world().answered(ann));

@@ -1,0 +1,114 @@
+//! The bytes of a message or of its answer: few stand in the value itself.
+
+ghost use Rattle.std.specs.Prelude.{◌≡◌, ◌+◌, ◌≤◌, ◌++◌, length, IfOk, IsOk, OnOk, OnErr};
+ghost use Rattle.std.specs.Str.{bytes_eq};
+ghost use Rattle.qx_bytes.specs.declared.message.TheConstants.MessageBytes.{INLINE};
+
+use smallvec::SmallVec;
+use std::alloc::{AllocError, Global};
+use std::marker::Model;
+
+/// A place in the value for each of a few bytes.
+const PLACES: usize = MessageBytes::INLINE;
+
+/// Bytes of a message or of its answer, which contracts see as a list of numbers: at most 40 stand inline, more in a
+/// vector.
+#[derive(Debug, Drop)]
+pub struct MessageBytes {
+    items: SmallVec<u8, PLACES>,
+}
+
+impl Model for MessageBytes {
+    ghost use Rattle.std.specs.Prelude.{◌≡◌, ◌≤◌, List, ℕ, length};
+    ghost use Rattle.qx_bytes.specs.declared.message.TheConstants.MessageBytes.{INLINE};
+
+    ghost Value = { List ℕ };
+
+    ghost view = { λ b. b.items.items };
+
+    // few bytes stand inline
+    ghost invariant = { λ b. length b.items.items ≤ INLINE → b.items.capacity ≡ INLINE };
+}
+
+impl MessageBytes {
+    /// The most bytes that stand in the value, and so take no memory.
+    pub const INLINE: usize = 40;
+
+    /// A copy of a few bytes, for which no memory is taken.
+    pub fn inline(alloc: Global, bytes: &[u8]) -> Self
+        requires few { length bytes.now ≤ INLINE }
+        ensures bytes { result ≡ bytes.now }
+    {
+        match MessageBytes::from_slice(alloc, bytes) {
+            Ok(copy) => copy,
+            Err(_) => unreachable!(),
+        }
+    }
+
+    /// A copy of a slice, for which memory is taken only where it has more than a few bytes.
+    pub fn from_slice(alloc: Global, bytes: &[u8]) -> Result<Self, AllocError>
+        ensures bytes { IfOk result (λ copy. copy ≡ bytes.now) }
+        ensures few { length bytes.now ≤ INLINE → IsOk result }
+    {
+        Ok(MessageBytes {
+            items: SmallVec::from_slice(alloc, bytes)?,
+        })
+    }
+
+    /// The bytes of a vector: few are copied inline, and more stay in its memory.
+    pub fn from_vec(items: Vec<u8>) -> Self
+        ensures bytes { result ≡ items.items }
+    {
+        if items.len() <= MessageBytes::INLINE {
+            return MessageBytes::inline(*items.allocator(), items.as_slice());
+        }
+        MessageBytes {
+            items: SmallVec::from_vec(items),
+        }
+    }
+
+    /// A copy of a slice goes behind the bytes. Where they stand inline no more, they get memory for just so many.
+    pub fn extend_from_slice(&mut self, bytes: &[u8]) -> Result<(), AllocError>
+        ensures ok { OnOk result (self.new ≡ self.old ++ bytes.now) }
+        ensures few { length self.old + length bytes.now ≤ INLINE → IsOk result }
+        ensures err { OnErr result (self.new ≡ self.old) }
+    {
+        self.items.reserve_exact(bytes.len())?;
+        self.items.extend_from_slice(bytes)
+    }
+
+    /// The bytes as a slice.
+    pub fn as_slice(&self) -> &[u8]
+        ensures bytes { result.now ≡ self.now }
+    {
+        self.items.as_slice()
+    }
+}
+
+impl PartialEq for MessageBytes {
+    ghost use Rattle.std.specs.Cmp.{partial_equiv_from_equiv};
+    ghost use Rattle.std.specs.Cmp.Lexicographic.{nat_list_eq_equiv};
+
+    ghost eq = { bytes_eq };
+
+    ghost laws = { partial_equiv_from_equiv nat_list_eq_equiv };
+
+    fn eq(&self, other: &MessageBytes) -> bool {
+        self.as_slice() == other.as_slice()
+    }
+}
+
+impl Eq for MessageBytes {
+    ghost use Rattle.std.specs.Cmp.Lexicographic.{nat_list_eq_equiv};
+
+    ghost laws = { nat_list_eq_equiv };
+}
+
+// Written out and not derived, so that its contract says outright that the copy is equal.
+impl Clone for MessageBytes {
+    ghost is_clone = { λ original copy. copy ≡ original };
+
+    fn clone(&self) -> Result<MessageBytes, AllocError> {
+        MessageBytes::from_slice(*self.items.allocator(), self.as_slice())
+    }
+}
