@@ -4,3 +4,5 @@ pub mod PartsLemmas
 pub mod ClientLemmas
 -- a worker's step, by what channel and resources make of it
 pub mod WorkerLemmas
+-- who has processes has resources still
+pub mod SameLemmas
