@@ -1,5 +1,5 @@
 -- What contracts see of a channel, and what its calls make of it.
-use Rattle.std.specs.Prelude.{ℕ, [], List, Option, Some, None, Result, Ok, Err, drop, replicate, slice_get}
+use Rattle.std.specs.Prelude.{ℕ, [], List, Option, Some, None, drop, replicate, slice_get}
 use Rattle.qx_types.specs.Managers.{manager_number}
 use Rattle.qx_types.specs.declared.errno.Errno.{Errno}
 use Rattle.qx_types.specs.declared.errno.Errno.TheVariants.{EINTR}
@@ -18,16 +18,16 @@ use Rattle.qx_machine.specs.Clients.{spawn_number}
 use Rattle.qx_machine.specs.Lines.{into, line_at, with_line}
 use Rattle.qx_machine.specs.Machine.{line_without, rank}
 use Rattle.qx_machine.specs.Processes.{Process, after_effect, after_error, after_reply, answered_thread, asked_thread, ready_thread, taken_thread, with_queued, with_thread}
-use Rattle.qx_machine.specs.Rows.{row_at, with_row}
+use Rattle.qx_machine.specs.Rows.{with_row}
 use Rattle.qx_procs.specs.Calls.{after_or, spawned, with_prio}
 use Rattle.qx_queues.specs.Queues.{message_of, sender, unblock_of}
 use Rattle.qx_chan.specs.Calls.{answer_of, queued_call, taken_call, unasked_call}
 use Rattle.qx_chan.specs.declared.call.Call.{Call}
-use Rattle.qx_chan.specs.Users.{no_processes, thread_row, with_process_of, with_thread_row}
+use Rattle.qx_chan.specs.Users.{Users, no_processes, thread_row, with_process_of, with_thread_row}
 
 -- the processes of all users, both numbered from 1, and the lines under their managers' numbers
 pub record Channel : Type 0 where
-  pub users : List (Option (List (Option Process)))
+  pub users : Users
   pub lines : List (List Queued)
 
 -- users from 1 to this many with no process, and empty lines
@@ -55,11 +55,11 @@ after_send c thread sent =
     with_process_and_line c thread (with_queued thread.tid sent) sent.target.manager (λ line. into rank line (message_of thread sent.target.prio.0))
 
 -- the thread of a message that is received waits for its answer
-abbrev pub with_taken : List (Option (List (Option Process))) → Thread → OwnItem → List (Option (List (Option Process)))
+abbrev pub with_taken : Users → Thread → OwnItem → Users
 with_taken users thread (item.Message process number) = with_thread_row users thread taken_thread
 with_taken users thread (item.Unblock process number call) = users
 
-abbrev pub with_first_taken : List (Option (List (Option Process))) → Option Queued → List (Option (List (Option Process)))
+abbrev pub with_first_taken : Users → Option Queued → Users
 with_first_taken users None = users
 with_first_taken users (Some first) = with_taken users (sender first) first.item
 

@@ -15,7 +15,7 @@ use Rattle.qx_machine.specs.Lines.{line_at}
 use Rattle.qx_machine.specs.Processes.{Process}
 use Rattle.qx_machine.specs.Servers.{is_attached}
 use Rattle.qx_queues.specs.Queues.{Queues, has_server, has_thread, stands, unblock_call, with_server, without_server}
-use Rattle.qx_chan.specs.Users.{process_of, thread_row}
+use Rattle.qx_chan.specs.Users.{Users, process_of, thread_row}
 
 -- the message of a thread in this state stands in the line of that number
 abbrev pub is_queued_at : ℕ → State → Bool
@@ -43,7 +43,7 @@ attached_at number (Some process) = is_attached number process.connections proce
 -- a thread has nodes exactly if it is there, its message stands in a line exactly if its row says so, and an unblock pulse only while
 -- its call is asked for; and a process has the disconnect node of its server connection at a manager exactly while something of it is
 -- attached there
-pub record Kept (processes : List (Option (List (Option Process)))) (queues : Queues) : Type 0 where
+pub record Kept (processes : Users) (queues : Queues) : Type 0 where
   pub users : queues.users ≡ length processes
   pub managers : length queues.lines ≡ COUNT
   pub threads : (thread : Thread) → has_thread queues thread ≡ is_some (thread_row processes thread)

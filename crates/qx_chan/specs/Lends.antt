@@ -9,16 +9,16 @@ use Rattle.qx_process.specs.contracts.process.Process as process
 use Rattle.qx_process.specs.contracts.thread.ThreadCell as cell
 use Rattle.qx_procs.specs.contracts.processes.Processes as processes
 use Rattle.qx_chan.specs.contracts.users.Users as users
-use Rattle.qx_chan.specs.Users.{with_process_of, with_thread_row}
+use Rattle.qx_chan.specs.Users.{Users, with_process_of, with_thread_row}
 
 -- the processes of a user
-abbrev pub lends_processes : MutBor (List (Option (List (Option Process)))) → ℕ → Option (MutBor (List (Option Process))) → Fml
+abbrev pub lends_processes : MutBor (Users) → ℕ → Option (MutBor (List (Option Process))) → Fml
 lends_processes lender user r = LendsIf users.the_row processes.the_row lender r (λ rows. slice_set lender.now user (Some rows)) lender.now
 
 -- one process
-abbrev pub lends_process_of : MutBor (List (Option (List (Option Process)))) → Proc → Option (MutBor Process) → Fml
+abbrev pub lends_process_of : MutBor (Users) → Proc → Option (MutBor Process) → Fml
 lends_process_of lender proc r = LendsIf users.the_row process.the_row lender r (λ row. with_process_of lender.now proc (λ _. row)) lender.now
 
 -- one thread
-abbrev pub lends_thread_row : MutBor (List (Option (List (Option Process)))) → Thread → Option (MutBor ThreadRow) → Fml
+abbrev pub lends_thread_row : MutBor (Users) → Thread → Option (MutBor ThreadRow) → Fml
 lends_thread_row lender thread r = LendsIf users.the_row cell.the_row lender r (λ row. with_thread_row lender.now thread (λ _. row)) lender.now

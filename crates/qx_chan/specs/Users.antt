@@ -12,8 +12,12 @@ use Rattle.qx_machine.specs.Processes.{Process, with_thread}
 use Rattle.qx_machine.specs.Rows.{row_at, with_row}
 use Rattle.qx_procs.specs.Calls.{done_or, with_prio}
 
+-- by user and by process, both from 1
+abbrev pub Users : Type 0
+Users = List (Option (List (Option Process)))
+
 -- users from 1 to this many, with no process
-abbrev pub no_processes : ℕ → List (Option (List (Option Process)))
+abbrev pub no_processes : ℕ → Users
 no_processes users = None ∷ replicate users (Some (None ∷ []))
 
 abbrev pub process_in : ℕ → Option (List (Option Process)) → Option Process
@@ -21,19 +25,19 @@ process_in number None = None
 process_in number (Some processes) = row_at processes number
 
 -- a process of a user
-abbrev pub process_of : List (Option (List (Option Process))) → Proc → Option Process
+abbrev pub process_of : Users → Proc → Option Process
 process_of users proc = process_in proc.num (row_at users proc.user.0)
 
 -- a thread's row
-abbrev pub thread_row : List (Option (List (Option Process))) → Thread → Option ThreadRow
+abbrev pub thread_row : Users → Thread → Option ThreadRow
 thread_row users thread = thread_of thread.tid (process_of users thread.proc)
 
 -- one process changes
-abbrev pub with_process_of : List (Option (List (Option Process))) → Proc → (Process → Process) → List (Option (List (Option Process)))
+abbrev pub with_process_of : Users → Proc → (Process → Process) → Users
 with_process_of users proc change = with_row users proc.user.0 (λ processes. with_row processes proc.num change)
 
 -- one thread changes
-abbrev pub with_thread_row : List (Option (List (Option Process))) → Thread → (ThreadRow → ThreadRow) → List (Option (List (Option Process)))
+abbrev pub with_thread_row : Users → Thread → (ThreadRow → ThreadRow) → Users
 with_thread_row users thread change = with_process_of users thread.proc (with_thread thread.tid change)
 
 -- the number of a process of a user that would start now

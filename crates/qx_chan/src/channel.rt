@@ -152,12 +152,15 @@ impl Channel {
         ensures rest { self.new ≡ after_receive self.old manager }
     {
         let first = self.queues.receive(manager)?;
-        if let OwnItem::Message { process, thread } = first.item {
-            let proc = Proc {
-                user: first.user,
-                num: process,
-            };
-            self.users.take(Thread { proc, tid: thread });
+        match first.item {
+            OwnItem::Message { process, thread } => self.users.take(Thread {
+                proc: Proc {
+                    user: first.user,
+                    num: process,
+                },
+                tid: thread,
+            }),
+            OwnItem::Unblock { .. } => {}
         }
         Some(first)
     }
@@ -226,7 +229,10 @@ impl Channel {
         ensures answer { result ≡ answer_of (thread_row self.old.users thread) }
         ensures taken { self.new ≡ after_taking self.old thread }
     {
-        self.users.thread_mut(thread)?.take_answer()
+        let Some(cell) = self.users.thread_mut(thread) else {
+            return None;
+        };
+        cell.take_answer()
     }
 
     /// A thread gets another priority, from 1 to 63; a message that it sent keeps its own (C Library Reference: `SchedSet`).
@@ -235,10 +241,10 @@ impl Channel {
         ensures outcome { result ≡ prio_outcome_in thread.proc.num thread.tid prio.0 (row_at self.old.users thread.proc.user.0) }
         ensures ranked { self.new ≡ after_ranking self.old thread prio.0 }
     {
-        match self.users.processes_mut(thread.proc.user) {
-            Some(processes) => processes.set_prio(thread.proc.num, thread.tid, prio),
-            None => Outcome::WrongState,
-        }
+        let Some(processes) = self.users.processes_mut(thread.proc.user) else {
+            return Outcome::WrongState;
+        };
+        processes.set_prio(thread.proc.num, thread.tid, prio)
     }
 
     /// The call of a thread whose message stands in a line.

@@ -91,10 +91,12 @@ impl Users {
         ensures* writes_back { sem 𝓛 (lends_thread_row self.entry thread result) }
         ensures row { option_copied_mut result ≡ thread_row self.old thread }
     {
-        self.process_mut(thread.proc)?.thread_mut(thread.tid)
+        self.processes_mut(thread.proc.user)?
+            .thread_mut(thread.proc.num, thread.tid)
     }
 
     /// Starts a process of a user.
+    #[tactic(auto, using(crate::proofs::ProcessLemmas::lends))]
     pub fn spawn(&mut self, user: User, threads: u8, prio: Prio) -> Result<(), AllocError>
         ensures ok { OnOk result (self.new ≡ with_row self.old user.0 (λ processes. spawned processes threads prio.0 (spawn_number processes threads prio.0))) }
         ensures places { HasPlace (row_at self.old user.0) }
@@ -107,6 +109,7 @@ impl Users {
     }
 
     /// A message of a thread goes out.
+    #[tactic(auto, using(crate::proofs::ProcessLemmas::lends))]
     pub fn send(&mut self, alloc: Global, thread: Thread, sent: Sent) -> Result<(), AllocError>
         requires call { CanCall (thread_row self.old thread) }
         requires target { CanGo sent.target }
@@ -120,6 +123,7 @@ impl Users {
     }
 
     /// A thread's message is received.
+    #[tactic(auto, using(crate::proofs::ProcessLemmas::lends))]
     pub fn take(&mut self, thread: Thread)
         ensures taken { self.new ≡ with_thread_row self.old thread taken_thread }
     {
@@ -129,6 +133,7 @@ impl Users {
     }
 
     /// A thread's message, which was received, is asked to unblock it.
+    #[tactic(auto, using(crate::proofs::ProcessLemmas::lends))]
     pub fn ask_unblock(&mut self, thread: Thread)
         ensures asked { self.new ≡ with_thread_row self.old thread asked_thread }
     {

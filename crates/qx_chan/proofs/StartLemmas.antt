@@ -1,0 +1,221 @@
+-- Rows, lines and nodes stand together still as a process starts, and at boot.
+use Rattle.std.proofs.Common.{eq-eqb, ◌≡◌, ◌≢◌, inl, inr, ℕ, zero, suc, ◌<◌, ◌≤◌, ◌∷◌, [], ◌&&◌, add-one, nat_le, Bool, true, false, List, Option, Some, None, Ok, Err, replicate, length, is_some, refl, sym, ◌∙◌, ap, arith}
+use Rattle.std.specs.FinSet as set
+use Rattle.std.proofs.lemmas.Bool.{cases_Bool, cases_lt}
+use Rattle.std.proofs.lemmas.Bool.Decides.{eqb_tells, nat_tests}
+use Rattle.std.proofs.lemmas.List.{get_or-replicate, length-replicate}
+use Rattle.qx_types.specs.Managers.{manager_number}
+use Rattle.qx_types.specs.declared.errno.Errno.TheVariants.{EAGAIN, EINVAL}
+use Rattle.qx_types.specs.declared.limits.TheConstants.Limits.{PRIORITY, PROCESSES, THREADS}
+use Rattle.qx_types.specs.declared.names.Manager.{Manager}
+use Rattle.qx_types.specs.declared.names.TheConstants.Manager.{COUNT}
+use Rattle.qx_types.specs.declared.names.Proc.{Proc}
+use Rattle.qx_types.specs.declared.names.Thread.{Thread}
+use Rattle.qx_types.specs.declared.outcome.Outcome.{Outcome}
+use Rattle.qx_types.specs.declared.outcome.Outcome.TheVariants.{Refused, WrongState}
+use Rattle.qx_machine.specs.declared.rows.ThreadRow.{ThreadRow}
+use Rattle.qx_machine.specs.Clients.{is_prio, spawn_number}
+use Rattle.qx_machine.specs.Lines.{line_at}
+use Rattle.qx_machine.specs.Parts.{thread_of}
+use Rattle.qx_machine.specs.Processes.{Process, new_process, new_thread}
+use Rattle.qx_machine.specs.Rows.{row_at, lowest_from, put_row, with_row}
+use Rattle.qx_machine.proofs.Places.{lowest_from_free}
+use Rattle.qx_procs.specs.Calls.{spawned}
+use Rattle.qx_queues.specs.Queues.{Queues, has_thread, is_thread_of, no_queues, stands, unblock_call, thread_cmp, server_cmp, with_process}
+use Rattle.qx_queues.proofs.PresenceLemmas.{has-process, lines-process, servers-process, users-process}
+use Rattle.qx_chan.specs.Channel.{Channel, after_spawn}
+use Rattle.qx_chan.specs.Users.{HasPlace, Users, no_processes, process_in, process_of, spawn_number_in, thread_row}
+use Rattle.qx_process.proofs.RowLemmas.{row_at-get_or, set-row, with_row-none}
+use Rattle.qx_chan.specs.Kept.{Kept, asked_at, attached_at, stands_at}
+use Rattle.qx_queues.proofs.EntryLemmas.{or_false}
+use Rattle.qx_queues.proofs.NodesLemmas.{same_proc}
+use Rattle.qx_chan.proofs.ProcessLemmas.{process_of-other}
+use Rattle.qx_chan.proofs.RowReads.{length-with_row, lowest-within, option_cases, put_row-other, put_row-same, row_at-past, row_at-with_same, row_within}
+
+-- a number that a new process is to have
+pub record Numbered (processes : List (Option Process)) (threads prio number : ℕ) : Type 0 where
+  pub some_thread : 1 ≤ threads
+  pub few_threads : threads ≤ THREADS
+  pub lowest_prio : 1 ≤ prio
+  pub highest_prio : prio ≤ PRIORITY
+  pub lowest : number ≡ lowest_from 1 processes
+  pub few : number ≤ PROCESSES
+
+abbrev valid : ℕ → ℕ → Bool
+valid threads prio = nat_le 1 threads && nat_le threads THREADS && is_prio prio
+
+pub numbered : (processes : List (Option Process)) (threads prio number : ℕ) → spawn_number processes threads prio ≡ Ok number → Numbered processes threads prio number
+numbered processes threads prio number is = elim (cases_Bool (valid threads prio)) [
+  | inr bad ↦ let clash : Err (Refused EINVAL) ≡ Ok number = rw bad at is in absurd (cc)
+  | inl good ↦ elim (cases_Bool (nat_le (lowest_from 1 processes) PROCESSES)) [
+    | inr full ↦ let clash : Err (Refused EAGAIN) ≡ Ok number = rw (good, full) at is in absurd (cc)
+    | inl fits ↦
+        let made : Ok (lowest_from 1 processes) ≡ Ok number = rw (good, fits) at is in
+        let same : lowest_from 1 processes ≡ number = cc in
+        record {
+          some_thread = grind (arith, nat_tests, good);
+          few_threads = grind (arith, nat_tests, good);
+          lowest_prio = grind (arith, nat_tests, good);
+          highest_prio = grind (arith, nat_tests, good);
+          lowest = sym same;
+          few = rw (← same) (grind (arith, nat_tests, fits));
+        }
+  ]
+]
+
+started-processes : (rows : List (Option Process)) (threads prio number : ℕ) → spawn_number rows threads prio ≡ Ok number → spawned rows threads prio (spawn_number rows threads prio) ≡ put_row rows number (new_process threads prio)
+started-processes rows threads prio number is = rw is refl
+
+-- a process that starts, under its number
+pub record Starts (users : Users) (proc : Proc) (threads prio : ℕ) : Type 0 where
+  pub processes : List (Option Process)
+  pub row : row_at users proc.user.0 ≡ Some processes
+  pub number : spawn_number processes threads prio ≡ Ok proc.num
+  pub facts : Numbered processes threads prio proc.num
+
+pub starts : (users : Users) (proc : Proc) (threads prio : ℕ) → spawn_number_in threads prio (row_at users proc.user.0) ≡ Ok proc.num → Starts users proc threads prio
+starts users proc threads prio is = elim (option_cases (row_at users proc.user.0)) [
+  | inl none ↦ let clash : Err WrongState ≡ Ok proc.num = rw none at is in absurd (cc)
+  | inr rows ↦
+      let number : spawn_number rows.0 threads prio ≡ Ok proc.num = rw rows.1 at is in
+      record { processes = rows.0; row = rows.1; number = number; facts = numbered rows.0 threads prio proc.num number }
+]
+
+-- where it is refused
+pub refused_spawn : (c : Channel) (user threads prio : ℕ) (outcome : Outcome) → spawn_number_in threads prio (row_at c.users user) ≡ Err outcome → after_spawn c user threads prio ≡ c
+refused_spawn c user threads prio outcome is = ap (λ users. record c { users = users }) (elim (option_cases (row_at c.users user)) [
+  | inl none ↦ with_row-none c.users user (λ processes. spawned processes threads prio (spawn_number processes threads prio)) none
+  | inr rows ↦
+      let refused : spawn_number rows.0 threads prio ≡ Err outcome = rw rows.1 at is in
+      rw (rows.1, refused) (set-row c.users user rows.0 rows.1)
+])
+
+new_is : (threads tid : ℕ) (x : ThreadRow) → is_some (row_at (None ∷ replicate threads (Some x)) tid) ≡ (nat_le 1 tid && nat_le tid threads)
+new_is threads zero x = refl
+new_is threads (suc k) x = elim (cases_lt k threads) [
+  | inl within ↦ rw (row_at-get_or (replicate threads (Some x)) k, get_or-replicate threads k (Some x) None within) (grind (arith, nat_tests, within))
+  | inr beyond ↦ rw (row_at-past (replicate threads (Some x)) k (omega (arith, beyond, length-replicate threads (Some x)))) (grind (arith, nat_tests, beyond))
+]
+
+new_waits : (threads tid prio number : ℕ) → stands_at number (row_at (None ∷ replicate threads (Some (new_thread prio))) tid) ≡ false
+new_waits threads zero prio number = refl
+new_waits threads (suc k) prio number = elim (cases_lt k threads) [
+  | inl within ↦ rw (row_at-get_or (replicate threads (Some (new_thread prio))) k, get_or-replicate threads k (Some (new_thread prio)) None within) refl
+  | inr beyond ↦ rw (row_at-past (replicate threads (Some (new_thread prio))) k (omega (arith, beyond, length-replicate threads (Some (new_thread prio))))) refl
+]
+
+new_attached : (threads prio : ℕ) (manager : Manager) → attached_at (manager_number manager) (Some (new_process threads prio)) ≡ false
+new_attached threads prio manager = refl
+
+module _ (users : Users) (proc : Proc) (threads prio : ℕ) (begun : Starts users proc threads prio) where
+  abbrev started : List (Option Process) → List (Option Process)
+  started rows = spawned rows threads prio (spawn_number rows threads prio)
+
+  abbrev new : Users
+  new = with_row users proc.user.0 started
+
+  old_none : process_of users proc ≡ None
+  old_none = rw (begun.row, begun.facts.lowest) (lowest_from_free 1 begun.processes)
+
+  -- no thread of it has nodes
+  pub fresh : (queues : Queues) → Kept users queues → (tid : ℕ) → has_thread queues (record { proc = proc; tid = tid }) ≡ false
+  fresh queues kept tid = kept.threads (record { proc = proc; tid = tid }) ∙ ap (λ o. is_some (thread_of tid o)) old_none
+
+  pub user_within : (queues : Queues) → Kept users queues → proc.user.0 < queues.users
+  user_within queues kept = rw kept.users (row_within users proc.user.0 begun.processes begun.row)
+
+  module _ (place : HasPlace (row_at users proc.user.0)) where
+    within : proc.num ≤ length begun.processes
+    within =
+        let has : 0 < length begun.processes = rw begun.row at place in
+        rw begun.facts.lowest (lowest-within begun.processes has)
+
+    processes : started begun.processes ≡ put_row begun.processes proc.num (new_process threads prio)
+    processes = started-processes begun.processes threads prio proc.num begun.number
+
+    here : process_of new proc ≡ Some (new_process threads prio)
+    here = rw (row_at-with_same users proc.user.0 started, begun.row, processes) (put_row-same begun.processes proc.num (new_process threads prio) within)
+
+    elsewhere : (other : Proc) → other ≢ proc → process_of new other ≡ process_of users other
+    elsewhere other differs = process_of-other users proc started (λ rows is n apart.
+        let same : rows ≡ begun.processes = some_same rows begun.processes (sym is ∙ begun.row) in
+        rw (same, processes) (put_row-other begun.processes proc.num (new_process threads prio) within n apart)) other differs
+      where
+        some_same : (one other : List (Option Process)) → Some one ≡ Some other → one ≡ other
+        some_same one other is = cc
+
+    pub Kept-started : (queues : Queues) → Kept users queues → Kept (with_row users proc.user.0 (λ processes. spawned processes threads prio (spawn_number processes threads prio))) (with_process queues proc threads)
+    Kept-started queues kept = record {
+      users = users-process queues proc threads ∙ kept.users ∙ sym (length-with_row users proc.user.0 started);
+      managers = ap length (lines-process queues proc threads) ∙ kept.managers;
+      threads = λ other. has-process queues proc threads other ∙ elim (same_proc other.proc proc) [
+        | inr differs ↦ rw (not_of other differs) (or_false (has_thread queues other) ∙ kept.threads other ∙ ap (λ o. is_some (thread_of other.tid o)) (sym (elsewhere other.proc differs)))
+        | inl same ↦ rw (kept.threads other, same, old_none, here) (own_of other same ∙ sym (new_is threads other.tid (new_thread prio)))
+      ];
+      lines = λ other number. ap (λ lines. stands (line_at lines number) other) (lines-process queues proc threads) ∙ kept.lines other number ∙ elim (same_proc other.proc proc) [
+        | inr differs ↦ ap (λ o. stands_at number (thread_of other.tid o)) (sym (elsewhere other.proc differs))
+        | inl same ↦ rw (same, old_none, here) (sym (new_waits threads other.tid prio number))
+      ];
+      pulses = λ other number call is.
+          let before : asked_at number call (thread_row users other) ≡ true = kept.pulses other number call (ap (λ lines. unblock_call (line_at lines number) other) (sym (lines-process queues proc threads)) ∙ is) in
+          elim (same_proc other.proc proc) [
+            | inr differs ↦ ap (λ o. asked_at number call (thread_of other.tid o)) (elsewhere other.proc differs) ∙ before
+            | inl same ↦ let clash : false ≡ true = rw (same, old_none) at before in absurd (cc)
+          ];
+      servers = λ other manager. ap (λ s. set.contains s (other, manager_number manager)) (servers-process queues proc threads) ∙ kept.servers other manager ∙ elim (same_proc other proc) [
+        | inr differs ↦ ap (attached_at (manager_number manager)) (sym (elsewhere other differs))
+        | inl same ↦ rw (same, old_none, here) (sym (new_attached threads prio manager))
+      ];
+    }
+      where
+        not_of : (other : Thread) → other.proc ≢ proc → is_thread_of proc threads other ≡ false
+        not_of other differs = elim (eqb_tells proc.user.0 other.proc.user.0) [
+          | inr apart ↦ rw apart.0 refl
+          | inl user ↦ elim (eqb_tells proc.num other.proc.num) [
+            | inr apart ↦ rw (user.0, apart.0) refl
+            | inl num ↦ absurd (differs (λ i. record { user = record { 0 = sym user.1 i }; num = sym num.1 i }))
+          ]
+        ]
+
+        own_of : (other : Thread) → other.proc ≡ proc → is_thread_of proc threads (record { proc = proc; tid = other.tid }) ≡ (nat_le 1 other.tid && nat_le other.tid threads)
+        own_of other same = rw (eq-eqb proc.user.0 proc.user.0 refl, eq-eqb proc.num proc.num refl) refl
+
+abbrev no_rows : List (Option Process)
+no_rows = None ∷ []
+
+-- no process is there at boot
+none_at_boot : (users : ℕ) (proc : Proc) → process_of (no_processes users) proc ≡ None
+none_at_boot users proc = by_user users proc.user.0
+  where
+    empty : (number : ℕ) → row_at no_rows number ≡ None
+    empty zero = refl
+    empty (suc number) = refl
+
+    in_rows : (count user : ℕ) → process_in proc.num (row_at (replicate count (Some no_rows)) user) ≡ None
+    in_rows zero user = refl
+    in_rows (suc count) zero = empty proc.num
+    in_rows (suc count) (suc user) = in_rows count user
+
+    by_user : (count user : ℕ) → process_in proc.num (row_at (None ∷ replicate count (Some no_rows)) user) ≡ None
+    by_user count zero = refl
+    by_user count (suc user) = in_rows count user
+
+no_pulse : (count number : ℕ) (thread : Thread) → unblock_call (line_at (replicate count []) number) thread ≡ None
+no_pulse zero number thread = refl
+no_pulse (suc count) zero thread = refl
+no_pulse (suc count) (suc number) thread = no_pulse count number thread
+
+no_line : (count number : ℕ) (thread : Thread) → stands (line_at (replicate count []) number) thread ≡ false
+no_line zero number thread = refl
+no_line (suc count) zero thread = refl
+no_line (suc count) (suc number) thread = no_line count number thread
+
+pub Kept-empty : (users : ℕ) → Kept (no_processes users) (no_queues users)
+Kept-empty users = record {
+  users = add-one users ∙ ap suc (sym (length-replicate users (Some no_rows)));
+  managers = refl;
+  threads = λ thread. set.contains-empty thread_cmp thread ∙ sym (ap (λ o. is_some (thread_of thread.tid o)) (none_at_boot users thread.proc));
+  lines = λ thread number. no_line COUNT number thread ∙ sym (ap (λ o. stands_at number (thread_of thread.tid o)) (none_at_boot users thread.proc));
+  pulses = λ thread number call is. let clash : None ≡ Some call = sym (no_pulse COUNT number thread) ∙ is in absurd (cc);
+  servers = λ proc manager. set.contains-empty server_cmp (proc, manager_number manager) ∙ sym (ap (attached_at (manager_number manager)) (none_at_boot users proc));
+}

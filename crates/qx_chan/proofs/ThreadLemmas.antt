@@ -1,0 +1,209 @@
+-- One thread's row changes, and its process with it, and one line: when rows, lines and nodes stand together still.
+use Rattle.std.proofs.Common.{◌≡◌, ◌≢◌, inl, inr, ℕ, ◌<◌, List, true, Option, Some, None, length, is_some, refl, sym, ◌∙◌, ap}
+use Rattle.std.specs.Prelude.{option_map}
+use Rattle.std.proofs.lemmas.Bool.{cases_eq}
+use Rattle.std.proofs.lemmas.List.{length-set}
+use Rattle.qx_types.specs.Managers.{manager_number}
+use Rattle.qx_types.specs.declared.names.Manager.{Manager}
+use Rattle.qx_types.specs.declared.names.Proc.{Proc}
+use Rattle.qx_types.specs.declared.names.Thread.{Thread}
+use Rattle.qx_machine.specs.declared.rows.Queued.{Queued}
+use Rattle.qx_machine.specs.declared.rows.ThreadRow.{ThreadRow}
+use Rattle.qx_machine.specs.Lines.{line_at, with_line}
+use Rattle.qx_machine.specs.Parts.{thread_of}
+use Rattle.qx_machine.specs.Processes.{Process, with_thread}
+use Rattle.qx_machine.specs.Rows.{with_row}
+use Rattle.qx_queues.specs.Queues.{Queues, has_server, has_thread, stands, unblock_call}
+use Rattle.qx_chan.specs.Users.{Users, process_of, thread_row, with_process_of, with_thread_row}
+use Rattle.qx_chan.specs.Kept.{Kept, asked_at, attached_at, stands_at}
+use Rattle.qx_queues.proofs.EntryLemmas.{line_at-other, line_at-same}
+use Rattle.qx_queues.proofs.NodesLemmas.{same_or_not, same_proc}
+use Rattle.qx_chan.proofs.AttachedLemmas.{number-below}
+use Rattle.qx_chan.proofs.ProcessLemmas.{process_of-other, process_of-same}
+use Rattle.qx_chan.proofs.RowReads.{length-with_row, row_at-with_other, row_at-with_same}
+use Rattle.qx_chan.proofs.SettleLemmas.{Unsettled}
+
+there_with : {A : Type 0} (f : A → A) (o : Option A) → is_some (option_map f o) ≡ is_some o
+there_with f None = refl
+there_with f (Some x) = refl
+
+-- in one process a thread's row changes, and what else is not its threads'
+pub record OneThread (new old : Users) (thread : Thread) (f : Process → Process) (g : ThreadRow → ThreadRow) : Type 0 where
+  pub users : length new ≡ length old
+  pub here : process_of new thread.proc ≡ option_map f (process_of old thread.proc)
+  pub elsewhere : (other : Proc) → other ≢ thread.proc → process_of new other ≡ process_of old other
+  pub own : thread_row new thread ≡ option_map g (thread_row old thread)
+  pub others : (other : Thread) → other ≢ thread → thread_row new other ≡ thread_row old other
+
+module _ (users : Users) (thread : Thread) (f : Process → Process) (g : ThreadRow → ThreadRow) (threads : (x : Process) → (f x).threads ≡ with_row x.threads thread.tid g) where
+  here : process_of (with_process_of users thread.proc f) thread.proc ≡ option_map f (process_of users thread.proc)
+  here = process_of-same users thread.proc f
+
+  elsewhere : (other : Proc) → other ≢ thread.proc → process_of (with_process_of users thread.proc f) other ≡ process_of users other
+  elsewhere other differs = process_of-other users thread.proc (λ rows. with_row rows thread.proc.num f) (λ rows is n apart. row_at-with_other rows thread.proc.num n f apart) other differs
+
+  pub one_thread : OneThread (with_process_of users thread.proc f) users thread f g
+  one_thread = record {
+    users = length-with_row users thread.proc.user.0 (λ rows. with_row rows thread.proc.num f);
+    here = here;
+    elsewhere = elsewhere;
+    own = ap (thread_of thread.tid) here ∙ in_own (process_of users thread.proc);
+    others = λ other differs. elim (same_proc other.proc thread.proc) [
+      | inr apart ↦ ap (thread_of other.tid) (elsewhere other.proc apart)
+      | inl same ↦
+          let tid : other.tid ≢ thread.tid = λ equal. differs (λ i. record { proc = same i; tid = equal i }) in
+          rw (same, here) (in_other other.tid tid (process_of users thread.proc))
+    ];
+  }
+    where
+      in_own : (o : Option Process) → thread_of thread.tid (option_map f o) ≡ option_map g (thread_of thread.tid o)
+      in_own None = refl
+      in_own (Some x) = rw (threads x) (row_at-with_same x.threads thread.tid g)
+
+      in_other : (tid : ℕ) → tid ≢ thread.tid → (o : Option Process) → thread_of tid (option_map f o) ≡ thread_of tid o
+      in_other tid differs None = refl
+      in_other tid differs (Some x) = rw (threads x) (row_at-with_other x.threads thread.tid tid g differs)
+
+-- no row changes
+map_same : {A : Type 0} (o : Option A) → o ≡ option_map (λ x. x) o
+map_same None = refl
+map_same (Some x) = refl
+
+pub no_thread : (users : Users) (thread : Thread) → OneThread users users thread (λ x. x) (λ row. row)
+no_thread users thread = record {
+  users = refl;
+  here = map_same (process_of users thread.proc);
+  elsewhere = λ other differs. refl;
+  own = map_same (thread_row users thread);
+  others = λ other differs. refl;
+}
+
+-- a thread whose message stands where it stood, and is asked as it was
+module _ (users : Users) (queues : Queues) (thread : Thread) (g : ThreadRow → ThreadRow) (kept : Kept users queues)
+    (stand : (at : ℕ) → stands_at at (option_map g (thread_row users thread)) ≡ stands_at at (thread_row users thread))
+    (pulse : (at call : ℕ) → asked_at at call (option_map g (thread_row users thread)) ≡ asked_at at call (thread_row users thread)) where
+  one : OneThread (with_thread_row users thread g) users thread (with_thread thread.tid g) g
+  one = one_thread users thread (with_thread thread.tid g) g (λ x. refl)
+
+  read_as : {A : Type 0} (read : Option ThreadRow → A) → read (option_map g (thread_row users thread)) ≡ read (thread_row users thread) → (other : Thread) → read (thread_row (with_thread_row users thread g) other) ≡ read (thread_row users other)
+  read_as read same other = elim (same_or_not other thread) [
+    | inr differs ↦ ap read (one.others other differs)
+    | inl equal ↦ rw (equal, one.own) same
+  ]
+
+  still_attached : (at : ℕ) (o : Option Process) → attached_at at (option_map (with_thread thread.tid g) o) ≡ attached_at at o
+  still_attached at None = refl
+  still_attached at (Some x) = refl
+
+  pub Kept-thread : Kept (with_thread_row users thread g) queues
+  Kept-thread = record {
+    users = kept.users ∙ sym one.users;
+    managers = kept.managers;
+    threads = λ other. kept.threads other ∙ sym (read_as is_some (there_with g (thread_row users thread)) other);
+    lines = λ other at. kept.lines other at ∙ sym (read_as (stands_at at) (stand at) other);
+    pulses = λ other at call is. read_as (asked_at at call) (pulse at call) other ∙ kept.pulses other at call is;
+    servers = λ other m. kept.servers other m ∙ elim (same_proc other thread.proc) [
+      | inr differs ↦ ap (attached_at (manager_number m)) (sym (one.elsewhere other differs))
+      | inl equal ↦ rw (equal, one.here) (sym (still_attached (manager_number m) (process_of users thread.proc)))
+    ];
+  }
+
+-- a line, of which only one thread's items change
+pub record OwnLine (new old : List Queued) (thread : Thread) : Type 0 where
+  pub stand : (other : Thread) → other ≢ thread → stands new other ≡ stands old other
+  pub calls : (other : Thread) → other ≢ thread → unblock_call new other ≡ unblock_call old other
+
+module _ (users new : Users) (queues : Queues) (thread : Thread) (f : Process → Process) (g : ThreadRow → ThreadRow)
+    (one : OneThread new users thread f g) (kept : Kept users queues) (manager : Manager) (change : List Queued → List Queued) where
+  abbrev number : ℕ
+  number = manager_number manager
+
+  abbrev lines_after : List (List Queued)
+  lines_after = with_line queues.lines number change
+
+  pub within : number < length queues.lines
+  within = rw kept.managers (number-below manager)
+
+  pub at_line : line_at lines_after number ≡ change (line_at queues.lines number)
+  at_line = line_at-same queues.lines number change within
+
+  pub at_other : (at : ℕ) → at ≢ number → line_at lines_after at ≡ line_at queues.lines at
+  at_other at differs = line_at-other queues.lines number change at differs
+
+  -- what is told of the thread itself, in the changed line and in the others
+  pub record Own : Type 0 where
+    pub line : OwnLine (change (line_at queues.lines number)) (line_at queues.lines number) thread
+    pub stand : stands (change (line_at queues.lines number)) thread ≡ stands_at number (thread_row new thread)
+    pub stand_other : (at : ℕ) → at ≢ number → stands (line_at queues.lines at) thread ≡ stands_at at (thread_row new thread)
+    pub calls : (call : ℕ) → unblock_call (change (line_at queues.lines number)) thread ≡ Some call → asked_at number call (thread_row new thread) ≡ true
+    pub calls_other : (at call : ℕ) → at ≢ number → unblock_call (line_at queues.lines at) thread ≡ Some call → asked_at at call (thread_row new thread) ≡ true
+
+  module _ (own : Own) where
+    -- a read of one thread in the line of a number
+    told_other : {A : Type 0} (told : List Queued → Thread → A) (at : ℕ) (other : Thread) → told (change (line_at queues.lines number)) other ≡ told (line_at queues.lines number) other
+        → told (line_at lines_after at) other ≡ told (line_at queues.lines at) other
+    told_other told at other same = elim (cases_eq at number) [
+      | inl equal ↦ rw (equal, at_line) same
+      | inr differs ↦ rw (at_other at differs) refl
+    ]
+
+    pub lines_told : (other : Thread) (at : ℕ) → stands (line_at lines_after at) other ≡ stands_at at (thread_row new other)
+    lines_told other at = elim (same_or_not other thread) [
+      | inr differs ↦ told_other stands at other (own.line.stand other differs) ∙ kept.lines other at ∙ ap (stands_at at) (sym (one.others other differs))
+      | inl same ↦ elim (cases_eq at number) [
+        | inl equal ↦ rw (same, equal, at_line) own.stand
+        | inr apart ↦ rw (same, at_other at apart) (own.stand_other at apart)
+      ]
+    ]
+
+    pub pulses_told : (other : Thread) (at call : ℕ) → unblock_call (line_at lines_after at) other ≡ Some call → asked_at at call (thread_row new other) ≡ true
+    pulses_told other at call is = elim (same_or_not other thread) [
+      | inr differs ↦ ap (asked_at at call) (one.others other differs) ∙ kept.pulses other at call (sym (told_other unblock_call at other (own.line.calls other differs)) ∙ is)
+      | inl same ↦ elim (cases_eq at number) [
+        | inl equal ↦
+            let own_is : unblock_call (change (line_at queues.lines number)) thread ≡ Some call = rw (same, equal, at_line) at is in
+            rw (same, equal) (own.calls call own_is)
+        | inr apart ↦
+            let own_is : unblock_call (line_at queues.lines at) thread ≡ Some call = rw (same, at_other at apart) at is in
+            rw same (own.calls_other at call apart own_is)
+      ]
+    ]
+
+    there_told : (other : Thread) → has_thread queues other ≡ is_some (thread_row new other)
+    there_told other = kept.threads other ∙ elim (same_or_not other thread) [
+      | inr differs ↦ ap is_some (sym (one.others other differs))
+      | inl same ↦ rw (same, one.own) (sym (there_with g (thread_row users thread)))
+    ]
+
+    -- where the process stays attached as it was
+    pub Kept-changed : ((x : Process) (at : ℕ) → attached_at at (Some (f x)) ≡ attached_at at (Some x)) → Kept new (record queues { lines = lines_after })
+    Kept-changed same = record {
+      users = kept.users ∙ sym one.users;
+      managers = length-set _ number _ ∙ kept.managers;
+      threads = there_told;
+      lines = lines_told;
+      pulses = pulses_told;
+      servers = λ other m. kept.servers other m ∙ elim (same_proc other thread.proc) [
+        | inr differs ↦ ap (attached_at (manager_number m)) (sym (one.elsewhere other differs))
+        | inl equal ↦ rw (equal, one.here) (sym (as_before (manager_number m) (process_of users thread.proc)))
+      ];
+    }
+      where
+        as_before : (at : ℕ) (o : Option Process) → attached_at at (option_map f o) ≡ attached_at at o
+        as_before at None = refl
+        as_before at (Some x) = same x at
+
+    -- where the process has the disconnect nodes of all that is attached, and others what they had
+    pub Unsettled-changed : (after : Queues) → after.lines ≡ lines_after → after.users ≡ queues.users → ((t : Thread) → has_thread after t ≡ has_thread queues t)
+        → ((other : Proc) (at : ℕ) → other ≢ thread.proc → has_server after other at ≡ has_server queues other at)
+        → ((m : Manager) → attached_at (manager_number m) (option_map f (process_of users thread.proc)) ≡ true → has_server after thread.proc (manager_number m) ≡ true)
+        → Unsettled new after thread.proc
+    Unsettled-changed after lines users threads others attached = record {
+      users = users ∙ kept.users ∙ sym one.users;
+      managers = ap length lines ∙ length-set _ number _ ∙ kept.managers;
+      threads = λ t. threads t ∙ there_told t;
+      lines = λ t at. ap (λ l. stands (line_at l at) t) lines ∙ lines_told t at;
+      pulses = λ t at call is. pulses_told t at call (ap (λ l. unblock_call (line_at l at) t) (sym lines) ∙ is);
+      others = λ other m differs. others other (manager_number m) differs ∙ kept.servers other m ∙ ap (attached_at (manager_number m)) (sym (one.elsewhere other differs));
+      attached = λ m is. attached m (ap (attached_at (manager_number m)) (sym one.here) ∙ is);
+    }

@@ -1,0 +1,14 @@
+use Rattle.std.proofs.Common.{◌≡◌, None, rules}
+use Rattle.qx_machine.specs.Rows.{row_at}
+use Rattle.qx_process.proofs.RowLemmas.{with_row-none}
+use Rattle.qx_procs.specs.Calls.{after_or, with_prio}
+use Rattle.qx_chan.proofs.PrioLemmas.{Kept-ranked}
+use Rattle.qx_chan.proofs.channel.Channel.set_prio.Goals as goal
+
+pub returns-in_default-clause-ranked : goal.returns-in_default-clause-ranked
+returns-in_default-clause-ranked c =
+    let none : row_at c.self.inside.users c.args.thread.proc.user.0 ≡ None = search rules in
+    rw (← c.self.view_is, with_row-none c.self.inside.users c.args.thread.proc.user.0 (λ processes. after_or processes (with_prio processes c.args.thread.proc.num c.args.thread.tid c.args.prio.0)) none)
+
+pub invariant_of-self-2 : goal.invariant_of-self-2
+invariant_of-self-2 c = rw c.set_prio.ensures.rows (Kept-ranked c.self.inside.users c.self.inside.queues c.args.thread c.args.prio.0 c.in-Some.processes.now c.in-Some.ensures.row c.self.invariant)
