@@ -11,7 +11,7 @@ use Rattle.qx_types.specs.declared.outcome.Answer.TheVariants as answer
 use Rattle.qx_types.specs.declared.outcome.Outcome.{Outcome}
 use Rattle.qx_types.specs.declared.outcome.Outcome.TheVariants.{WrongState}
 use Rattle.qx_types.specs.declared.step.Step.{Step}
-use Rattle.qx_types.specs.declared.step.Step.TheVariants.{Spawn, Call, TakeReply, SetPrio, Interrupt, Receive, Perform}
+use Rattle.qx_types.specs.declared.step.Step.TheVariants.{Spawn, Call, TakeReply, SetPrio, Interrupt, Mount, Receive, Perform}
 use Rattle.qx_machine.specs.declared.rows.Held.{Held}
 use Rattle.qx_machine.specs.declared.rows.OwnItem.{OwnItem}
 use Rattle.qx_machine.specs.declared.rows.State.{State}
@@ -57,6 +57,7 @@ given_goes config user held part (Call thread request) = search (goes_on, done_g
 given_goes config user held part (TakeReply thread) = search (goes_on, done_goes, answer_goes)
 given_goes config user held part (SetPrio thread prio) = search (goes_on, done_goes)
 given_goes config user held part (Interrupt thread) = search (goes_on, interrupt_goes)
+given_goes config user held part (Mount thread path manager) = search (goes_on, done_goes)
 given_goes config user held part _ = record { goes = tt }
 
 unchanged_stays : (part : Part) (given : Result ClientStep Outcome) → Goes given → is_refusal (or_unchanged part given).outcome ≡ true → or_unchanged part given ≡ or_unchanged part (Err (or_unchanged part given).outcome)

@@ -10,13 +10,13 @@ kind_code File = 1
 kind_code Directory = 2
 kind_code Pipe = 3
 
--- the root of a user's mount: a directory that its owner may read, write and search
+-- the root of a mount, at first: a directory that its owner may read, write and search
 abbrev pub root_attribute : ℕ → Attribute
 root_attribute user = record { kind = Directory; mode = 448; links = 1; owner = user; size = 0; mtime = 0; ctime = 0 }
 
--- the number of a mount's root
-abbrev pub root_inode : ℕ
-root_inode = 1
+-- the root of a user's top
+abbrev pub top_inode : ℕ
+top_inode = 1
 
 -- the 40 bytes of a status: inode, kind, mode, links, owner, size, mtime and ctime, each with its lowest byte first
 unfoldable pub stat_bytes : ℕ → Attribute → List ℕ

@@ -1,11 +1,11 @@
 -- How a call of a thread is judged, and what it sends.
-use Rattle.std.specs.Prelude.{ℕ, List, [], ◌==◌, ◌&&◌, ◌||◌, Bool, true, false, Option, Some, None, Result, Ok, length, nat_le, nat_lt, count_by, is_some}
-use Rattle.std.specs.Str.{bytes_eq}
+use Rattle.std.specs.Prelude.{ℕ, ⊤, List, [], ◌==◌, ◌&&◌, ◌||◌, Bool, true, false, Option, Some, None, Result, Ok, length, nat_le, nat_lt, count_by, is_some}
+use Rattle.qx_types.specs.Configuration.{Configuration, name_bytes}
 use Rattle.qx_types.specs.Managers.{manager_number}
-use Rattle.qx_types.specs.declared.errno.Errno.TheVariants.{EAGAIN, EBADF, EINVAL, EMFILE, ENOENT}
+use Rattle.qx_types.specs.declared.errno.Errno.{Errno}
+use Rattle.qx_types.specs.declared.errno.Errno.TheVariants.{EAGAIN, EBADF, EINVAL, EMFILE}
 use Rattle.qx_types.specs.declared.limits.TheConstants.Limits.{CALLS, FIRST_CONNECTION, LAST_CONNECTION, MESSAGE, SERVERS}
 use Rattle.qx_types.specs.declared.names.Manager.{Manager}
-use Rattle.qx_types.specs.declared.names.Manager.TheVariants.{Ram}
 use Rattle.qx_types.specs.declared.names.Prio.{Prio}
 use Rattle.qx_types.specs.declared.outcome.Outcome.{Outcome}
 use Rattle.qx_types.specs.declared.outcome.Outcome.TheVariants.{Refused, WrongState}
@@ -13,34 +13,39 @@ use Rattle.qx_types.specs.declared.request.Request.{Request}
 use Rattle.qx_types.specs.declared.request.Request.TheVariants as request
 use Rattle.qx_wire.specs.declared.message.Message.TheVariants as msg
 use Rattle.qx_wire.specs.Table as table
+use Rattle.qx_paths.specs.Mounts.{resolve}
+use Rattle.qx_paths.specs.Paths.{read_path}
+use Rattle.qx_paths.specs.Prefixes.{MountPoint}
+use Rattle.qx_paths.specs.declared.resolved.Resolved.{Resolved}
+use Rattle.qx_machine.specs.declared.rows.Addressed.{Addressed}
 use Rattle.qx_machine.specs.declared.rows.Connection.{Connection}
 use Rattle.qx_machine.specs.declared.rows.Content.{Content}
 use Rattle.qx_machine.specs.declared.rows.Content.TheVariants.{Spelled, Raw}
+use Rattle.qx_machine.specs.declared.rows.Over.{Over}
 use Rattle.qx_machine.specs.declared.rows.Over.TheVariants.{New, Existing, Side}
 use Rattle.qx_machine.specs.declared.rows.State.{State}
 use Rattle.qx_machine.specs.declared.rows.State.TheVariants.{Ready}
-use Rattle.qx_machine.specs.declared.rows.Target.{Target}
 use Rattle.qx_machine.specs.declared.rows.ThreadRow.{ThreadRow}
-use Rattle.qx_machine.specs.Judgements.{◌>>=◌, found, need}
+use Rattle.qx_machine.specs.Judgements.{◌>>=◌, found, need, or_refused}
 use Rattle.qx_machine.specs.Processes.{Process}
 use Rattle.qx_machine.specs.Rows.{row_at, lowest_from}
 
 -- what a request sends; of a path, what is behind its mount
-abbrev pub content_of : Request → Content
-content_of (request.OpenPath path flags mode) = Spelled (msg.Open flags mode [])
-content_of (request.StatPath path) = Spelled (msg.Stat [])
-content_of (request.Unlink path) = Spelled (msg.Unlink [])
-content_of (request.Mkdir path mode) = Spelled (msg.Mknod mode [])
-content_of (request.Read coid count) = Spelled (msg.Read count)
-content_of (request.Write coid bytes) = Spelled (msg.Write bytes)
-content_of (request.Close coid) = Spelled msg.Close
-content_of (request.Dup coid) = Spelled (msg.Dup coid)
-content_of (request.Seek coid whence by) = Spelled (msg.Lseek whence by)
-content_of (request.Fstat coid) = Spelled msg.Fstat
-content_of (request.List coid after) = Spelled (msg.List after)
-content_of (request.Chmod coid mode) = Spelled (msg.Chmod mode)
-content_of (request.Notify coid action conds code value) = Spelled (msg.Notify action conds code value)
-content_of (request.Raw coid bytes) = Raw bytes
+abbrev pub content_of : Request → List (List ℕ) → Content
+content_of (request.OpenPath path flags mode) rest = Spelled (msg.Open flags mode rest)
+content_of (request.StatPath path) rest = Spelled (msg.Stat rest)
+content_of (request.Unlink path) rest = Spelled (msg.Unlink rest)
+content_of (request.Mkdir path mode) rest = Spelled (msg.Mknod mode rest)
+content_of (request.Read coid count) rest = Spelled (msg.Read count)
+content_of (request.Write coid bytes) rest = Spelled (msg.Write bytes)
+content_of (request.Close coid) rest = Spelled msg.Close
+content_of (request.Dup coid) rest = Spelled (msg.Dup coid)
+content_of (request.Seek coid whence by) rest = Spelled (msg.Lseek whence by)
+content_of (request.Fstat coid) rest = Spelled msg.Fstat
+content_of (request.List coid after) rest = Spelled (msg.List after)
+content_of (request.Chmod coid mode) rest = Spelled (msg.Chmod mode)
+content_of (request.Notify coid action conds code value) rest = Spelled (msg.Notify action conds code value)
+content_of (request.Raw coid bytes) rest = Raw bytes
 
 -- what is sent can be spelled, and is no longer than a message may be
 abbrev pub can_send : Content → Bool
@@ -52,33 +57,33 @@ abbrev pub bytes_of : Content → List ℕ
 bytes_of (Spelled message) = table.spelling message
 bytes_of (Raw bytes) = bytes
 
--- an open may ask to read alone
+-- what is asked of an open is served: to read, and nothing else (this profile)
 abbrev pub is_served : Request → Bool
 is_served (request.OpenPath path flags mode) = flags.0 == 1
 is_served _ = true
 
--- each field is in its range; the connection of a dup is none of them
+-- each field is in its range; a path is none of them, nor is the connection of a dup
 abbrev pub in_ranges : Request → Bool
 in_ranges (request.Dup coid) = true
-in_ranges asked = is_served asked && can_send (content_of asked)
+in_ranges asked = is_served asked && can_send (content_of asked [])
 
 -- what a request names: a path, over a new connection or a side connection, or a connection that is there, which is used or has
 -- another one made beside it
 pub data Address : Type 0 where
   Opens : (path : List ℕ) → Address
-  Looks : (path : List ℕ) → Address
+  Connects : (path : List ℕ) → Address
   Uses : (coid : ℕ) → Address
-  Doubles : (coid : ℕ) → Address
+  Duplicates : (coid : ℕ) → Address
 
 abbrev pub address : Request → Address
 address (request.OpenPath path flags mode) = Opens path
-address (request.StatPath path) = Looks path
-address (request.Unlink path) = Looks path
-address (request.Mkdir path mode) = Looks path
+address (request.StatPath path) = Connects path
+address (request.Unlink path) = Connects path
+address (request.Mkdir path mode) = Connects path
 address (request.Read coid count) = Uses coid.0
 address (request.Write coid bytes) = Uses coid.0
 address (request.Close coid) = Uses coid.0
-address (request.Dup coid) = Doubles coid.0
+address (request.Dup coid) = Duplicates coid.0
 address (request.Seek coid whence by) = Uses coid.0
 address (request.Fstat coid) = Uses coid.0
 address (request.List coid after) = Uses coid.0
@@ -107,34 +112,47 @@ connection_at coid process = do
   possible ← need (nat_le FIRST_CONNECTION coid && nat_le coid LAST_CONNECTION) (Refused EBADF)
   found (row_at process.connections coid) (Refused EBADF)
 
--- to which manager a message goes and over what; the one path is that of the user's own root (C Library Reference: ENOENT; EAGAIN
--- for server connections is this profile)
-abbrev pub target_at : List ℕ → List (Option Process) → Process → Prio → Address → Result Target Outcome
-target_at own_path processes process prio (Opens path) = do
-  known ← need (bytes_eq path own_path) (Refused ENOENT)
+-- where a path leads a user (C Library Reference: open)
+abbrev pub place_of : Configuration → ℕ → List MountPoint → List ℕ → Result Resolved Errno
+place_of config user mounts path = do
+  names ← read_path path
+  resolve config.users (name_bytes config user) mounts names
+
+-- a message to where a path leads, over a server connection of the process there (EAGAIN is this profile)
+abbrev pub to_place : List (Option Process) → Process → Resolved → Over → Prio → Result Addressed Outcome
+to_place processes process place over prio = do
+  served ← need (can_serve processes process place.manager) (Refused EAGAIN)
+  Ok (record { target = record { manager = place.manager; root = Some place.root; over = over; prio = prio }; rest = place.rest })
+
+-- a message to what a connection has open
+abbrev pub to_connection : Connection → Over → Prio → Addressed
+to_connection connection over prio = record { target = record { manager = connection.manager; root = None; over = over; prio = prio }; rest = [] }
+
+-- to which manager a message goes and over what (C Library Reference: open, dup)
+abbrev pub target_at : Configuration → ℕ → List MountPoint → List (Option Process) → Process → Prio → Address → Result Addressed Outcome
+target_at config user mounts processes process prio (Opens path) = do
+  place ← or_refused (place_of config user mounts path)
   coid ← free_connection process
-  served ← need (can_serve processes process Ram) (Refused EAGAIN)
-  Ok (record { manager = Ram; over = New (record { 0 = coid }); prio = prio })
-target_at own_path processes process prio (Looks path) = do
-  known ← need (bytes_eq path own_path) (Refused ENOENT)
-  served ← need (can_serve processes process Ram) (Refused EAGAIN)
-  Ok (record { manager = Ram; over = Side; prio = prio })
-target_at own_path processes process prio (Uses coid) = do
+  to_place processes process place (New (record { 0 = coid })) prio
+target_at config user mounts processes process prio (Connects path) = do
+  place ← or_refused (place_of config user mounts path)
+  to_place processes process place Side prio
+target_at config user mounts processes process prio (Uses coid) = do
   connection ← connection_at coid process
-  Ok (record { manager = connection.manager; over = Existing (record { 0 = coid }); prio = prio })
-target_at own_path processes process prio (Doubles coid) = do
+  Ok (to_connection connection (Existing (record { 0 = coid })) prio)
+target_at config user mounts processes process prio (Duplicates coid) = do
   connection ← connection_at coid process
   other ← free_connection process
-  Ok (record { manager = connection.manager; over = New (record { 0 = other }); prio = prio })
+  Ok (to_connection connection (New (record { 0 = other })) prio)
 
 abbrev pub is_ready : State → Bool
 is_ready Ready = true
 is_ready _ = false
 
--- where a thread's call goes; only a ready thread calls, and 2^64 - 1 times at most
-abbrev pub target_of : List ℕ → List (Option Process) → Process → ThreadRow → Request → Result Target Outcome
-target_of own_path processes process row asked = do
+-- a thread may make a call with these fields; only a ready thread calls, and 2^64 - 1 times at most
+abbrev pub may_call : ThreadRow → Request → Result ⊤ Outcome
+may_call row asked = do
   ready ← need (is_ready row.state) WrongState
   valid ← need (in_ranges asked) (Refused EINVAL)
   countable ← need (nat_lt row.calls CALLS) (Refused EAGAIN)
-  target_at own_path processes process row.prio (address asked)
+  Ok tt

@@ -1,8 +1,9 @@
 -- What a client's step does to the rows of its user.
-use Rattle.std.specs.Prelude.{ℕ, Bool, false, if◌then◌else◌, List, [], ◌∷◌, ◌&&◌, Option, Some, None, Result, Ok, Err, nat_le, unwrap_or}
-use Rattle.qx_types.specs.Configuration.{Configuration, name_of}
+use Rattle.std.specs.Prelude.{ℕ, Bool, false, if◌then◌else◌, List, [], ◌∷◌, ◌&&◌, Option, Some, None, Result, Ok, Err, nat_le}
+use Rattle.qx_types.specs.Configuration.{Configuration, name_bytes}
 use Rattle.qx_types.specs.declared.errno.Errno.TheVariants.{EAGAIN, EINTR, EINVAL}
 use Rattle.qx_types.specs.declared.limits.TheConstants.Limits.{PRIORITY, PROCESSES, THREADS}
+use Rattle.qx_types.specs.declared.names.Manager.{Manager}
 use Rattle.qx_types.specs.declared.names.Thread.{Thread}
 use Rattle.qx_types.specs.declared.outcome.Answer.{Answer}
 use Rattle.qx_types.specs.declared.outcome.Answer.TheVariants as answer
@@ -11,15 +12,17 @@ use Rattle.qx_types.specs.declared.outcome.Outcome.TheVariants as outcome
 use Rattle.qx_types.specs.declared.outcome.Outcome.TheVariants.{Spawned, Refused, Done, Reply, Failed, WrongState}
 use Rattle.qx_types.specs.declared.request.Request.{Request}
 use Rattle.qx_types.specs.declared.step.Step.{Step}
-use Rattle.qx_types.specs.declared.step.Step.TheVariants.{Spawn, Call, TakeReply, SetPrio, Interrupt}
+use Rattle.qx_types.specs.declared.step.Step.TheVariants.{Spawn, Call, TakeReply, SetPrio, Interrupt, Mount}
+use Rattle.qx_paths.specs.Prefixes.{MountPoint}
+use Rattle.qx_machine.specs.declared.rows.Addressed.{Addressed}
 use Rattle.qx_machine.specs.declared.rows.OwnItem.{OwnItem}
 use Rattle.qx_machine.specs.declared.rows.OwnItem.TheVariants as item
 use Rattle.qx_machine.specs.declared.rows.Sent.{Sent}
 use Rattle.qx_machine.specs.declared.rows.State.{State}
 use Rattle.qx_machine.specs.declared.rows.State.TheVariants.{Queued, Taken, Answered}
-use Rattle.qx_machine.specs.declared.rows.Target.{Target}
-use Rattle.qx_machine.specs.Calls.{bytes_of, content_of, target_of}
-use Rattle.qx_machine.specs.Judgements.{◌>>=◌, found, need}
+use Rattle.qx_machine.specs.Calls.{address, bytes_of, content_of, is_ready, may_call, target_at}
+use Rattle.qx_machine.specs.Judgements.{◌>>=◌, found, need, or_refused}
+use Rattle.qx_machine.specs.Mounting.{new_mount, with_mount}
 use Rattle.qx_machine.specs.Parts.{Part, Change, Put, Remove, thread_at, with_process, with_thread_of}
 use Rattle.qx_machine.specs.Performing.{after_answer}
 use Rattle.qx_machine.specs.Processes.{Process, asked_thread, new_process, with_queued, ranked_thread, ready_thread}
@@ -47,25 +50,22 @@ spawn part threads prio = do
   number ← spawn_number part.processes threads prio
   Ok (record { outcome = Spawned number; part = record part { processes = put_row part.processes number (new_process threads prio) }; changes = [] })
 
--- a slash and the user's name
-abbrev pub own_path : Configuration → ℕ → List ℕ
-own_path config user = 47 ∷ unwrap_or (name_of config user) []
-
 -- where a call of a thread goes
-abbrev pub target_by : List ℕ → Part → Thread → Request → Result Target Outcome
-target_by path part thread request = do
-  process ← found (row_at part.processes thread.proc.num) WrongState
+abbrev pub target_by : Configuration → ℕ → List MountPoint → List (Option Process) → Thread → Request → Result Addressed Outcome
+target_by config user mounts processes thread request = do
+  process ← found (row_at processes thread.proc.num) WrongState
   row ← found (row_at process.threads thread.tid) WrongState
-  target_of path part.processes process row request
+  may ← may_call row request
+  target_at config user mounts processes process row.prio (address request)
 
 -- the message goes into its manager's line with its thread's priority (System Architecture: the channel's line of messages)
-abbrev pub call : List ℕ → Part → Thread → Request → Result ClientStep Outcome
-call path part thread request = do
-  target ← target_by path part thread request
+abbrev pub call : Configuration → ℕ → Part → Thread → Request → Result ClientStep Outcome
+call config user part thread request = do
+  addressed ← target_by config user part.resources.mounts part.processes thread request
   Ok (record {
     outcome = outcome.Sent;
-    part = with_process thread.proc.num (with_queued thread.tid (record { target = target; is_asked = false; bytes = bytes_of (content_of request) })) part;
-    changes = Put target.manager (item.Message thread.proc.num thread.tid) target.prio.0 ∷ [];
+    part = with_process thread.proc.num (with_queued thread.tid (record { target = addressed.target; is_asked = false; bytes = bytes_of (content_of request addressed.rest) })) part;
+    changes = Put addressed.target.manager (item.Message thread.proc.num thread.tid) addressed.target.prio.0 ∷ [];
   })
 
 abbrev pub outcome_of : Answer → Outcome
@@ -122,13 +122,28 @@ interrupt part thread = do
   row ← found (thread_at part thread.proc.num thread.tid) WrongState
   Ok (interrupt_in part thread row.calls row.state)
 
+-- what a ready thread mounts
+abbrev pub mount_by : Configuration → ℕ → Part → Thread → List ℕ → Manager → Result MountPoint Outcome
+mount_by config user part thread path manager = do
+  row ← found (thread_at part thread.proc.num thread.tid) WrongState
+  ready ← need (is_ready row.state) WrongState
+  or_refused (new_mount (name_bytes config user) path manager part.resources)
+
+-- a manager is attached at a path (C Library Reference: resmgr_attach; that a client's thread does it for its own user alone is this
+-- profile)
+abbrev pub mount : Configuration → ℕ → Part → Thread → List ℕ → Manager → Result ClientStep Outcome
+mount config user part thread path manager = do
+  mount ← mount_by config user part thread path manager
+  Ok (record { outcome = Done; part = record part { resources = with_mount user mount part.resources }; changes = [] })
+
 -- what a client's step gives, or the outcome of one that changes nothing
 abbrev pub client_given : Configuration → ℕ → List OwnItem → Part → Step → Result ClientStep Outcome
 client_given config user held part (Spawn of_user threads prio) = spawn part threads prio.0
-client_given config user held part (Call thread request) = call (own_path config user) part thread request
+client_given config user held part (Call thread request) = call config user part thread request
 client_given config user held part (TakeReply thread) = take_reply part thread
 client_given config user held part (SetPrio thread prio) = set_prio part thread prio.0
 client_given config user held part (Interrupt thread) = interrupt part thread
+client_given config user held part (Mount thread path manager) = mount config user part thread path manager
 client_given config user held part _ = Err WrongState
 
 -- a step that is refused changes nothing

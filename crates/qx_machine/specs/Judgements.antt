@@ -1,5 +1,8 @@
 -- A judgement as one block: each line finds something or gives the error of what changes nothing.
 use Rattle.std.specs.Prelude.{Bool, true, false, Option, Some, None, Result, Ok, Err}
+use Rattle.qx_types.specs.declared.errno.Errno.{Errno}
+use Rattle.qx_types.specs.declared.outcome.Outcome.{Outcome}
+use Rattle.qx_types.specs.declared.outcome.Outcome.TheVariants.{Refused}
 
 infixl 10 ◌>>=◌
 abbrev pub ◌>>=◌ : {A B E : Type 0} → Result A E → (A → Result B E) → Result B E
@@ -13,3 +16,8 @@ found None error = Err error
 abbrev pub need : {E : Type 0} → Bool → E → Result Bool E
 need true error = Ok true
 need false error = Err error
+
+-- an error refuses the step
+abbrev pub or_refused : {A : Type 0} → Result A Errno → Result A Outcome
+or_refused (Ok value) = Ok value
+or_refused (Err errno) = Err (Refused errno)

@@ -6,6 +6,7 @@ pub mod Judgements
 pub mod Laws
 pub mod Lines
 pub mod Machine
+pub mod Mounting
 pub mod Parts
 pub mod Performing
 pub mod Processes

@@ -25,7 +25,7 @@ use Rattle.qx_machine.specs.declared.rows.Sent.{Sent}
 use Rattle.qx_machine.specs.declared.rows.State.{State}
 use Rattle.qx_machine.specs.declared.rows.State.TheVariants.{Taken}
 use Rattle.qx_machine.specs.declared.rows.Target.{Target}
-use Rattle.qx_machine.specs.Attributes.{root_inode, stat_bytes}
+use Rattle.qx_machine.specs.Attributes.{stat_bytes}
 use Rattle.qx_machine.specs.Judgements.{◌>>=◌, found, need}
 use Rattle.qx_machine.specs.Parts.{Part, Change, Remove, Resources, with_process}
 use Rattle.qx_machine.specs.Processes.{Process, after_effect, after_error, after_reply, answered_thread, with_thread}
@@ -70,7 +70,7 @@ opened_by resources process target = do
 
 -- ---- the RAM manager's functions
 
--- nothing lies below a root
+-- a mount's root, below which nothing lies
 abbrev pub is_root : List (List ℕ) → Bool
 is_root rest = length rest == 0
 
@@ -78,12 +78,13 @@ is_root rest = length rest == 0
 abbrev pub open_deed : Resources → Target → List (List ℕ) → Result Deed Errno
 open_deed resources target rest = do
   coid ← found (new_coid target.over) EINVAL
+  root ← found target.root EINVAL
   there ← need (is_root rest) ENOENT
   free ← need (nat_le (lowest_from 1 resources.blocks) BLOCKS) ENFILE
   Ok (record {
     status = coid.0;
     bytes = [];
-    resources = record resources { blocks = put_row resources.blocks (lowest_from 1 resources.blocks) (record { inode = root_inode }) };
+    resources = record resources { blocks = put_row resources.blocks (lowest_from 1 resources.blocks) (record { inode = root }) };
     effect = Opens coid (lowest_from 1 resources.blocks);
   })
 
@@ -91,8 +92,10 @@ open_deed resources target rest = do
 abbrev pub stat_deed : Resources → Target → List (List ℕ) → Result Deed Errno
 stat_deed resources target rest = do
   aside ← need (is_side target.over) EINVAL
+  root ← found target.root EINVAL
   there ← need (is_root rest) ENOENT
-  Ok (record { status = 0; bytes = stat_bytes root_inode resources.root; resources = resources; effect = Keeps })
+  attribute ← found (row_at resources.inodes root) ENOENT
+  Ok (record { status = 0; bytes = stat_bytes root attribute; resources = resources; effect = Keeps })
 
 -- a close takes the connection and its block away (C Library Reference: close)
 abbrev pub close_deed : Resources → Opened → Result Deed Errno
@@ -101,8 +104,9 @@ close_deed resources opened =
 
 -- an fstat tells the status of what is open (C Library Reference: fstat)
 abbrev pub fstat_deed : Resources → Opened → Result Deed Errno
-fstat_deed resources opened =
-    Ok (record { status = 0; bytes = stat_bytes opened.block.inode resources.root; resources = resources; effect = Keeps })
+fstat_deed resources opened = do
+  attribute ← found (row_at resources.inodes opened.block.inode) EBADF
+  Ok (record { status = 0; bytes = stat_bytes opened.block.inode attribute; resources = resources; effect = Keeps })
 
 -- the functions for messages over an open connection (Writing a Resource Manager: I/O functions)
 abbrev pub io_function : Message → Option (Resources → Opened → Result Deed Errno)

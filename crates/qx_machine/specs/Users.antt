@@ -1,18 +1,18 @@
 -- What the steps do to one user's rows, from these alone: all that the machine knows of them.
 use Rattle.std.specs.Prelude.{ℕ, List, [], ◌∷◌, None}
-use Rattle.qx_types.specs.Configuration.{Configuration}
+use Rattle.qx_types.specs.Configuration.{Configuration, name_bytes}
 use Rattle.qx_types.specs.declared.step.Step.{Step}
 use Rattle.qx_machine.specs.declared.rows.OwnItem.{OwnItem}
 use Rattle.qx_machine.specs.declared.rows.OwnItem.TheVariants.{Message, Unblock}
-use Rattle.qx_machine.specs.Attributes.{root_attribute}
 use Rattle.qx_machine.specs.Clients.{ClientStep, client_given, or_unchanged}
+use Rattle.qx_machine.specs.Mounting.{boot_resources}
 use Rattle.qx_machine.specs.Parts.{Part, with_process}
 use Rattle.qx_machine.specs.Performing.{Served, or_kept, serve_message}
 use Rattle.qx_machine.specs.Processes.{taken_thread, with_thread}
 
 -- the rows of a user at boot
 unfoldable pub boot_part : Configuration → ℕ → Part
-boot_part config user = record { processes = None ∷ []; resources = record { root = root_attribute user; blocks = None ∷ [] } }
+boot_part config user = record { processes = None ∷ []; resources = boot_resources user (name_bytes config user) }
 
 -- a client's step, from its user's rows and the items of that user in workers' hands
 unfoldable pub client : Configuration → ℕ → List OwnItem → Part → Step → ClientStep

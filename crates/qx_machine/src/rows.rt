@@ -1,3 +1,4 @@
+use qx_paths::Path;
 use qx_types::{Actor, Answer, Bytes, Coid, Manager, Outcome, Prio, Step, User};
 use qx_wire::{BorrowedBytes, Message};
 
@@ -21,8 +22,19 @@ pub enum Over {
 #[derive(Clone, Copy, Debug, PartialEq, Eq)]
 pub struct Target {
     pub manager: Manager,
+    /// Of a message to a path, the mount to which the path leads, by the inode of its root (Writing a Resource Manager:
+    /// the handle that connect functions are given).
+    pub root: Option<u32>,
     pub over: Over,
     pub prio: Prio,
+}
+
+/// Where a call's message goes, and what the call's path has behind the prefix of its mount; a call that names no path
+/// has nothing there.
+#[derive(Debug, Drop)]
+pub struct Addressed<'a> {
+    pub target: Target,
+    pub rest: Path<'a>,
 }
 
 /// A message: its bytes, and what its channel keeps beside them: where it went, and whether it was asked to unblock its

@@ -118,9 +118,9 @@ deep_among path rest (other ∷ before) after mount best n e = deep_among path r
 
 -- the mount has that number and prefix, and prefix and rest together are the path
 abbrev pub IsPlace : List MountPoint → List (List ℕ) → Resolved → Type 0
-IsPlace mounts path place = (slice_get mounts place.number ≡ Some (record { prefix = take place.depth path; manager = place.manager })) × (take place.depth path ++ place.rest ≡ path)
+IsPlace mounts path place = (slice_get mounts place.number ≡ Some (record { prefix = take place.depth path; manager = place.manager; root = place.root })) × (take place.depth path ++ place.rest ≡ path)
 
-fit_place : (all : List MountPoint) (path : List (List ℕ)) (n : ℕ) (mount : MountPoint) → slice_get all n ≡ Some mount → (left : Option (List (List ℕ))) → behind path mount.prefix ≡ left → IfSome (option_map (λ rest. record { number = n; depth = length mount.prefix; manager = mount.manager; rest = rest }) left) (IsPlace all path)
+fit_place : (all : List MountPoint) (path : List (List ℕ)) (n : ℕ) (mount : MountPoint) → slice_get all n ≡ Some mount → (left : Option (List (List ℕ))) → behind path mount.prefix ≡ left → IfSome (option_map (λ rest. record { number = n; depth = length mount.prefix; manager = mount.manager; root = mount.root; rest = rest }) left) (IsPlace all path)
 fit_place all path n mount is None e = tt
 fit_place all path n mount is (Some rest) e = rw (prefix_taken path mount.prefix rest e) (is, behind_together path mount.prefix rest e)
 
@@ -142,9 +142,9 @@ located_deep : (d : ℕ) (found : Option Resolved) → IsDeep d found → IsOk (
 located_deep d None deep = absurd deep
 located_deep d (Some place) deep = refl
 
-pub top_leads : (names : List (List ℕ)) (own : List ℕ) (manager : Manager) (mounts : List MountPoint) (path : List (List ℕ)) → IsOk (resolve names own (record { prefix = own ∷ []; manager = manager } ∷ mounts) (own ∷ path))
-top_leads names own manager mounts path =
-    let top : MountPoint = record { prefix = own ∷ []; manager = manager } in
+pub top_leads : (names : List (List ℕ)) (own : List ℕ) (manager : Manager) (root : ℕ) (mounts : List MountPoint) (path : List (List ℕ)) → IsOk (resolve names own (record { prefix = own ∷ []; manager = manager; root = root } ∷ mounts) (own ∷ path))
+top_leads names own manager root mounts path =
+    let top : MountPoint = record { prefix = own ∷ []; manager = manager; root = root } in
     let none : top_fault names own (own ∷ path) ≡ None = rw (equal_name own) refl in
     let found : Option Resolved = longest (own ∷ path) None 0 (top ∷ mounts) in
     subst (λ (fault : Option Errno). IsOk (located fault found)) (sym none) (located_deep 1 found (deep_among (own ∷ path) path [] mounts top None 0 (rw (equal_name own) refl)))

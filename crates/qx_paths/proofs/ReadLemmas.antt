@@ -1,5 +1,5 @@
 -- What a path that was read has, and reading it again from its components.
-use Rattle.std.proofs.Common.{append_assoc, ◌≡◌, ℕ, ◌+◌, ◌≤◌, Bool, true, false, ◌&&◌, eqb, List, [], ◌∷◌, ◌++◌, length, take, drop, Option, None, Some, refl, ap, sym, subst, ◌∙◌, arith}
+use Rattle.std.proofs.Common.{nat_le, append_assoc, ◌≡◌, ℕ, ◌+◌, ◌≤◌, Bool, true, false, ◌&&◌, eqb, List, [], ◌∷◌, ◌++◌, length, take, drop, Option, None, Some, refl, ap, sym, subst, ◌∙◌, arith}
 use Rattle.std.specs.Prelude.{IfOk, Result, Ok, Err, if◌then◌else◌, filter, nat_lt}
 use Rattle.std.specs.List.{list_all, slice_split}
 use Rattle.std.proofs.lemmas.Bool.{eqb-true, le-leb, le-ltb, ltb-false}
@@ -9,7 +9,7 @@ use Rattle.std.proofs.lemmas.List.Splits.{join_with_byte-slice_split}
 use Rattle.qx_types.specs.declared.errno.Errno.{Errno}
 use Rattle.qx_types.specs.declared.errno.Errno.TheVariants.{EINVAL, ENAMETOOLONG}
 use Rattle.qx_types.specs.declared.limits.TheConstants.Limits.{PATH}
-use Rattle.qx_wire.specs.Rests.{is_component, is_rest, joined}
+use Rattle.qx_wire.specs.Rests.{is_component, is_rest, components_of, joined}
 use Rattle.qx_wire.proofs.RestLemmas.{components_joined, components_some}
 use Rattle.qx_paths.specs.Paths.{begins_with_slash, first_fault, is_named, IsShortPath, path_components, read_path, unless}
 use Rattle.qx_paths.proofs.PathLemmas.{both_true, faultless, skip_slash}
@@ -102,6 +102,9 @@ good_rest bytes path =
 pub joined_more : (text name : List ℕ) (names : List (List ℕ)) → joined (((text ++ 47 ∷ []) ++ name) ∷ names) ≡ joined (text ∷ name ∷ names)
 joined_more text name [] = append_assoc text (47 ∷ []) name
 joined_more text name (next ∷ names) = rw (append_assoc text (47 ∷ []) name) (append_assoc text (47 ∷ name) (47 ∷ joined (next ∷ names)))
+
+pub rest_again : (rest : List (List ℕ)) → is_rest rest ≡ true → components_of (joined rest) ≡ rest
+rest_again rest good = components_joined rest (both_true (nat_le (length (joined rest)) PATH) (list_all is_component rest) good).1
 
 -- ---- reading again
 

@@ -20,7 +20,7 @@ ReadRests = (bytes : List ℕ) (names : List (List ℕ)) (n : ℕ) → read_path
 abbrev pub PrefixAndRest : Type 0
 PrefixAndRest = (names : List (List ℕ)) (own : List ℕ) (mounts : List MountPoint) (path : List (List ℕ)) (place : Resolved) →
     resolve names own mounts path ≡ Ok place →
-    (slice_get mounts place.number ≡ Some (record { prefix = take place.depth path; manager = place.manager })) × (take place.depth path ++ place.rest ≡ path)
+    (slice_get mounts place.number ≡ Some (record { prefix = take place.depth path; manager = place.manager; root = place.root })) × (take place.depth path ++ place.rest ≡ path)
 
 -- no mount that fits has a longer prefix than the one to which a path leads
 abbrev pub LongestPrefix : Type 0
@@ -29,8 +29,8 @@ LongestPrefix = (names : List (List ℕ)) (own : List ℕ) (before after : List 
 
 -- a path under a user's own name leads somewhere where the top is mounted
 abbrev pub TopFits : Type 0
-TopFits = (names : List (List ℕ)) (own : List ℕ) (manager : Manager) (mounts : List MountPoint) (path : List (List ℕ)) →
-    IsOk (resolve names own (record { prefix = own ∷ []; manager = manager } ∷ mounts) (own ∷ path))
+TopFits = (names : List (List ℕ)) (own : List ℕ) (manager : Manager) (root : ℕ) (mounts : List MountPoint) (path : List (List ℕ)) →
+    IsOk (resolve names own (record { prefix = own ∷ []; manager = manager; root = root } ∷ mounts) (own ∷ path))
 
 -- a path begins with a prefix exactly if they are the prefix and what is behind it
 abbrev pub BehindExactly : Type 0

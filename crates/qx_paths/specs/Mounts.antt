@@ -13,8 +13,8 @@ use Rattle.qx_paths.specs.declared.mounts.MountFault.TheVariants.{Refused, NoMem
 use Rattle.qx_paths.specs.declared.resolved.Resolved.{Resolved}
 
 -- a user's mounts at boot: the user's name, of the RAM manager (this profile)
-abbrev pub boot_mounts : List ℕ → List MountPoint
-boot_mounts name = record { prefix = name ∷ []; manager = Ram } ∷ []
+abbrev pub boot_mounts : List ℕ → ℕ → List MountPoint
+boot_mounts name root = record { prefix = name ∷ []; manager = Ram; root = root } ∷ []
 
 -- why a user's path whose first component is that name is refused whatever is mounted: the name is another user's or
 -- nobody's (this profile)
@@ -31,7 +31,7 @@ top_fault names own (first ∷ path) = name_fault names own first
 
 -- what a path is to a mount, by the mount's number: nothing where the path doesn't begin with the prefix
 abbrev pub fit : List (List ℕ) → ℕ → MountPoint → Option Resolved
-fit path number mount = option_map (λ rest. record { number = number; depth = length mount.prefix; manager = mount.manager; rest = rest }) (behind path mount.prefix)
+fit path number mount = option_map (λ rest. record { number = number; depth = length mount.prefix; manager = mount.manager; root = mount.root; rest = rest }) (behind path mount.prefix)
 
 -- the one with the longer prefix
 abbrev pub longer : Option Resolved → Option Resolved → Option Resolved
@@ -63,8 +63,8 @@ mount_fault mounts path =
     else Some ENOSPC
 
 -- a manager is attached at a path, after the mounts that are there (C Library Reference: resmgr_attach)
-abbrev pub mounted : List MountPoint → List (List ℕ) → Manager → List MountPoint
-mounted mounts path manager = mounts ++ record { prefix = path; manager = manager } ∷ []
+abbrev pub mounted : List MountPoint → List (List ℕ) → Manager → ℕ → List MountPoint
+mounted mounts path manager root = mounts ++ record { prefix = path; manager = manager; root = root } ∷ []
 
 -- an error of adding a mount says why it is refused; want of memory is said only where nothing refuses it
 abbrev pub IsMountError : Option Errno → MountFault → Type 0

@@ -3,10 +3,12 @@ use Rattle.std.specs.Prelude.{ℕ, Bool, true, false, List, [], ◌∷◌, Optio
 use Rattle.std.specs.Str.{bytes_eq}
 use Rattle.qx_types.specs.declared.names.Manager.{Manager}
 
--- a manager and the components at which it is attached (C Library Reference: resmgr_attach)
+-- a manager, the components at which it is attached, and the inode of the mount's root (C Library Reference: resmgr_attach, whose
+-- handle is the root's attribute)
 pub record MountPoint : Type 0 where
   pub prefix : List (List ℕ)
   pub manager : Manager
+  pub root : ℕ
 
 -- what a path has behind a prefix of whole components, if it begins with it (System Architecture: pathname management)
 abbrev pub behind : List (List ℕ) → List (List ℕ) → Option (List (List ℕ))

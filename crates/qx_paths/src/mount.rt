@@ -6,11 +6,13 @@ use qx_types::{Bytes, Manager, NoMemory};
 use std::alloc::Global;
 use std::marker::Model;
 
-/// A manager and the components at which it is attached (C Library Reference: `resmgr_attach`).
+/// A manager, the components at which it is attached, and the inode of the mount's root (C Library Reference:
+/// `resmgr_attach`, whose handle is the root's attribute).
 #[derive(Debug, Drop)]
 pub struct Mount {
     prefix: Vec<Bytes>,
     manager: Manager,
+    root: u32,
 }
 
 impl Model for Mount {
@@ -18,29 +20,42 @@ impl Model for Mount {
 
     ghost Value = { MountPoint };
 
-    ghost view = { λ m. record { prefix = m.prefix.items; manager = m.manager } };
+    ghost view = { λ m. record { prefix = m.prefix.items; manager = m.manager; root = m.root } };
 }
 
 impl Mount {
     /// A manager attached at the components of a path, of which it keeps a copy.
-    pub fn new(alloc: Global, path: &Path<'_>, manager: Manager) -> Result<Mount, NoMemory>
-        ensures mount { IfOk result (λ mount. mount ≡ record { prefix = path.now; manager = manager }) }
+    pub fn new(
+        alloc: Global,
+        path: &Path<'_>,
+        manager: Manager,
+        root: u32,
+    ) -> Result<Mount, NoMemory>
+        ensures mount { IfOk result (λ mount. mount ≡ record { prefix = path.now; manager = manager; root = root }) }
     {
         let mut prefix = Vec::new(alloc);
         let mut walk = path.components();
         while let Some(component) = walk.next() {
             prefix.push(Bytes::from_slice(alloc, component)?)?;
         }
-        Ok(Mount { prefix, manager })
+        Ok(Mount {
+            prefix,
+            manager,
+            root,
+        })
     }
 
     /// A manager attached at one component, a user's name.
-    pub fn top(alloc: Global, name: &[u8], manager: Manager) -> Result<Mount, NoMemory>
-        ensures mount { IfOk result (λ mount. mount ≡ record { prefix = name.now ∷ []; manager = manager }) }
+    pub fn top(alloc: Global, name: &[u8], manager: Manager, root: u32) -> Result<Mount, NoMemory>
+        ensures mount { IfOk result (λ mount. mount ≡ record { prefix = name.now ∷ []; manager = manager; root = root }) }
     {
         let mut prefix = Vec::new(alloc);
         prefix.push(Bytes::from_slice(alloc, name)?)?;
-        Ok(Mount { prefix, manager })
+        Ok(Mount {
+            prefix,
+            manager,
+            root,
+        })
     }
 
     /// The manager.
@@ -48,6 +63,13 @@ impl Mount {
         ensures manager { result ≡ self.now.manager }
     {
         self.manager
+    }
+
+    /// The inode of the mount's root.
+    pub fn root(&self) -> u32
+        ensures root { result ≡ self.now.root }
+    {
+        self.root
     }
 
     /// How many components there are.

@@ -53,12 +53,12 @@ impl Model for Mounts {
 }
 
 impl Mounts {
-    /// The mounts of a user at boot: the top, which is the user's name, of the RAM manager.
-    pub fn boot(alloc: Global, name: &[u8]) -> Result<Mounts, NoMemory>
-        ensures top { IfOk result (λ mounts. mounts ≡ boot_mounts name.now) }
+    /// The mounts of a user at boot: the top, which is the user's name, of the RAM manager, with that inode for its root.
+    pub fn boot(alloc: Global, name: &[u8], root: u32) -> Result<Mounts, NoMemory>
+        ensures top { IfOk result (λ mounts. mounts ≡ boot_mounts name.now root) }
     {
         let mut rows = Vec::new(alloc);
-        rows.push(Mount::top(alloc, name, Manager::Ram)?)?;
+        rows.push(Mount::top(alloc, name, Manager::Ram, root)?)?;
         Ok(Mounts { rows })
     }
 
@@ -89,33 +89,40 @@ impl Mounts {
         }
     }
 
-    /// Attaches a manager at a path, under the next number (C Library Reference: `resmgr_attach`). `Refused` as `fault`
-    /// says, `NoMemory` where that says nothing; nothing changes then.
+    /// Attaches a manager at a path, under the next number, with that inode for its root (C Library Reference:
+    /// `resmgr_attach`). `Refused` as `fault` says, `NoMemory` where that says nothing; nothing changes then.
     pub fn add(
         &mut self,
         alloc: Global,
         path: &Path<'_>,
         manager: Manager,
+        root: u32,
     ) -> Result<(), MountFault>
         ensures free { OnOk result (mount_fault self.old path.now ≡ None) }
-        ensures mounted { OnOk result (self.new ≡ mounted self.old path.now manager) }
+        ensures mounted { OnOk result (self.new ≡ mounted self.old path.now manager root) }
         ensures refused { IfErr result (IsMountError (mount_fault self.old path.now)) }
         ensures err { OnErr result (self.new ≡ self.old) }
     {
         if let Some(errno) = self.fault(path) {
             return Err(MountFault::Refused(errno));
         }
-        self.push(alloc, path, manager)?;
+        self.push(alloc, path, manager, root)?;
         Ok(())
     }
 
     /// Attaches a manager at a path where nothing refuses it.
-    fn push(&mut self, alloc: Global, path: &Path<'_>, manager: Manager) -> Result<(), NoMemory>
+    fn push(
+        &mut self,
+        alloc: Global,
+        path: &Path<'_>,
+        manager: Manager,
+        root: u32,
+    ) -> Result<(), NoMemory>
         requires free { mount_fault self.old path.now ≡ None }
-        ensures mounted { OnOk result (self.new ≡ mounted self.old path.now manager) }
+        ensures mounted { OnOk result (self.new ≡ mounted self.old path.now manager root) }
         ensures err { OnErr result (self.new ≡ self.old) }
     {
-        let mount = Mount::new(alloc, path, manager)?;
+        let mount = Mount::new(alloc, path, manager, root)?;
         self.rows.push(mount)?;
         Ok(())
     }
@@ -196,6 +203,7 @@ fn fit<'a>(path: &Path<'a>, number: usize, mount: &Mount) -> Option<Resolved<'a>
         number,
         depth: mount.depth(),
         manager: mount.manager(),
+        root: mount.root(),
         rest,
     })
 }

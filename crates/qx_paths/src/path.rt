@@ -1,6 +1,6 @@
-ghost use Rattle.std.specs.Prelude.{◌≡◌, ◌<◌, ◌≤◌, ◌==◌, ◌∷◌, false, length, position, true, IfOk, IfSome};
+ghost use Rattle.std.specs.Prelude.{◌≡◌, ◌<◌, ◌≤◌, ◌==◌, [], ◌∷◌, false, length, position, true, IfOk, IfSome, IsOk};
 ghost use Rattle.std.specs.Option.{option_map};
-ghost use Rattle.qx_wire.specs.Rests.{is_rest, joined};
+ghost use Rattle.qx_wire.specs.Rests.{components_of, is_rest, joined};
 ghost use Rattle.qx_paths.specs.Prefixes.{behind, is_under};
 ghost use Rattle.qx_paths.specs.Paths.{begins_with_slash, component_fault, first_fault, path_components, read_path, walked};
 
@@ -63,6 +63,14 @@ pub fn read_path(bytes: &[u8]) -> Result<Path<'_>, Errno>
 }
 
 impl<'a> Path<'a> {
+    /// The end of a path, which has no components.
+    #[tactic(auto, unfolding(crate::specs::Paths::path_components))]
+    pub fn empty() -> Path<'a>
+        ensures none { result ≡ [] }
+    {
+        Path { bytes: &[] }
+    }
+
     /// The components, to be walked from the first one on.
     pub fn components(&self) -> Components<'a>
         ensures components { result ≡ self.now }
@@ -79,11 +87,14 @@ impl<'a> Path<'a> {
         Some(Path { bytes: left })
     }
 
-    /// The components with one `/` between each two, as they stand in a message.
-    #[tactic(auto, using(crate::proofs::ReadLemmas::joined_more))]
+    /// The components with one `/` between each two, as they stand in a message; where there is none, no memory is wanted.
+    #[tactic(auto, using(crate::proofs::ReadLemmas::joined_more, crate::proofs::ReadLemmas::rest_again))]
     pub fn joined(&self, alloc: Global) -> Result<Bytes, NoMemory>
         ensures joined { IfOk result (λ bytes. bytes ≡ joined self.now) }
+        ensures read_back { IfOk result (λ bytes. components_of bytes ≡ self.now) }
+        ensures sure { self.now ≡ [] → IsOk result }
     {
+        self.know();
         let mut walk = self.components();
         let Some(first) = walk.next() else {
             return Ok(Bytes::new(alloc));

@@ -10,6 +10,8 @@ pub struct Resolved<'a> {
     pub depth: usize,
     /// The mount's manager.
     pub manager: Manager,
+    /// The inode of the mount's root.
+    pub root: u32,
     /// The components behind the prefix.
     pub rest: Path<'a>,
 }

@@ -1,6 +1,6 @@
 //! Tables of rows under small numbers: a place for each number, as long as the table has grown.
 
-ghost use Rattle.std.specs.Prelude.{◌≡◌, ◌+◌, ◌<◌, ◌^◌, length, IfOk, OnOk, OnErr, OnSome, None, [], ◌∷◌, slice_set, Some};
+ghost use Rattle.std.specs.Prelude.{◌≡◌, ◌+◌, ◌<◌, ◌≤◌, ◌^◌, vec_capacity, vec_len, length, IfOk, OnOk, OnErr, OnSome, None, [], ◌∷◌, slice_set, Some};
 ghost use Rattle.std.specs.Option.{option_copied};
 ghost use Rattle.qx_machine.specs.Rows.{row_at, lowest_from, put_row};
 
@@ -35,12 +35,23 @@ pub fn put<T: Drop>(places: &mut Vec<Option<T>>, number: usize, row: T) -> Resul
     ensures ok { OnOk result (places.new.items ≡ put_row places.old.items number row) }
     ensures err { OnErr result (places.new.items ≡ places.old.items) }
 {
+    if number >= places.len() {
+        places.reserve(1)?;
+    }
+    put_reserved(places, number, row);
+    Ok(())
+}
+
+/// Puts a row under a number, where the table has it or has room for one more.
+pub fn put_reserved<T: Drop>(places: &mut Vec<Option<T>>, number: usize, row: T)
+    requires room { length places.old.items ≤ number → vec_len places.old < vec_capacity places.old }
+    ensures row { places.new.items ≡ put_row places.old.items number row }
+{
     if number < places.len() {
         places[number] = Some(row);
     } else {
-        places.push(Some(row))?;
+        places.push_reserved(Some(row));
     }
-    Ok(())
 }
 
 /// A table with no row.

@@ -5,29 +5,33 @@ ghost use Rattle.qx_machine.specs.Calls as calls;
 ghost use Rattle.qx_machine.specs.Calls.{bytes_of, can_send, content_of, in_ranges};
 
 use qx_machine::Content;
+use qx_paths::Path;
 use qx_types::{Bytes, Limits, NoMemory, OFlags, Request};
 use qx_wire::{BorrowedBytes, Message, Rest, encode};
 use std::alloc::Global;
 
-/// The bytes that a request sends: the spelling of its message, or a copy of its bytes (C Library Reference: `MsgSend`).
-pub fn encoded(alloc: Global, request: &Request) -> Result<Bytes, NoMemory>
-    requires sendable { IsTrue (can_send (content_of request.now)) }
-    ensures bytes { IfOk result (λ bytes. bytes ≡ bytes_of (content_of request.now)) }
+/// The bytes that a request sends: the spelling of its message, with what its path has behind the mount, or a copy of its
+/// bytes (C Library Reference: `MsgSend`).
+pub fn encoded(alloc: Global, request: &Request, rest: &Path<'_>) -> Result<Bytes, NoMemory>
+    requires sendable { IsTrue (can_send (content_of request.now rest.now)) }
+    ensures bytes { IfOk result (λ bytes. bytes ≡ bytes_of (content_of request.now rest.now)) }
 {
-    match content_of(request) {
+    let joined = rest.joined(alloc)?;
+    match content_of(request, Rest::new(joined.as_slice())) {
         Content::Spelled(message) => encode(alloc, &message),
         Content::Raw(bytes) => Ok(Bytes::from_slice(alloc, bytes.as_slice())?),
     }
 }
 
-/// Whether each field of a request is in its range; the connection of a dup is judged by whether it is there.
+/// Whether each field of a request is in its range. A path is judged as a path, and the connection of a dup by whether it
+/// is there.
 pub(crate) fn is_in_ranges(request: &Request) -> bool
     ensures ranges { result ≡ in_ranges request.now }
 {
     match request {
         Request::Dup { .. } => true,
         Request::OpenPath { flags, .. } if *flags != OFlags::READ => false,
-        _ => can_send(&content_of(request)),
+        _ => can_send(&content_of(request, root())),
     }
 }
 
@@ -42,18 +46,18 @@ fn can_send(content: &Content<'_>) -> bool
 }
 
 /// What a request sends; of a path, what is behind its mount.
-fn content_of(request: &Request) -> Content<'_>
-    ensures { result ≡ calls.content_of request.now }
+fn content_of<'a>(request: &'a Request, rest: Rest<'a>) -> Content<'a>
+    ensures { result ≡ calls.content_of request.now rest.entry }
 {
     Content::Spelled(match *request {
         Request::OpenPath { flags, mode, .. } => Message::Open {
             flags,
             mode,
-            rest: root(),
+            rest,
         },
-        Request::StatPath { .. } => Message::Stat { rest: root() },
-        Request::Unlink { .. } => Message::Unlink { rest: root() },
-        Request::Mkdir { mode, .. } => Message::Mknod { mode, rest: root() },
+        Request::StatPath { .. } => Message::Stat { rest },
+        Request::Unlink { .. } => Message::Unlink { rest },
+        Request::Mkdir { mode, .. } => Message::Mknod { mode, rest },
         Request::Read { count, .. } => Message::Read { count },
         Request::Write { ref bytes, .. } => Message::Write {
             bytes: BorrowedBytes::new(bytes.as_slice()),

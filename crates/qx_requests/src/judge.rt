@@ -1,42 +1,42 @@
-//! How a call of a thread is judged, by the rows of its user.
+//! How a call of a thread is judged, by the mounts and the processes of its user.
 
-ghost use Rattle.std.specs.Prelude.{◌≡◌, ◌∷◌, ◌<◌, ◌≤◌, IsTrue, IfOk, Ok, Err, Some, option_map, if◌then◌else◌};
-ghost use Rattle.std.specs.Str.{bytes_eq};
-ghost use Rattle.qx_types.specs.declared.errno.Errno.TheVariants.{ENOENT};
-ghost use Rattle.qx_types.specs.declared.limits.TheConstants.Limits.{CALLS, LAST_CONNECTION};
-ghost use Rattle.qx_types.specs.declared.outcome.Outcome.TheVariants.{Refused};
+ghost use Rattle.std.specs.Prelude.{◌≡◌, ◌<◌, ◌≤◌, IsTrue, IfOk, Some, option_map, true};
+ghost use Rattle.qx_types.specs.declared.limits.TheConstants.Limits.{LAST_CONNECTION};
+ghost use Rattle.qx_wire.specs.Rests.{is_rest};
 ghost use Rattle.qx_machine.specs.declared.rows.State.TheVariants.{Ready};
 ghost use Rattle.qx_machine.specs.Calls as calls;
-ghost use Rattle.qx_machine.specs.Calls.{address, can_send, content_of, in_ranges};
+ghost use Rattle.qx_machine.specs.Calls.{can_send, content_of};
 ghost use Rattle.qx_machine.specs.Clients as clients;
-ghost use Rattle.qx_machine.specs.Parts.{Resources, thread_of};
+ghost use Rattle.qx_machine.specs.Judgements.{or_refused};
+ghost use Rattle.qx_machine.specs.Parts.{thread_of};
 ghost use Rattle.qx_machine.specs.Rows.{row_at};
-ghost use Rattle.qx_process.specs.Reads.{CanCall, CanGo, IsPriority};
-ghost use Rattle.qx_requests.specs.Targets as targets;
+ghost use Rattle.qx_process.specs.Reads.{CanCall, CanGo};
 ghost use Rattle.qx_requests.specs.Targets.{IsConnection};
 
 use crate::content::is_in_ranges;
-use qx_machine::{Connection, Over, State, Target, ThreadRow};
+use qx_machine::{Addressed, Connection, Over, State, Target, ThreadRow};
+use qx_paths::{Mounts, Path, Resolved, read_path};
 use qx_process::Process;
 use qx_procs::Processes;
-use qx_types::{Coid, Errno, Limits, Manager, Outcome, Prio, Request, Thread};
+use qx_types::{Config, Coid, Errno, Limits, Outcome, Prio, Request, Thread, User};
 
-/// Where a call of a thread goes, by the processes and the name of its user, or the outcome of one that sends nothing:
+/// Where a call of a thread goes, by the mounts and the processes of its user, or the outcome of one that sends nothing:
 /// `WrongState` where the thread is not there or not ready; then EINVAL for fields out of their ranges, EAGAIN where the
-/// thread's calls are used up; for a path, ENOENT where it is not the user's own root; for a connection, EBADF where it
-/// is not there; EMFILE where no connection is free for a new one; EAGAIN where the user has all its server connections at
-/// the manager. What is judged so can be sent.
-pub fn target_by(
+/// thread's calls are used up; for a path, the errors of `read_path`, then those of `Mounts::resolve`; for a connection,
+/// EBADF where it is not there; EMFILE where no connection is free for a new one; EAGAIN where the user has all its server
+/// connections at the manager. What is judged so can be sent.
+pub fn target_by<'a>(
+    config: &Config,
+    mounts: &Mounts,
     processes: &Processes,
-    name: &[u8],
     thread: Thread,
-    request: &Request,
-) -> Result<Target, Outcome>
+    request: &'a Request,
+) -> Result<Addressed<'a>, Outcome>
     ensures ready { IfOk result (λ _. option_map (λ row. row.state) (thread_of thread.tid (row_at processes.now thread.proc.num)) ≡ Some Ready) }
     ensures countable { IfOk result (λ _. CanCall (thread_of thread.tid (row_at processes.now thread.proc.num))) }
-    ensures goes { IfOk result (λ target. CanGo target) }
-    ensures sendable { IfOk result (λ _. IsTrue (can_send (content_of request.now))) }
-    ensures target { (resources : Resources) → result ≡ clients.target_by (47 ∷ name.now) (record { processes = processes.now; resources = resources }) thread request.now }
+    ensures goes { IfOk result (λ addressed. CanGo addressed.target) }
+    ensures sendable { IfOk result (λ addressed. IsTrue (can_send (content_of request.now addressed.rest))) }
+    ensures target { result ≡ clients.target_by config.now thread.proc.user.0 mounts.now processes.now thread request.now }
 {
     let Some(process) = processes.process(thread.proc.num) else {
         return Err(Outcome::WrongState);
@@ -44,23 +44,40 @@ pub fn target_by(
     let Some(row) = process.thread(thread.tid) else {
         return Err(Outcome::WrongState);
     };
-    target_of(processes, process, row, name, request)
+    may_call(row, request)?;
+    match request {
+        Request::OpenPath { path, .. } => {
+            let place = place_of(config, thread.proc.user, mounts, path.as_slice())?;
+            let coid = Coid(free_connection(process)?);
+            to_place(processes, process, place, Over::New(coid), row.prio)
+        }
+        Request::StatPath { path } | Request::Unlink { path } | Request::Mkdir { path, .. } => {
+            let place = place_of(config, thread.proc.user, mounts, path.as_slice())?;
+            to_place(processes, process, place, Over::Side, row.prio)
+        }
+        Request::Dup { coid } => {
+            let connection = connection_at(process, *coid)?;
+            let other = Coid(free_connection(process)?);
+            Ok(to_connection(connection, Over::New(other), row.prio))
+        }
+        Request::Read { coid, .. }
+        | Request::Write { coid, .. }
+        | Request::Close { coid }
+        | Request::Seek { coid, .. }
+        | Request::Fstat { coid }
+        | Request::List { coid, .. }
+        | Request::Chmod { coid, .. }
+        | Request::Notify { coid, .. }
+        | Request::Raw { coid, .. } => {
+            let connection = connection_at(process, *coid)?;
+            Ok(to_connection(connection, Over::Existing(*coid), row.prio))
+        }
+    }
 }
 
-/// Where the call of a thread that is there goes.
-fn target_of(
-    processes: &Processes,
-    process: &Process,
-    row: &ThreadRow,
-    name: &[u8],
-    request: &Request,
-) -> Result<Target, Outcome>
-    requires { IsPriority row.now.prio.0 }
-    ensures ready { IfOk result (λ _. row.now.state ≡ Ready) }
-    ensures countable { IfOk result (λ _. row.now.calls < CALLS) }
-    ensures goes { IfOk result (λ target. CanGo target) }
-    ensures sendable { IfOk result (λ _. IsTrue (can_send (content_of request.now))) }
-    ensures target { result ≡ calls.target_of (47 ∷ name.now) processes.now process.now row.now request.now }
+/// Whether a thread may make a call with these fields.
+fn may_call(row: &ThreadRow, request: &Request) -> Result<(), Outcome>
+    ensures { result ≡ calls.may_call row.now request.now }
 {
     let State::Ready = &row.state else {
         return Err(Outcome::WrongState);
@@ -71,81 +88,64 @@ fn target_of(
     if row.calls >= Limits::CALLS {
         return Err(Outcome::Refused(Errno::EAGAIN));
     }
-    target_at(processes, process, name, row.prio, request)
-}
-
-/// To which manager a message goes, and over what.
-fn target_at(
-    processes: &Processes,
-    process: &Process,
-    name: &[u8],
-    prio: Prio,
-    request: &Request,
-) -> Result<Target, Outcome>
-    requires { IsPriority prio.0 }
-    ensures goes { IfOk result (λ target. CanGo target) }
-    ensures sendable { IsTrue (in_ranges request.now) → IfOk result (λ _. IsTrue (can_send (content_of request.now))) }
-    ensures target { result ≡ calls.target_at (47 ∷ name.now) processes.now process.now prio (address request.now) }
-{
-    match request {
-        Request::OpenPath { path, .. } => {
-            own_root(name, path.as_slice())?;
-            let coid = Coid(free_connection(process)?);
-            root_target(processes, process, prio, Over::New(coid))
-        }
-        Request::StatPath { path } | Request::Unlink { path } | Request::Mkdir { path, .. } => {
-            own_root(name, path.as_slice())?;
-            root_target(processes, process, prio, Over::Side)
-        }
-        Request::Dup { coid } => Ok(Target {
-            manager: connection_at(process, *coid)?.manager,
-            over: Over::New(Coid(free_connection(process)?)),
-            prio,
-        }),
-        Request::Read { coid, .. }
-        | Request::Write { coid, .. }
-        | Request::Close { coid }
-        | Request::Seek { coid, .. }
-        | Request::Fstat { coid }
-        | Request::List { coid, .. }
-        | Request::Chmod { coid, .. }
-        | Request::Notify { coid, .. }
-        | Request::Raw { coid, .. } => Ok(Target {
-            manager: connection_at(process, *coid)?.manager,
-            over: Over::Existing(*coid),
-            prio,
-        }),
-    }
-}
-
-/// The path is that of the user's own root.
-fn own_root(name: &[u8], path: &[u8]) -> Result<(), Outcome>
-    ensures { result ≡ (if bytes_eq path.now (47 ∷ name.now) then Ok tt else Err (Refused ENOENT)) }
-{
-    if !is_own_path(name, path) {
-        return Err(Outcome::Refused(Errno::ENOENT));
-    }
     Ok(())
 }
 
-/// The manager of the user's root, which the user can have a server connection at.
-fn root_target(
+/// Where a path leads a user.
+fn place_of<'a>(
+    config: &Config,
+    user: User,
+    mounts: &Mounts,
+    path: &'a [u8],
+) -> Result<Resolved<'a>, Outcome>
+    ensures rest { IfOk result (λ place. is_rest place.rest ≡ true) }
+    ensures place { result ≡ or_refused (calls.place_of config.now user.0 mounts.now path.now) }
+{
+    let path = read_path(path).map_err(Outcome::Refused)?;
+    let place = mounts
+        .resolve(config.names(), config.name_bytes(user), &path)
+        .map_err(Outcome::Refused)?;
+    place.rest.know();
+    Ok(place)
+}
+
+/// A message to where a path leads.
+fn to_place<'a>(
     processes: &Processes,
     process: &Process,
-    prio: Prio,
+    place: Resolved<'a>,
     over: Over,
-) -> Result<Target, Outcome>
-    ensures goes { IfOk result (λ target. (target.over ≡ over) × (target.prio ≡ prio)) }
-    ensures target { result ≡ targets.root_target processes.now process.now prio over }
+    prio: Prio,
+) -> Result<Addressed<'a>, Outcome>
+    ensures { result ≡ calls.to_place processes.now process.now place.entry over prio }
 {
-    if !processes.can_serve(process, Manager::Ram) {
+    if !processes.can_serve(process, place.manager) {
         return Err(Outcome::Refused(Errno::EAGAIN));
     }
-    Ok(Target {
-        manager: Manager::Ram,
-        over,
-        prio,
+    Ok(Addressed {
+        target: Target {
+            manager: place.manager,
+            root: Some(place.root),
+            over,
+            prio,
+        },
+        rest: place.rest,
     })
+}
+
+/// A message to what a connection has open.
+fn to_connection<'a>(connection: Connection, over: Over, prio: Prio) -> Addressed<'a>
+    ensures { result ≡ calls.to_connection connection over prio }
+{
+    Addressed {
+        target: Target {
+            manager: connection.manager,
+            root: None,
+            over,
+            prio,
+        },
+        rest: Path::empty(),
+    }
 }
 
 /// A connection that is there, which has a number from 3 to 66.
@@ -173,14 +173,4 @@ fn free_connection(process: &Process) -> Result<u8, Outcome>
         return Err(Outcome::Refused(Errno::EMFILE));
     }
     Ok(number as u8)
-}
-
-/// Whether a path is a slash and the name.
-fn is_own_path(name: &[u8], path: &[u8]) -> bool
-    ensures { result ≡ bytes_eq path.now (47 ∷ name.now) }
-{
-    match path.split_first() {
-        Some((first, rest)) => *first == b'/' && rest == name,
-        None => false,
-    }
 }

@@ -8,8 +8,8 @@ ghost use Rattle.qx_resources.specs.Boot.{boot_resources};
 
 use crate::resources::Resources;
 use qx_process::places;
-use qx_types::{Config, User};
-use std::alloc::{AllocError, Global};
+use qx_types::{Config, NoMemory, User};
+use std::alloc::Global;
 use std::marker::Model;
 
 /// What the managers keep for all users: a place for each number, from 1.
@@ -32,12 +32,12 @@ impl AllResources {
 
     /// The resources of the users of a configuration, at boot.
     #[tactic(auto, using(crate::proofs::BootLemmas::boot_resources_steps))]
-    pub fn boot(alloc: Global, config: &Config) -> Result<Self, AllocError>
+    pub fn boot(alloc: Global, config: &Config) -> Result<Self, NoMemory>
         ensures { IfOk result (λ all. all ≡ None ∷ boot_resources config.now 1 config.now.users) }
     {
         let mut rows = places::empty(alloc)?;
         for number in 0..config.user_count() {
-            rows.push(Some(Resources::boot(alloc, User(number as u8 + 1))?))?;
+            rows.push(Some(Resources::boot(alloc, config, User(number as u8 + 1))?))?;
         }
         Ok(AllResources { rows })
     }

@@ -6,4 +6,4 @@ pub mod resources;
 mod status;
 
 pub use all::AllResources;
-pub use resources::{Done, Resources};
+pub use resources::{Done, NewMount, Resources};

@@ -11,15 +11,15 @@ ghost use Rattle.qx_machine.specs.Rows.{row_at};
 ghost use Rattle.qx_process.specs.Reads.{is_thread_blocked, CanCall, CanGo};
 ghost use Rattle.qx_chan.specs.Users.{IsReady};
 ghost use Rattle.qx_steps.specs.Held.{bytes_in, hand_wants_memory, held_work, holds_wanting, sent_wants_memory, taken_item, work_now, IsReadFor, IsReadOf, IsStale};
-ghost use Rattle.qx_steps.specs.Reads.{is_thread_answered, taken_of, thread_row};
-ghost use Rattle.qx_steps.specs.Steps.{after_message, target_in};
+ghost use Rattle.qx_steps.specs.Reads.{is_thread_answered, is_thread_ready, taken_of, thread_row};
+ghost use Rattle.qx_steps.specs.Steps.{after_message, after_mount, mount_in, target_in, CanMount};
 
 use crate::work::{PerformFault, Work, WorkRef};
 use qx_chan::Channel;
-use qx_machine::{Held, OwnItem, Queued, Sent, State, Target};
+use qx_machine::{Addressed, Held, OwnItem, Queued, Sent, State};
 use qx_process::{Process, places};
 use qx_requests::{encoded, target_by};
-use qx_resources::AllResources;
+use qx_resources::{AllResources, NewMount};
 use qx_types::{
     Answer, Bytes, Config, Item, Manager, NoMemory, Outcome, Prio, Proc, Request, Step, Thread,
     User, Worker,
@@ -50,8 +50,8 @@ impl Model for World {
 }
 
 impl World {
-    /// The system at boot: each user has an empty mount, the lines are empty and the workers idle.
-    pub fn new(alloc: Global, config: Config) -> Result<Self, AllocError>
+    /// The system at boot: each user has the top, which is empty, the lines are empty and the workers idle.
+    pub fn new(alloc: Global, config: Config) -> Result<Self, NoMemory>
         ensures { IfOk result (λ world. world ≡ machine.boot config) }
     {
         let channel = Channel::new(alloc, config.user_count())?;
@@ -125,9 +125,9 @@ impl World {
 
     /// A client's request goes as a message into its manager's line, and the thread is blocked (C Library Reference:
     /// `MsgSend`). `WrongState` where the thread is not there or not ready; then EINVAL for fields out of their ranges,
-    /// EAGAIN where the thread's calls are used up; for a path, ENOENT where it is not the user's own root; for a
-    /// connection, EBADF where it is not there; EMFILE where no connection is free for a new one; EAGAIN where the user
-    /// has all its server connections at the manager. A call that is refused wants no memory.
+    /// EAGAIN where the thread's calls are used up; for a path, the errors of `read_path`, EACCES and ENOENT by whose
+    /// name is its first; for a connection, EBADF where it is not there; EMFILE where no connection is free for a new one;
+    /// EAGAIN where the user has all its server connections at the manager. A call that is refused wants no memory.
     pub fn call(&mut self, thread: Thread, request: &Request) -> Result<Outcome, NoMemory>
         ensures outcome { IfOk result (λ outcome. outcome ≡ (machine.step self.old (Step.Call thread request.now)).outcome) }
         ensures world { OnOk result (self.new ≡ (machine.step self.old (Step.Call thread request.now)).world) }
@@ -135,11 +135,11 @@ impl World {
         ensures err { OnErr result (self.new ≡ self.old) }
     {
         match self.judge(thread, request) {
-            Ok(target) => {
+            Ok(addressed) => {
                 let sent = Sent {
-                    target,
+                    target: addressed.target,
                     is_asked: false,
-                    bytes: encoded(self.alloc, request)?,
+                    bytes: encoded(self.alloc, request, &addressed.rest)?,
                 };
                 self.channel.send(self.alloc, thread, sent)?;
                 Ok(Outcome::Sent)
@@ -149,22 +149,85 @@ impl World {
     }
 
     /// Where a call goes, or the outcome of one that goes nowhere.
-    fn judge(&self, thread: Thread, request: &Request) -> Result<Target, Outcome>
+    fn judge<'a>(&self, thread: Thread, request: &'a Request) -> Result<Addressed<'a>, Outcome>
         ensures ready { IfOk result (λ _. IsReady (thread_row self.now.parts thread)) }
         ensures countable { IfOk result (λ _. CanCall (thread_row self.now.parts thread)) }
-        ensures goes { IfOk result (λ target. CanGo target) }
-        ensures sendable { IfOk result (λ _. IsTrue (can_send (content_of request.now))) }
+        ensures goes { IfOk result (λ addressed. CanGo addressed.target) }
+        ensures sendable { IfOk result (λ addressed. IsTrue (can_send (content_of request.now addressed.rest))) }
         ensures target { result ≡ target_in self.now thread request.now }
     {
         let user = thread.proc.user;
-        match self.channel.processes(user) {
-            Some(processes) => target_by(
-                processes,
-                name_bytes(self.config.name(user)),
-                thread,
-                request,
-            ),
-            None => Err(Outcome::WrongState),
+        let Some(processes) = self.channel.processes(user) else {
+            return Err(Outcome::WrongState);
+        };
+        let Some(resources) = self.resources.user(user) else {
+            return Err(Outcome::WrongState);
+        };
+        target_by(&self.config, resources.mounts(), processes, thread, request)
+    }
+
+    /// A manager is attached at a path of the thread's user, with a root of its own (C Library Reference:
+    /// `resmgr_attach`). `WrongState` where the thread is not there or not ready; then the errors of `read_path`, EACCES
+    /// outside of the user's top, whoever has the path's first name, EEXIST where a mount is, and ENOSPC where the user has
+    /// 8 mounts or 1,024 inodes. A mount that is refused wants no memory.
+    pub fn mount(
+        &mut self,
+        thread: Thread,
+        path: &Bytes,
+        manager: Manager,
+    ) -> Result<Outcome, NoMemory>
+        ensures outcome { IfOk result (λ outcome. outcome ≡ (machine.step self.old (Step.Mount thread path.now manager)).outcome) }
+        ensures world { OnOk result (self.new ≡ (machine.step self.old (Step.Mount thread path.now manager)).world) }
+        ensures sure { IsTrue (is_refusal (machine.step self.old (Step.Mount thread path.now manager)).outcome) → IsOk result }
+        ensures err { OnErr result (self.new ≡ self.old) }
+    {
+        match self.judge_mount(thread, path, manager) {
+            Ok(mount) => {
+                self.attach(thread.proc.user, &mount)?;
+                Ok(Outcome::Done)
+            }
+            Err(outcome) => Ok(outcome),
+        }
+    }
+
+    /// What a thread mounts, or the outcome of a step that mounts nothing.
+    fn judge_mount<'a>(
+        &self,
+        thread: Thread,
+        path: &'a Bytes,
+        manager: Manager,
+    ) -> Result<NewMount<'a>, Outcome>
+        ensures free { IfOk result (λ mount. CanMount (row_at self.now.parts thread.proc.user.0) mount.prefix) }
+        ensures mount { result ≡ mount_in self.now thread path.now manager }
+    {
+        let user = thread.proc.user;
+        match self.resources.user(user) {
+            Some(resources) if self.is_ready(thread) => resources
+                .new_mount(self.config.name_bytes(user), path.as_slice(), manager)
+                .map_err(Outcome::Refused),
+            _ => Err(Outcome::WrongState),
+        }
+    }
+
+    /// Whether a thread is there and ready.
+    fn is_ready(&self, thread: Thread) -> bool
+        ensures { result ≡ is_thread_ready (thread_row self.now.parts thread) }
+    {
+        match self.channel.thread(thread) {
+            Some(row) => matches!(row.state, State::Ready),
+            None => false,
+        }
+    }
+
+    /// A manager is attached for a user.
+    fn attach(&mut self, user: User, mount: &NewMount<'_>) -> Result<(), NoMemory>
+        requires free { CanMount (row_at self.old.parts user.0) mount.now.prefix }
+        ensures ok { OnOk result (self.new ≡ after_mount self.old user.0 mount.now) }
+        ensures err { OnErr result (self.new ≡ self.old) }
+    {
+        match self.resources.user_mut(user) {
+            Some(resources) => resources.mount(self.alloc, user, mount),
+            None => Ok(()),
         }
     }
 
@@ -465,16 +528,6 @@ fn meaning_of<'a>(bytes: &'a Bytes, read: Option<&'a Parsed>) -> Meaning<'a>
     match read {
         Some(read) => read.meaning(),
         None => meaning(bytes.as_slice()),
-    }
-}
-
-/// The bytes of a user's name.
-fn name_bytes(name: Option<&Bytes>) -> &[u8]
-    ensures { result.now ≡ unwrap_or (option_copied name.entry) [] }
-{
-    match name {
-        Some(name) => name.as_slice(),
-        None => &[],
     }
 }
 

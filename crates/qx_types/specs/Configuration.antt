@@ -1,5 +1,5 @@
 -- Who uses the system: names and numbers within the limits.
-use Rattle.std.specs.Prelude.{◌≢◌, ℕ, zero, suc, Option, None, slice_get, ◌≤◌, Bool, false, ◌&&◌, ◌||◌, nat_le, IsTrue, List, [], ◌∷◌, length, All, AllPairs}
+use Rattle.std.specs.Prelude.{◌≢◌, ℕ, zero, suc, Option, None, slice_get, unwrap_or, ◌≤◌, Bool, false, ◌&&◌, ◌||◌, nat_le, IsTrue, List, [], ◌∷◌, length, All, AllPairs}
 use Rattle.std.specs.List.{list_all}
 use Rattle.qx_types.specs.declared.limits.TheConstants.Limits.{NAME, USERS, WORKERS}
 
@@ -12,6 +12,10 @@ pub record Configuration : Type 0 where
 abbrev pub name_of : Configuration → ℕ → Option (List ℕ)
 name_of c zero = None
 name_of c (suc n) = slice_get c.users n
+
+-- the same as bytes, of which a number that no user has has none
+abbrev pub name_bytes : Configuration → ℕ → List ℕ
+name_bytes c user = unwrap_or (name_of c user) []
 
 -- a lower-case ASCII letter
 abbrev pub is_letter : ℕ → Bool

@@ -3,7 +3,7 @@ use Rattle.std.specs.Prelude.{ℕ, Bool, Option, Some, None, is_some}
 use Rattle.qx_types.specs.declared.names.Actor.{Actor}
 use Rattle.qx_types.specs.declared.names.Actor.TheVariants.{OfUser, OfProc, OfThread}
 use Rattle.qx_types.specs.declared.step.Step.{Step}
-use Rattle.qx_types.specs.declared.step.Step.TheVariants.{Spawn, Call, TakeReply, SetPrio, Interrupt, Receive, Perform}
+use Rattle.qx_types.specs.declared.step.Step.TheVariants.{Spawn, Call, TakeReply, SetPrio, Interrupt, Mount, Receive, Perform}
 
 -- who takes a client's step; a worker takes the others
 abbrev pub actor_of : Step → Option Actor
@@ -12,6 +12,7 @@ actor_of (Call thread request) = Some (OfThread thread)
 actor_of (TakeReply thread) = Some (OfThread thread)
 actor_of (SetPrio thread prio) = Some (OfThread thread)
 actor_of (Interrupt thread) = Some (OfThread thread)
+actor_of (Mount thread path manager) = Some (OfThread thread)
 actor_of (Receive worker manager) = None
 actor_of (Perform worker moment) = None
 

@@ -2,7 +2,7 @@ ghost use Rattle.std.specs.Prelude.{◌≡◌, ◌↔◌, ◌≢◌, ◌≤◌, 
 ghost use Rattle.std.specs.List.{list_all};
 ghost use Rattle.std.specs.Option.{option_copied};
 ghost use Rattle.qx_types.specs.declared.limits.TheConstants.Limits.{USERS, WORKERS};
-ghost use Rattle.qx_types.specs.Configuration.{is_letter_or_digit, is_user_name, name_of, IsConfiguration};
+ghost use Rattle.qx_types.specs.Configuration.{is_letter_or_digit, is_user_name, name_bytes, name_of, IsConfiguration};
 
 use crate::limits::Limits;
 use crate::names::User;
@@ -101,6 +101,16 @@ impl Config {
     {
         let index = usize::from(user.0).checked_sub(1)?;
         self.names.get(index)
+    }
+
+    /// The bytes of the user's name, of which a number that no user has has none.
+    pub fn name_bytes(&self, user: User) -> &[u8]
+        ensures { result.now ≡ name_bytes self.now user.0 }
+    {
+        match self.name(user) {
+            Some(name) => name.as_slice(),
+            None => &[],
+        }
     }
 }
 

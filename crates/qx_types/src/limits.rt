@@ -20,6 +20,8 @@ impl Limits {
     pub const SERVERS: usize = 64;
     /// Mounts of a user, the top included.
     pub const MOUNTS: usize = 8;
+    /// Inodes of a user.
+    pub const INODES: usize = 1024;
     /// Open blocks of a user.
     pub const BLOCKS: usize = 256;
     /// The greatest priority.

@@ -3,27 +3,55 @@ ghost use Rattle.qx_types.specs.Step.{actor_of, is_client_step};
 
 use crate::names::{Actor, Manager, Prio, Thread, User, Worker};
 use crate::request::Request;
+use qx_bytes::Bytes;
 use std::alloc::AllocError;
 
 /// One step of the system, taken by a client or by a worker.
 #[derive(Debug, Drop, PartialEq, Eq)]
 pub enum Step {
     /// Starts a process of so many threads, each of that priority.
-    Spawn { user: User, threads: u8, prio: Prio },
+    Spawn {
+        user: User,
+        threads: u8,
+        prio: Prio,
+    },
     /// Sends a request as a message and blocks the thread (C Library Reference: `MsgSend`).
-    Call { thread: Thread, request: Request },
+    Call {
+        thread: Thread,
+        request: Request,
+    },
     /// Takes the answer that unblocks the thread.
-    TakeReply { thread: Thread },
+    TakeReply {
+        thread: Thread,
+    },
     /// Gives a thread another priority; a message that it sent keeps the one that it was sent with (C Library
     /// Reference: `SchedSet`).
-    SetPrio { thread: Thread, prio: Prio },
+    SetPrio {
+        thread: Thread,
+        prio: Prio,
+    },
     /// Asks to unblock a thread from its call (System Architecture: the pulse that asks a server to unblock a client;
     /// C Library Reference: `MsgSend`, EINTR).
-    Interrupt { thread: Thread },
+    Interrupt {
+        thread: Thread,
+    },
+    /// Attaches a manager at a path under the user's own name (C Library Reference: `resmgr_attach`; that a client does
+    /// it for its own user alone is this profile).
+    Mount {
+        thread: Thread,
+        path: Bytes,
+        manager: Manager,
+    },
     /// Takes the first item of a manager's line (C Library Reference: `MsgReceive`).
-    Receive { worker: Worker, manager: Manager },
+    Receive {
+        worker: Worker,
+        manager: Manager,
+    },
     /// Does what the worker holds, at a moment that becomes the times of what it changes.
-    Perform { worker: Worker, moment: u64 },
+    Perform {
+        worker: Worker,
+        moment: u64,
+    },
 }
 
 impl Step {
@@ -36,7 +64,8 @@ impl Step {
             Step::Call { thread, .. }
             | Step::TakeReply { thread }
             | Step::SetPrio { thread, .. }
-            | Step::Interrupt { thread } => Some(Actor::OfThread(*thread)),
+            | Step::Interrupt { thread }
+            | Step::Mount { thread, .. } => Some(Actor::OfThread(*thread)),
             Step::Receive { .. } | Step::Perform { .. } => None,
         }
     }
@@ -74,6 +103,15 @@ impl Clone for Step {
                 prio: *prio,
             },
             Step::Interrupt { thread } => Step::Interrupt { thread: *thread },
+            Step::Mount {
+                thread,
+                path,
+                manager,
+            } => Step::Mount {
+                thread: *thread,
+                path: path.clone()?,
+                manager: *manager,
+            },
             Step::Receive { worker, manager } => Step::Receive {
                 worker: *worker,
                 manager: *manager,

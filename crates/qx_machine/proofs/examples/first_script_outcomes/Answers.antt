@@ -3,11 +3,12 @@ use Rattle.std.proofs.Common.{refl}
 use Rattle.qx_wire.specs.Reading.{body_cut, cut, frame_at, meaning, open_at}
 use Rattle.qx_wire.specs.Rests.{components_of}
 use Rattle.qx_wire.specs.Table.{spelling}
+use Rattle.qx_paths.specs.Paths.{path_components}
 use Rattle.qx_machine.specs.Attributes.{stat_bytes}
 use Rattle.qx_machine.specs.Machine.{boot, step}
 use Rattle.qx_machine.specs.Users.{boot_part, client, serve, settle, take}
 use Rattle.qx_machine.proofs.examples.first_script_outcomes.Goals as goal
 
 pub returns : goal.returns
-unfolding boot step boot_part client serve settle take stat_bytes spelling meaning cut frame_at body_cut open_at components_of
+unfolding boot step boot_part client serve settle take stat_bytes spelling meaning cut frame_at body_cut open_at components_of path_components
 returns c = refl

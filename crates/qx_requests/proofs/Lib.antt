@@ -1,0 +1,2 @@
+-- what a judged request sends
+mod SendLemmas
