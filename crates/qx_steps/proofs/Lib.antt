@@ -6,3 +6,5 @@ pub mod ClientLemmas
 pub mod MountLemmas
 -- a worker's step, by what channel and resources make of it
 pub mod WorkerLemmas
+-- who has processes has resources still
+pub mod SameLemmas

@@ -51,7 +51,6 @@ impl Model for World {
 
 impl World {
     /// The system at boot: each user has the top, which is empty, the lines are empty and the workers idle.
-    #[tactic(auto, unfolding(qx_machine::specs::Machine::boot))]
     pub fn new(alloc: Global, config: Config) -> Result<Self, NoMemory>
         ensures { IfOk result (λ world. world ≡ machine.boot config) }
     {
@@ -112,11 +111,16 @@ impl World {
             return Outcome::WrongState;
         };
         match &row.state {
-            State::Queued(_) => self.channel.withdraw(thread),
-            State::Taken(_) => self.channel.ask_unblock(thread),
-            State::Ready | State::Answered(_) => {}
+            State::Queued(_) => {
+                self.channel.withdraw(thread);
+                Outcome::Done
+            }
+            State::Taken(_) => {
+                self.channel.ask_unblock(thread);
+                Outcome::Done
+            }
+            State::Ready | State::Answered(_) => Outcome::Done,
         }
-        Outcome::Done
     }
 
     /// A client's request goes as a message into its manager's line, and the thread is blocked (C Library Reference:
@@ -243,6 +247,7 @@ impl World {
 
     /// A worker takes the first item of a line (C Library Reference: `MsgReceive`). `WrongState` where there is no such
     /// worker, `Busy` where it holds an item, `Idle` on an empty line.
+    #[tactic(auto, using(crate::proofs::WorkerLemmas::receive_steps))]
     pub fn receive(&mut self, worker: Worker, manager: Manager) -> Outcome
         ensures outcome { result ≡ (machine.step self.old (Step.Receive worker manager)).outcome }
         ensures world { self.new ≡ (machine.step self.old (Step.Receive worker manager)).world }
