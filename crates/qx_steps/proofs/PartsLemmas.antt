@@ -1,18 +1,19 @@
 -- The rows of users, put together from two columns: one row, and a change in one column.
-use Rattle.std.proofs.Common.{◌≡◌, ◌⊎◌, inl, inr, ℕ, zero, suc, ◌+◌, add-one, List, [], ◌∷◌, Bool, true, false, Option, Some, None, Result, Ok, Err, length, is_some, replicate, refl, sym, ap, ◌∙◌}
+use Rattle.std.proofs.Common.{◌≡◌, ◌⊎◌, subst, inl, inr, ℕ, zero, suc, ◌+◌, add-one, List, [], ◌∷◌, Bool, true, false, Option, Some, None, Result, Ok, Err, length, is_some, replicate, refl, sym, ap, ◌∙◌}
 use Rattle.std.specs.Prelude.{option_map, slice_set}
 use Rattle.qx_types.specs.Configuration.{Configuration}
 use Rattle.qx_types.specs.declared.names.Proc.{Proc}
 use Rattle.qx_types.specs.declared.names.Thread.{Thread}
-use Rattle.qx_machine.specs.Machine.{boot_parts}
+use Rattle.qx_machine.specs.Machine.{boot, boot_parts}
 use Rattle.qx_machine.specs.Parts.{Part, Resources, thread_of}
 use Rattle.qx_machine.specs.Processes.{Process}
 use Rattle.qx_machine.specs.Rows.{row_at, with_row}
 use Rattle.qx_machine.specs.Users.{boot_part}
 use Rattle.qx_resources.specs.Boot.{boot_resources}
+use Rattle.qx_chan.specs.Channel.{empty_channel}
 use Rattle.qx_chan.specs.Users as users
 use Rattle.qx_chan.specs.Users.{no_processes}
-use Rattle.qx_steps.specs.Parts.{part_of, parts_of, SameUsers}
+use Rattle.qx_steps.specs.Parts.{part_of, parts_of, world_of, SameUsers}
 use Rattle.qx_steps.specs.Reads.{process_of, thread_row}
 
 pub option_cases : {A : Type 0} (o : Option A) → (o ≡ None) ⊎ ((x : A) × (o ≡ Some x))
@@ -98,7 +99,7 @@ unfolding boot_part
 boot-rows config user [] = refl
 boot-rows config user (name ∷ names) = ap (λ parts. Some (boot_part config user) ∷ parts) (boot-rows config (user + 1) names)
 
-pub parts-boot : (config : Configuration) (names : List (List ℕ)) → parts_of (no_processes (length names)) (None ∷ boot_resources config 1 names) ≡ None ∷ boot_parts config 1 names
+parts-boot : (config : Configuration) (names : List (List ℕ)) → parts_of (no_processes (length names)) (None ∷ boot_resources config 1 names) ≡ None ∷ boot_parts config 1 names
 parts-boot config names = ap (λ parts. None ∷ parts) (boot-rows config 1 names)
 
 same-boot_rows : (config : Configuration) (user : ℕ) (names : List (List ℕ)) → SameUsers (replicate (length names) (Some (None ∷ []))) (boot_resources config user names)
@@ -106,6 +107,13 @@ same-boot_rows config user [] other = refl
 same-boot_rows config user (name ∷ names) zero = refl
 same-boot_rows config user (name ∷ names) (suc other) = same-boot_rows config (user + 1) names other
 
-pub same-boot : (config : Configuration) (names : List (List ℕ)) → SameUsers (no_processes (length names)) (None ∷ boot_resources config 1 names)
-same-boot config names zero = refl
-same-boot config names (suc other) = same-boot_rows config 1 names other
+same-at_boot : (config : Configuration) (names : List (List ℕ)) → SameUsers (no_processes (length names)) (None ∷ boot_resources config 1 names)
+same-at_boot config names zero = refl
+same-at_boot config names (suc other) = same-boot_rows config 1 names other
+
+pub same-boot : (config : Configuration) (count : ℕ) → count ≡ length config.users → SameUsers (no_processes count) (None ∷ boot_resources config 1 config.users)
+same-boot config count is = subst (λ n. SameUsers (no_processes n) (None ∷ boot_resources config 1 config.users)) (sym is) (same-at_boot config config.users)
+
+pub world-boot : (config : Configuration) → world_of config (empty_channel (length config.users)) (None ∷ boot_resources config 1 config.users) (None ∷ replicate config.workers None) ≡ boot config
+unfolding boot
+world-boot config = rw (parts-boot config config.users) refl

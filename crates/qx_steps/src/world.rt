@@ -51,7 +51,6 @@ impl Model for World {
 
 impl World {
     /// The system at boot: each user has the top, which is empty, the lines are empty and the workers idle.
-    #[tactic(auto, unfolding(qx_machine::specs::Machine::boot))]
     pub fn new(alloc: Global, config: Config) -> Result<Self, NoMemory>
         ensures { IfOk result (λ world. world ≡ machine.boot config) }
     {
