@@ -225,10 +225,11 @@ impl World {
         ensures ok { OnOk result (self.new ≡ after_mount self.old user.0 mount.now) }
         ensures err { OnErr result (self.new ≡ self.old) }
     {
-        match self.resources.user_mut(user) {
-            Some(resources) => resources.mount(self.alloc, user, mount),
-            None => Ok(()),
-        }
+        let Some(resources) = self.resources.user_mut(user) else {
+            return Ok(());
+        };
+        resources.mount(self.alloc, user, mount)?;
+        Ok(())
     }
 
     /// Whether a worker is configured.
