@@ -59,9 +59,12 @@ fn boot(alloc: Global, users: usize) -> anyhow::Result<World> {
     for name in NAMES.chunks(1).take(users) {
         names.push(Bytes::from_slice(alloc, name)?)?;
     }
-    match Config::new(names, 1) {
-        Some(config) => Ok(World::new(alloc, config)?),
-        None => bail!("the configuration is refused"),
+    let Some(config) = Config::new(names, 1) else {
+        bail!("the configuration is refused");
+    };
+    match World::new(alloc, config) {
+        Ok(world) => Ok(world),
+        Err(_) => bail!("out of memory"),
     }
 }
 
