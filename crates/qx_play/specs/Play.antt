@@ -12,8 +12,7 @@ use Rattle.qx_types.specs.declared.step.Step.TheVariants.{Call, TakeReply, Recei
 use Rattle.qx_machine.specs.Machine.{World, line_of, step}
 use Rattle.qx_machine.specs.Rows.{row_at}
 use Rattle.qx_machine.specs.Runs.{run, received}
-use Rattle.qx_parts.specs.Reads.{thread_row}
-use Rattle.qx_steps.specs.Reads.{is_thread_answered}
+use Rattle.qx_steps.specs.Reads.{is_thread_answered, thread_row}
 use Rattle.qx_script.specs.declared.command.Command.{Command}
 use Rattle.qx_script.specs.declared.command.Command.TheVariants.{Take, Serve, Do, Show, Trace}
 use Rattle.qx_play.specs.Printed.{trace_text, transcript_text}

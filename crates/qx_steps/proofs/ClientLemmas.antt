@@ -1,1 +1,210 @@
--- nothing yet
+-- A client's step, by what the channel makes of it.
+use Rattle.std.proofs.Common.{◌≡◌, ◌⊎◌, inl, inr, ℕ, List, [], ◌∷◌, Bool, true, false, Option, Some, None, Result, Ok, Err, slice_set, refl, sym, ap, ◌∙◌}
+use Rattle.std.specs.Prelude.{IfOk, IsErr, IsTrue, option_map}
+use Rattle.std.proofs.lemmas.Bool.{cases_Bool}
+use Rattle.qx_types.specs.Configuration.{Configuration}
+use Rattle.qx_types.specs.declared.names.Prio.{Prio}
+use Rattle.qx_types.specs.declared.names.Thread.{Thread}
+use Rattle.qx_types.specs.declared.names.User.{User}
+use Rattle.qx_types.specs.declared.outcome.Answer.{Answer}
+use Rattle.qx_types.specs.declared.outcome.Outcome.{Outcome}
+use Rattle.qx_types.specs.declared.outcome.Outcome.TheVariants.{Done, Sent, WrongState}
+use Rattle.qx_types.specs.declared.request.Request.{Request}
+use Rattle.qx_types.specs.declared.step.Step.TheVariants.{Spawn, Call, TakeReply, SetPrio, Interrupt}
+use Rattle.qx_machine.specs.declared.rows.Held.{Held}
+use Rattle.qx_machine.specs.declared.rows.Sent.{Sent as Message}
+use Rattle.qx_machine.specs.declared.rows.State.{State}
+use Rattle.qx_machine.specs.declared.rows.State.TheVariants as state
+use Rattle.qx_machine.specs.declared.rows.Target.{Target}
+use Rattle.qx_machine.specs.declared.rows.ThreadRow.{ThreadRow}
+use Rattle.qx_machine.specs.Clients.{answer_in, interrupt_in, is_prio, leave, outcome_of, own_path, spawn_number, target_by}
+use Rattle.qx_machine.specs.Laws.{is_refusal}
+use Rattle.qx_machine.specs.Machine.{World, step}
+use Rattle.qx_machine.specs.Parts.{Part, Resources, thread_of}
+use Rattle.qx_machine.specs.Processes.{Process, ranked_thread, ready_thread, with_thread}
+use Rattle.qx_machine.specs.Rows.{row_at, with_row}
+use Rattle.qx_machine.specs.Users.{client, settle}
+use Rattle.qx_process.proofs.RowLemmas.{set-row, with_row-none}
+use Rattle.qx_process.specs.Reads.{is_blocked}
+use Rattle.qx_procs.specs.Calls.{after_or, spawn_outcome, spawned, with_prio}
+use Rattle.qx_chan.specs.Calls.{answer_of}
+use Rattle.qx_chan.specs.Channel.{Channel, after_asking, after_ranking, after_send, after_spawn, after_taking, after_withdrawing}
+use Rattle.qx_chan.specs.Users.{prio_outcome_in, spawn_number_in, thread_row, IsReady}
+use Rattle.qx_steps.specs.Parts.{parts_of, world_of, SameUsers}
+use Rattle.qx_steps.specs.Steps.{sent_to, target_in}
+use Rattle.qx_steps.proofs.PartsLemmas.{option_cases, part-none, part-there, parts-set_processes, result_cases}
+
+-- what a thread is told that takes its answer, if it has one
+abbrev pub taken_outcome : Option Answer → Outcome
+taken_outcome None = WrongState
+taken_outcome (Some answer) = outcome_of answer
+
+-- a thread that is there, among the processes and the rows of its user
+record There (c : Channel) (rs : List (Option Resources)) (thread : Thread) (row : ThreadRow) : Type 0 where
+  ps : List (Option Process)
+  r : Resources
+  user : row_at c.users thread.proc.user.0 ≡ Some ps
+  resources : row_at rs thread.proc.user.0 ≡ Some r
+  part : row_at (parts_of c.users rs) thread.proc.user.0 ≡ Some (record { processes = ps; resources = r })
+  its : thread_of thread.tid (row_at ps thread.proc.num) ≡ Some row
+
+module _ (config : Configuration) (c : Channel) (rs : List (Option Resources)) (hands : List (Option Held)) (same : SameUsers c.users rs) where
+  abbrev w : World
+  w = world_of config c rs hands
+
+  -- a user's row with other processes
+  changed : (user : ℕ) (ps after : List (Option Process)) (there : (r : Resources) × ((row_at rs user ≡ Some r) × (row_at w.parts user ≡ Some (record { processes = ps; resources = r }))))
+      → parts_of (slice_set c.users user (Some after)) rs ≡ slice_set w.parts user (Some (record { processes = after; resources = there.0 }))
+  changed user ps after there = parts-set_processes c.users rs user after there.0 there.1.0
+
+  there_by : (thread : Thread) (row : ThreadRow) → thread_row c.users thread ≡ Some row → There c rs thread row
+  there_by thread row is = elim (option_cases (row_at c.users thread.proc.user.0)) [
+    | inl none ↦ let clash : None ≡ Some row = rw none at is in absurd (cc)
+    | inr ps ↦
+        let there = part-there c.users rs thread.proc.user.0 ps.0 same ps.1 in
+        record { ps = ps.0; r = there.0; user = ps.1; resources = there.1.0; part = there.1.1; its = rw ps.1 at is }
+  ]
+
+  -- ---- spawn
+
+  pub spawn-step : (user : User) (threads : ℕ) (prio : Prio) → step w (Spawn user threads prio)
+      ≡ record { world = world_of config (after_spawn c user.0 threads prio.0) rs hands; outcome = spawn_outcome (spawn_number_in threads prio.0 (row_at c.users user.0)) }
+  unfolding step client settle
+  spawn-step user threads prio = elim (option_cases (row_at c.users user.0)) [
+    | inl none ↦ rw (part-none c.users rs user.0 none, with_row-none c.users user.0 (λ processes. spawned processes threads prio.0 (spawn_number processes threads prio.0)) none, none) refl
+    | inr ps ↦
+        let there = part-there c.users rs user.0 ps.0 same ps.1 in
+        elim (result_cases (spawn_number ps.0 threads prio.0)) [
+          | inl number ↦ rw (there.1.1, ps.1, number.1, parts-set_processes c.users rs user.0 (spawned ps.0 threads prio.0 (Ok number.0)) there.0 there.1.0) refl
+          | inr refused ↦ rw (there.1.1, ps.1, refused.1, parts-set_processes c.users rs user.0 ps.0 there.0 there.1.0) refl
+        ]
+  ]
+
+  -- ---- take_reply and set_prio
+
+  pub take_reply-step : (thread : Thread) → step w (TakeReply thread)
+      ≡ record { world = world_of config (after_taking c thread) rs hands; outcome = taken_outcome (answer_of (thread_row c.users thread)) }
+  unfolding step client settle
+  take_reply-step thread = elim (option_cases (row_at c.users thread.proc.user.0)) [
+    | inl none ↦ rw (part-none c.users rs thread.proc.user.0 none, none) refl
+    | inr ps ↦
+        let there = part-there c.users rs thread.proc.user.0 ps.0 same ps.1 in
+        elim (option_cases (thread_of thread.tid (row_at ps.0 thread.proc.num))) [
+          | inl none ↦ rw (there.1.1, ps.1, none, set-row w.parts thread.proc.user.0 (record { processes = ps.0; resources = there.0 }) there.1.1) refl
+          | inr row ↦ elim (option_cases (answer_in row.0.state)) [
+            | inl none ↦ rw (there.1.1, ps.1, row.1, none, set-row w.parts thread.proc.user.0 (record { processes = ps.0; resources = there.0 }) there.1.1) refl
+            | inr given ↦
+                rw (there.1.1, ps.1, row.1, given.1, ps.1, parts-set_processes c.users rs thread.proc.user.0 _ there.0 there.1.0) refl
+          ]
+        ]
+  ]
+
+  pub set_prio-step : (thread : Thread) (prio : Prio) → step w (SetPrio thread prio)
+      ≡ record { world = world_of config (after_ranking c thread prio.0) rs hands; outcome = prio_outcome_in thread.proc.num thread.tid prio.0 (row_at c.users thread.proc.user.0) }
+  unfolding step client settle
+  set_prio-step thread prio = elim (option_cases (row_at c.users thread.proc.user.0)) [
+    | inl none ↦ rw (part-none c.users rs thread.proc.user.0 none, with_row-none c.users thread.proc.user.0 (λ processes. after_or processes (with_prio processes thread.proc.num thread.tid prio.0)) none, none) refl
+    | inr ps ↦
+        let there = part-there c.users rs thread.proc.user.0 ps.0 same ps.1 in
+        elim (option_cases (row_at ps.0 thread.proc.num)) [
+          | inl none ↦ rw (there.1.1, ps.1, none, parts-set_processes c.users rs thread.proc.user.0 ps.0 there.0 there.1.0) refl
+          | inr x ↦ elim (option_cases (row_at x.0.threads thread.tid)) [
+            | inl none ↦ rw (there.1.1, ps.1, x.1, none, parts-set_processes c.users rs thread.proc.user.0 ps.0 there.0 there.1.0) refl
+            | inr row ↦ elim (cases_Bool (is_prio prio.0)) [
+              | inl valid ↦
+                  rw (there.1.1, ps.1, x.1, row.1, valid, parts-set_processes c.users rs thread.proc.user.0 _ there.0 there.1.0) refl
+              | inr wrong ↦ rw (there.1.1, ps.1, x.1, row.1, wrong, parts-set_processes c.users rs thread.proc.user.0 ps.0 there.0 there.1.0) refl
+            ]
+          ]
+        ]
+  ]
+
+  -- ---- call
+
+  pub judged : (thread : Thread) (request : Request) (ps : List (Option Process)) (given : Result Target Outcome) → row_at c.users thread.proc.user.0 ≡ Some ps
+      → ((resources : Resources) → given ≡ target_by (own_path config thread.proc.user.0) (record { processes = ps; resources = resources }) thread request) → given ≡ target_in w thread request
+  judged thread request ps given is by =
+      let there = part-there c.users rs thread.proc.user.0 ps same is in
+      rw there.1.1 (by there.0)
+
+  pub judged-nobody : (thread : Thread) (request : Request) → row_at c.users thread.proc.user.0 ≡ None → Err WrongState ≡ target_in w thread request
+  judged-nobody thread request none = rw (part-none c.users rs thread.proc.user.0 none) refl
+
+  pub call-refused : (thread : Thread) (request : Request) (outcome : Outcome) → target_in w thread request ≡ Err outcome → step w (Call thread request) ≡ record { world = w; outcome = outcome }
+  unfolding step client settle
+  call-refused thread request outcome is = elim (option_cases (row_at w.parts thread.proc.user.0)) [
+    | inl none ↦ let its : Err WrongState ≡ Err outcome = rw none at is in rw none (ap (λ o. record { world = w; outcome = o }) (cc))
+    | inr part ↦
+        let its : target_by (own_path config thread.proc.user.0) part.0 thread request ≡ Err outcome = rw part.1 at is in
+        rw (part.1, its, set-row w.parts thread.proc.user.0 part.0 part.1) refl
+  ]
+
+  pub call-sent : (thread : Thread) (request : Request) (target : Target) → target_in w thread request ≡ Ok target
+      → step w (Call thread request) ≡ record { world = world_of config (after_send c thread (sent_to target request)) rs hands; outcome = Sent }
+  unfolding step client settle
+  call-sent thread request target is = elim (option_cases (row_at c.users thread.proc.user.0)) [
+    | inl none ↦ let clash : Err WrongState ≡ Ok target = rw (part-none c.users rs thread.proc.user.0 none) at is in absurd (cc)
+    | inr ps ↦
+        let there = part-there c.users rs thread.proc.user.0 ps.0 same ps.1 in
+        let its : target_by (own_path config thread.proc.user.0) (record { processes = ps.0; resources = there.0 }) thread request ≡ Ok target = rw there.1.1 at is in
+        rw (there.1.1, its, ps.1, parts-set_processes c.users rs thread.proc.user.0 _ there.0 there.1.0) refl
+  ]
+
+  -- ---- interrupt
+
+  pub interrupt-nobody : (thread : Thread) → thread_row c.users thread ≡ None → step w (Interrupt thread) ≡ record { world = w; outcome = WrongState }
+  unfolding step client settle
+  interrupt-nobody thread none = elim (option_cases (row_at c.users thread.proc.user.0)) [
+    | inl nobody ↦ rw (part-none c.users rs thread.proc.user.0 nobody) refl
+    | inr ps ↦
+        let there = part-there c.users rs thread.proc.user.0 ps.0 same ps.1 in
+        let its : thread_of thread.tid (row_at ps.0 thread.proc.num) ≡ None = rw ps.1 at none in
+        rw (there.1.1, its, set-row w.parts thread.proc.user.0 (record { processes = ps.0; resources = there.0 }) there.1.1) refl
+  ]
+
+  interrupt-left : (thread : Thread) (row : ThreadRow) → thread_row c.users thread ≡ Some row → ((part : Part) → interrupt_in part thread row.calls row.state ≡ leave part)
+      → step w (Interrupt thread) ≡ record { world = w; outcome = Done }
+  unfolding step client settle
+  interrupt-left thread row is left =
+      let it = there_by thread row is in
+      rw (it.part, it.its, left (record { processes = it.ps; resources = it.r }), set-row w.parts thread.proc.user.0 (record { processes = it.ps; resources = it.r }) it.part) refl
+
+  pub interrupt-idle : (thread : Thread) (row : ThreadRow) → thread_row c.users thread ≡ Some row → is_blocked row.state ≡ false → step w (Interrupt thread) ≡ record { world = w; outcome = Done }
+  interrupt-idle thread row there is = interrupt-left thread row there (λ part. by_state part row.state is)
+    where
+      by_state : (part : Part) (given : State) → is_blocked given ≡ false → interrupt_in part thread row.calls given ≡ leave part
+      by_state part state.Ready is = refl
+      by_state part (state.Queued sent) is = cc
+      by_state part (state.Taken sent) is = cc
+      by_state part (state.Answered answer) is = refl
+
+  module _ (thread : Thread) (row : ThreadRow) (sent : Message) (it : There c rs thread row) where
+    dismisses : row.state ≡ state.Queued sent → step w (Interrupt thread) ≡ record { world = world_of config (after_withdrawing c thread) rs hands; outcome = Done }
+    unfolding step client settle
+    dismisses is = rw (it.part, it.user, it.its, is, it.user, parts-set_processes c.users rs thread.proc.user.0 _ it.r it.resources) refl
+
+    asks : row.state ≡ state.Taken sent → step w (Interrupt thread) ≡ record { world = world_of config (after_asking c thread) rs hands; outcome = Done }
+    unfolding step client settle
+    asks is = elim (cases_Bool sent.is_asked) [
+      | inl asked ↦ rw (it.part, it.user, it.its, is, asked, set-row w.parts thread.proc.user.0 (record { processes = it.ps; resources = it.r }) it.part) refl
+      | inr unasked ↦ rw (it.part, it.user, it.its, is, unasked, it.user, parts-set_processes c.users rs thread.proc.user.0 _ it.r it.resources) refl
+    ]
+
+  pub interrupt-queued : (thread : Thread) (row : ThreadRow) (sent : Message) → thread_row c.users thread ≡ Some row → row.state ≡ state.Queued sent
+      → step w (Interrupt thread) ≡ record { world = world_of config (after_withdrawing c thread) rs hands; outcome = Done }
+  interrupt-queued thread row sent there is = dismisses thread row sent (there_by thread row there) is
+
+  pub interrupt-taken : (thread : Thread) (row : ThreadRow) (sent : Message) → thread_row c.users thread ≡ Some row → row.state ≡ state.Taken sent
+      → step w (Interrupt thread) ≡ record { world = world_of config (after_asking c thread) rs hands; outcome = Done }
+  interrupt-taken thread row sent there is = asks thread row sent (there_by thread row there) is
+
+-- a spawn that is refused
+pub spawn-refused : (number : Result ℕ Outcome) → IsTrue (is_refusal (spawn_outcome number)) → IsErr number
+spawn-refused (Ok number) refusal = refusal
+spawn-refused (Err outcome) refusal = refl
+
+-- what is judged so comes from a thread that is ready
+pub judged-ready : (given : Result Target Outcome) (row : Option ThreadRow) → IfOk given (λ _. option_map (λ row. row.state) row ≡ Some state.Ready) → IfOk given (λ _. IsReady row)
+judged-ready (Ok target) (Some row) is = let ready : row.state ≡ state.Ready = cc in ready
+judged-ready (Ok target) None is = cc
+judged-ready (Err outcome) row is = tt

@@ -1,18 +1,19 @@
 -- The rows of users, put together from two columns: one row, and a change in one column.
-use Rattle.std.proofs.Common.{◌≡◌, ◌⊎◌, inl, inr, ℕ, zero, suc, ◌+◌, add-one, List, [], ◌∷◌, Bool, true, false, Option, Some, None, Result, Ok, Err, length, is_some, replicate, refl, sym, ap, ◌∙◌}
-use Rattle.std.specs.Prelude.{option_map}
+use Rattle.std.proofs.Common.{◌≡◌, ◌⊎◌, subst, inl, inr, ℕ, zero, suc, ◌+◌, add-one, List, [], ◌∷◌, Bool, true, false, Option, Some, None, Result, Ok, Err, length, is_some, replicate, refl, sym, ap, ◌∙◌}
+use Rattle.std.specs.Prelude.{option_map, slice_set}
 use Rattle.qx_types.specs.Configuration.{Configuration}
 use Rattle.qx_types.specs.declared.names.Proc.{Proc}
 use Rattle.qx_types.specs.declared.names.Thread.{Thread}
-use Rattle.qx_machine.specs.Machine.{boot_parts}
+use Rattle.qx_machine.specs.Machine.{boot, boot_parts}
 use Rattle.qx_machine.specs.Parts.{Part, Resources, thread_of}
 use Rattle.qx_machine.specs.Processes.{Process}
 use Rattle.qx_machine.specs.Rows.{row_at, with_row}
 use Rattle.qx_machine.specs.Users.{boot_part}
 use Rattle.qx_resources.specs.Boot.{boot_resources}
+use Rattle.qx_chan.specs.Channel.{empty_channel}
 use Rattle.qx_chan.specs.Users as users
 use Rattle.qx_chan.specs.Users.{no_processes}
-use Rattle.qx_steps.specs.Parts.{part_of, parts_of, SameUsers}
+use Rattle.qx_steps.specs.Parts.{part_of, parts_of, world_of, SameUsers}
 use Rattle.qx_steps.specs.Reads.{process_of, thread_row}
 
 pub option_cases : {A : Type 0} (o : Option A) → (o ≡ None) ⊎ ((x : A) × (o ≡ Some x))
@@ -39,7 +40,7 @@ row_at-parts (u ∷ us) (r ∷ rs) (suc user) = row_at-parts us rs user
 pub part-there : (us : List (Option (List (Option Process)))) (rs : List (Option Resources)) (user : ℕ) (ps : List (Option Process)) → SameUsers us rs → row_at us user ≡ Some ps
     → (r : Resources) × ((row_at rs user ≡ Some r) × (row_at (parts_of us rs) user ≡ Some (record { processes = ps; resources = r })))
 part-there us rs user ps same there = elim (option_cases (row_at rs user)) [
-  | inl none ↦ let clash : true ≡ false = rw (there, none) at same user in absurd (cc)
+  | inl none ↦ let clash : true ≡ false = rw (there, none) at (same user) in absurd (cc)
   | inr r ↦ (r.0, (r.1, row_at-parts us rs user ∙ rw (there, r.1) refl))
 ]
 
@@ -55,27 +56,23 @@ process_of-parts us rs proc same = elim (option_cases (row_at us proc.user.0)) [
 pub thread_row-parts : (us : List (Option (List (Option Process)))) (rs : List (Option Resources)) (thread : Thread) → SameUsers us rs → thread_row (parts_of us rs) thread ≡ users.thread_row us thread
 thread_row-parts us rs thread same = ap (thread_of thread.tid) (process_of-parts us rs thread.proc same)
 
--- ---- a change in one column
+-- ---- a change of one user's row in one column, or in both
 
-pub parts-with_processes : (us : List (Option (List (Option Process)))) (rs : List (Option Resources)) (user : ℕ) (change : List (Option Process) → List (Option Process))
-    → parts_of (with_row us user change) rs ≡ with_row (parts_of us rs) user (λ part. record part { processes = change part.processes })
-parts-with_processes [] rs user change = refl
-parts-with_processes (u ∷ us) [] zero change = refl
-parts-with_processes (u ∷ us) [] (suc user) change = refl
-parts-with_processes (None ∷ us) (r ∷ rs) zero change = refl
-parts-with_processes (Some ps ∷ us) (None ∷ rs) zero change = refl
-parts-with_processes (Some ps ∷ us) (Some r ∷ rs) zero change = refl
-parts-with_processes (u ∷ us) (r ∷ rs) (suc user) change = ap (λ parts. part_of u r ∷ parts) (parts-with_processes us rs user change)
+pub parts-set_processes : (us : List (Option (List (Option Process)))) (rs : List (Option Resources)) (user : ℕ) (ps : List (Option Process)) (r : Resources) → row_at rs user ≡ Some r
+    → parts_of (slice_set us user (Some ps)) rs ≡ slice_set (parts_of us rs) user (Some (record { processes = ps; resources = r }))
+parts-set_processes [] rs user ps r is = refl
+parts-set_processes (u ∷ us) [] zero ps r is = cc
+parts-set_processes (u ∷ us) [] (suc user) ps r is = cc
+parts-set_processes (u ∷ us) (_ ∷ rs) zero ps r is = rw is refl
+parts-set_processes (u ∷ us) (other ∷ rs) (suc user) ps r is = ap (λ parts. part_of u other ∷ parts) (parts-set_processes us rs user ps r is)
 
-pub parts-with_resources : (us : List (Option (List (Option Process)))) (rs : List (Option Resources)) (user : ℕ) (change : Resources → Resources)
-    → parts_of us (with_row rs user change) ≡ with_row (parts_of us rs) user (λ part. record part { resources = change part.resources })
-parts-with_resources [] rs user change = refl
-parts-with_resources (u ∷ us) [] zero change = refl
-parts-with_resources (u ∷ us) [] (suc user) change = refl
-parts-with_resources (None ∷ us) (r ∷ rs) zero change = refl
-parts-with_resources (Some ps ∷ us) (None ∷ rs) zero change = refl
-parts-with_resources (Some ps ∷ us) (Some r ∷ rs) zero change = refl
-parts-with_resources (u ∷ us) (r ∷ rs) (suc user) change = ap (λ parts. part_of u r ∷ parts) (parts-with_resources us rs user change)
+pub parts-set_both : (us : List (Option (List (Option Process)))) (rs : List (Option Resources)) (user : ℕ) (ps : List (Option Process)) (r : Resources)
+    → parts_of (slice_set us user (Some ps)) (slice_set rs user (Some r)) ≡ slice_set (parts_of us rs) user (Some (record { processes = ps; resources = r }))
+parts-set_both [] rs user ps r = refl
+parts-set_both (u ∷ us) [] zero ps r = refl
+parts-set_both (u ∷ us) [] (suc user) ps r = refl
+parts-set_both (u ∷ us) (other ∷ rs) zero ps r = refl
+parts-set_both (u ∷ us) (other ∷ rs) (suc user) ps r = ap (λ parts. part_of u other ∷ parts) (parts-set_both us rs user ps r)
 
 -- a row that changes is there still
 there-with_row : {A : Type 0} (rows : List (Option A)) (user other : ℕ) (change : A → A) → is_some (row_at (with_row rows user change) other) ≡ is_some (row_at rows other)
@@ -89,8 +86,11 @@ there-with_row (row ∷ rows) (suc user) (suc other) change = there-with_row row
 pub same-with_processes : (us : List (Option (List (Option Process)))) (rs : List (Option Resources)) (user : ℕ) (change : List (Option Process) → List (Option Process)) → SameUsers us rs → SameUsers (with_row us user change) rs
 same-with_processes us rs user change same other = there-with_row us user other change ∙ same other
 
-pub same-with_resources : (us : List (Option (List (Option Process)))) (rs : List (Option Resources)) (user : ℕ) (change : Resources → Resources) → SameUsers us rs → SameUsers us (with_row rs user change)
-same-with_resources us rs user change same other = same other ∙ sym (there-with_row rs user other change)
+there-set : {A : Type 0} (rows : List (Option A)) (user other : ℕ) (old new : A) → row_at rows user ≡ Some old → is_some (row_at (slice_set rows user (Some new)) other) ≡ is_some (row_at rows other)
+there-set rows user other old new is = ap (λ o. is_some (row_at (slice_set rows user o) other)) (sym (ap (option_map (λ _. new)) is)) ∙ there-with_row rows user other (λ _. new)
+
+pub same-set_resources : (us : List (Option (List (Option Process)))) (rs : List (Option Resources)) (user : ℕ) (old new : Resources) → row_at rs user ≡ Some old → SameUsers us rs → SameUsers us (slice_set rs user (Some new))
+same-set_resources us rs user old new is same other = same other ∙ sym (there-set rs user other old new is)
 
 -- ---- at boot
 
@@ -99,7 +99,7 @@ unfolding boot_part
 boot-rows config user [] = refl
 boot-rows config user (name ∷ names) = ap (λ parts. Some (boot_part config user) ∷ parts) (boot-rows config (user + 1) names)
 
-pub parts-boot : (config : Configuration) (names : List (List ℕ)) → parts_of (no_processes (length names)) (None ∷ boot_resources config 1 names) ≡ None ∷ boot_parts config 1 names
+parts-boot : (config : Configuration) (names : List (List ℕ)) → parts_of (no_processes (length names)) (None ∷ boot_resources config 1 names) ≡ None ∷ boot_parts config 1 names
 parts-boot config names = ap (λ parts. None ∷ parts) (boot-rows config 1 names)
 
 same-boot_rows : (config : Configuration) (user : ℕ) (names : List (List ℕ)) → SameUsers (replicate (length names) (Some (None ∷ []))) (boot_resources config user names)
@@ -107,6 +107,13 @@ same-boot_rows config user [] other = refl
 same-boot_rows config user (name ∷ names) zero = refl
 same-boot_rows config user (name ∷ names) (suc other) = same-boot_rows config (user + 1) names other
 
-pub same-boot : (config : Configuration) (names : List (List ℕ)) → SameUsers (no_processes (length names)) (None ∷ boot_resources config 1 names)
-same-boot config names zero = refl
-same-boot config names (suc other) = same-boot_rows config 1 names other
+same-at_boot : (config : Configuration) (names : List (List ℕ)) → SameUsers (no_processes (length names)) (None ∷ boot_resources config 1 names)
+same-at_boot config names zero = refl
+same-at_boot config names (suc other) = same-boot_rows config 1 names other
+
+pub same-boot : (config : Configuration) (count : ℕ) → count ≡ length config.users → SameUsers (no_processes count) (None ∷ boot_resources config 1 config.users)
+same-boot config count is = subst (λ n. SameUsers (no_processes n) (None ∷ boot_resources config 1 config.users)) (sym is) (same-at_boot config config.users)
+
+pub world-boot : (config : Configuration) → world_of config (empty_channel (length config.users)) (None ∷ boot_resources config 1 config.users) (None ∷ replicate config.workers None) ≡ boot config
+unfolding boot
+world-boot config = rw (parts-boot config config.users) refl

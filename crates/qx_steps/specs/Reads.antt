@@ -6,6 +6,7 @@ use Rattle.qx_machine.specs.declared.rows.Sent.{Sent}
 use Rattle.qx_machine.specs.declared.rows.State.{State}
 use Rattle.qx_machine.specs.declared.rows.State.TheVariants.{Answered}
 use Rattle.qx_machine.specs.declared.rows.ThreadRow.{ThreadRow}
+use Rattle.qx_machine.specs.Calls.{is_ready}
 use Rattle.qx_machine.specs.Parts.{Part, thread_of}
 use Rattle.qx_machine.specs.Performing.{taken_in}
 use Rattle.qx_machine.specs.Processes.{Process}
@@ -30,6 +31,10 @@ is_answered _ = false
 abbrev pub is_thread_answered : Option ThreadRow → Bool
 is_thread_answered None = false
 is_thread_answered (Some row) = is_answered row.state
+
+abbrev pub is_thread_ready : Option ThreadRow → Bool
+is_thread_ready None = false
+is_thread_ready (Some row) = is_ready row.state
 
 -- the message that was received and is not answered
 abbrev pub taken_of : Option ThreadRow → Option Sent

@@ -11,7 +11,7 @@ ghost use Rattle.qx_machine.specs.Rows.{row_at};
 ghost use Rattle.qx_process.specs.Reads.{is_thread_blocked, CanCall, CanGo};
 ghost use Rattle.qx_chan.specs.Users.{IsReady};
 ghost use Rattle.qx_steps.specs.Held.{bytes_in, hand_wants_memory, held_work, holds_wanting, sent_wants_memory, taken_item, work_now, IsReadFor, IsReadOf, IsStale};
-ghost use Rattle.qx_steps.specs.Reads.{is_thread_answered, taken_of, thread_row};
+ghost use Rattle.qx_steps.specs.Reads.{is_thread_answered, is_thread_ready, taken_of, thread_row};
 ghost use Rattle.qx_steps.specs.Steps.{after_message, after_mount, mount_in, target_in, CanMount};
 
 use crate::work::{PerformFault, Work, WorkRef};
@@ -51,7 +51,6 @@ impl Model for World {
 
 impl World {
     /// The system at boot: each user has the top, which is empty, the lines are empty and the workers idle.
-    #[tactic(auto, unfolding(qx_machine::specs::Machine::boot))]
     pub fn new(alloc: Global, config: Config) -> Result<Self, NoMemory>
         ensures { IfOk result (λ world. world ≡ machine.boot config) }
     {
@@ -112,11 +111,16 @@ impl World {
             return Outcome::WrongState;
         };
         match &row.state {
-            State::Queued(_) => self.channel.withdraw(thread),
-            State::Taken(_) => self.channel.ask_unblock(thread),
-            State::Ready | State::Answered(_) => {}
+            State::Queued(_) => {
+                self.channel.withdraw(thread);
+                Outcome::Done
+            }
+            State::Taken(_) => {
+                self.channel.ask_unblock(thread);
+                Outcome::Done
+            }
+            State::Ready | State::Answered(_) => Outcome::Done,
         }
-        Outcome::Done
     }
 
     /// A client's request goes as a message into its manager's line, and the thread is blocked (C Library Reference:
@@ -196,19 +200,23 @@ impl World {
         ensures free { IfOk result (λ mount. CanMount (row_at self.now.parts thread.proc.user.0) mount.prefix) }
         ensures mount { result ≡ mount_in self.now thread path.now manager }
     {
-        let Some(row) = self.channel.thread(thread) else {
-            return Err(Outcome::WrongState);
-        };
-        let State::Ready = &row.state else {
-            return Err(Outcome::WrongState);
-        };
         let user = thread.proc.user;
-        let Some(resources) = self.resources.user(user) else {
-            return Err(Outcome::WrongState);
-        };
-        resources
-            .new_mount(self.config.name_bytes(user), path.as_slice(), manager)
-            .map_err(Outcome::Refused)
+        match self.resources.user(user) {
+            Some(resources) if self.is_ready(thread) => resources
+                .new_mount(self.config.name_bytes(user), path.as_slice(), manager)
+                .map_err(Outcome::Refused),
+            _ => Err(Outcome::WrongState),
+        }
+    }
+
+    /// Whether a thread is there and ready.
+    fn is_ready(&self, thread: Thread) -> bool
+        ensures { result ≡ is_thread_ready (thread_row self.now.parts thread) }
+    {
+        match self.channel.thread(thread) {
+            Some(row) => matches!(row.state, State::Ready),
+            None => false,
+        }
     }
 
     /// A manager is attached for a user.
@@ -217,10 +225,11 @@ impl World {
         ensures ok { OnOk result (self.new ≡ after_mount self.old user.0 mount.now) }
         ensures err { OnErr result (self.new ≡ self.old) }
     {
-        match self.resources.user_mut(user) {
-            Some(resources) => resources.mount(self.alloc, user, mount),
-            None => Ok(()),
-        }
+        let Some(resources) = self.resources.user_mut(user) else {
+            return Ok(());
+        };
+        resources.mount(self.alloc, user, mount)?;
+        Ok(())
     }
 
     /// Whether a worker is configured.
@@ -239,6 +248,7 @@ impl World {
 
     /// A worker takes the first item of a line (C Library Reference: `MsgReceive`). `WrongState` where there is no such
     /// worker, `Busy` where it holds an item, `Idle` on an empty line.
+    #[tactic(auto, using(crate::proofs::WorkerLemmas::receive_steps))]
     pub fn receive(&mut self, worker: Worker, manager: Manager) -> Outcome
         ensures outcome { result ≡ (machine.step self.old (Step.Receive worker manager)).outcome }
         ensures world { self.new ≡ (machine.step self.old (Step.Receive worker manager)).world }

@@ -4,7 +4,7 @@ use Rattle.qx_types.specs.Configuration.{Configuration}
 use Rattle.qx_types.specs.declared.names.User.{User}
 use Rattle.qx_types.specs.declared.outcome.Outcome.{Outcome}
 use Rattle.qx_types.specs.declared.step.Step.{Step}
-use Rattle.qx_types.specs.declared.step.Step.TheVariants.{Spawn, Call, Perform}
+use Rattle.qx_types.specs.declared.step.Step.TheVariants.{Spawn, Call, Mount, Perform}
 use Rattle.qx_machine.specs.declared.rows.Entry.{Entry}
 use Rattle.qx_machine.specs.Laws.{is_refusal}
 use Rattle.qx_machine.specs.Machine.{World, boot, step, owner}
@@ -35,11 +35,12 @@ outcome_of trace e = (step (run_of trace).world e).outcome
 abbrev pub IsLast : Trace → Outcome → Type 0
 IsLast trace outcome = (earlier : List Step) (e : Step) → trace.steps ≡ earlier ++ e ∷ [] → outcome ≡ (step (run trace.config earlier).world e).outcome
 
--- in this world, a step that may be refused for want of memory: a spawn and a call that are not refused otherwise, and a perform of
--- an open
+-- in this world, a step that may be refused for want of memory: a spawn, a call and a mount that are not refused otherwise, and a
+-- perform of an open
 abbrev pub wants_memory : World → Step → Bool
 wants_memory w (Spawn user threads prio) = not (is_refusal (step w (Spawn user threads prio)).outcome)
 wants_memory w (Call thread request) = not (is_refusal (step w (Call thread request)).outcome)
+wants_memory w (Mount thread path manager) = not (is_refusal (step w (Mount thread path manager)).outcome)
 wants_memory w (Perform worker moment) = holds_wanting w worker.0
 wants_memory w _ = false
 

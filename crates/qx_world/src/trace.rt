@@ -243,6 +243,11 @@ fn take(world: &mut World, step: &Step) -> Result<Outcome, NoMemory>
         Step::TakeReply { thread } => Ok(world.take_reply(*thread)),
         Step::SetPrio { thread, prio } => Ok(world.set_prio(*thread, *prio)),
         Step::Interrupt { thread } => Ok(world.interrupt(*thread)),
+        Step::Mount {
+            thread,
+            path,
+            manager,
+        } => world.mount(*thread, path, *manager),
         Step::Receive { worker, manager } => Ok(world.receive(*worker, *manager)),
         Step::Perform { worker, moment } => world.perform_held(*worker, *moment),
     }

@@ -1,0 +1,126 @@
+-- A step that mounts: how it is judged, and what it comes to.
+use Rattle.std.proofs.Common.{◌≡◌, inl, inr, ℕ, zero, suc, List, [], ◌∷◌, Bool, true, false, Option, Some, None, Result, Ok, Err, refl, sym, ap, ◌∙◌}
+use Rattle.std.specs.Prelude.{slice_set}
+use Rattle.std.proofs.lemmas.Bool.{false≢true}
+use Rattle.qx_types.specs.Configuration.{Configuration, name_bytes}
+use Rattle.qx_types.specs.declared.names.Manager.{Manager}
+use Rattle.qx_types.specs.declared.names.Thread.{Thread}
+use Rattle.qx_types.specs.declared.outcome.Outcome.{Outcome}
+use Rattle.qx_types.specs.declared.outcome.Outcome.TheVariants.{Done, WrongState}
+use Rattle.qx_types.specs.declared.step.Step.TheVariants.{Mount}
+use Rattle.qx_paths.specs.Mounts.{mount_fault}
+use Rattle.qx_paths.specs.Prefixes.{MountPoint}
+use Rattle.qx_machine.specs.declared.rows.Held.{Held}
+use Rattle.qx_machine.specs.Calls.{is_ready}
+use Rattle.qx_machine.specs.Clients.{mount_by, or_unchanged}
+use Rattle.qx_machine.specs.Judgements.{or_refused}
+use Rattle.qx_machine.specs.Machine.{World, client_end, step}
+use Rattle.qx_machine.specs.Mounting.{new_mount, with_mount}
+use Rattle.qx_machine.specs.Parts.{Part, Resources, thread_of}
+use Rattle.qx_machine.specs.Processes.{Process}
+use Rattle.qx_machine.specs.Rows.{row_at, with_row}
+use Rattle.qx_machine.specs.Users.{client, settle}
+use Rattle.qx_machine.proofs.Places.{set-row_at}
+use Rattle.qx_chan.specs.Channel.{Channel}
+use Rattle.qx_steps.specs.Parts.{part_of, parts_of, world_of}
+use Rattle.qx_steps.specs.Reads.{is_thread_ready, process_in, thread_row}
+use Rattle.qx_steps.specs.Steps.{after_mount, mount_from, mount_in, CanMount}
+use Rattle.qx_steps.proofs.PartsLemmas.{option_cases, row_at-parts}
+
+-- ---- how it is judged
+
+unready : (config : Configuration) (thread : Thread) (path : List ℕ) (manager : Manager) (row : Option Part) → is_thread_ready (thread_of thread.tid (process_in thread.proc.num row)) ≡ false → mount_from config thread path manager row ≡ Err WrongState
+unready config thread path manager None not = refl
+unready config thread path manager (Some part) not = elim (option_cases (thread_of thread.tid (row_at part.processes thread.proc.num))) [
+  | inl none ↦ rw none refl
+  | inr row ↦ let busy : is_ready row.0.state ≡ false = rw row.1 at not in rw (row.1, busy) refl
+]
+
+ready : (config : Configuration) (thread : Thread) (path : List ℕ) (manager : Manager) (part : Part) → is_thread_ready (thread_of thread.tid (row_at part.processes thread.proc.num)) ≡ true
+    → mount_from config thread path manager (Some part) ≡ or_refused (new_mount (name_bytes config thread.proc.user.0) path manager part.resources)
+ready config thread path manager part is = elim (option_cases (thread_of thread.tid (row_at part.processes thread.proc.num))) [
+  | inl none ↦ let clash : false ≡ true = rw none at is in absurd (false≢true clash)
+  | inr row ↦ let free : is_ready row.0.state ≡ true = rw row.1 at is in rw (row.1, free) refl
+]
+
+pub unready-mount : (w : World) (thread : Thread) (path : List ℕ) (manager : Manager) → is_thread_ready (thread_row w.parts thread) ≡ false → mount_in w thread path manager ≡ Err WrongState
+unready-mount w thread path manager not = unready w.config thread path manager (row_at w.parts thread.proc.user.0) not
+
+-- a user without resources has no rows
+pub nobody-mount : (w : World) (us : List (Option (List (Option Process)))) (rs : List (Option Resources)) (thread : Thread) (path : List ℕ) (manager : Manager) → w.parts ≡ parts_of us rs → row_at rs thread.proc.user.0 ≡ None → mount_in w thread path manager ≡ Err WrongState
+nobody-mount w us rs thread path manager is none =
+    rw (is, row_at-parts us rs thread.proc.user.0, none) (elim (option_cases (row_at us thread.proc.user.0)) [
+      | inl nobody ↦ rw nobody refl
+      | inr ps ↦ rw ps.1 refl
+    ])
+
+ready_part : (config : Configuration) (thread : Thread) (path : List ℕ) (manager : Manager) (ps : Option (List (Option Process))) (r : Resources) → is_thread_ready (thread_of thread.tid (process_in thread.proc.num (part_of ps (Some r)))) ≡ true
+    → (mount_from config thread path manager (part_of ps (Some r)) ≡ or_refused (new_mount (name_bytes config thread.proc.user.0) path manager r)) × ((names : List (List ℕ)) → mount_fault r.mounts names ≡ None → CanMount (part_of ps (Some r)) names)
+ready_part config thread path manager None r is = absurd (false≢true is)
+ready_part config thread path manager (Some ps) r is = (ready config thread path manager (record { processes = ps; resources = r }) is, λ names free. free)
+
+pub ready-mount : (w : World) (us : List (Option (List (Option Process)))) (rs : List (Option Resources)) (thread : Thread) (path : List ℕ) (manager : Manager) (r : Resources) → w.parts ≡ parts_of us rs → row_at rs thread.proc.user.0 ≡ Some r → is_thread_ready (thread_row w.parts thread) ≡ true
+    → (mount_in w thread path manager ≡ or_refused (new_mount (name_bytes w.config thread.proc.user.0) path manager r)) × ((names : List (List ℕ)) → mount_fault r.mounts names ≡ None → CanMount (row_at w.parts thread.proc.user.0) names)
+ready-mount w us rs thread path manager r parts there is =
+    let row : row_at w.parts thread.proc.user.0 ≡ part_of (row_at us thread.proc.user.0) (Some r) = rw (parts, row_at-parts us rs thread.proc.user.0, there) refl in
+    let free : is_thread_ready (thread_of thread.tid (process_in thread.proc.num (part_of (row_at us thread.proc.user.0) (Some r)))) ≡ true = rw row at is in
+    rw row (ready_part w.config thread path manager (row_at us thread.proc.user.0) r free)
+
+-- ---- what it comes to
+
+-- a user whose rows stay
+refused_by : (w : World) (user : ℕ) (part : Part) (outcome : Outcome) → row_at w.parts user ≡ Some part → client_end w user part (or_unchanged part (Err outcome)) ≡ record { world = w; outcome = outcome }
+unfolding settle
+refused_by w user part outcome row = ap (λ parts. record { world = record w { parts = parts }; outcome = outcome }) (ap (slice_set w.parts user) (sym row) ∙ set-row_at w.parts user)
+
+pub mount-refused : (w : World) (thread : Thread) (path : List ℕ) (manager : Manager) (outcome : Outcome) → mount_in w thread path manager ≡ Err outcome → step w (Mount thread path manager) ≡ record { world = w; outcome = outcome }
+unfolding step client
+mount-refused w thread path manager outcome is = elim (option_cases (row_at w.parts thread.proc.user.0)) [
+  | inl none ↦ let same : Err WrongState ≡ Err outcome = rw none at is in rw none (ap (λ o. record { world = w; outcome = o }) (cc))
+  | inr part ↦
+      let its : mount_by w.config thread.proc.user.0 part.0 thread path manager ≡ Err outcome = rw part.1 at is in
+      rw (part.1, its) (refused_by w thread.proc.user.0 part.0 outcome part.1)
+]
+
+pub mount-done : (w : World) (thread : Thread) (path : List ℕ) (manager : Manager) (mount : MountPoint) → mount_in w thread path manager ≡ Ok mount → step w (Mount thread path manager) ≡ record { world = after_mount w thread.proc.user.0 mount; outcome = Done }
+unfolding step client settle
+mount-done w thread path manager mount is = elim (option_cases (row_at w.parts thread.proc.user.0)) [
+  | inl none ↦ let clash : Err WrongState ≡ Ok mount = rw none at is in absurd (cc)
+  | inr part ↦
+      let its : mount_by w.config thread.proc.user.0 part.0 thread path manager ≡ Ok mount = rw part.1 at is in
+      rw (part.1, its) refl
+]
+
+-- ---- a manager is attached for a user
+
+parts-with_resources : (us : List (Option (List (Option Process)))) (rs : List (Option Resources)) (user : ℕ) (change : Resources → Resources)
+    → parts_of us (with_row rs user change) ≡ with_row (parts_of us rs) user (λ part. record part { resources = change part.resources })
+parts-with_resources [] rs user change = refl
+parts-with_resources (u ∷ us) [] zero change = refl
+parts-with_resources (u ∷ us) [] (suc user) change = refl
+parts-with_resources (None ∷ us) (None ∷ rs) zero change = refl
+parts-with_resources (None ∷ us) (Some r ∷ rs) zero change = refl
+parts-with_resources (Some ps ∷ us) (None ∷ rs) zero change = refl
+parts-with_resources (Some ps ∷ us) (Some r ∷ rs) zero change = refl
+parts-with_resources (u ∷ us) (r ∷ rs) (suc user) change = ap (λ parts. part_of u r ∷ parts) (parts-with_resources us rs user change)
+
+pub attached : (config : Configuration) (c : Channel) (rs : List (Option Resources)) (hands : List (Option Held)) (user : ℕ) (r : Resources) (mount : MountPoint) → row_at rs user ≡ Some r
+    → world_of config c (slice_set rs user (Some (with_mount user mount r))) hands ≡ after_mount (world_of config c rs hands) user mount
+attached config c rs hands user r mount there =
+    let change : Resources → Resources = with_mount user mount in
+    let row : with_row rs user change ≡ slice_set rs user (Some (change r)) = rw there refl in
+    ap (λ parts. record (world_of config c rs hands) { parts = parts }) (ap (parts_of c.users) (sym row) ∙ parts-with_resources c.users rs user change)
+
+unmounted : (ps : Option (List (Option Process))) (names : List (List ℕ)) → CanMount (part_of ps None) names → ⊥
+unmounted None names can = can
+unmounted (Some ps) names can = can
+
+pub nobody-attached : (us : List (Option (List (Option Process)))) (rs : List (Option Resources)) (user : ℕ) (names : List (List ℕ)) → row_at rs user ≡ None → CanMount (row_at (parts_of us rs) user) names → ⊥
+nobody-attached us rs user names none can = unmounted (row_at us user) names (rw (row_at-parts us rs user, none) at can)
+
+free_by : (ps : Option (List (Option Process))) (r : Resources) (names : List (List ℕ)) → CanMount (part_of ps (Some r)) names → mount_fault r.mounts names ≡ None
+free_by None r names can = absurd can
+free_by (Some ps) r names can = can
+
+pub attached-free : (us : List (Option (List (Option Process)))) (rs : List (Option Resources)) (user : ℕ) (r : Resources) (names : List (List ℕ)) → row_at rs user ≡ Some r → CanMount (row_at (parts_of us rs) user) names → mount_fault r.mounts names ≡ None
+attached-free us rs user r names there can = free_by (row_at us user) r names (rw (row_at-parts us rs user, there) at can)
