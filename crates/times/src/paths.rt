@@ -67,7 +67,9 @@ fn names_of(alloc: Global, users: usize) -> Result<Vec<Bytes>, AllocError> {
 
 /// The top, and the RAM manager at the first two components of a path, the first three, and so on.
 fn mounts_of(alloc: Global, path: &[u8], count: usize) -> anyhow::Result<Mounts> {
-    let mut mounts = Mounts::boot(alloc, b"a", 1)?;
+    let Ok(mut mounts) = Mounts::boot(alloc, b"a", 1) else {
+        bail!("out of memory");
+    };
     for number in 2..=count {
         let Some(Ok(prefix)) = path.get(..number.saturating_mul(2)).map(read_path) else {
             bail!("the path is too short");

@@ -4,8 +4,8 @@ use crate::same::has_same_transcript;
 use crate::script::{booted, config, ran, run};
 use qx_machine::Entry;
 use qx_types::{
-    Bytes, Item, Manager, MessageBytes, NoMemory, OFlags, Outcome, Prio, Proc, Request, Step, Thread, User,
-    Worker,
+    Bytes, Errno, Item, Manager, MessageBytes, NoMemory, OFlags, Outcome, Prio, Proc, Request,
+    Step, Thread, User, Worker,
 };
 use qx_wire::Parsed;
 use qx_world::{PerformFault, Traced, Work, WorkRef, World};
@@ -126,7 +126,10 @@ fn perform_what_is_held(
     let Some(held) = held(traced.world())? else {
         panic!(rt; "no message is held");
     };
-    assert!(rt; is_stale(traced, &message(MessageBytes::inline(alloc, b""))) && is_stale(traced, &Work::Pulse));
+    assert!(rt;
+        is_stale(traced, &message(MessageBytes::inline(alloc, b"")))
+            && is_stale(traced, &Work::Pulse)
+    );
     assert_eq!(rt; traced.entries().len(), 3);
     assert!(rt; is_performed(traced, &held));
     assert!(rt; traced.world().answered(ann));
@@ -194,6 +197,20 @@ fn serve_alone(rt: &impl Abort, world: &mut World) -> Result<(), NoMemory> {
     Ok(())
 }
 
+/// The pipe manager is attached below bob's name, once.
+fn mount_alone(rt: &impl Abort, alloc: Global, world: &mut World) -> Result<(), NoMemory> {
+    let path = Bytes::from_slice(alloc, b"/bob/p")?;
+    let bob = first_thread(User(2));
+    assert!(rt; matches!(&world.mount(bob, &path, Manager::Pipe)?, Outcome::Done));
+    assert!(rt;
+        matches!(
+            &world.mount(bob, &path, Manager::Ram)?,
+            Outcome::Refused(Errno::EEXIST)
+        )
+    );
+    Ok(())
+}
+
 /// Nothing is held afterwards, and the priority of bob's thread is set.
 fn rest_alone(rt: &impl Abort, world: &mut World) {
     assert!(rt;
@@ -215,6 +232,7 @@ fn runs_a_world_alone(rt: HostRuntime) -> Result<(), NoMemory> {
     let mut world = World::new(rt.alloc(), config(&rt, rt.alloc())?)?;
     call_alone(&rt, rt.alloc(), &mut world)?;
     serve_alone(&rt, &mut world)?;
+    mount_alone(&rt, rt.alloc(), &mut world)?;
     rest_alone(&rt, &mut world);
     Ok(())
 }
