@@ -1,8 +1,9 @@
 -- A step that mounts: how it is judged, and what it comes to.
-use Rattle.std.proofs.Common.{◌≡◌, inl, inr, ℕ, List, [], ◌∷◌, Bool, true, false, Option, Some, None, Result, Ok, Err, refl, sym, ap, ◌∙◌}
-use Rattle.std.specs.Prelude.{slice_set}
+use Rattle.std.proofs.Common.{◌≡◌, inl, inr, ℕ, zero, suc, List, [], ◌∷◌, Bool, true, false, Option, Some, None, Result, Ok, Err, refl, sym, ap, ◌∙◌}
+use Rattle.std.specs.Prelude.{IfOk, slice_set}
 use Rattle.std.proofs.lemmas.Bool.{false≢true}
 use Rattle.qx_types.specs.Configuration.{Configuration, name_bytes}
+use Rattle.qx_types.specs.declared.errno.Errno.{Errno}
 use Rattle.qx_types.specs.declared.names.Manager.{Manager}
 use Rattle.qx_types.specs.declared.names.Thread.{Thread}
 use Rattle.qx_types.specs.declared.outcome.Outcome.{Outcome}
@@ -10,17 +11,19 @@ use Rattle.qx_types.specs.declared.outcome.Outcome.TheVariants.{Done, WrongState
 use Rattle.qx_types.specs.declared.step.Step.TheVariants.{Mount}
 use Rattle.qx_paths.specs.Mounts.{mount_fault}
 use Rattle.qx_paths.specs.Prefixes.{MountPoint}
+use Rattle.qx_machine.specs.declared.rows.Held.{Held}
 use Rattle.qx_machine.specs.Calls.{is_ready}
 use Rattle.qx_machine.specs.Clients.{mount_by, or_unchanged}
 use Rattle.qx_machine.specs.Judgements.{or_refused}
 use Rattle.qx_machine.specs.Machine.{World, client_end, step}
-use Rattle.qx_machine.specs.Mounting.{new_mount}
+use Rattle.qx_machine.specs.Mounting.{new_mount, with_mount}
 use Rattle.qx_machine.specs.Parts.{Part, Resources, thread_of}
 use Rattle.qx_machine.specs.Processes.{Process}
-use Rattle.qx_machine.specs.Rows.{row_at}
+use Rattle.qx_machine.specs.Rows.{row_at, with_row}
 use Rattle.qx_machine.specs.Users.{client, settle}
 use Rattle.qx_machine.proofs.Places.{set-row_at}
-use Rattle.qx_steps.specs.Parts.{part_of, parts_of}
+use Rattle.qx_chan.specs.Channel.{Channel}
+use Rattle.qx_steps.specs.Parts.{part_of, parts_of, world_of}
 use Rattle.qx_steps.specs.Reads.{is_thread_ready, process_in, thread_row}
 use Rattle.qx_steps.specs.Steps.{after_mount, mount_from, mount_in, CanMount}
 use Rattle.qx_steps.proofs.PartsLemmas.{option_cases, row_at-parts}
@@ -48,7 +51,7 @@ unready-mount w thread path manager not = unready w.config thread path manager (
 pub nobody-mount : (w : World) (us : List (Option (List (Option Process)))) (rs : List (Option Resources)) (thread : Thread) (path : List ℕ) (manager : Manager) → w.parts ≡ parts_of us rs → row_at rs thread.proc.user.0 ≡ None → mount_in w thread path manager ≡ Err WrongState
 nobody-mount w us rs thread path manager is none =
     rw (is, row_at-parts us rs thread.proc.user.0, none) (elim (option_cases (row_at us thread.proc.user.0)) [
-      | inl no ↦ rw no refl
+      | inl nobody ↦ rw nobody refl
       | inr ps ↦ rw ps.1 refl
     ])
 
@@ -63,6 +66,10 @@ ready-mount w us rs thread path manager r parts there is =
     let row : row_at w.parts thread.proc.user.0 ≡ part_of (row_at us thread.proc.user.0) (Some r) = rw (parts, row_at-parts us rs thread.proc.user.0, there) refl in
     let free : is_thread_ready (thread_of thread.tid (process_in thread.proc.num (part_of (row_at us thread.proc.user.0) (Some r)))) ≡ true = rw row at is in
     rw row (ready_part w.config thread path manager (row_at us thread.proc.user.0) r free)
+
+pub still_ok : (given : Result MountPoint Errno) (P Q : MountPoint → Type 0) → ((mount : MountPoint) → P mount → Q mount) → IfOk given P → IfOk (or_refused given) Q
+still_ok (Ok mount) P Q step p = step mount p
+still_ok (Err errno) P Q step p = tt
 
 -- ---- what it comes to
 
@@ -88,3 +95,37 @@ mount-done w thread path manager mount is = elim (option_cases (row_at w.parts t
       let its : mount_by w.config thread.proc.user.0 part.0 thread path manager ≡ Ok mount = rw part.1 at is in
       rw (part.1, its) refl
 ]
+
+-- ---- a manager is attached for a user
+
+parts-with_resources : (us : List (Option (List (Option Process)))) (rs : List (Option Resources)) (user : ℕ) (change : Resources → Resources)
+    → parts_of us (with_row rs user change) ≡ with_row (parts_of us rs) user (λ part. record part { resources = change part.resources })
+parts-with_resources [] rs user change = refl
+parts-with_resources (u ∷ us) [] zero change = refl
+parts-with_resources (u ∷ us) [] (suc user) change = refl
+parts-with_resources (None ∷ us) (None ∷ rs) zero change = refl
+parts-with_resources (None ∷ us) (Some r ∷ rs) zero change = refl
+parts-with_resources (Some ps ∷ us) (None ∷ rs) zero change = refl
+parts-with_resources (Some ps ∷ us) (Some r ∷ rs) zero change = refl
+parts-with_resources (u ∷ us) (r ∷ rs) (suc user) change = ap (λ parts. part_of u r ∷ parts) (parts-with_resources us rs user change)
+
+pub attached : (config : Configuration) (c : Channel) (rs : List (Option Resources)) (hands : List (Option Held)) (user : ℕ) (r : Resources) (mount : MountPoint) → row_at rs user ≡ Some r
+    → world_of config c (slice_set rs user (Some (with_mount user mount r))) hands ≡ after_mount (world_of config c rs hands) user mount
+attached config c rs hands user r mount there =
+    let change : Resources → Resources = with_mount user mount in
+    let row : with_row rs user change ≡ slice_set rs user (Some (change r)) = rw there refl in
+    ap (λ parts. record (world_of config c rs hands) { parts = parts }) (ap (parts_of c.users) (sym row) ∙ parts-with_resources c.users rs user change)
+
+unmounted : (ps : Option (List (Option Process))) (names : List (List ℕ)) → CanMount (part_of ps None) names → ⊥
+unmounted None names can = can
+unmounted (Some ps) names can = can
+
+pub nobody-attached : (us : List (Option (List (Option Process)))) (rs : List (Option Resources)) (user : ℕ) (names : List (List ℕ)) → row_at rs user ≡ None → CanMount (row_at (parts_of us rs) user) names → ⊥
+nobody-attached us rs user names none can = unmounted (row_at us user) names (rw (row_at-parts us rs user, none) at can)
+
+free_by : (ps : Option (List (Option Process))) (r : Resources) (names : List (List ℕ)) → CanMount (part_of ps (Some r)) names → mount_fault r.mounts names ≡ None
+free_by None r names can = absurd can
+free_by (Some ps) r names can = can
+
+pub attached-free : (us : List (Option (List (Option Process)))) (rs : List (Option Resources)) (user : ℕ) (r : Resources) (names : List (List ℕ)) → row_at rs user ≡ Some r → CanMount (row_at (parts_of us rs) user) names → mount_fault r.mounts names ≡ None
+attached-free us rs user r names there can = free_by (row_at us user) r names (rw (row_at-parts us rs user, there) at can)
