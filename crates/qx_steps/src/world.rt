@@ -552,7 +552,9 @@ fn shown_item(user: User, item: OwnItem) -> Item
     match item {
         OwnItem::Message { process, thread } => Item::Message(named_thread(user, process, thread)),
         OwnItem::Unblock {
-            process, thread, ..
+            process,
+            thread,
+            ..
         } => Item::Unblock(named_thread(user, process, thread)),
     }
 }
