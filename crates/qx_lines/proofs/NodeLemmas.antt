@@ -1,5 +1,5 @@
 -- Lists of nodes that differ: the place of a node among them, and how long the list is as a node comes or goes.
-use Rattle.std.proofs.Common.{Bool, true, Option, ◌==◌, nat_lt, below_more, ◌≡◌, inl, inr, ℕ, zero, suc, ◌+◌, ◌<◌, ◌≤◌, false, nat_eq, List, [], ◌∷◌, ◌++◌, length, get_or, Contains, Some, None, slice_get, refl, sym, arith}
+use Rattle.std.proofs.Common.{Bool, true, Option, ◌==◌, nat_lt, below_more, ◌≡◌, inl, inr, ℕ, zero, suc, ◌+◌, ◌<◌, ◌≤◌, false, nat_eq, List, [], ◌∷◌, ◌++◌, length, get_or, Contains, Some, None, slice_get, refl, sym, arith, ap, subst, ◌-◌}
 use Rattle.std.specs.Prelude.{if◌then◌else◌}
 use Rattle.std.specs.List.{IsDistinct, AllByRecursion}
 use Rattle.std.proofs.lemmas.Bool.Decides.{eqb_tells, nat_tests}
@@ -7,6 +7,7 @@ use Rattle.std.proofs.lemmas.Option.{slice_get_within, get_or_from_slice_get}
 use Rattle.std.proofs.lemmas.Bool.{cond_both}
 use Rattle.qx_lists.specs.Table.{without, put_before, next_after}
 use Rattle.qx_lists.proofs.ListLemmas.{contains_cases, contains_first, contains_later}
+use Rattle.qx_machine.specs.Laws.{IsInOrder}
 use Rattle.qx_machine.specs.Lines.{into}
 
 -- each of the first nodes has at least the priority
@@ -51,6 +52,15 @@ past_the_end (x ∷ xs) (suc i) is = omega (arith, past_the_end xs i is)
 
 pub Passes-more : (rank : ℕ → ℕ) (prio : ℕ) (nodes : List ℕ) (i node : ℕ) → Passes rank prio nodes i → slice_get nodes i ≡ Some node → prio ≤ rank node → Passes rank prio nodes (i + 1)
 Passes-more rank prio nodes i node passed is higher = below_more _ _ passed (rw (get_or_from_slice_get nodes i node 0 is) higher)
+
+-- where the last node has at least the priority, each node has
+pub Passes-last : (rank : ℕ → ℕ) (prio : ℕ) (nodes : List ℕ) (last : ℕ) → IsInOrder rank nodes → slice_get nodes (length nodes - 1) ≡ Some last → prio ≤ rank last → Passes rank prio nodes (length nodes)
+Passes-last rank prio nodes last in_order is higher =
+    let within = slice_get_within nodes (length nodes - 1) last is in
+    let at = ap rank (get_or_from_slice_get nodes (length nodes - 1) last 0 is) in
+    let front : Passes rank prio nodes (length nodes - 1) = λ k before. omega (arith, higher, at, in_order k (length nodes - 1) 0 before within) in
+    let whole : length nodes - 1 + 1 ≡ length nodes = omega (arith, within) in
+    subst (Passes rank prio nodes) whole (Passes-more rank prio nodes (length nodes - 1) last front is higher)
 
 pub put_before-index : (rank : ℕ → ℕ) (nodes : List ℕ) (i at node : ℕ) → IsDistinct nat_eq nodes → slice_get nodes i ≡ Some at → Passes rank (rank node) nodes i → rank at < rank node → put_before node at nodes ≡ into rank nodes node
 unfolding IsDistinct

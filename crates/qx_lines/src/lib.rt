@@ -1,7 +1,7 @@
 //! Priority lines: the item that goes first stands in front, in order of priority, and first in first out among equals.
 #![tactic(auto)]
 
-ghost use Rattle.std.specs.Prelude.{◌≡◌, ℕ, IfOk, OnErr, IfSome, IfNone, [], drop, slice_get, ◌↔◌};
+ghost use Rattle.std.specs.Prelude.{◌≡◌, ℕ, IfOk, OnErr, IfSome, IfNone, IsFalse, None, [], drop, slice_get, ◌↔◌};
 ghost use Rattle.std.specs.FinMap as map;
 ghost use Rattle.qx_lists.specs.Table.{IsFree, placed, without};
 ghost use Rattle.qx_machine.specs.Lines.{into};
@@ -100,9 +100,26 @@ impl Line {
         ensures { table.new ≡ with_line table.old self.now (into (rank_at T.rank table.old) (nodes_in table.old self.now) node) }
     {
         let prio = table.value(node).prio();
-        match self.first_below(table, prio) {
+        let below = if self.ends_below(table, prio) {
+            self.first_below(table, prio)
+        } else {
+            None
+        };
+        match below {
             Some(at) => table.insert_before(self.list, at, node),
             None => table.push_back(self.list, node),
+        }
+    }
+
+    // Whether the last node is of lower priority. If it is not, no node is.
+    fn ends_below<T: Ranked>(&self, table: &Table<T>, prio: Prio) -> bool
+        requires { IsLineOf T.rank table.now self.now }
+        ensures none { IsFalse result → (node : ℕ) → rank_at T.rank table.now node ≡ prio.0 → placed node None (nodes_in table.now self.now) ≡ into (rank_at T.rank table.now) (nodes_in table.now self.now) node }
+    {
+        table.know();
+        match table.last(self.list) {
+            Some(last) => table.value(last).prio().0 < prio.0,
+            None => false,
         }
     }
 

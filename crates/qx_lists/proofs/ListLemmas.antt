@@ -156,6 +156,14 @@ pub slice_get-first : (xs : List ℕ) → slice_get xs 0 ≡ first_place xs None
 slice_get-first [] = refl
 slice_get-first (x ∷ xs) = refl
 
+last_from : (x : ℕ) (xs : List ℕ) → slice_get (x ∷ xs) (length xs) ≡ last_place (Some x) xs
+last_from x [] = refl
+last_from x (y ∷ ys) = last_from y ys
+
+pub slice_get-last : (xs : List ℕ) → slice_get xs (length xs - 1) ≡ last_place None xs
+slice_get-last [] = refl
+slice_get-last (x ∷ xs) = let less : length (x ∷ xs) - 1 ≡ length xs = omega arith in rw less (last_from x xs)
+
 pub next_after-split : (x : ℕ) (front back : List ℕ) → Avoids (Some x) front → next_after x (front ++ x ∷ back) ≡ first_place back None
 next_after-split x [] back before = elim (eqb_tells x x) [
   | inl same ↦ rw same.0 (slice_get-first back)

@@ -149,6 +149,14 @@ impl<T> Table<T> {
         self.rings.links(list, None).next
     }
 
+    /// The last node of the list.
+    pub fn last(&self, list: usize) -> Option<usize>
+        requires { ContainsList self.now list }
+        ensures { result ≡ slice_get (nodes_of self.now list) (length (nodes_of self.now list) - 1) }
+    {
+        self.rings.links(list, None).previous
+    }
+
     /// The node right after `node` in the list.
     pub fn next(&self, list: usize, node: usize) -> Option<usize>
         requires { IsIn self.now list node }
