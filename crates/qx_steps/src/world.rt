@@ -21,8 +21,8 @@ use qx_process::{Process, places};
 use qx_requests::{encoded, target_by};
 use qx_resources::{AllResources, NewMount};
 use qx_types::{
-    Answer, Bytes, Config, Item, Manager, NoMemory, Outcome, Prio, Proc, Request, Step, Thread,
-    User, Worker,
+    Answer, Bytes, Config, Item, Manager, MessageBytes, NoMemory, Outcome, Prio, Proc, Request,
+    Step, Thread, User, Worker,
 };
 use qx_wire::{Meaning, Parsed, meaning};
 use std::alloc::{AllocError, Global};
@@ -525,7 +525,7 @@ fn taken(process: &Process, thread: u8) -> Option<&Sent>
 }
 
 /// What the bytes of a message mean, which may have been read before.
-fn meaning_of<'a>(bytes: &'a Bytes, read: Option<&'a Parsed>) -> Meaning<'a>
+fn meaning_of<'a>(bytes: &'a MessageBytes, read: Option<&'a Parsed>) -> Meaning<'a>
     requires { IfSome read (λ read. read.now ≡ bytes.now) }
     ensures { result ≡ reading.meaning bytes.now }
 {
