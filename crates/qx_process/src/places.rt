@@ -1,6 +1,6 @@
 //! Tables of rows under small numbers: a place for each number, as long as the table has grown.
 
-ghost use Rattle.std.specs.Prelude.{◌≡◌, ◌+◌, ◌<◌, ◌^◌, length, IfOk, OnOk, OnErr, OnSome, None, [], ◌∷◌, slice_set, Some};
+ghost use Rattle.std.specs.Prelude.{◌≡◌, ◌+◌, ◌<◌, ◌≤◌, ◌^◌, length, vec_len, vec_capacity, IfOk, OnOk, OnErr, OnSome, None, [], ◌∷◌, slice_set, Some};
 ghost use Rattle.std.specs.Option.{option_copied};
 ghost use Rattle.qx_machine.specs.Rows.{row_at, lowest_from, put_row};
 
@@ -41,6 +41,20 @@ pub fn put<T: Drop>(places: &mut Vec<Option<T>>, number: usize, row: T) -> Resul
         places.push(Some(row))?;
     }
     Ok(())
+}
+
+/// Puts a row under a number, for which the table has room.
+pub fn put_reserved<T: Drop>(places: &mut Vec<Option<T>>, number: usize, row: T)
+    requires room { vec_len places.old < vec_capacity places.old }
+    ensures row { places.new.items ≡ put_row places.old.items number row }
+    ensures len { vec_len places.new ≤ vec_len places.old + 1 }
+    ensures capacity { vec_capacity places.new ≡ vec_capacity places.old }
+{
+    if number < places.len() {
+        places[number] = Some(row);
+    } else {
+        places.push_reserved(Some(row));
+    }
 }
 
 /// A table with no row.

@@ -20,6 +20,8 @@ impl Limits {
     pub const SERVERS: usize = 64;
     /// Mounts of a user, the top included.
     pub const MOUNTS: usize = 8;
+    /// Inodes of a user.
+    pub const INODES: usize = 1024;
     /// Open blocks of a user.
     pub const BLOCKS: usize = 256;
     /// The greatest priority.
@@ -32,6 +34,10 @@ impl Limits {
     pub const COMPONENT: usize = 64;
     /// Bytes of one read or write.
     pub const TRANSFER: usize = 4096;
+    /// Bytes of one file.
+    pub const FILE: usize = 65_536;
+    /// Bytes of all files of a user together.
+    pub const FILES: usize = 1_048_576;
     /// Bytes of a message's body.
     pub const BODY: usize = 4160;
     /// Bytes of a message, of which its header has 8.
