@@ -1,62 +1,23 @@
 -- Blocks under their numbers, as their keys and values change.
-use Rattle.std.proofs.Common.{◌≡◌, ◌≢◌, ◌⊎◌, Bool, true, false, ℕ, zero, suc, ◌+◌, ◌-◌, ◌<◌, ◌≤◌, List, [], ◌∷◌, ◌++◌, drop, length, get_or, refl, sym, ap, ◌∙◌, subst, inl, inr, arith, Option, Some, None, IsSome, map, nat_lt, slice_set, slice_get, unwrap_or}
+use Rattle.std.proofs.Common.{◌≡◌, ◌≢◌, ◌⊎◌, Bool, true, false, ℕ, zero, suc, List, [], ◌∷◌, ◌++◌, length, refl, sym, ap, ◌∙◌, inl, inr, Option, Some, None, IsSome, nat_lt, slice_set}
 use Rattle.std.specs.Prelude.{if◌then◌else◌}
-use Rattle.std.proofs.Math.ListN.{set, length-set}
-use Rattle.std.proofs.lemmas.Bool.{cases_eq, cases_lt}
-use Rattle.std.proofs.lemmas.List.{set-get_or, get_or-set_same, get_or-set_other, get_or_past}
-use Rattle.std.proofs.lemmas.Option.{unwrap_or-slice_get}
-use Rattle.slab.specs.Slab.{Slab, ContainsKey, Updates, get, with_value}
+use Rattle.std.proofs.Math.ListN.{set}
+use Rattle.std.proofs.lemmas.Bool.{cases_eq}
+use Rattle.slab.specs.Slab.{Slab, Updates, get, with_value}
 use Rattle.slab.proofs.SlabLemmas.{Updates-with_value}
 use Rattle.qx_machine.specs.declared.rows.Ocb.{Ocb}
-use Rattle.qx_machine.specs.Rows.{row_at, lowest_from, put_row, taken_places, with_row}
+use Rattle.qx_machine.specs.Rows.{row_at, lowest_from, put_row, with_row}
 use Rattle.qx_machine.proofs.Places.{at-map, row_at-set_other, set-row_at}
 use Rattle.qx_attr.specs.Blocks.{IsKeyed, rows_of, value_at}
-
-same_map : {A B : Type 0} (f g : Option A → Option B) (keys : List (Option A)) → ((m : ℕ) → g (row_at keys m) ≡ f (row_at keys m)) → map g keys ≡ map f keys
-same_map f g [] same = refl
-same_map f g (key ∷ keys) same = λ i. same 0 i ∷ same_map f g keys (λ m. same (suc m)) i
-
--- two tables that differ at one place alone
-same_but : {A B : Type 0} (f g : Option A → Option B) (keys : List (Option A)) (n : ℕ) (x : Option A) → ((m : ℕ) → m ≢ n → g (row_at keys m) ≡ f (row_at keys m)) → map g (slice_set keys n x) ≡ slice_set (map f keys) n (g x)
-same_but f g [] n x same = refl
-same_but f g (key ∷ keys) zero x same = ap (λ l. g x ∷ l) (same_map f g keys (λ m. same (suc m) (λ e. absurd (omega arith))))
-same_but f g (key ∷ keys) (suc n) x same = λ i. same 0 (λ e. absurd (omega arith)) i ∷ same_but f g keys n x (λ m d. same (suc m) (λ e. d (omega arith))) i
-
-length-rows : {A B : Type 0} (f : A → B) (keys : List A) → length (map f keys) ≡ length keys
-length-rows f [] = refl
-length-rows f (key ∷ keys) = ap suc (length-rows f keys)
-
-append-rows : {A B : Type 0} (f : A → B) (keys : List A) (x : A) → map f (keys ++ x ∷ []) ≡ map f keys ++ f x ∷ []
-append-rows f [] x = refl
-append-rows f (key ∷ keys) x = ap (λ l. f key ∷ l) (append-rows f keys x)
+use Rattle.qx_attr.proofs.TableLemmas.{append-rows, length-rows, lowest_map, no_value, same_but, same_map}
 
 pub row-of : (values : Slab Ocb) (keys : List (Option ℕ)) (n : ℕ) → row_at (rows_of values keys) n ≡ value_at values (row_at keys n)
 row-of values keys n = at-map (value_at values) keys n None None refl
 
-row-set_same : {A : Type 0} (xs : List (Option A)) (n : ℕ) (x : Option A) → n < length xs → row_at (slice_set xs n x) n ≡ x
-row-set_same xs n x lt = unwrap_or-slice_get (slice_set xs n x) n None ∙ get_or-set_same xs n x None lt
-
-row-past : {A : Type 0} (xs : List (Option A)) (n : ℕ) → length xs ≤ n → row_at xs n ≡ None
-row-past xs n le = unwrap_or-slice_get xs n None ∙ get_or_past xs n None le
-
 -- ---- the lowest free number
 
-no_value : {A : Type 0} (value : Option A) → value ≡ None → IsSome value → ⊥
-no_value None e some = cc
-no_value (Some value) e some = cc
-
-taken-some : (value : Option Ocb) (rows : List (Option Ocb)) (keys : List (Option ℕ)) → IsSome value → taken_places rows ≡ taken_places keys → taken_places (value ∷ rows) ≡ taken_places keys + 1
-taken-some None rows keys some e = absurd (no_value {A = Ocb} None refl some)
-taken-some (Some value) rows keys some e = ap (λ n. n + 1) e
-
-taken : (values : Slab Ocb) (keys : List (Option ℕ)) → ((n key : ℕ) → row_at keys n ≡ Some key → ContainsKey values key) → taken_places (rows_of values keys) ≡ taken_places keys
-taken values [] there = refl
-taken values (None ∷ keys) there = refl
-taken values (Some key ∷ keys) there = taken-some (get values key) (rows_of values keys) keys (there 0 key refl) (taken values keys (λ n. there (suc n)))
-
 pub lowest : (values : Slab Ocb) (keys : List (Option ℕ)) → IsKeyed values keys → lowest_from 1 (rows_of values keys) ≡ lowest_from 1 keys
-lowest values [] keyed = refl
-lowest values (key ∷ keys) keyed = ap (λ n. 1 + n) (taken values keys (λ n. keyed.there (suc n)))
+lowest values keys keyed = lowest_map (value_at values) keys refl keyed.there
 
 -- ---- one key's value changes
 
@@ -73,13 +34,16 @@ rows-with old keys n key value keyed is = changed (get old key) refl
   where
     new : Slab Ocb
     new = with_value old key value
+
     updates : Updates old new key (Some value)
     updates = Updates-with_value old key value (keyed.there n key is)
+
     written : rows_of new keys ≡ slice_set (rows_of old keys) n (Some value)
     written =
         ap (rows_of new) (sym (set-row_at keys n)) ∙
         (same_but (value_at old) (value_at new) keys n (row_at keys n) (λ m differs. value-other old new key (Some value) updates (row_at keys m) (λ e. differs (keyed.apart m n key e is))) ∙
         ap (λ place. slice_set (rows_of old keys) n (value_at new place)) is ∙ ap (slice_set (rows_of old keys) n) updates.changed)
+
     changed : (had : Option Ocb) → get old key ≡ had → rows_of new keys ≡ with_row (rows_of old keys) n (λ _. value)
     changed None e = absurd (no_value (get old key) e (keyed.there n key is))
     changed (Some was) e = rw (row-of old keys n, is, e) written
@@ -104,8 +68,8 @@ some_same x y e some = rw e some
 pub keyed-without : (old new : Slab Ocb) (keys : List (Option ℕ)) (n key : ℕ) → IsKeyed old keys → row_at keys n ≡ Some key → Updates old new key None → IsKeyed new (slice_set keys n None)
 keyed-without old new keys n key keyed is updates = record {
   there = λ m other there.
-    let kept = still old new keys n key m other keyed is there in
-    some_same (get new other) (get old other) (updates.others other (λ e. kept.0 (keyed.apart m n key (kept.1 ∙ ap (λ k. Some k) e) is))) (keyed.there m other kept.1);
+      let kept = still old new keys n key m other keyed is there in
+      some_same (get new other) (get old other) (updates.others other (λ e. kept.0 (keyed.apart m n key (kept.1 ∙ ap (λ k. Some k) e) is))) (keyed.there m other kept.1);
   apart = λ a b other at_a at_b. keyed.apart a b other (still old new keys n key a other keyed is at_a).1 (still old new keys n key b other keyed is at_b).1;
 }
 
@@ -149,13 +113,13 @@ module _ (old new : Slab Ocb) (keys : List (Option ℕ)) (n key : ℕ) (value : 
     ];
     apart = λ a b other at_a at_b. elim (at a other at_a) [
       | inl here ↦ elim (at b other at_b) [
-          | inl there ↦ here.0 ∙ sym there.0
-          | inr was ↦ absurd (not_there b (was ∙ ap (λ k. Some k) here.1))
-        ]
+        | inl there ↦ here.0 ∙ sym there.0
+        | inr was ↦ absurd (not_there b (was ∙ ap (λ k. Some k) here.1))
+      ]
       | inr had ↦ elim (at b other at_b) [
-          | inl there ↦ absurd (not_there a (had ∙ ap (λ k. Some k) there.1))
-          | inr was ↦ keyed.apart a b other had was
-        ]
+        | inl there ↦ absurd (not_there a (had ∙ ap (λ k. Some k) there.1))
+        | inr was ↦ keyed.apart a b other had was
+      ]
     ];
   }
 

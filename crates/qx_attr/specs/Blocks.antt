@@ -1,7 +1,6 @@
 -- How open control blocks stand under their numbers. No definition above mentions their keys.
-use Rattle.std.specs.Prelude.{ℕ, ◌≡◌, ◌+◌, ◌≤◌, List, Option, Some, None, length, map}
+use Rattle.std.specs.Prelude.{ℕ, ◌≡◌, List, Option, Some, None, map}
 use Rattle.slab.specs.Slab.{Slab, ContainsKey, get}
-use Rattle.qx_types.specs.declared.limits.TheConstants.Limits.{BLOCKS}
 use Rattle.qx_machine.specs.declared.rows.Ocb.{Ocb}
 use Rattle.qx_machine.specs.Rows.{row_at}
 

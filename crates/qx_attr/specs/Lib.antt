@@ -1,2 +1,2 @@
 pub mod Blocks
-pub mod Inodes
+pub mod Counts

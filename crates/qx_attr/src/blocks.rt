@@ -57,6 +57,7 @@ impl Blocks {
     /// The lowest free number.
     pub fn free_number(&self) -> usize
         ensures number { result ≡ lowest_from 1 self.now.rows }
+        ensures free { row_at self.now.rows result ≡ None }
     {
         places::lowest_free(self.keys.as_slice(), 1)
     }

@@ -2,10 +2,13 @@
 #![tactic(auto)]
 
 pub mod access;
-pub mod blocks;
-
+pub mod attr;
+mod blocks;
+pub mod inodes;
+mod status;
 
 pub use access::check_access;
-pub use blocks::Blocks;
-
+pub use attr::Attr;
+pub use inodes::Inodes;
 pub use qx_machine::Ocb;
+pub use status::{Status, stat_bytes};

@@ -1,6 +1,6 @@
 -- The inodes and open control blocks of one user, at all managers (Writing a Resource Manager: iofunc_attr_t, iofunc_ocb_t; that each user
 -- has numbers of their own is this profile).
-use Rattle.std.specs.Prelude.{ℕ, ◌+◌, Bool, true, false, ◌==◌, ◌&&◌, not, List, [], ◌∷◌, Option, Some, None, Result, Ok, Err, count_by, nat_le, slice_set, option_map, if◌then◌else◌}
+use Rattle.std.specs.Prelude.{ℕ, Bool, true, false, ◌==◌, ◌&&◌, not, List, [], ◌∷◌, Option, Some, None, Result, Ok, Err, count_by, nat_le, slice_set, if◌then◌else◌}
 use Rattle.std.specs.Int.RustNames.{bit_and}
 use Rattle.qx_types.specs.declared.errno.Errno.{Errno}
 use Rattle.qx_types.specs.declared.errno.Errno.TheVariants.{EACCES, ENFILE, ENOSPC}
@@ -80,22 +80,29 @@ with_attribute inodes inode attribute = record inodes { attributes = slice_set i
 
 -- ---- open control blocks
 
-abbrev pub is_open : OFlags → ℕ → Option Ocb → Bool
-is_open flags inode None = false
-is_open flags inode (Some block) = (block.inode == inode) && has block.flags flags
+abbrev pub reads : OFlags → Bool
+reads flags = has flags READ
 
--- how many open control blocks an inode has that were opened with these flags: of all, those for reading and those for writing
-abbrev pub open_with : OFlags → Inodes → ℕ → ℕ
-open_with flags inodes inode = count_by (is_open flags inode) inodes.blocks
+abbrev pub writes : OFlags → Bool
+writes flags = has flags WRITE
 
+abbrev pub is_open : (OFlags → Bool) → ℕ → Option Ocb → Bool
+is_open which inode None = false
+is_open which inode (Some block) = (block.inode == inode) && which block.flags
+
+-- how many open control blocks of an inode have such flags
+abbrev pub open_with : (OFlags → Bool) → Inodes → ℕ → ℕ
+open_with which inodes inode = count_by (is_open which inode) inodes.blocks
+
+-- the three counts of an inode: its open control blocks, those for reading and those for writing
 abbrev pub blocks_of : Inodes → ℕ → ℕ
-blocks_of = open_with (record { 0 = 0 })
+blocks_of = open_with (λ flags. true)
 
 abbrev pub readers_of : Inodes → ℕ → ℕ
-readers_of = open_with READ
+readers_of = open_with reads
 
 abbrev pub writers_of : Inodes → ℕ → ℕ
-writers_of = open_with WRITE
+writers_of = open_with writes
 
 -- an open makes an open control block, which begins at the beginning (C Library Reference: open)
 abbrev pub open_block : Inodes → ℕ → OFlags → Result Numbered Errno

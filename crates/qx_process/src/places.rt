@@ -78,6 +78,8 @@ pub fn set<T: Drop>(places: &mut Vec<Option<T>>, number: usize, row: T)
 /// Frees a number.
 pub fn free<T: Drop>(places: &mut Vec<Option<T>>, number: usize)
     ensures freed { places.new.items ≡ slice_set places.old.items number None }
+    ensures len { vec_len places.new ≡ vec_len places.old }
+    ensures capacity { vec_capacity places.new ≡ vec_capacity places.old }
 {
     if number < places.len() {
         places[number] = None;

@@ -1,6 +1,6 @@
-use Rattle.std.proofs.Common.{◌≡◌, ap, arith, None, Some, sym, ◌∙◌}
+use Rattle.std.proofs.Common.{◌≡◌, arith, None, Some, sym}
 use Rattle.qx_machine.specs.Rows.{row_at}
-use Rattle.qx_attr.specs.Blocks.{Table, rows_of}
+use Rattle.qx_attr.specs.Blocks.{rows_of}
 use Rattle.qx_attr.proofs.BlockLemmas.{keyed-without, rows-without, nothing-freed, nothing-there}
 use Rattle.qx_attr.proofs.blocks.Blocks.remove.Goals as goal
 
