@@ -2,6 +2,5 @@
 #![tactic(auto)]
 
 pub mod resources;
-mod status;
 
 pub use resources::{Done, Resources};
