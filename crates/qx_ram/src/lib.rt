@@ -4,6 +4,7 @@
 mod contents;
 mod data;
 pub mod files;
+pub mod laws;
 mod target;
 
 pub use files::Files;
