@@ -1,5 +1,5 @@
 -- What the RAM manager does to the bytes of files (C Library Reference: read, write, lseek, chmod, close; the limits are this profile).
-use Rattle.std.specs.Prelude.{ℕ, ℤ, pos, negsuc, suc, zero, ◌+◌, ◌-◌, ◌==◌, Bool, not, List, [], ◌++◌, Option, Some, None, Result, Ok, Err, drop, length, nat_le, nat_lt, replicate, slice_set, take, if◌then◌else◌}
+use Rattle.std.specs.Prelude.{ℕ, ℤ, pos, negsuc, ◌+◌, ◌-◌, ◌==◌, not, List, [], ◌++◌, Option, Some, None, Result, Ok, drop, length, nat_le, nat_lt, replicate, slice_set, take, if◌then◌else◌}
 use Rattle.std.specs.List.{sum_by}
 use Rattle.qx_types.specs.declared.errno.Errno.{Errno}
 use Rattle.qx_types.specs.declared.errno.Errno.TheVariants.{EBADF, EFBIG, EINVAL, EISDIR, ENOSPC, EPERM}
@@ -12,7 +12,7 @@ use Rattle.qx_machine.specs.declared.rows.Ocb.{Ocb}
 use Rattle.qx_machine.specs.Attributes.{root_inode}
 use Rattle.qx_machine.specs.Inodes.{Inodes, close_block, free_inode, has, is_unused, reads, with_attribute, with_offset, writes}
 use Rattle.qx_machine.specs.Judgements.{◌>>=◌, found, need}
-use Rattle.qx_machine.specs.Rows.{row_at}
+use Rattle.qx_machine.specs.Rows.{put_row, row_at}
 
 -- the bytes of a user's files, under the numbers of their inodes
 pub record Files : Type 0 where
@@ -46,6 +46,25 @@ total_size files = sum_by size_of files.contents
 abbrev pub with_contents : Files → ℕ → Option (List ℕ) → Files
 with_contents files inode bytes = record files { contents = slice_set files.contents inode bytes }
 
+-- ---- files as they come, and without their bytes
+
+-- a file is made, with no bytes
+abbrev pub with_new_file : Files → ℕ → Files
+with_new_file files inode = record files { contents = put_row files.contents inode [] }
+
+-- a file's attribute once it has another size
+abbrev pub resized : ℕ → ℕ → Attribute → Attribute
+resized size moment attribute = record attribute { size = size; mtime = moment; ctime = moment }
+
+-- a file is made empty (C Library Reference: open, O_TRUNC)
+abbrev pub truncated : Inodes → Files → ℕ → Attribute → ℕ → Given
+truncated inodes files inode attribute moment = record {
+  status = 0;
+  bytes = [];
+  inodes = with_attribute inodes inode (resized 0 moment attribute);
+  files = with_contents files inode (Some []);
+}
+
 -- ---- reading and writing
 
 -- a read gives at most so many bytes from the offset on, and moves past them
@@ -64,10 +83,6 @@ read_file inodes files number count = do
 -- where a write begins: with APPEND at the end
 abbrev pub write_offset : Ocb → List ℕ → ℕ
 write_offset block bytes = if has block.flags APPEND then length bytes else block.offset
-
--- a file's attribute once it has another size
-abbrev pub resized : ℕ → ℕ → Attribute → Attribute
-resized size moment attribute = record attribute { size = size; mtime = moment; ctime = moment }
 
 -- a write of some bytes: wholly or not at all
 abbrev pub write_at : Inodes → Files → ℕ → Ocb → ℕ → Attribute → List ℕ → ℕ → List ℕ → Result Given Errno

@@ -40,6 +40,14 @@ impl Contents {
         places::row(self.places.as_slice(), inode as usize)
     }
 
+    /// Puts a file with no bytes under a number.
+    pub fn put(&mut self, alloc: Global, inode: u32) -> Result<(), AllocError>
+        ensures ok { OnOk result (self.new ≡ put_row self.old inode []) }
+        ensures err { OnErr result (self.new ≡ self.old) }
+    {
+        places::put(&mut self.places, inode as usize, Data::new(alloc))
+    }
+
     /// The bytes of a file, for writing.
     pub fn get_mut(&mut self, inode: u32) -> Option<&mut Data>
         ensures* writes_back { sem 𝓛 (lends_bytes self.entry inode result) }

@@ -35,6 +35,13 @@ impl Data {
         self.bytes.len()
     }
 
+    /// Takes all away.
+    pub fn clear(&mut self)
+        ensures { self.new ≡ [] }
+    {
+        self.bytes.clear();
+    }
+
     /// At most so many bytes from an offset on.
     pub fn read(&self, offset: usize, count: usize) -> &[u8]
         ensures got { result.now ≡ get self.now offset count }

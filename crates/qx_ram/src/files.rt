@@ -1,4 +1,4 @@
-ghost use Rattle.std.specs.Prelude.{◌≡◌, ◌+◌, ◌<◌, ◌≤◌, ◌^◌, ◌∷◌, [], None, Some, Err, Ok, IfOk, OnOk, OnErr, length};
+ghost use Rattle.std.specs.Prelude.{◌≡◌, ◌+◌, ◌<◌, ◌≤◌, ◌^◌, ◌∷◌, [], None, Some, Err, Ok, IfOk, IsSome, OnOk, OnErr, length};
 ghost use Rattle.std.specs.Result.{result_map_both};
 ghost use Rattle.qx_machine.specs.Files as machine;
 ghost use Rattle.qx_machine.specs.Files.{get, put, total_size};
@@ -51,6 +51,43 @@ impl Files {
             contents: Contents::new(alloc)?,
             total: 0,
         })
+    }
+
+    /// Makes a file with no bytes, under the number of an inode that has none. Nothing changes where memory is short.
+    pub fn make(&mut self, alloc: Global, inode: u32) -> Result<(), AllocError>
+        requires free { row_at self.old.contents inode ≡ None }
+        ensures made { OnOk result (self.new ≡ machine.with_new_file self.old inode) }
+        ensures err { OnErr result (self.new ≡ self.old) }
+    {
+        self.contents.put(alloc, inode)?;
+        Ok(())
+    }
+
+    /// Makes a file empty and sets its times (C Library Reference: `open`, `O_TRUNC`).
+    pub fn truncate(&mut self, inodes: &mut Inodes, inode: u32, attribute: &Attribute, moment: u64)
+        requires there { row_at inodes.old.inodes.attributes inode ≡ Some attribute.now }
+        requires file { IsSome (row_at self.old.contents inode) }
+        ensures empty { given inodes.new.inodes self.new (Ok 0) ≡ Ok (machine.truncated inodes.old.inodes self.old inode attribute.now moment) }
+    {
+        self.clear(inode);
+        let attribute = Attribute {
+            size: 0,
+            mtime: moment,
+            ctime: moment,
+            ..*attribute
+        };
+        inodes.set_attribute(inode, attribute);
+    }
+
+    /// Takes the bytes of a file.
+    fn clear(&mut self, inode: u32)
+        requires file { IsSome (row_at self.old.contents inode) }
+        ensures { self.new ≡ machine.with_contents self.old inode (Some []) }
+    {
+        if let Some(data) = self.contents.get_mut(inode) {
+            self.total -= data.len();
+            data.clear();
+        }
     }
 
     /// The bytes from where an open control block stands, at most so many, which lend themselves to be copied; their number
