@@ -1,4 +1,4 @@
-ghost use Rattle.std.specs.Prelude.{◌≡◌, ◌+◌, ◌<◌, ◌≤◌, ◌^◌, ◌∷◌, [], None, Some, Err, Ok, IfOk, IsSome, OnOk, OnErr, length};
+ghost use Rattle.std.specs.Prelude.{◌≡◌, ◌+◌, ◌<◌, ◌≤◌, ◌^◌, ◌∷◌, [], None, Some, Err, Ok, IfOk, IsSome, OnOk, OnErr, length, option_map};
 ghost use Rattle.std.specs.Result.{result_map_both};
 ghost use Rattle.qx_machine.specs.Files as machine;
 ghost use Rattle.qx_machine.specs.Files.{get, put, total_size};
@@ -51,6 +51,16 @@ impl Files {
             contents: Contents::new(alloc)?,
             total: 0,
         })
+    }
+
+    /// How many bytes a file has; none where the inode has no bytes.
+    pub fn size(&self, inode: u32) -> Option<usize>
+        ensures size { result ≡ option_map (λ bytes. length bytes) (row_at self.now.contents inode) }
+    {
+        match self.contents.get(inode) {
+            Some(data) => Some(data.len()),
+            None => None,
+        }
     }
 
     /// Makes a file with no bytes, under the number of an inode that has none. Nothing changes where memory is short.
