@@ -2,6 +2,8 @@ pub mod Attributes
 pub mod Calls
 pub mod Clients
 pub mod Examples
+pub mod Files
+pub mod Inodes
 pub mod Judgements
 pub mod Laws
 pub mod Lines

@@ -1,5 +1,5 @@
 use qx_paths::Path;
-use qx_types::{Actor, Answer, Coid, Manager, MessageBytes, Outcome, Prio, Step, User};
+use qx_types::{Actor, Answer, Coid, Manager, MessageBytes, OFlags, Outcome, Prio, Step, User};
 use qx_wire::{BorrowedBytes, Message};
 
 /// What a call sends (C Library Reference: `MsgSend`): a message of the table, or bytes as they are.
@@ -121,6 +121,24 @@ pub struct Attribute {
     pub size: u64,
     pub mtime: u64,
     pub ctime: u64,
+}
+
+/// An open control block: the inode that it has open, the flags of the open, and where the next read or write begins
+/// (Writing a Resource Manager: `iofunc_ocb_t`).
+#[derive(Clone, Copy, Debug, PartialEq, Eq)]
+pub struct Ocb {
+    pub inode: u32,
+    pub flags: OFlags,
+    pub offset: u64,
+}
+
+/// What an inode's mode may allow (C Library Reference: `access`).
+#[derive(Clone, Copy, Debug, PartialEq, Eq)]
+pub enum Access {
+    Read,
+    Write,
+    /// Of a directory, that names are looked up in it.
+    Search,
 }
 
 /// An item of a line or of a worker, by the numbers of its user.

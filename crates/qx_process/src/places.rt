@@ -46,6 +46,8 @@ pub fn put<T: Drop>(places: &mut Vec<Option<T>>, number: usize, row: T) -> Resul
 pub fn put_reserved<T: Drop>(places: &mut Vec<Option<T>>, number: usize, row: T)
     requires room { length places.old.items ≤ number → vec_len places.old < vec_capacity places.old }
     ensures row { places.new.items ≡ put_row places.old.items number row }
+    ensures len { vec_len places.new ≤ vec_len places.old + 1 }
+    ensures capacity { vec_capacity places.new ≡ vec_capacity places.old }
 {
     if number < places.len() {
         places[number] = Some(row);
@@ -75,6 +77,8 @@ pub fn set<T: Drop>(places: &mut Vec<Option<T>>, number: usize, row: T)
 /// Frees a number.
 pub fn free<T: Drop>(places: &mut Vec<Option<T>>, number: usize)
     ensures freed { places.new.items ≡ slice_set places.old.items number None }
+    ensures len { vec_len places.new ≡ vec_len places.old }
+    ensures capacity { vec_capacity places.new ≡ vec_capacity places.old }
 {
     if number < places.len() {
         places[number] = None;

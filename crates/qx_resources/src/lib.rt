@@ -3,7 +3,6 @@
 
 pub mod all;
 pub mod resources;
-mod status;
 
 pub use all::AllResources;
 pub use resources::{Done, NewMount, Resources};

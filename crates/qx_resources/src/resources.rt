@@ -13,8 +13,8 @@ ghost use Rattle.qx_machine.specs.Users.{boot_part};
 ghost use Rattle.qx_wire.specs.declared.message.Meaning.TheVariants.{Known};
 ghost use Rattle.qx_resources.specs.Deeds.{deed_with, used_deed, wants_memory};
 
-use crate::status::{Status, stat_bytes};
 use arrayvec::ArrayVec;
+use qx_attr::{Status, stat_bytes};
 use qx_machine::{Attribute, Block, Effect, Kind, Opened, Over, Target};
 use qx_paths::{MountFault, Mounts, Path, read_path};
 use qx_process::{Process, places};

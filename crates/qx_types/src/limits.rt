@@ -34,6 +34,12 @@ impl Limits {
     pub const COMPONENT: usize = 64;
     /// Bytes of one read or write.
     pub const TRANSFER: usize = 4096;
+    /// Bytes of one file.
+    pub const FILE: usize = 65_536;
+    /// Bytes of all files of a user together.
+    pub const FILES: usize = 1_048_576;
+    /// The greatest offset, 2^63 - 1.
+    pub const OFFSET: u64 = 9_223_372_036_854_775_807;
     /// Bytes of a message's body.
     pub const BODY: usize = 4160;
     /// Bytes of a message, of which its header has 8.

@@ -1,0 +1,19 @@
+use Rattle.std.proofs.Common.{ap, arith, ◌-◌}
+use Rattle.qx_attr.specs.Blocks.{Table}
+use Rattle.qx_attr.proofs.BlockLemmas.{keyed-put, rows-put}
+use Rattle.qx_attr.proofs.blocks.Blocks.put.Goals as goal
+
+pub invariant_of-self : goal.invariant_of-self
+invariant_of-self c =
+    let made = c.insert_reserved-key in
+    record {
+      keyed = rw c.put_reserved.ensures.row (keyed-put c.self.inside.values made.new.self c.self.inside.keys.items c.args.number made.result c.args.block c.self.invariant.keyed made.ensures.was_vacant made.ensures.updates);
+      numbers = omega arith;
+      slots = omega (arith, ap (λ (table : Table). table.room) c.self.view_is);
+    }
+
+pub returns : goal.returns
+returns c =
+    let made = c.insert_reserved-key in
+    let put = rows-put c.self.inside.values made.new.self c.self.inside.keys.items c.args.number made.result c.args.block c.self.invariant.keyed made.ensures.was_vacant made.ensures.updates in
+    rw (c.put_reserved.ensures.row, ← c.self.view_is) (record { row = λ i. record { rows = put i; room = c.self.inside.room - 1 } })

@@ -1,0 +1,26 @@
+use Rattle.std.proofs.Common.{◌≡◌, ◌-◌, None, Some, ap, arith, refl, ◌∙◌}
+use Rattle.qx_types.specs.declared.limits.TheConstants.Limits.{BLOCKS}
+use Rattle.qx_machine.specs.Rows.{put_row, row_at}
+use Rattle.qx_attr.specs.Counts.{Reserved, counted}
+use Rattle.qx_attr.proofs.CountLemmas.{counted_open, few_blocks, same_attributes}
+use Rattle.qx_attr.proofs.inodes.Inodes.put_block.Goals as goal
+
+pub invariant_of-self : goal.invariant_of-self
+invariant_of-self c =
+    let attrs = c.self.inside.attrs.items in
+    let rows = c.self.inside.blocks.rows in
+    let there : row_at attrs c.args.block.inode ≡ Some c.in-Some.attr = cc in
+    let free : row_at rows c.args.number ≡ None = ap (λ (all : Reserved). row_at all.inodes.blocks c.args.number) c.self.view_is ∙ c.requires.free in
+    rw (c.put.ensures.row, c.counted.ensures) (record {
+      counted = counted_open attrs rows c.args.number c.args.block c.in-Some.attr there c.self.invariant.counted free;
+      few = few_blocks rows c.args.number BLOCKS c.args.block c.requires.few c.self.invariant.few;
+      numbers = omega arith;
+      slots = omega arith;
+    })
+
+pub returns : goal.returns
+returns c =
+    let attrs = c.self.inside.attrs.items in
+    let there : row_at attrs c.args.block.inode ≡ Some c.in-Some.attr = cc in
+    let same = same_attributes attrs c.args.block.inode c.in-Some.attr (counted c.args.block.flags c.in-Some.attr) there refl in
+    rw (c.put.ensures.row, c.counted.ensures, ← c.self.view_is) (λ i. record { inodes = record { attributes = same i; blocks = put_row c.self.inside.blocks.rows c.args.number c.args.block }; room = c.self.inside.room - 1 })

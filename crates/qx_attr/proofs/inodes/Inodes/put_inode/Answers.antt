@@ -1,0 +1,22 @@
+use Rattle.std.proofs.Common.{◌≡◌, ◌-◌, None, ap, arith, refl, ◌∙◌}
+use Rattle.qx_machine.specs.Rows.{row_at}
+use Rattle.qx_attr.specs.Counts.{Reserved, attribute_of, unopened}
+use Rattle.qx_attr.proofs.CountLemmas.{counted_inode}
+use Rattle.qx_attr.proofs.TableLemmas.{none_before, rows_put}
+use Rattle.qx_attr.proofs.inodes.Inodes.put_inode.Goals as goal
+
+pub invariant_of-self : goal.invariant_of-self
+invariant_of-self c =
+    let attrs = c.self.inside.attrs.items in
+    let free : row_at attrs c.args.number ≡ None = none_before attribute_of attrs c.args.number (λ attr e. cc) (ap (λ (all : Reserved). row_at all.inodes.attributes c.args.number) c.self.view_is ∙ c.requires.free) in
+    rw (c.put_reserved.ensures.row, c.new.ensures) (record {
+      counted = counted_inode attrs c.self.inside.blocks.rows c.args.number (unopened c.args.attribute) refl refl refl free c.self.invariant.counted;
+      few = c.self.invariant.few;
+      numbers = omega arith;
+      slots = omega arith;
+    })
+
+pub returns : goal.returns
+returns c =
+    let put = rows_put attribute_of c.self.inside.attrs.items c.args.number (unopened c.args.attribute) c.args.attribute refl in
+    rw (c.put_reserved.ensures.row, c.new.ensures, ← c.self.view_is) (λ i. record { inodes = record { attributes = put i; blocks = c.self.inside.blocks.rows }; room = c.self.inside.room - 1 })

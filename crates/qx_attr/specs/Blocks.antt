@@ -1,0 +1,23 @@
+-- How open control blocks stand under their numbers. No definition above mentions their keys.
+use Rattle.std.specs.Prelude.{ℕ, ◌≡◌, List, Option, Some, None, map}
+use Rattle.slab.specs.Slab.{Slab, ContainsKey, get}
+use Rattle.qx_machine.specs.declared.rows.Ocb.{Ocb}
+use Rattle.qx_machine.specs.Rows.{row_at}
+
+-- rows under their numbers, and how many more can be put there with no memory
+pub record Table : Type 0 where
+  pub rows : List (Option Ocb)
+  pub room : ℕ
+
+-- what stands at a key, where there is one
+abbrev pub value_at : Slab Ocb → Option ℕ → Option Ocb
+value_at values None = None
+value_at values (Some key) = get values key
+
+abbrev pub rows_of : Slab Ocb → List (Option ℕ) → List (Option Ocb)
+rows_of values keys = map (value_at values) keys
+
+-- each key of a number has a value, and no two numbers have one key
+pub record IsKeyed (values : Slab Ocb) (keys : List (Option ℕ)) : Type 0 where
+  pub there : (number key : ℕ) → row_at keys number ≡ Some key → ContainsKey values key
+  pub apart : (a b key : ℕ) → row_at keys a ≡ Some key → row_at keys b ≡ Some key → a ≡ b

@@ -1,0 +1,109 @@
+ghost use Rattle.std.specs.Prelude.{◌≡◌, ◌+◌, ◌-◌, ◌<◌, ◌≤◌, [], ◌∷◌, None, Some, IfOk, OnOk, OnErr, IsOk, max, slice_set, vec_len, vec_capacity};
+ghost use Rattle.std.specs.Option.{option_copied};
+ghost use Rattle.qx_machine.specs.Rows.{lowest_from, put_row, row_at, with_row};
+
+use qx_machine::Ocb;
+use qx_process::places;
+use slab::Slab;
+use std::alloc::{AllocError, Global};
+use std::marker::Model;
+
+/// Open control blocks under numbers from 1.
+#[derive(Drop)]
+pub struct Blocks {
+    // At a block's number, its key.
+    keys: Vec<Option<usize>>,
+    values: Slab<Ocb>,
+    // How many more can be put with no memory.
+    room: usize,
+}
+
+impl Model for Blocks {
+    ghost use Rattle.std.specs.Prelude.{◌+◌, ◌≤◌, vec_len, vec_capacity};
+    ghost use Rattle.slab.specs.Slab.{HasRoomFor};
+    ghost use Rattle.qx_attr.specs.Blocks.{IsKeyed, Table, rows_of};
+
+    ghost Value = { Table };
+
+    ghost view = { λ b. record { rows = rows_of b.values b.keys.items; room = b.room } };
+
+    ghost invariant = { λ b. record {
+      keyed : IsKeyed b.values b.keys.items;
+      numbers : vec_len b.keys + b.room ≤ vec_capacity b.keys;
+      slots : HasRoomFor b.values b.room;
+    } };
+}
+
+impl Blocks {
+    /// None.
+    pub fn new(alloc: Global) -> Result<Self, AllocError>
+        ensures none { IfOk result (λ blocks. blocks ≡ record { rows = None ∷ []; room = 0 }) }
+    {
+        Ok(Blocks {
+            keys: places::empty(alloc)?,
+            values: Slab::new(alloc),
+            room: 0,
+        })
+    }
+
+    /// The block of a number.
+    pub fn get(&self, number: usize) -> Option<&Ocb>
+        ensures row { option_copied result ≡ row_at self.now.rows number }
+    {
+        let key = *places::row(self.keys.as_slice(), number)?;
+        self.values.get(key)
+    }
+
+    /// The lowest free number.
+    pub fn free_number(&self) -> usize
+        ensures number { result ≡ lowest_from 1 self.now.rows }
+        ensures free { row_at self.now.rows result ≡ None }
+    {
+        places::lowest_free(self.keys.as_slice(), 1)
+    }
+
+    /// Makes room for `count` more.
+    pub fn reserve(&mut self, count: usize) -> Result<(), AllocError>
+        ensures ok { OnOk result (self.new ≡ record self.old { room = max self.old.room count }) }
+        ensures err { OnErr result (self.new ≡ self.old) }
+        ensures had_room { count ≤ self.old.room → IsOk result }
+    {
+        if count > self.room {
+            self.keys.reserve(count)?;
+            self.values.reserve(count)?;
+            self.room = count;
+        }
+        Ok(())
+    }
+
+    /// Puts a block under a free number, for which there is room.
+    pub fn put(&mut self, number: usize, block: Ocb)
+        requires room { 0 < self.old.room }
+        ensures row { self.new ≡ record { rows = put_row self.old.rows number block; room = self.old.room - 1 } }
+    {
+        let key = self.values.insert_reserved(block);
+        places::put_reserved(&mut self.keys, number, key);
+        self.room -= 1;
+    }
+
+    /// Changes the block of a number, if there is one.
+    pub fn set(&mut self, number: usize, block: Ocb)
+        ensures row { self.new ≡ record self.old { rows = with_row self.old.rows number (λ _. block) } }
+    {
+        let Some(key) = places::row(self.keys.as_slice(), number).copied() else {
+            return;
+        };
+        self.values[key] = block;
+    }
+
+    /// Takes the block of a number away.
+    pub fn remove(&mut self, number: usize)
+        ensures row { self.new ≡ record self.old { rows = slice_set self.old.rows number None } }
+    {
+        let Some(key) = places::row(self.keys.as_slice(), number).copied() else {
+            return;
+        };
+        let _ = self.values.remove(key);
+        self.keys[number] = None;
+    }
+}

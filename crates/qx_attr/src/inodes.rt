@@ -1,0 +1,270 @@
+ghost use Rattle.std.specs.Prelude.{◌≡◌, ◌+◌, ◌-◌, ◌<◌, ◌≤◌, Bool, None, Some, IfOk, IfSome, OnOk, OnErr, IsOk, IsSome, max, option_map, slice_set};
+ghost use Rattle.std.specs.Option.{option_copied};
+ghost use Rattle.qx_attr.specs.Counts.{numbered};
+ghost use Rattle.qx_machine.specs.Attributes.{stat_bytes};
+ghost use Rattle.qx_machine.specs.Inodes as machine;
+ghost use Rattle.qx_machine.specs.Rows.{lowest_from, put_row, row_at};
+ghost use Rattle.qx_types.specs.declared.limits.TheConstants.Limits.{BLOCKS};
+
+use crate::attr::Attr;
+use crate::blocks::Blocks;
+use crate::status::{Status, stat_bytes};
+use qx_machine::{Attribute, Ocb};
+use qx_process::places;
+use qx_types::{Errno, Limits, OFlags};
+use std::alloc::{AllocError, Global};
+use std::marker::Model;
+
+/// The inodes and open control blocks of one user, at all managers, each under the lowest free number from 1. At most 1,024
+/// inodes and 256 blocks (Writing a Resource Manager: `iofunc_attr_t`, `iofunc_ocb_t`; that each user has numbers of their
+/// own is this profile).
+#[derive(Drop)]
+pub struct Inodes {
+    attrs: Vec<Option<Attr>>,
+    blocks: Blocks,
+    // How many more of each can be made with no memory.
+    room: usize,
+}
+
+impl Model for Inodes {
+    ghost use Rattle.std.specs.Prelude.{◌+◌, ◌≤◌, length, map, vec_len, vec_capacity};
+    ghost use Rattle.qx_attr.specs.Counts.{AreCounted, Reserved, attribute_of};
+    ghost use Rattle.qx_types.specs.declared.limits.TheConstants.Limits.{BLOCKS};
+
+    ghost Value = { Reserved };
+
+    ghost view = { λ i. record {
+      inodes = record { attributes = map attribute_of i.attrs.items; blocks = i.blocks.rows };
+      room = i.room;
+    } };
+
+    ghost invariant = { λ i. record {
+      counted : AreCounted i.attrs.items i.blocks.rows;
+      few : length i.blocks.rows ≤ BLOCKS + 1;
+      numbers : vec_len i.attrs + i.room ≤ vec_capacity i.attrs;
+      slots : i.room ≤ i.blocks.room;
+    } };
+}
+
+impl Inodes {
+    /// None.
+    pub fn new(alloc: Global) -> Result<Self, AllocError>
+        ensures none { IfOk result (λ inodes. inodes ≡ record { inodes = machine.no_inodes; room = 0 }) }
+    {
+        Ok(Inodes {
+            attrs: places::empty(alloc)?,
+            blocks: Blocks::new(alloc)?,
+            room: 0,
+        })
+    }
+
+    /// An inode's attribute, and its three counts.
+    pub fn attr(&self, inode: u32) -> Option<&Attr>
+        ensures attribute { option_map (λ attr. attr.attribute) (option_copied result) ≡ row_at self.now.inodes.attributes inode }
+        ensures blocks { IfSome result (λ attr. attr.now.blocks ≡ machine.blocks_of self.now.inodes inode) }
+        ensures readers { IfSome result (λ attr. attr.now.readers ≡ machine.readers_of self.now.inodes inode) }
+        ensures writers { IfSome result (λ attr. attr.now.writers ≡ machine.writers_of self.now.inodes inode) }
+    {
+        places::row(self.attrs.as_slice(), inode as usize)
+    }
+
+    /// An open control block.
+    pub fn block(&self, number: u16) -> Option<&Ocb>
+        ensures block { option_copied result ≡ row_at self.now.inodes.blocks number }
+    {
+        self.blocks.get(number as usize)
+    }
+
+    /// Makes room for `count` more inodes and as many more open control blocks.
+    pub fn reserve(&mut self, count: usize) -> Result<(), AllocError>
+        ensures ok { OnOk result (self.new ≡ record self.old { room = max self.old.room count }) }
+        ensures err { OnErr result (self.new ≡ self.old) }
+        ensures had_room { count ≤ self.old.room → IsOk result }
+    {
+        if count > self.room {
+            self.attrs.reserve(count)?;
+            self.blocks.reserve(count)?;
+            self.room = count;
+        }
+        Ok(())
+    }
+
+    /// The number of the next inode, the lowest free one, or ENOSPC.
+    pub fn inode_number(&self) -> Result<u32, Errno>
+        ensures number { result ≡ machine.inode_number self.now.inodes }
+        ensures free { IfOk result (λ number. row_at self.now.inodes.attributes number ≡ None) }
+    {
+        let number = self.free_number();
+        if number <= Limits::INODES {
+            Ok(number as u32)
+        } else {
+            Err(Errno::ENOSPC)
+        }
+    }
+
+    fn free_number(&self) -> usize
+        ensures number { result ≡ lowest_from 1 self.now.inodes.attributes }
+        ensures free { row_at self.now.inodes.attributes result ≡ None }
+    {
+        places::lowest_free(self.attrs.as_slice(), 1)
+    }
+
+    /// The number of the next open control block, the lowest free one, or ENFILE.
+    pub fn block_number(&self) -> Result<u16, Errno>
+        ensures number { result ≡ machine.block_number self.now.inodes }
+        ensures free { IfOk result (λ number. row_at self.now.inodes.blocks number ≡ None) }
+    {
+        let number = self.blocks.free_number();
+        if number <= Limits::BLOCKS {
+            Ok(number as u16)
+        } else {
+            Err(Errno::ENFILE)
+        }
+    }
+
+    /// Makes an inode, which nothing has open, under the lowest free number: ENOSPC where the user has 1,024 (Writing a
+    /// Resource Manager: `iofunc_attr_init`). Where an error comes or memory is short, nothing changes.
+    pub fn new_inode(&mut self, attribute: Attribute) -> Result<Result<u32, Errno>, AllocError>
+        ensures made { IfOk result (λ given. numbered self.new.inodes given ≡ machine.new_inode self.old.inodes attribute) }
+        ensures room { IfOk result (λ given. OnOk given (self.new.room ≡ self.old.room - 1)) }
+        ensures kept { IfOk result (λ given. OnErr given (self.new ≡ self.old)) }
+        ensures err { OnErr result (self.new ≡ self.old) }
+        ensures sure { 0 < self.old.room → IsOk result }
+    {
+        match self.inode_number() {
+            Ok(number) => {
+                self.reserve(1)?;
+                self.put_inode(number, attribute);
+                Ok(Ok(number))
+            }
+            Err(errno) => Ok(Err(errno)),
+        }
+    }
+
+    /// Opens an inode: a block at offset 0 under the lowest free number, ENFILE where the user has 256 (Writing a Resource
+    /// Manager: `iofunc_ocb_attach`). Where an error comes or memory is short, nothing changes.
+    pub fn open_block(
+        &mut self,
+        inode: u32,
+        flags: OFlags,
+    ) -> Result<Result<u16, Errno>, AllocError>
+        requires there { IsSome (row_at self.old.inodes.attributes inode) }
+        ensures opened { IfOk result (λ given. numbered self.new.inodes given ≡ machine.open_block self.old.inodes inode flags) }
+        ensures room { IfOk result (λ given. OnOk given (self.new.room ≡ self.old.room - 1)) }
+        ensures kept { IfOk result (λ given. OnErr given (self.new ≡ self.old)) }
+        ensures err { OnErr result (self.new ≡ self.old) }
+        ensures sure { 0 < self.old.room → IsOk result }
+    {
+        match self.block_number() {
+            Ok(number) => {
+                self.reserve(1)?;
+                let block = Ocb {
+                    inode,
+                    flags,
+                    offset: 0,
+                };
+                self.put_block(number, block);
+                Ok(Ok(number))
+            }
+            Err(errno) => Ok(Err(errno)),
+        }
+    }
+
+    /// Gives an inode another attribute.
+    pub fn set_attribute(&mut self, inode: u32, attribute: Attribute)
+        requires there { IsSome (row_at self.old.inodes.attributes inode) }
+        ensures set { self.new ≡ record self.old { inodes = machine.with_attribute self.old.inodes inode attribute } }
+    {
+        let Some(attr) = places::row(self.attrs.as_slice(), inode as usize).copied() else {
+            unreachable!()
+        };
+        self.attrs[inode as usize] = Some(Attr { attribute, ..attr });
+    }
+
+    /// Moves an open control block to another offset, if it is there.
+    pub fn set_offset(&mut self, number: u16, offset: u64)
+        ensures moved { self.new ≡ record self.old { inodes = machine.with_offset self.old.inodes number offset } }
+    {
+        if let Some(block) = self.blocks.get(number as usize).copied() {
+            self.blocks.set(number as usize, Ocb { offset, ..block });
+        }
+    }
+
+    /// Takes an open control block away, if it is there; its inode's counts fall (Writing a Resource Manager:
+    /// `iofunc_close_ocb`).
+    pub fn close_block(&mut self, number: u16)
+        ensures closed { self.new ≡ record self.old { inodes = machine.close_block self.old.inodes number } }
+    {
+        let Some(block) = self.blocks.get(number as usize).copied() else {
+            return;
+        };
+        let Some(attr) = places::row(self.attrs.as_slice(), block.inode as usize).copied() else {
+            unreachable!()
+        };
+        self.blocks.remove(number as usize);
+        self.attrs[block.inode as usize] = Some(attr.uncounted(block.flags));
+    }
+
+    /// Frees an inode, with its number, if nothing names it and nothing has it open, and tells whether that is so.
+    pub fn free_inode(&mut self, inode: u32) -> bool
+        ensures unused { result ≡ machine.is_unused self.old.inodes inode (row_at self.old.inodes.attributes inode) }
+        ensures freed { self.new ≡ record self.old { inodes = machine.free_inode self.old.inodes inode } }
+    {
+        let is_unused = self.is_unused(inode);
+        if is_unused {
+            self.take_inode(inode);
+        }
+        is_unused
+    }
+
+    fn is_unused(&self, inode: u32) -> bool
+        ensures { result ≡ machine.is_unused self.now.inodes inode (row_at self.now.inodes.attributes inode) }
+    {
+        match self.attr(inode) {
+            Some(attr) => attr.attribute.links == 0 && attr.blocks == 0,
+            None => false,
+        }
+    }
+
+    /// Takes an inode that nothing has open out of the table.
+    fn take_inode(&mut self, inode: u32)
+        requires unopened { machine.blocks_of self.old.inodes inode ≡ 0 }
+        ensures { self.new ≡ record self.old { inodes = record self.old.inodes { attributes = slice_set self.old.inodes.attributes inode None } } }
+    {
+        places::free(&mut self.attrs, inode as usize);
+    }
+
+    /// The 40 bytes that a stat tells of an inode (Writing a Resource Manager: `iofunc_stat`; the layout is this profile).
+    pub fn stat_of(&self, inode: u32) -> Option<Status>
+        ensures status { option_map (λ status. status.items) result ≡ option_map (stat_bytes inode) (row_at self.now.inodes.attributes inode) }
+    {
+        let attr = self.attr(inode)?;
+        Some(stat_bytes(inode, &attr.attribute))
+    }
+
+    /// Puts an inode under a free number, for which there is room.
+    fn put_inode(&mut self, number: u32, attribute: Attribute)
+        requires room { 0 < self.old.room }
+        requires free { row_at self.old.inodes.attributes number ≡ None }
+        ensures { self.new ≡ record { inodes = record self.old.inodes { attributes = put_row self.old.inodes.attributes number attribute }; room = self.old.room - 1 } }
+    {
+        places::put_reserved(&mut self.attrs, number as usize, Attr::new(attribute));
+        self.room -= 1;
+    }
+
+    /// Puts an open control block under a free number, for which there is room, and counts it.
+    fn put_block(&mut self, number: u16, block: Ocb)
+        requires room { 0 < self.old.room }
+        requires few { number ≤ BLOCKS }
+        requires free { row_at self.old.inodes.blocks number ≡ None }
+        requires there { IsSome (row_at self.old.inodes.attributes block.inode) }
+        ensures { self.new ≡ record { inodes = record self.old.inodes { blocks = put_row self.old.inodes.blocks number block }; room = self.old.room - 1 } }
+    {
+        let Some(attr) = places::row(self.attrs.as_slice(), block.inode as usize).copied() else {
+            unreachable!()
+        };
+        self.blocks.put(number as usize, block);
+        self.attrs[block.inode as usize] = Some(attr.counted(block.flags));
+        self.room -= 1;
+    }
+}

@@ -1,0 +1,14 @@
+//! The inodes and open control blocks of one user, at all managers.
+#![tactic(auto)]
+
+pub mod access;
+pub mod attr;
+mod blocks;
+pub mod inodes;
+mod status;
+
+pub use access::check_access;
+pub use attr::Attr;
+pub use inodes::Inodes;
+pub use qx_machine::Ocb;
+pub use status::{Status, stat_bytes};

@@ -1,0 +1,163 @@
+-- What the RAM manager does to the bytes of files (C Library Reference: read, write, lseek, chmod, close; the limits are this profile).
+use Rattle.std.specs.Prelude.{ℕ, ℤ, pos, negsuc, ◌+◌, ◌-◌, ◌==◌, not, List, [], ◌++◌, Option, Some, None, Result, Ok, drop, length, nat_le, nat_lt, replicate, slice_set, take, if◌then◌else◌}
+use Rattle.std.specs.List.{sum_by}
+use Rattle.qx_types.specs.declared.errno.Errno.{Errno}
+use Rattle.qx_types.specs.declared.errno.Errno.TheVariants.{EBADF, EFBIG, EINVAL, EISDIR, ENOSPC, EPERM}
+use Rattle.qx_types.specs.declared.fields.Whence.{Whence}
+use Rattle.qx_types.specs.declared.fields.Whence.TheVariants.{Set, Current, End}
+use Rattle.qx_types.specs.declared.flags.TheConstants.OFlags.{APPEND}
+use Rattle.qx_types.specs.declared.limits.TheConstants.Limits.{FILE, FILES, OFFSET}
+use Rattle.qx_machine.specs.declared.rows.Attribute.{Attribute}
+use Rattle.qx_machine.specs.declared.rows.Ocb.{Ocb}
+use Rattle.qx_machine.specs.Attributes.{root_inode}
+use Rattle.qx_machine.specs.Inodes.{Inodes, close_block, free_inode, has, is_unused, reads, with_attribute, with_offset, writes}
+use Rattle.qx_machine.specs.Judgements.{◌>>=◌, found, need}
+use Rattle.qx_machine.specs.Rows.{put_row, row_at}
+
+-- the bytes of a user's files, under the numbers of their inodes
+pub record Files : Type 0 where
+  pub contents : List (Option (List ℕ))
+
+-- what a function gives: status and bytes of its reply, and what there is then
+pub record Given : Type 0 where
+  pub status : ℕ
+  pub bytes : List ℕ
+  pub inodes : Inodes
+  pub files : Files
+
+-- ---- bytes at a place
+
+-- at most so many bytes from an offset on
+abbrev pub get : List ℕ → ℕ → ℕ → List ℕ
+get bytes offset count = take count (drop offset bytes)
+
+-- the bytes, zero bytes up to the offset where they are shorter, the new ones there, and the old rest after them
+abbrev pub put : List ℕ → ℕ → List ℕ → List ℕ
+put bytes offset new = (take offset bytes ++ replicate (offset - length bytes) 0) ++ (new ++ drop (offset + length new) bytes)
+
+abbrev pub size_of : Option (List ℕ) → ℕ
+size_of None = 0
+size_of (Some bytes) = length bytes
+
+-- the sum of the sizes of a user's files
+abbrev pub total_size : Files → ℕ
+total_size files = sum_by size_of files.contents
+
+abbrev pub with_contents : Files → ℕ → Option (List ℕ) → Files
+with_contents files inode bytes = record files { contents = slice_set files.contents inode bytes }
+
+-- ---- files as they come, and without their bytes
+
+-- a file is made, with no bytes
+abbrev pub with_new_file : Files → ℕ → Files
+with_new_file files inode = record files { contents = put_row files.contents inode [] }
+
+-- a file's attribute once it has another size
+abbrev pub resized : ℕ → ℕ → Attribute → Attribute
+resized size moment attribute = record attribute { size = size; mtime = moment; ctime = moment }
+
+-- a file is made empty (C Library Reference: open, O_TRUNC)
+abbrev pub truncated : Inodes → Files → ℕ → Attribute → ℕ → Given
+truncated inodes files inode attribute moment = record {
+  status = 0;
+  bytes = [];
+  inodes = with_attribute inodes inode (resized 0 moment attribute);
+  files = with_contents files inode (Some []);
+}
+
+-- ---- reading and writing
+
+-- a read gives at most so many bytes from the offset on, and moves past them
+abbrev pub read_file : Inodes → Files → ℕ → ℕ → Result Given Errno
+read_file inodes files number count = do
+  block ← found (row_at inodes.blocks number) EBADF
+  reading ← need (reads block.flags) EBADF
+  bytes ← found (row_at files.contents block.inode) EISDIR
+  Ok (record {
+    status = length (get bytes block.offset count);
+    bytes = get bytes block.offset count;
+    inodes = with_offset inodes number (block.offset + length (get bytes block.offset count));
+    files = files;
+  })
+
+-- where a write begins: with APPEND at the end
+abbrev pub write_offset : Ocb → List ℕ → ℕ
+write_offset block bytes = if has block.flags APPEND then length bytes else block.offset
+
+-- a write of some bytes: wholly or not at all
+abbrev pub write_at : Inodes → Files → ℕ → Ocb → ℕ → Attribute → List ℕ → ℕ → List ℕ → Result Given Errno
+write_at inodes files number block moment attribute bytes offset new = do
+  short ← need (nat_le (offset + length new) FILE) EFBIG
+  few ← need (nat_le (total_size (with_contents files block.inode (Some (put bytes offset new)))) FILES) ENOSPC
+  Ok (record {
+    status = length new;
+    bytes = [];
+    inodes = with_offset (with_attribute inodes block.inode (resized (length (put bytes offset new)) moment attribute)) number (offset + length new);
+    files = with_contents files block.inode (Some (put bytes offset new));
+  })
+
+-- no bytes change nothing, wherever they would stand
+abbrev pub write_some : Inodes → Files → ℕ → Ocb → ℕ → Attribute → List ℕ → List ℕ → Result Given Errno
+write_some inodes files number block moment attribute bytes new =
+    if length new == 0 then Ok (record { status = 0; bytes = []; inodes = inodes; files = files })
+    else write_at inodes files number block moment attribute bytes (write_offset block bytes) new
+
+abbrev pub write_file : Inodes → Files → ℕ → ℕ → List ℕ → Result Given Errno
+write_file inodes files number moment new = do
+  block ← found (row_at inodes.blocks number) EBADF
+  writing ← need (writes block.flags) EBADF
+  attribute ← found (row_at inodes.attributes block.inode) EBADF
+  bytes ← found (row_at files.contents block.inode) EBADF
+  write_some inodes files number block moment attribute bytes new
+
+-- ---- seeking
+
+-- where a seek counts from
+abbrev pub base : Whence → Ocb → List ℕ → ℕ
+base Set block bytes = 0
+base Current block bytes = block.offset
+base End block bytes = length bytes
+
+-- a number moved by another, where that is not below 0
+abbrev pub moved_by : ℕ → ℤ → Option ℕ
+moved_by from (pos n) = Some (from + n)
+moved_by from (negsuc n) = if nat_lt n from then Some (from - (n + 1)) else None
+
+-- a seek moves to a further offset, past the end too; a directory has none
+abbrev pub seek_file : Inodes → Files → ℕ → Whence → ℤ → Result Given Errno
+seek_file inodes files number whence by = do
+  block ← found (row_at inodes.blocks number) EBADF
+  bytes ← found (row_at files.contents block.inode) EINVAL
+  offset ← found (moved_by (base whence block bytes) by) EINVAL
+  small ← need (nat_le offset OFFSET) EINVAL
+  Ok (record { status = offset; bytes = []; inodes = with_offset inodes number offset; files = files })
+
+-- ---- mode, and the last close
+
+-- another mode; the mode of a user's top is fixed (this profile)
+abbrev pub chmod_file : Inodes → Files → ℕ → ℕ → ℕ → Result Given Errno
+chmod_file inodes files number moment mode = do
+  block ← found (row_at inodes.blocks number) EBADF
+  other ← need (not (block.inode == root_inode)) EPERM
+  attribute ← found (row_at inodes.attributes block.inode) EBADF
+  Ok (record {
+    status = 0;
+    bytes = [];
+    inodes = with_attribute inodes block.inode (record attribute { mode = mode; ctime = moment });
+    files = files;
+  })
+
+-- an inode that nothing names and nothing has open goes, with its bytes
+abbrev pub without_unused : Inodes → Files → ℕ → Given
+without_unused inodes files inode = record {
+  status = 0;
+  bytes = [];
+  inodes = free_inode inodes inode;
+  files = if is_unused inodes inode (row_at inodes.attributes inode) then with_contents files inode None else files;
+}
+
+-- an open control block goes, and what was open with it, if that was all that kept it
+abbrev pub release_file : Inodes → Files → ℕ → Result Given Errno
+release_file inodes files number = do
+  block ← found (row_at inodes.blocks number) EBADF
+  Ok (without_unused (close_block inodes number) files block.inode)

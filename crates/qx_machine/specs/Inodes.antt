@@ -1,0 +1,132 @@
+-- The inodes and open control blocks of one user, at all managers (Writing a Resource Manager: iofunc_attr_t, iofunc_ocb_t; that each user
+-- has numbers of their own is this profile).
+use Rattle.std.specs.Prelude.{ℕ, Bool, true, false, ◌==◌, ◌&&◌, not, List, [], ◌∷◌, Option, Some, None, Result, Ok, Err, count_by, nat_le, slice_set, if◌then◌else◌}
+use Rattle.std.specs.Int.RustNames.{bit_and}
+use Rattle.qx_types.specs.declared.errno.Errno.{Errno}
+use Rattle.qx_types.specs.declared.errno.Errno.TheVariants.{EACCES, ENFILE, ENOSPC}
+use Rattle.qx_types.specs.declared.flags.OFlags.{OFlags}
+use Rattle.qx_types.specs.declared.flags.TheConstants.OFlags.{READ, WRITE}
+use Rattle.qx_types.specs.declared.limits.TheConstants.Limits.{BLOCKS, INODES}
+use Rattle.qx_machine.specs.declared.rows.Access.{Access}
+use Rattle.qx_machine.specs.declared.rows.Access.TheVariants.{Read, Write, Search}
+use Rattle.qx_machine.specs.declared.rows.Attribute.{Attribute}
+use Rattle.qx_machine.specs.declared.rows.Kind.{Kind}
+use Rattle.qx_machine.specs.declared.rows.Ocb.{Ocb}
+use Rattle.qx_machine.specs.Judgements.{◌>>=◌, need}
+use Rattle.qx_machine.specs.Rows.{row_at, lowest_from, put_row, with_row}
+
+-- inodes from 1, each as its attribute, and open control blocks from 1
+pub record Inodes : Type 0 where
+  pub attributes : List (Option Attribute)
+  pub blocks : List (Option Ocb)
+
+abbrev pub no_inodes : Inodes
+no_inodes = record { attributes = None ∷ []; blocks = None ∷ [] }
+
+-- whether all of some flags are among others
+abbrev pub has : OFlags → OFlags → Bool
+has flags wanted = bit_and flags.0 wanted.0 == wanted.0
+
+-- ---- permission (C Library Reference: S_IRUSR and the like, EACCES; that the group's bits are not looked at is this profile)
+
+abbrev pub owner_bit : Access → ℕ
+owner_bit Read = 256
+owner_bit Write = 128
+owner_bit Search = 64
+
+abbrev pub other_bit : Access → ℕ
+other_bit Read = 4
+other_bit Write = 2
+other_bit Search = 1
+
+-- the owner is judged by the owner's bits alone, anybody else by the last three
+abbrev pub may : Attribute → ℕ → Access → Bool
+may attribute user access = not (bit_and attribute.mode (if attribute.owner == user then owner_bit access else other_bit access) == 0)
+
+abbrev pub check_access : Attribute → ℕ → Access → Result Bool Errno
+check_access attribute user access = need (may attribute user access) EACCES
+
+-- ---- inodes
+
+-- an inode as it is made, named once
+abbrev pub new_attribute : Kind → ℕ → ℕ → ℕ → Attribute
+new_attribute kind mode owner moment = record { kind = kind; mode = mode; links = 1; owner = owner; size = 0; mtime = moment; ctime = moment }
+
+-- a number within a limit
+abbrev pub within : ℕ → ℕ → Errno → Result ℕ Errno
+within limit number error = if nat_le number limit then Ok number else Err error
+
+-- the number of the next inode: the lowest free one (C Library Reference: ENOSPC)
+abbrev pub inode_number : Inodes → Result ℕ Errno
+inode_number inodes = within INODES (lowest_from 1 inodes.attributes) ENOSPC
+
+-- the number of the next open control block: the lowest free one (C Library Reference: ENFILE)
+abbrev pub block_number : Inodes → Result ℕ Errno
+block_number inodes = within BLOCKS (lowest_from 1 inodes.blocks) ENFILE
+
+-- a number that was given, and what there is then
+pub record Numbered : Type 0 where
+  pub number : ℕ
+  pub inodes : Inodes
+
+abbrev pub new_inode : Inodes → Attribute → Result Numbered Errno
+new_inode inodes attribute = do
+  number ← inode_number inodes
+  Ok (record { number = number; inodes = record inodes { attributes = put_row inodes.attributes number attribute } })
+
+-- an inode has another attribute
+abbrev pub with_attribute : Inodes → ℕ → Attribute → Inodes
+with_attribute inodes inode attribute = record inodes { attributes = slice_set inodes.attributes inode (Some attribute) }
+
+-- ---- open control blocks
+
+abbrev pub reads : OFlags → Bool
+reads flags = has flags READ
+
+abbrev pub writes : OFlags → Bool
+writes flags = has flags WRITE
+
+abbrev pub is_open : (OFlags → Bool) → ℕ → Option Ocb → Bool
+is_open which inode None = false
+is_open which inode (Some block) = (block.inode == inode) && which block.flags
+
+-- how many open control blocks of an inode have such flags
+abbrev pub open_with : (OFlags → Bool) → Inodes → ℕ → ℕ
+open_with which inodes inode = count_by (is_open which inode) inodes.blocks
+
+-- the three counts of an inode: its open control blocks, those for reading and those for writing
+abbrev pub blocks_of : Inodes → ℕ → ℕ
+blocks_of = open_with (λ flags. true)
+
+abbrev pub readers_of : Inodes → ℕ → ℕ
+readers_of = open_with reads
+
+abbrev pub writers_of : Inodes → ℕ → ℕ
+writers_of = open_with writes
+
+-- an open makes an open control block, which begins at the beginning (C Library Reference: open)
+abbrev pub open_block : Inodes → ℕ → OFlags → Result Numbered Errno
+open_block inodes inode flags = do
+  number ← block_number inodes
+  Ok (record { number = number; inodes = record inodes { blocks = put_row inodes.blocks number (record { inode = inode; flags = flags; offset = 0 }) } })
+
+abbrev pub moved_to : ℕ → Ocb → Ocb
+moved_to offset block = record block { offset = offset }
+
+-- an open control block stands at another offset
+abbrev pub with_offset : Inodes → ℕ → ℕ → Inodes
+with_offset inodes number offset = record inodes { blocks = with_row inodes.blocks number (moved_to offset) }
+
+-- an open control block goes, and its number is free (C Library Reference: close)
+abbrev pub close_block : Inodes → ℕ → Inodes
+close_block inodes number = record inodes { blocks = slice_set inodes.blocks number None }
+
+-- whether nothing names an inode and nothing has it open
+abbrev pub is_unused : Inodes → ℕ → Option Attribute → Bool
+is_unused inodes inode None = false
+is_unused inodes inode (Some attribute) = (attribute.links == 0) && (blocks_of inodes inode == 0)
+
+-- an inode that nothing names and nothing has open goes, and its number is free
+abbrev pub free_inode : Inodes → ℕ → Inodes
+free_inode inodes inode =
+    if is_unused inodes inode (row_at inodes.attributes inode) then record inodes { attributes = slice_set inodes.attributes inode None } else inodes

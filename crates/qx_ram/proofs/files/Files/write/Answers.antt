@@ -1,0 +1,45 @@
+use Rattle.std.proofs.Common.{◌≡◌, ◌==◌, false, Ok, None, Some, ap, arith, length, refl, sym, ◌∙◌}
+use Rattle.qx_machine.specs.Files as machine
+use Rattle.qx_machine.specs.Files.{put, size_of, total_size}
+use Rattle.qx_machine.specs.Rows.{row_at}
+use Rattle.qx_ram.specs.Given.{target, write_fault}
+use Rattle.qx_ram.proofs.SizeLemmas.{size_within}
+use Rattle.qx_ram.proofs.WriteLemmas.{answered, fits, pasted_size, target_is, write_given, written}
+use Rattle.qx_ram.proofs.files.Files.write.Goals as goal
+
+pub write_fault-requires-clause-size : goal.write_fault-requires-clause-size
+write_fault-requires-clause-size c =
+    let is : target c.args.inodes.now.inodes c.args.self.now c.args.number ≡ Ok c.in-Ok.target = sym c.in-Ok.ensures in
+    let it = target_is c.args.inodes.now.inodes c.args.self.now c.args.number c.in-Ok.target is in
+    let le = size_within c.args.self.now.contents c.in-Ok.target.block.inode it.bytes it.contents_are in
+    omega (arith, le, it.size_is)
+
+pub returns-in-Some-clause-given : goal.returns-in-Some-clause-given
+returns-in-Some-clause-given c =
+    let is : target c.args.inodes.now.inodes c.args.self.now c.args.number ≡ Ok c.in-Ok.target = sym c.in-Ok.ensures in
+    let it = target_is c.args.inodes.now.inodes c.args.self.now c.args.number c.in-Ok.target is in
+    let new = c.args.new.now in
+    let given = write_given c.args.inodes.now.inodes c.args.self.now c.args.number c.args.moment c.in-Ok.target (length (put it.bytes c.in-Ok.target.offset new)) new in
+    let some : (length new == 0) ≡ false = sym c.if-is_empty.ensures in
+    let fault : write_fault (total_size c.args.self.now) c.in-Ok.target (length new) ≡ Some c.in-Some.errno = sym c.in-Some.ensures in
+    sym (written c.args.inodes.now.inodes c.args.self.now c.args.number c.args.moment c.in-Ok.target it new (length (put it.bytes c.in-Ok.target.offset new)) some refl ∙ ap (λ fault. answered fault given) fault)
+
+pub paste-requires-clause-few : goal.paste-requires-clause-few
+paste-requires-clause-few c =
+    let is : target c.args.inodes.now.inodes c.args.self.now c.args.number ≡ Ok c.in-Ok.target = sym c.in-Ok.ensures in
+    let it = target_is c.args.inodes.now.inodes c.args.self.now c.args.number c.in-Ok.target is in
+    let none : write_fault (total_size c.args.self.now) c.in-Ok.target (length c.args.new.now) ≡ None = sym c.in_default.ensures in
+    fits c.args.inodes.now.inodes c.args.self.now c.args.number c.args.moment c.in-Ok.target it c.args.new.now none
+
+pub returns-clause-given : goal.returns-clause-given
+returns-clause-given c =
+    let is : target c.args.inodes.now.inodes c.args.self.now c.args.number ≡ Ok c.in-Ok.target = sym c.in-Ok.ensures in
+    let it = target_is c.args.inodes.now.inodes c.args.self.now c.args.number c.in-Ok.target is in
+    let new = c.args.new.now in
+    let t = c.in-Ok.target in
+    let size : c.in_ok-size.size ≡ length (put it.bytes t.offset new) = c.in_ok-size.ensures.size ∙ (ap (λ (files : machine.Files). size_of (row_at files.contents t.block.inode)) c.in_ok-size.ensures.ok ∙ pasted_size c.args.inodes.now.inodes c.args.self.now c.args.number c.args.moment t it new) in
+    let given = write_given c.args.inodes.now.inodes c.args.self.now c.args.number c.args.moment t c.in_ok-size.size new in
+    let some : (length new == 0) ≡ false = sym c.if-is_empty.ensures in
+    let none : write_fault (total_size c.args.self.now) t (length new) ≡ None = sym c.in_default.ensures in
+    let all = written c.args.inodes.now.inodes c.args.self.now c.args.number c.args.moment t it new c.in_ok-size.size some size ∙ ap (λ fault. answered fault given) none in
+    rw (all, c.in_ok-size.ensures.ok, c.set_offset.ensures.moved, c.set_attribute.ensures.set) refl
