@@ -9,7 +9,7 @@ use Rattle.qx_types.specs.declared.flags.TheConstants.OFlags.{APPEND}
 use Rattle.qx_types.specs.declared.limits.TheConstants.Limits.{FILE, FILES, OFFSET}
 use Rattle.qx_machine.specs.declared.rows.Attribute.{Attribute}
 use Rattle.qx_machine.specs.declared.rows.Ocb.{Ocb}
-use Rattle.qx_machine.specs.Attributes.{root_inode}
+use Rattle.qx_machine.specs.Attributes.{top_inode}
 use Rattle.qx_machine.specs.Inodes.{Inodes, close_block, free_inode, has, is_unused, reads, with_attribute, with_offset, writes}
 use Rattle.qx_machine.specs.Judgements.{◌>>=◌, found, need}
 use Rattle.qx_machine.specs.Rows.{put_row, row_at}
@@ -138,7 +138,7 @@ seek_file inodes files number whence by = do
 abbrev pub chmod_file : Inodes → Files → ℕ → ℕ → ℕ → Result Given Errno
 chmod_file inodes files number moment mode = do
   block ← found (row_at inodes.blocks number) EBADF
-  other ← need (not (block.inode == root_inode)) EPERM
+  other ← need (not (block.inode == top_inode)) EPERM
   attribute ← found (row_at inodes.attributes block.inode) EBADF
   Ok (record {
     status = 0;
