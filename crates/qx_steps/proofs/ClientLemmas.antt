@@ -11,13 +11,13 @@ use Rattle.qx_types.specs.declared.outcome.Outcome.{Outcome}
 use Rattle.qx_types.specs.declared.outcome.Outcome.TheVariants.{Done, Sent, WrongState}
 use Rattle.qx_types.specs.declared.request.Request.{Request}
 use Rattle.qx_types.specs.declared.step.Step.TheVariants.{Spawn, Call, TakeReply, SetPrio, Interrupt}
+use Rattle.qx_machine.specs.declared.rows.Addressed.{Addressed}
 use Rattle.qx_machine.specs.declared.rows.Held.{Held}
 use Rattle.qx_machine.specs.declared.rows.Sent.{Sent as Message}
 use Rattle.qx_machine.specs.declared.rows.State.{State}
 use Rattle.qx_machine.specs.declared.rows.State.TheVariants as state
-use Rattle.qx_machine.specs.declared.rows.Target.{Target}
 use Rattle.qx_machine.specs.declared.rows.ThreadRow.{ThreadRow}
-use Rattle.qx_machine.specs.Clients.{answer_in, interrupt_in, is_prio, leave, outcome_of, own_path, spawn_number, target_by}
+use Rattle.qx_machine.specs.Clients.{answer_in, interrupt_in, is_prio, leave, outcome_of, spawn_number, target_by}
 use Rattle.qx_machine.specs.Laws.{is_refusal}
 use Rattle.qx_machine.specs.Machine.{World, step}
 use Rattle.qx_machine.specs.Parts.{Part, Resources, thread_of}
@@ -32,7 +32,7 @@ use Rattle.qx_chan.specs.Channel.{Channel, after_asking, after_ranking, after_se
 use Rattle.qx_chan.specs.Users.{prio_outcome_in, spawn_number_in, thread_row, IsReady}
 use Rattle.qx_steps.specs.Parts.{parts_of, world_of, SameUsers}
 use Rattle.qx_steps.specs.Steps.{sent_to, target_in}
-use Rattle.qx_steps.proofs.PartsLemmas.{option_cases, part-none, part-there, parts-set_processes, result_cases}
+use Rattle.qx_steps.proofs.PartsLemmas.{option_cases, part-none, part-there, parts-set_processes, result_cases, row_at-parts}
 
 -- what a thread is told that takes its answer, if it has one
 abbrev pub taken_outcome : Option Answer → Outcome
@@ -121,11 +121,9 @@ module _ (config : Configuration) (c : Channel) (rs : List (Option Resources)) (
 
   -- ---- call
 
-  pub judged : (thread : Thread) (request : Request) (ps : List (Option Process)) (given : Result Target Outcome) → row_at c.users thread.proc.user.0 ≡ Some ps
-      → ((resources : Resources) → given ≡ target_by (own_path config thread.proc.user.0) (record { processes = ps; resources = resources }) thread request) → given ≡ target_in w thread request
-  judged thread request ps given is by =
-      let there = part-there c.users rs thread.proc.user.0 ps same is in
-      rw there.1.1 (by there.0)
+  pub judged : (thread : Thread) (request : Request) (ps : List (Option Process)) (r : Resources) (given : Result Addressed Outcome) → row_at c.users thread.proc.user.0 ≡ Some ps → row_at rs thread.proc.user.0 ≡ Some r
+      → given ≡ target_by config thread.proc.user.0 r.mounts ps thread request → given ≡ target_in w thread request
+  judged thread request ps r given user resources by = rw (row_at-parts c.users rs thread.proc.user.0, user, resources) by
 
   pub judged-nobody : (thread : Thread) (request : Request) → row_at c.users thread.proc.user.0 ≡ None → Err WrongState ≡ target_in w thread request
   judged-nobody thread request none = rw (part-none c.users rs thread.proc.user.0 none) refl
@@ -135,18 +133,18 @@ module _ (config : Configuration) (c : Channel) (rs : List (Option Resources)) (
   call-refused thread request outcome is = elim (option_cases (row_at w.parts thread.proc.user.0)) [
     | inl none ↦ let its : Err WrongState ≡ Err outcome = rw none at is in rw none (ap (λ o. record { world = w; outcome = o }) (cc))
     | inr part ↦
-        let its : target_by (own_path config thread.proc.user.0) part.0 thread request ≡ Err outcome = rw part.1 at is in
+        let its : target_by config thread.proc.user.0 part.0.resources.mounts part.0.processes thread request ≡ Err outcome = rw part.1 at is in
         rw (part.1, its, set-row w.parts thread.proc.user.0 part.0 part.1) refl
   ]
 
-  pub call-sent : (thread : Thread) (request : Request) (target : Target) → target_in w thread request ≡ Ok target
-      → step w (Call thread request) ≡ record { world = world_of config (after_send c thread (sent_to target request)) rs hands; outcome = Sent }
+  pub call-sent : (thread : Thread) (request : Request) (addressed : Addressed) → target_in w thread request ≡ Ok addressed
+      → step w (Call thread request) ≡ record { world = world_of config (after_send c thread (sent_to addressed request)) rs hands; outcome = Sent }
   unfolding step client settle
-  call-sent thread request target is = elim (option_cases (row_at c.users thread.proc.user.0)) [
-    | inl none ↦ let clash : Err WrongState ≡ Ok target = rw (part-none c.users rs thread.proc.user.0 none) at is in absurd (cc)
+  call-sent thread request addressed is = elim (option_cases (row_at c.users thread.proc.user.0)) [
+    | inl none ↦ let clash : Err WrongState ≡ Ok addressed = rw (part-none c.users rs thread.proc.user.0 none) at is in absurd (cc)
     | inr ps ↦
         let there = part-there c.users rs thread.proc.user.0 ps.0 same ps.1 in
-        let its : target_by (own_path config thread.proc.user.0) (record { processes = ps.0; resources = there.0 }) thread request ≡ Ok target = rw there.1.1 at is in
+        let its : target_by config thread.proc.user.0 there.0.mounts ps.0 thread request ≡ Ok addressed = rw there.1.1 at is in
         rw (there.1.1, its, ps.1, parts-set_processes c.users rs thread.proc.user.0 _ there.0 there.1.0) refl
   ]
 
@@ -204,7 +202,7 @@ spawn-refused (Ok number) refusal = refusal
 spawn-refused (Err outcome) refusal = refl
 
 -- what is judged so comes from a thread that is ready
-pub judged-ready : (given : Result Target Outcome) (row : Option ThreadRow) → IfOk given (λ _. option_map (λ row. row.state) row ≡ Some state.Ready) → IfOk given (λ _. IsReady row)
-judged-ready (Ok target) (Some row) is = let ready : row.state ≡ state.Ready = cc in ready
-judged-ready (Ok target) None is = cc
+pub judged-ready : (given : Result Addressed Outcome) (row : Option ThreadRow) → IfOk given (λ _. option_map (λ row. row.state) row ≡ Some state.Ready) → IfOk given (λ _. IsReady row)
+judged-ready (Ok addressed) (Some row) is = let ready : row.state ≡ state.Ready = cc in ready
+judged-ready (Ok addressed) None is = cc
 judged-ready (Err outcome) row is = tt

@@ -1,8 +1,9 @@
 -- A step that mounts: how it is judged, and what it comes to.
 use Rattle.std.proofs.Common.{◌≡◌, inl, inr, ℕ, zero, suc, List, [], ◌∷◌, Bool, true, false, Option, Some, None, Result, Ok, Err, refl, sym, ap, ◌∙◌}
-use Rattle.std.specs.Prelude.{slice_set}
+use Rattle.std.specs.Prelude.{IfOk, slice_set}
 use Rattle.std.proofs.lemmas.Bool.{false≢true}
 use Rattle.qx_types.specs.Configuration.{Configuration, name_bytes}
+use Rattle.qx_types.specs.declared.errno.Errno.{Errno}
 use Rattle.qx_types.specs.declared.names.Manager.{Manager}
 use Rattle.qx_types.specs.declared.names.Thread.{Thread}
 use Rattle.qx_types.specs.declared.outcome.Outcome.{Outcome}
@@ -65,6 +66,10 @@ ready-mount w us rs thread path manager r parts there is =
     let row : row_at w.parts thread.proc.user.0 ≡ part_of (row_at us thread.proc.user.0) (Some r) = rw (parts, row_at-parts us rs thread.proc.user.0, there) refl in
     let free : is_thread_ready (thread_of thread.tid (process_in thread.proc.num (part_of (row_at us thread.proc.user.0) (Some r)))) ≡ true = rw row at is in
     rw row (ready_part w.config thread path manager (row_at us thread.proc.user.0) r free)
+
+pub still_ok : (given : Result MountPoint Errno) (P Q : MountPoint → Type 0) → ((mount : MountPoint) → P mount → Q mount) → IfOk given P → IfOk (or_refused given) Q
+still_ok (Ok mount) P Q step p = step mount p
+still_ok (Err errno) P Q step p = tt
 
 -- ---- what it comes to
 

@@ -200,13 +200,16 @@ impl World {
         ensures free { IfOk result (λ mount. CanMount (row_at self.now.parts thread.proc.user.0) mount.prefix) }
         ensures mount { result ≡ mount_in self.now thread path.now manager }
     {
-        let user = thread.proc.user;
-        match self.resources.user(user) {
-            Some(resources) if self.is_ready(thread) => resources
-                .new_mount(self.config.name_bytes(user), path.as_slice(), manager)
-                .map_err(Outcome::Refused),
-            _ => Err(Outcome::WrongState),
+        if !self.is_ready(thread) {
+            return Err(Outcome::WrongState);
         }
+        let user = thread.proc.user;
+        let Some(resources) = self.resources.user(user) else {
+            return Err(Outcome::WrongState);
+        };
+        resources
+            .new_mount(self.config.name_bytes(user), path.as_slice(), manager)
+            .map_err(Outcome::Refused)
     }
 
     /// Whether a thread is there and ready.
@@ -549,7 +552,9 @@ fn shown_item(user: User, item: OwnItem) -> Item
     match item {
         OwnItem::Message { process, thread } => Item::Message(named_thread(user, process, thread)),
         OwnItem::Unblock {
-            process, thread, ..
+            process,
+            thread,
+            ..
         } => Item::Unblock(named_thread(user, process, thread)),
     }
 }

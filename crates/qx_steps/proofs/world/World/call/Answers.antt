@@ -9,8 +9,8 @@ use Rattle.qx_steps.proofs.world.World.call.Goals as goal
 
 pub returns-in_err-encoded-in-Ok-clause-sure : goal.returns-in_err-encoded-in-Ok-clause-sure
 returns-in_err-encoded-in-Ok-clause-sure c =
-    let goes : target_in (world_of c.self.inside.config c.self.inside.channel c.self.inside.resources c.self.inside.hands.items) c.args.thread c.args.request.now ≡ Ok c.in-Ok.target = rw (← c.self.view_is) at (sym c.in-Ok.ensures.target) in
-    rw (← c.self.view_is, call-sent c.self.inside.config c.self.inside.channel c.self.inside.resources c.self.inside.hands.items c.self.invariant c.args.thread c.args.request.now c.in-Ok.target goes) (λ refused. absurd (false≢true refused))
+    let goes : target_in (world_of c.self.inside.config c.self.inside.channel c.self.inside.resources c.self.inside.hands.items) c.args.thread c.args.request.now ≡ Ok c.in-Ok.addressed = rw (← c.self.view_is) at (sym c.in-Ok.ensures.target) in
+    rw (← c.self.view_is, call-sent c.self.inside.config c.self.inside.channel c.self.inside.resources c.self.inside.hands.items c.self.invariant c.args.thread c.args.request.now c.in-Ok.addressed goes) (λ refused. absurd (false≢true refused))
 
 pub send-requires-clause-ready : goal.send-requires-clause-ready
 send-requires-clause-ready c = rw (← thread_row-parts c.self.inside.channel.users c.self.inside.resources c.args.thread c.self.invariant) (rw (← c.self.view_is) at c.in-Ok.ensures.ready)
@@ -20,21 +20,21 @@ send-requires-clause-countable c = rw (← thread_row-parts c.self.inside.channe
 
 pub returns-in_err-send-in-Ok-clause-sure : goal.returns-in_err-send-in-Ok-clause-sure
 returns-in_err-send-in-Ok-clause-sure c =
-    let goes : target_in (world_of c.self.inside.config c.self.inside.channel c.self.inside.resources c.self.inside.hands.items) c.args.thread c.args.request.now ≡ Ok c.in-Ok.target = rw (← c.self.view_is) at (sym c.in-Ok.ensures.target) in
-    rw (← c.self.view_is, call-sent c.self.inside.config c.self.inside.channel c.self.inside.resources c.self.inside.hands.items c.self.invariant c.args.thread c.args.request.now c.in-Ok.target goes) (λ refused. absurd (false≢true refused))
+    let goes : target_in (world_of c.self.inside.config c.self.inside.channel c.self.inside.resources c.self.inside.hands.items) c.args.thread c.args.request.now ≡ Ok c.in-Ok.addressed = rw (← c.self.view_is) at (sym c.in-Ok.ensures.target) in
+    rw (← c.self.view_is, call-sent c.self.inside.config c.self.inside.channel c.self.inside.resources c.self.inside.hands.items c.self.invariant c.args.thread c.args.request.now c.in-Ok.addressed goes) (λ refused. absurd (false≢true refused))
 
 pub invariant_of-self-in-Ok : goal.invariant_of-self-in-Ok
 invariant_of-self-in-Ok c = rw c.in_ok-send-in-Ok.ensures.ok (same-send c.self.inside.channel c.self.inside.resources c.self.invariant c.args.thread _)
 
 pub returns-in_ok-send-in-Ok-clause-outcome : goal.returns-in_ok-send-in-Ok-clause-outcome
 returns-in_ok-send-in-Ok-clause-outcome c =
-    let goes : target_in (world_of c.self.inside.config c.self.inside.channel c.self.inside.resources c.self.inside.hands.items) c.args.thread c.args.request.now ≡ Ok c.in-Ok.target = rw (← c.self.view_is) at (sym c.in-Ok.ensures.target) in
-    rw (← c.self.view_is, call-sent c.self.inside.config c.self.inside.channel c.self.inside.resources c.self.inside.hands.items c.self.invariant c.args.thread c.args.request.now c.in-Ok.target goes) refl
+    let goes : target_in (world_of c.self.inside.config c.self.inside.channel c.self.inside.resources c.self.inside.hands.items) c.args.thread c.args.request.now ≡ Ok c.in-Ok.addressed = rw (← c.self.view_is) at (sym c.in-Ok.ensures.target) in
+    rw (← c.self.view_is, call-sent c.self.inside.config c.self.inside.channel c.self.inside.resources c.self.inside.hands.items c.self.invariant c.args.thread c.args.request.now c.in-Ok.addressed goes) refl
 
 pub returns-in_ok-send-in-Ok-clause-world : goal.returns-in_ok-send-in-Ok-clause-world
 returns-in_ok-send-in-Ok-clause-world c =
-    let goes : target_in (world_of c.self.inside.config c.self.inside.channel c.self.inside.resources c.self.inside.hands.items) c.args.thread c.args.request.now ≡ Ok c.in-Ok.target = rw (← c.self.view_is) at (sym c.in-Ok.ensures.target) in
-    rw (← c.self.view_is, call-sent c.self.inside.config c.self.inside.channel c.self.inside.resources c.self.inside.hands.items c.self.invariant c.args.thread c.args.request.now c.in-Ok.target goes, c.in_ok-send-in-Ok.ensures.ok, c.in_ok-encoded-in-Ok.ensures.bytes) refl
+    let goes : target_in (world_of c.self.inside.config c.self.inside.channel c.self.inside.resources c.self.inside.hands.items) c.args.thread c.args.request.now ≡ Ok c.in-Ok.addressed = rw (← c.self.view_is) at (sym c.in-Ok.ensures.target) in
+    rw (← c.self.view_is, call-sent c.self.inside.config c.self.inside.channel c.self.inside.resources c.self.inside.hands.items c.self.invariant c.args.thread c.args.request.now c.in-Ok.addressed goes, c.in_ok-send-in-Ok.ensures.ok, c.in_ok-encoded-in-Ok.ensures.bytes) refl
 
 pub returns-in-Err-clause-outcome : goal.returns-in-Err-clause-outcome
 returns-in-Err-clause-outcome c =
