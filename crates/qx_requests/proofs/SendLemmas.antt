@@ -1,7 +1,7 @@
 -- What is judged can be sent: the fields of a request are in their ranges whatever its path has behind the mount.
 use Rattle.std.specs.Prelude.{IfOk, IsOk, Ok, Result, ⊤}
 use Rattle.std.proofs.lemmas.Bool.{false≢true}
-use Rattle.std.proofs.Common.{false, ◌≡◌, ℕ, Bool, true, ◌&&◌, List, refl, subst, sym, arith}
+use Rattle.std.proofs.Common.{false, ◌≡◌, ℕ, Bool, true, List, refl, subst, sym}
 use mathlib.Core.Logic.{◌⊎◌, inl, inr}
 use Rattle.qx_types.specs.declared.request.Request.{Request}
 use Rattle.qx_types.specs.declared.request.Request.TheVariants.{StatPath, Unlink, Mkdir}

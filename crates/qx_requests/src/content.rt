@@ -50,11 +50,7 @@ fn content_of<'a>(request: &'a Request, rest: Rest<'a>) -> Content<'a>
     ensures { result ≡ calls.content_of request.now rest.entry }
 {
     Content::Spelled(match *request {
-        Request::OpenPath { flags, mode, .. } => Message::Open {
-            flags,
-            mode,
-            rest,
-        },
+        Request::OpenPath { flags, mode, .. } => Message::Open { flags, mode, rest },
         Request::StatPath { .. } => Message::Stat { rest },
         Request::Unlink { .. } => Message::Unlink { rest },
         Request::Mkdir { mode, .. } => Message::Mknod { mode, rest },

@@ -18,7 +18,7 @@ use qx_machine::{Addressed, Connection, Over, State, Target, ThreadRow};
 use qx_paths::{Mounts, Path, Resolved, read_path};
 use qx_process::Process;
 use qx_procs::Processes;
-use qx_types::{Config, Coid, Errno, Limits, Outcome, Prio, Request, Thread, User};
+use qx_types::{Coid, Config, Errno, Limits, Outcome, Prio, Request, Thread, User};
 
 /// Where a call of a thread goes, by the mounts and the processes of its user, or the outcome of one that sends nothing:
 /// `WrongState` where the thread is not there or not ready; then EINVAL for fields out of their ranges, EAGAIN where the

@@ -1,5 +1,5 @@
 -- A client's step, by what the channel makes of it.
-use Rattle.std.proofs.Common.{◌≡◌, ◌⊎◌, inl, inr, ℕ, List, [], ◌∷◌, Bool, true, false, Option, Some, None, Result, Ok, Err, slice_set, refl, sym, ap, ◌∙◌}
+use Rattle.std.proofs.Common.{◌≡◌, inl, inr, ℕ, List, false, Option, Some, None, Result, Ok, Err, slice_set, refl, ap}
 use Rattle.std.specs.Prelude.{IfOk, IsErr, IsTrue, option_map}
 use Rattle.std.proofs.lemmas.Bool.{cases_Bool}
 use Rattle.qx_types.specs.Configuration.{Configuration}
@@ -21,8 +21,8 @@ use Rattle.qx_machine.specs.Clients.{answer_in, interrupt_in, is_prio, leave, ou
 use Rattle.qx_machine.specs.Laws.{is_refusal}
 use Rattle.qx_machine.specs.Machine.{World, step}
 use Rattle.qx_machine.specs.Parts.{Part, Resources, thread_of}
-use Rattle.qx_machine.specs.Processes.{Process, ranked_thread, ready_thread, with_thread}
-use Rattle.qx_machine.specs.Rows.{row_at, with_row}
+use Rattle.qx_machine.specs.Processes.{Process}
+use Rattle.qx_machine.specs.Rows.{row_at}
 use Rattle.qx_machine.specs.Users.{client, settle}
 use Rattle.qx_process.proofs.RowLemmas.{set-row, with_row-none}
 use Rattle.qx_process.specs.Reads.{is_blocked}

@@ -1,5 +1,5 @@
 -- A step that mounts: how it is judged, and what it comes to.
-use Rattle.std.proofs.Common.{◌≡◌, inl, inr, ℕ, zero, suc, List, [], ◌∷◌, Bool, true, false, Option, Some, None, Result, Ok, Err, refl, sym, ap, ◌∙◌}
+use Rattle.std.proofs.Common.{◌≡◌, inl, inr, ℕ, zero, suc, List, [], ◌∷◌, true, false, Option, Some, None, Result, Ok, Err, refl, sym, ap, ◌∙◌}
 use Rattle.std.specs.Prelude.{IfOk, slice_set}
 use Rattle.std.proofs.lemmas.Bool.{false≢true}
 use Rattle.qx_types.specs.Configuration.{Configuration, name_bytes}

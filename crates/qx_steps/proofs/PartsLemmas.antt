@@ -1,11 +1,11 @@
 -- The rows of users, put together from two columns: one row, and a change in one column.
-use Rattle.std.proofs.Common.{◌≡◌, ◌⊎◌, subst, inl, inr, ℕ, zero, suc, ◌+◌, add-one, List, [], ◌∷◌, Bool, true, false, Option, Some, None, Result, Ok, Err, length, is_some, replicate, refl, sym, ap, ◌∙◌}
+use Rattle.std.proofs.Common.{◌≡◌, ◌⊎◌, subst, inl, inr, ℕ, zero, suc, ◌+◌, List, [], ◌∷◌, true, false, Option, Some, None, Result, Ok, Err, length, is_some, replicate, refl, sym, ap, ◌∙◌}
 use Rattle.std.specs.Prelude.{option_map, slice_set}
 use Rattle.qx_types.specs.Configuration.{Configuration}
 use Rattle.qx_types.specs.declared.names.Proc.{Proc}
 use Rattle.qx_types.specs.declared.names.Thread.{Thread}
 use Rattle.qx_machine.specs.Machine.{boot, boot_parts}
-use Rattle.qx_machine.specs.Parts.{Part, Resources, thread_of}
+use Rattle.qx_machine.specs.Parts.{Resources, thread_of}
 use Rattle.qx_machine.specs.Processes.{Process}
 use Rattle.qx_machine.specs.Rows.{row_at, with_row}
 use Rattle.qx_machine.specs.Users.{boot_part}

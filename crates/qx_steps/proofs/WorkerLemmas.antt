@@ -17,7 +17,7 @@ use Rattle.qx_machine.specs.declared.rows.Queued.{Queued}
 use Rattle.qx_machine.specs.declared.rows.Sent.{Sent}
 use Rattle.qx_machine.specs.declared.rows.ThreadRow.{ThreadRow}
 use Rattle.qx_machine.specs.Lines.{line_at}
-use Rattle.qx_machine.specs.Machine.{World, is_worker, line_of, named_thread, performed_part, receive_hand, receive_line, received_part, shown_item, step, with_empty_hand, with_taken}
+use Rattle.qx_machine.specs.Machine.{World, is_worker, named_thread, performed_part, receive_hand, receive_line, received_part, shown_item, step, with_empty_hand, with_taken}
 use Rattle.qx_machine.specs.Parts.{Part, Resources}
 use Rattle.qx_machine.specs.Performing.{Deed, deed_of, taken_in}
 use Rattle.qx_machine.specs.Processes.{Process, taken_thread, with_thread}
@@ -26,7 +26,7 @@ use Rattle.qx_machine.specs.Users.{serve, settle, take}
 use Rattle.qx_process.proofs.RowLemmas.{set-row, with_row-none}
 use Rattle.qx_chan.specs.Channel.{Channel, after_failing, after_receive, after_replying, channel_line, with_first_taken}
 use Rattle.qx_chan.specs.Users.{process_of}
-use Rattle.qx_steps.specs.Parts.{parts_of, world_of, SameUsers}
+use Rattle.qx_steps.specs.Parts.{world_of, SameUsers}
 use Rattle.qx_steps.specs.Held.{held_work, work_of_sent}
 use Rattle.qx_steps.specs.Reads.{taken_of, thread_row as thread_of_parts}
 use Rattle.qx_steps.specs.Steps.{after_message, with_message_done}

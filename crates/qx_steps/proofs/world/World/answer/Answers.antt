@@ -1,4 +1,4 @@
-use Rattle.std.proofs.Common.{◌≡◌, Ok, Err, refl, rules, sym}
+use Rattle.std.proofs.Common.{refl, rules, sym}
 use Rattle.std.proofs.lemmas.Bool.{false≢true}
 use Rattle.qx_chan.specs.Channel.{after_failing, after_replying}
 use Rattle.qx_process.proofs.RowLemmas.{set-row}

@@ -1,4 +1,4 @@
-use Rattle.std.proofs.Common.{◌≡◌, Ok, Err, refl, rules, sym}
+use Rattle.std.proofs.Common.{◌≡◌, Ok, Err, refl, sym}
 use Rattle.std.proofs.lemmas.Bool.{false≢true}
 use Rattle.qx_steps.specs.Parts.{world_of}
 use Rattle.qx_steps.specs.Steps.{target_in}

@@ -1,6 +1,5 @@
 use Rattle.std.proofs.Common.{refl, rules, sym}
 use Rattle.qx_steps.proofs.ClientLemmas.{interrupt-idle, interrupt-nobody, interrupt-queued, interrupt-taken}
-use Rattle.qx_steps.proofs.SameLemmas.{same-asking, same-withdrawing}
 use Rattle.qx_steps.proofs.world.World.interrupt.Goals as goal
 
 pub returns-in_default-clause-outcome : goal.returns-in_default-clause-outcome

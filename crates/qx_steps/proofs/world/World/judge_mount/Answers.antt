@@ -1,4 +1,4 @@
-use Rattle.std.proofs.Common.{rules, ◌≡◌, true, IfOk, None, refl, sym, ap, subst, ◌∙◌}
+use Rattle.std.proofs.Common.{rules, ◌≡◌, true, None, refl, sym, ap, ◌∙◌}
 use Rattle.qx_types.specs.Configuration.{name_bytes}
 use Rattle.qx_paths.specs.Mounts.{mount_fault}
 use Rattle.qx_machine.specs.Judgements.{or_refused}
@@ -6,7 +6,7 @@ use Rattle.qx_machine.specs.Mounting.{new_mount}
 use Rattle.qx_machine.specs.Rows.{row_at}
 use Rattle.qx_steps.specs.Parts.{world_of}
 use Rattle.qx_steps.specs.Reads.{is_thread_ready, thread_row}
-use Rattle.qx_steps.specs.Steps.{mount_in, CanMount}
+use Rattle.qx_steps.specs.Steps.{CanMount}
 use Rattle.qx_steps.proofs.MountLemmas.{nobody-mount, ready-mount, still_ok}
 use Rattle.qx_steps.proofs.world.World.judge_mount.Goals as goal
 

@@ -1,4 +1,4 @@
-use Rattle.std.proofs.Common.{rules, sym, ap}
+use Rattle.std.proofs.Common.{rules, ap}
 use Rattle.qx_types.specs.declared.outcome.Outcome.TheVariants.{Took}
 use Rattle.qx_steps.proofs.SameLemmas.{same-receive}
 use Rattle.qx_steps.proofs.WorkerLemmas.{receive-idle, receive-took}

@@ -1,4 +1,4 @@
-use Rattle.std.proofs.Common.{refl, rules, sym}
+use Rattle.std.proofs.Common.{refl}
 use Rattle.qx_steps.proofs.WorkerLemmas.{message-performed, pulse-performed}
 use Rattle.qx_steps.proofs.world.World.serve.Goals.{in-Message+in_ok-answer, in_default}
 use Rattle.qx_steps.proofs.world.World.serve.Goals as goal
