@@ -16,7 +16,7 @@ use std::alloc::{AllocError, Global};
 use std::marker::Model;
 
 /// The number of the root of a user's top.
-const ROOT_INODE: u32 = 1;
+const TOP_INODE: u32 = 1;
 
 /// The files of one user (Writing a Resource Manager: I/O functions).
 #[derive(Drop)]
@@ -197,7 +197,7 @@ impl Files {
             return Err(Errno::EBADF);
         };
         let inode = block.inode;
-        if inode == ROOT_INODE {
+        if inode == TOP_INODE {
             return Err(Errno::EPERM);
         }
         let Some(attr) = inodes.attr(inode) else {
