@@ -4,8 +4,8 @@ use crate::same::has_same_transcript;
 use crate::script::{booted, config, ran, run};
 use qx_machine::Entry;
 use qx_types::{
-    Bytes, Item, Manager, MessageBytes, NoMemory, OFlags, Outcome, Prio, Proc, Request, Step, Thread, User,
-    Worker,
+    Bytes, Item, Manager, MessageBytes, NoMemory, OFlags, Outcome, Prio, Proc, Request, Step,
+    Thread, User, Worker,
 };
 use qx_wire::Parsed;
 use qx_world::{PerformFault, Traced, Work, WorkRef, World};
@@ -126,7 +126,10 @@ fn perform_what_is_held(
     let Some(held) = held(traced.world())? else {
         panic!(rt; "no message is held");
     };
-    assert!(rt; is_stale(traced, &message(MessageBytes::inline(alloc, b""))) && is_stale(traced, &Work::Pulse));
+    assert!(rt;
+        is_stale(traced, &message(MessageBytes::inline(alloc, b"")))
+            && is_stale(traced, &Work::Pulse)
+    );
     assert_eq!(rt; traced.entries().len(), 3);
     assert!(rt; is_performed(traced, &held));
     assert!(rt; traced.world().answered(ann));
