@@ -47,7 +47,12 @@ fn is_held(alloc: Global, count: usize) -> Result<bool, AllocError> {
 
 #[test]
 fn messages_hold_few_bytes_and_many(rt: HostRuntime) -> Result<(), Fail> {
-    for count in [1, MessageBytes::INLINE, MessageBytes::INLINE + 1, Limits::BODY] {
+    for count in [
+        1,
+        MessageBytes::INLINE,
+        MessageBytes::INLINE + 1,
+        Limits::BODY,
+    ] {
         assert!(rt; is_held(rt.alloc(), count)?, "{count} bytes");
     }
     let few = MessageBytes::inline(rt.alloc(), &[7; MessageBytes::INLINE]);
