@@ -7,8 +7,8 @@ ghost use Rattle.qx_machine.specs.Performing.{close_deed, deed_of, fstat_deed, m
 ghost use Rattle.qx_wire.specs.declared.message.Meaning.TheVariants.{Known};
 ghost use Rattle.qx_resources.specs.Deeds.{deed_with, used_deed, wants_memory};
 
-use qx_attr::{Status, stat_bytes};
 use arrayvec::ArrayVec;
+use qx_attr::{Status, stat_bytes};
 use qx_machine::{Attribute, Block, Effect, Kind, Opened, Over, Target};
 use qx_process::{Process, places};
 use qx_types::{Errno, Limits, Manager, User};
