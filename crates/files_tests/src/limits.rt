@@ -8,7 +8,12 @@ use std::alloc::{AllocError, Global};
 use std::test::Fail;
 
 /// Makes so many files as long as a file may be; whether each was.
-fn fills(alloc: Global, inodes: &mut Inodes, files: &mut Files, count: usize) -> Result<bool, AllocError> {
+fn fills(
+    alloc: Global,
+    inodes: &mut Inodes,
+    files: &mut Files,
+    count: usize,
+) -> Result<bool, AllocError> {
     for _ in 0..count {
         let Ok(number) = open_new(alloc, inodes, files, BOTH)? else {
             return Ok(false);
@@ -21,16 +26,37 @@ fn fills(alloc: Global, inodes: &mut Inodes, files: &mut Files, count: usize) ->
     Ok(true)
 }
 
+/// Writes past the end of a file of the greatest length.
+fn ends_there(inodes: &mut Inodes, files: &mut Files) -> Result<bool, AllocError> {
+    Ok(
+        files.write(inodes, 1, 9, b"z")? == Err(Errno::EFBIG)
+            && files.write(inodes, 1, 9, b"")? == Ok(0)
+            && goes_to(inodes, files, 1, 65_535)
+            && files.write(inodes, 1, 9, b"zz")? == Err(Errno::EFBIG)
+            && files.size(1) == Some(65_536),
+    )
+}
+
+/// Writes one byte more than all files may have, before and after a file goes.
+fn is_full_until_a_file_goes(
+    alloc: Global,
+    inodes: &mut Inodes,
+    files: &mut Files,
+) -> Result<bool, AllocError> {
+    Ok(
+        open_new(alloc, inodes, files, BOTH)? == Ok(17)
+            && files.write(inodes, 17, 9, b"z")? == Err(Errno::ENOSPC)
+            && files.release(inodes, 3) == Ok(0)
+            && files.write(inodes, 17, 9, b"z")? == Ok(1),
+    )
+}
+
 #[test]
 fn a_byte_past_the_end_is_refused(rt: HostRuntime) -> Result<(), Fail> {
     let mut inodes = Inodes::new(rt.alloc())?;
     let mut files = Files::new(rt.alloc())?;
     assert!(rt; fills(rt.alloc(), &mut inodes, &mut files, 1)?);
-    assert!(rt; files.write(&mut inodes, 1, 9, b"z")? == Err(Errno::EFBIG));
-    assert!(rt; files.write(&mut inodes, 1, 9, b"")? == Ok(0));
-    assert!(rt; goes_to(&mut inodes, &files, 1, 65_535));
-    assert!(rt; files.write(&mut inodes, 1, 9, b"zz")? == Err(Errno::EFBIG));
-    assert!(rt; files.size(1) == Some(65_536));
+    assert!(rt; ends_there(&mut inodes, &mut files)?);
     Ok(())
 }
 
@@ -39,9 +65,6 @@ fn a_user_has_a_mebibyte(rt: HostRuntime) -> Result<(), Fail> {
     let mut inodes = Inodes::new(rt.alloc())?;
     let mut files = Files::new(rt.alloc())?;
     assert!(rt; fills(rt.alloc(), &mut inodes, &mut files, 16)?);
-    assert!(rt; open_new(rt.alloc(), &mut inodes, &mut files, BOTH)? == Ok(17));
-    assert!(rt; files.write(&mut inodes, 17, 9, b"z")? == Err(Errno::ENOSPC));
-    assert!(rt; files.release(&mut inodes, 3) == Ok(0));
-    assert!(rt; files.write(&mut inodes, 17, 9, b"z")? == Ok(1));
+    assert!(rt; is_full_until_a_file_goes(rt.alloc(), &mut inodes, &mut files)?);
     Ok(())
 }

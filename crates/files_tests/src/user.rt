@@ -26,7 +26,11 @@ pub fn attribute(kind: Kind, links: u32) -> Attribute {
 }
 
 /// Opens an inode; ENOENT where it is not there.
-pub fn open(inodes: &mut Inodes, inode: u32, flags: OFlags) -> Result<Result<u16, Errno>, AllocError> {
+pub fn open(
+    inodes: &mut Inodes,
+    inode: u32,
+    flags: OFlags,
+) -> Result<Result<u16, Errno>, AllocError> {
     match inodes.attr(inode) {
         Some(_) => inodes.open_block(inode, flags),
         None => Ok(Err(Errno::ENOENT)),
@@ -34,7 +38,12 @@ pub fn open(inodes: &mut Inodes, inode: u32, flags: OFlags) -> Result<Result<u16
 }
 
 /// Makes a file that has no name and opens it.
-pub fn open_new(alloc: Global, inodes: &mut Inodes, files: &mut Files, flags: OFlags) -> Result<Result<u16, Errno>, AllocError> {
+pub fn open_new(
+    alloc: Global,
+    inodes: &mut Inodes,
+    files: &mut Files,
+    flags: OFlags,
+) -> Result<Result<u16, Errno>, AllocError> {
     let inode = match inodes.new_inode(attribute(Kind::File, 0))? {
         Ok(inode) => inode,
         Err(errno) => return Ok(Err(errno)),
@@ -46,7 +55,13 @@ pub fn open_new(alloc: Global, inodes: &mut Inodes, files: &mut Files, flags: OF
 }
 
 /// What a read gives, or its error.
-pub fn reads(inodes: &mut Inodes, files: &Files, number: u16, count: u32, want: Result<&[u8], Errno>) -> bool {
+pub fn reads(
+    inodes: &mut Inodes,
+    files: &Files,
+    number: u16,
+    count: u32,
+    want: Result<&[u8], Errno>,
+) -> bool {
     files.read(inodes, number, count) == want
 }
 
