@@ -20,10 +20,10 @@ fn two_names(alloc: Global) -> Result<Vec<Bytes>, AllocError> {
     Ok(names)
 }
 
-/// Mounts a manager at a path; whether it was.
+/// Mounts the pipe manager at a path, with inode 7 for the root; whether it was.
 fn mounts_at(alloc: Global, mounts: &mut Mounts, path: &str) -> bool {
     match read_path(path.as_bytes()) {
-        Ok(path) => mounts.add(alloc, &path, Manager::Pipe).is_ok(),
+        Ok(path) => mounts.add(alloc, &path, Manager::Pipe, 7).is_ok(),
         Err(_) => false,
     }
 }
@@ -66,7 +66,7 @@ fn refuses_others(mounts: &Mounts, names: &[Bytes]) -> bool {
 #[test]
 fn a_path_leads_to_the_longest_prefix(rt: HostRuntime) -> Result<(), Fail> {
     let names = two_names(rt.alloc())?;
-    let mut mounts = Mounts::boot(rt.alloc(), b"ann")?;
+    let mut mounts = Mounts::boot(rt.alloc(), b"ann", 1)?;
     assert!(rt; mounts_at(rt.alloc(), &mut mounts, "/ann/m"));
     assert!(rt; mounts_at(rt.alloc(), &mut mounts, "/ann/m/n"));
     assert!(rt; leads_to_the_longest(&mounts, &names));
@@ -92,7 +92,7 @@ fn joined_rest(
 
 #[test]
 fn a_rest_is_joined_by_one_slash(rt: HostRuntime) -> Result<(), Fail> {
-    let mounts = Mounts::boot(rt.alloc(), b"ann")?;
+    let mounts = Mounts::boot(rt.alloc(), b"ann", 1)?;
     for (path, rest) in [
         ("/ann", ""),
         ("/ann/", ""),
@@ -105,22 +105,40 @@ fn a_rest_is_joined_by_one_slash(rt: HostRuntime) -> Result<(), Fail> {
     Ok(())
 }
 
-/// Whether a mount of a number is of the pipe manager and has two components.
+/// Whether a mount of a number is of the pipe manager and has two components, and inode 7 for its root.
 fn is_pipe_mount(mounts: &Mounts, number: usize) -> bool {
     match mounts.get(number) {
-        Some(mount) => mount.manager() == Manager::Pipe && mount.depth() == 2,
+        Some(mount) => {
+            mount.manager() == Manager::Pipe && mount.depth() == 2 && mount.root() == 7
+        }
         None => false,
     }
 }
 
 #[test]
 fn mounts_are_told_by_number(rt: HostRuntime) -> Result<(), Fail> {
-    let mut mounts = Mounts::boot(rt.alloc(), b"ann")?;
+    let mut mounts = Mounts::boot(rt.alloc(), b"ann", 1)?;
     assert!(rt; mounts_at(rt.alloc(), &mut mounts, "/ann/m"));
     assert!(rt;
         is_pipe_mount(&mounts, 1) && !is_pipe_mount(&mounts, 0) && !is_pipe_mount(&mounts, 2)
     );
     Ok(())
+}
+
+/// Whether a path is the user's name or below it.
+fn is_under(path: &[u8], name: &[u8]) -> bool {
+    match read_path(path) {
+        Ok(path) => path.is_under(name),
+        Err(_) => false,
+    }
+}
+
+#[test]
+fn a_path_is_under_a_whole_name(rt: HostRuntime) {
+    assert!(rt; is_under(b"/ann", b"ann") && is_under(b"//ann//x/", b"ann"));
+    for path in ["/", "/an", "/annm/ann", "/x/ann"] {
+        assert!(rt; !is_under(path.as_bytes(), b"ann"));
+    }
 }
 
 /// So many letters.
@@ -145,7 +163,7 @@ fn many_names(alloc: Global) -> Result<Vec<Bytes>, AllocError> {
 /// no user has it.
 fn is_told_apart(alloc: Global, names: &[Bytes], own: u8, count: u8) -> Result<bool, Fail> {
     let name = letters(alloc, own)?;
-    let mounts = Mounts::boot(alloc, &name)?;
+    let mounts = Mounts::boot(alloc, &name, 1)?;
     let mut path = Vec::from_slice(alloc, b"/")?;
     path.extend_from_slice(&letters(alloc, count)?)?;
     let wanted = if own == count {

@@ -4,12 +4,13 @@
 mod rows;
 
 use plain_messages::{Kind, Reading, read, write};
+use plain_paths::{Mount, Mounts, judge_form, text_of};
 use qx_types::{
     Answer, Bytes, Coid, Config, Errno, Item, Manager, OFlags, Outcome, Prio, Proc, ReplyBytes,
     Request, Step, Thread, User, Worker,
 };
 pub use rows::{Over, Post, Row, Sent, State};
-use rows::{Connection, Queued, first_out, line_up};
+use rows::{Block, Connection, Queued, first_out, line_up};
 use std::alloc::{AllocError, Global};
 
 /// All rows of all users, one vector for each kind. Server connections have none: nothing shows them, and no user has
@@ -21,7 +22,8 @@ pub struct Plain {
     processes: Vec<Proc>,
     threads: Vec<Row>,
     connections: Vec<Connection>,
-    blocks: Vec<(User, u16)>,
+    mounts: Mounts,
+    blocks: Vec<Block>,
     ram: Vec<Queued>,
     pipe: Vec<Queued>,
     hands: Vec<(Worker, Post)>,
@@ -34,11 +36,21 @@ pub enum Held<'a> {
     Pulse,
 }
 
+/// Where a request goes, over what, and what its path has behind the mount.
+#[derive(Clone, Copy)]
+struct Target<'a> {
+    manager: Manager,
+    over: Over,
+    root: Option<u16>,
+    rest: &'a [u8],
+}
+
 impl Plain {
     /// The system at boot.
-    pub fn new(alloc: Global, config: Config) -> Plain {
-        Plain {
+    pub fn new(alloc: Global, config: Config) -> Result<Plain, AllocError> {
+        Ok(Plain {
             alloc,
+            mounts: Mounts::boot(alloc, &config)?,
             config,
             processes: Vec::new(alloc),
             threads: Vec::new(alloc),
@@ -47,7 +59,7 @@ impl Plain {
             ram: Vec::new(alloc),
             pipe: Vec::new(alloc),
             hands: Vec::new(alloc),
-        }
+        })
     }
 
     /// Takes a step.
@@ -62,6 +74,11 @@ impl Plain {
             Step::TakeReply { thread } => Ok(self.take_reply(*thread)),
             Step::SetPrio { thread, prio } => Ok(self.set_prio(*thread, *prio)),
             Step::Interrupt { thread } => self.interrupt(*thread),
+            Step::Mount {
+                thread,
+                path,
+                manager,
+            } => self.mount(*thread, path.as_slice(), *manager),
             Step::Receive { worker, manager } => self.receive(*worker, *manager),
             Step::Perform { worker, .. } => self.perform(*worker),
         }
@@ -96,7 +113,8 @@ impl Plain {
     }
 
     fn call(&mut self, thread: Thread, request: &Request) -> Result<Outcome, AllocError> {
-        let bytes = write(self.alloc, request)?;
+        let bytes = write(self.alloc, request, &[])?;
+        let text = text_of(self.alloc, path_of(request))?;
         let Some(row) = self.row(thread) else {
             return Ok(Outcome::WrongState);
         };
@@ -110,16 +128,17 @@ impl Plain {
         let Some(calls) = row.calls.checked_add(1) else {
             return Ok(Outcome::Refused(Errno::EAGAIN));
         };
-        let (manager, over) = match self.target(thread.proc, request) {
+        let target = match self.target(thread.proc, request, text.as_slice()) {
             Ok(target) => target,
             Err(error) => return Ok(Outcome::Refused(error)),
         };
         let sent = Sent {
-            manager,
-            over,
+            manager: target.manager,
+            over: target.over,
+            root: target.root,
             prio,
             is_asked: false,
-            bytes,
+            bytes: write(self.alloc, request, target.rest)?,
         };
         self.send(thread, sent, calls)?;
         Ok(Outcome::Sent)
@@ -147,20 +166,26 @@ impl Plain {
         Ok(())
     }
 
-    /// Where a request goes, and over what.
-    fn target(&self, proc: Proc, request: &Request) -> Result<(Manager, Over), Errno> {
+    /// Where a request goes, and over what. The text is that of its path.
+    fn target<'a>(
+        &self,
+        proc: Proc,
+        request: &Request,
+        text: &'a [u8],
+    ) -> Result<Target<'a>, Errno> {
         match request {
             Request::OpenPath { path, .. } => {
-                self.judge_path(proc.user, path)?;
-                Ok((Manager::Ram, Over::New(self.free_connection(proc)?)))
+                let (mount, rest) = self.resolve(proc.user, path, text)?;
+                let over = Over::New(self.free_connection(proc)?);
+                Ok(at_mount(mount, over, rest))
             }
             Request::StatPath { path } | Request::Unlink { path } | Request::Mkdir { path, .. } => {
-                self.judge_path(proc.user, path)?;
-                Ok((Manager::Ram, Over::Side))
+                let (mount, rest) = self.resolve(proc.user, path, text)?;
+                Ok(at_mount(mount, Over::Side, rest))
             }
             Request::Dup { coid } => {
                 let manager = self.manager_of(proc, *coid)?;
-                Ok((manager, Over::New(self.free_connection(proc)?)))
+                Ok(at_manager(manager, Over::New(self.free_connection(proc)?)))
             }
             Request::Read { coid, .. }
             | Request::Write { coid, .. }
@@ -171,8 +196,47 @@ impl Plain {
             | Request::Chmod { coid, .. }
             | Request::Notify { coid, .. }
             | Request::Raw { coid, .. } => {
-                Ok((self.manager_of(proc, *coid)?, Over::Existing(*coid)))
+                let manager = self.manager_of(proc, *coid)?;
+                Ok(at_manager(manager, Over::Existing(*coid)))
             }
+        }
+    }
+
+    /// The mount to which a path of that text leads, and what is behind it.
+    fn resolve<'a>(
+        &self,
+        user: User,
+        path: &Bytes,
+        text: &'a [u8],
+    ) -> Result<(&Mount, &'a [u8]), Errno> {
+        judge_form(path.as_slice())?;
+        self.mounts.resolve(&self.config, user, text)
+    }
+
+    /// Attaches a manager at a path.
+    fn mount(
+        &mut self,
+        thread: Thread,
+        path: &[u8],
+        manager: Manager,
+    ) -> Result<Outcome, AllocError> {
+        if !self.is_ready(thread) {
+            return Ok(Outcome::WrongState);
+        }
+        if let Err(error) = judge_form(path) {
+            return Ok(Outcome::Refused(error));
+        }
+        let text = text_of(self.alloc, path)?;
+        match self.mounts.mount(&self.config, thread.proc.user, text, manager)? {
+            Ok(()) => Ok(Outcome::Done),
+            Err(error) => Ok(Outcome::Refused(error)),
+        }
+    }
+
+    fn is_ready(&self, thread: Thread) -> bool {
+        match self.row(thread) {
+            Some(row) => matches!(&row.state, State::Ready),
+            None => false,
         }
     }
 
@@ -306,29 +370,33 @@ impl Plain {
 
     /// Header, flags and mode of an open have 12 bytes, behind which a path's rest stands.
     fn open(&mut self, proc: Proc, sent: &Sent) -> Result<Answer, AllocError> {
-        let Over::New(coid) = sent.over else {
+        let (Over::New(coid), Some(inode)) = (sent.over, sent.root) else {
             return Ok(Answer::Failed(Errno::EINVAL));
         };
         if sent.bytes.len() > 12 {
             return Ok(Answer::Failed(Errno::ENOENT));
         }
-        let Some(block) = self.free_block(proc.user) else {
+        let Some(number) = self.free_block(proc.user) else {
             return Ok(Answer::Failed(Errno::ENFILE));
         };
-        self.blocks.push((proc.user, block))?;
-        self.set_block(proc, coid, block);
+        self.blocks.push(Block {
+            user: proc.user,
+            number,
+            inode,
+        })?;
+        self.set_block(proc, coid, number);
         Ok(Answer::Reply(u64::from(coid.0), ReplyBytes::inline(self.alloc, &[])))
     }
 
     /// A path's rest stands behind the header's 8 bytes.
     fn stat(&self, user: User, sent: &Sent) -> Answer {
-        if sent.over != Over::Side {
+        let (Over::Side, Some(inode)) = (sent.over, sent.root) else {
             return Answer::Failed(Errno::EINVAL);
-        }
+        };
         if sent.bytes.len() > 8 {
             return Answer::Failed(Errno::ENOENT);
         }
-        self.root_status(user)
+        self.status(user, inode)
     }
 
     fn close(&mut self, proc: Proc, sent: &Sent) -> Answer {
@@ -336,7 +404,8 @@ impl Plain {
             Err(error) => Answer::Failed(error),
             Ok((coid, block)) => {
                 self.detach(proc, coid);
-                self.blocks.retain(|taken| *taken != (proc.user, block));
+                self.blocks
+                    .retain(|other| other.user != block.user || other.number != block.number);
                 Answer::Reply(0, ReplyBytes::inline(self.alloc, &[]))
             }
         }
@@ -345,26 +414,32 @@ impl Plain {
     fn fstat(&self, proc: Proc, sent: &Sent) -> Answer {
         match self.opened(proc, sent) {
             Err(error) => Answer::Failed(error),
-            Ok(_) => self.root_status(proc.user),
+            Ok((_, block)) => self.status(block.user, block.inode),
         }
     }
 
     /// The connection of a message and its block. It may have gone since the call, or its open may still wait.
-    fn opened(&self, proc: Proc, sent: &Sent) -> Result<(Coid, u16), Errno> {
+    fn opened(&self, proc: Proc, sent: &Sent) -> Result<(Coid, Block), Errno> {
         let Over::Existing(coid) = sent.over else {
             return Err(Errno::EINVAL);
         };
         match self.connection(proc, coid) {
-            Some(row) => match row.block {
-                Some(block) if row.manager == sent.manager => Ok((coid, block)),
-                _ => Err(Errno::EBADF),
+            Some(row) if row.manager == sent.manager => match self.block(proc.user, row.block) {
+                Some(block) => Ok((coid, *block)),
+                None => Err(Errno::EBADF),
             },
-            None => Err(Errno::EBADF),
+            _ => Err(Errno::EBADF),
         }
     }
 
-    fn root_status(&self, user: User) -> Answer {
-        Answer::Reply(0, ReplyBytes::inline(self.alloc, &status_bytes(user)))
+    fn block(&self, user: User, number: Option<u16>) -> Option<&Block> {
+        self.blocks
+            .iter()
+            .find(|block| block.user == user && Some(block.number) == number)
+    }
+
+    fn status(&self, owner: User, inode: u16) -> Answer {
+        Answer::Reply(0, ReplyBytes::inline(self.alloc, &status_bytes(owner, inode)))
     }
 
     /// The threads that were started.
@@ -440,14 +515,6 @@ impl Plain {
         0 < worker.0 && worker.0 <= self.config.workers()
     }
 
-    /// There is one path for each user: a slash and the user's name.
-    fn judge_path(&self, user: User, path: &Bytes) -> Result<(), Errno> {
-        match (self.config.name(user), path.as_slice().split_first()) {
-            (Some(name), Some((b'/', rest))) if rest == name.as_slice() => Ok(()),
-            _ => Err(Errno::ENOENT),
-        }
-    }
-
     fn free_process(&self, user: User) -> Option<u8> {
         (1..=16).find(|num| !self.processes.contains(&Proc { user, num: *num }))
     }
@@ -460,7 +527,7 @@ impl Plain {
     }
 
     fn free_block(&self, user: User) -> Option<u16> {
-        (1..=256).find(|block| !self.blocks.contains(&(user, *block)))
+        (1..=256).find(|number| self.block(user, Some(*number)).is_none())
     }
 
     fn connection(&self, proc: Proc, coid: Coid) -> Option<&Connection> {
@@ -491,6 +558,35 @@ impl Plain {
     }
 }
 
+/// The path that a request names, and nothing where it names a connection.
+fn path_of(request: &Request) -> &[u8] {
+    match request {
+        Request::OpenPath { path, .. }
+        | Request::StatPath { path }
+        | Request::Unlink { path }
+        | Request::Mkdir { path, .. } => path.as_slice(),
+        _ => &[],
+    }
+}
+
+fn at_mount<'a>(mount: &Mount, over: Over, rest: &'a [u8]) -> Target<'a> {
+    Target {
+        manager: mount.manager,
+        over,
+        root: Some(mount.root),
+        rest,
+    }
+}
+
+fn at_manager<'a>(manager: Manager, over: Over) -> Target<'a> {
+    Target {
+        manager,
+        over,
+        root: None,
+        rest: &[],
+    }
+}
+
 /// Whether the number is one of a priority.
 fn is_prio(prio: Prio) -> bool {
     0 < prio.0 && prio.0 <= 63
@@ -511,13 +607,13 @@ fn is_known(bytes: &[u8]) -> bool {
     matches!(read(bytes), Reading::Known(_))
 }
 
-/// The status of a user's root: inode 1, a directory, mode 0700, one link, the owner, and no size or times.
-fn status_bytes(user: User) -> [u8; 40] {
+/// The status of the root of a mount: its inode, a directory, mode 0700, one link, the owner, and no size or times.
+fn status_bytes(owner: User, inode: u16) -> [u8; 40] {
     let mut bytes = [0; 40];
-    bytes[0] = 1;
+    bytes[0..2].copy_from_slice(&inode.to_le_bytes());
     bytes[4] = 2;
     bytes[6..8].copy_from_slice(&0o700u16.to_le_bytes());
     bytes[8] = 1;
-    bytes[12] = user.0;
+    bytes[12] = owner.0;
     bytes
 }

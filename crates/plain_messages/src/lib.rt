@@ -177,25 +177,25 @@ fn is_component(length: usize, dots: usize) -> bool {
     0 < length && length <= 64 && (length > 2 || dots < length)
 }
 
-/// The message of a request, whatever its fields. Its path is a mount's root.
-pub fn write(alloc: Global, request: &Request) -> Result<Bytes, AllocError> {
+/// The message of a request, whatever its fields, and of what its path has behind the mount.
+pub fn write(alloc: Global, request: &Request, rest: &[u8]) -> Result<Bytes, AllocError> {
     match request {
         Request::OpenPath { flags, mode, .. } => {
-            message(alloc, 256, 1, &two_words(flags.0, *mode))
+            message(alloc, 256, 1, &two_words(flags.0, *mode), rest)
         }
-        Request::StatPath { .. } => message(alloc, 256, 2, &[]),
-        Request::Unlink { .. } => message(alloc, 256, 3, &[]),
-        Request::Mkdir { mode, .. } => message(alloc, 256, 4, &two_words(2, *mode)),
-        Request::Read { count, .. } => message(alloc, 257, 0, &count.to_le_bytes()),
-        Request::Write { bytes, .. } => message(alloc, 258, 0, bytes.as_slice()),
-        Request::Close { .. } => message(alloc, 259, 0, &[]),
-        Request::Dup { coid } => message(alloc, 260, 0, &[coid.0, 0]),
+        Request::StatPath { .. } => message(alloc, 256, 2, &[], rest),
+        Request::Unlink { .. } => message(alloc, 256, 3, &[], rest),
+        Request::Mkdir { mode, .. } => message(alloc, 256, 4, &two_words(2, *mode), rest),
+        Request::Read { count, .. } => message(alloc, 257, 0, &count.to_le_bytes(), &[]),
+        Request::Write { bytes, .. } => message(alloc, 258, 0, bytes.as_slice(), &[]),
+        Request::Close { .. } => message(alloc, 259, 0, &[], &[]),
+        Request::Dup { coid } => message(alloc, 260, 0, &[coid.0, 0], &[]),
         Request::Seek { whence, by, .. } => {
-            message(alloc, 261, whence_subtype(*whence), &by.to_le_bytes())
+            message(alloc, 261, whence_subtype(*whence), &by.to_le_bytes(), &[])
         }
-        Request::Fstat { .. } => message(alloc, 262, 0, &[]),
-        Request::List { after, .. } => message(alloc, 263, 0, after.as_slice()),
-        Request::Chmod { mode, .. } => message(alloc, 264, 0, &mode.to_le_bytes()),
+        Request::Fstat { .. } => message(alloc, 262, 0, &[], &[]),
+        Request::List { after, .. } => message(alloc, 263, 0, after.as_slice(), &[]),
+        Request::Chmod { mode, .. } => message(alloc, 264, 0, &mode.to_le_bytes(), &[]),
         Request::Notify {
             action,
             conds,
@@ -205,7 +205,7 @@ pub fn write(alloc: Global, request: &Request) -> Result<Bytes, AllocError> {
         } => {
             let [v0, v1, v2, v3] = value.to_le_bytes();
             let body = [conds.0, *code, v0, v1, v2, v3];
-            message(alloc, 265, action_subtype(*action), &body)
+            message(alloc, 265, action_subtype(*action), &body, &[])
         }
         Request::Raw { bytes, .. } => bytes.clone(),
     }
@@ -232,12 +232,19 @@ fn action_subtype(action: NotifyAction) -> u16 {
     }
 }
 
-/// A header and a body.
-pub fn message(alloc: Global, number: u16, subtype: u16, body: &[u8]) -> Result<Bytes, AllocError> {
-    let length = u32::try_from(body.len()).unwrap_or(u32::MAX);
+/// A header, fields, and what stands behind them.
+pub fn message(
+    alloc: Global,
+    number: u16,
+    subtype: u16,
+    fields: &[u8],
+    rest: &[u8],
+) -> Result<Bytes, AllocError> {
+    let length = u32::try_from(fields.len().saturating_add(rest.len())).unwrap_or(u32::MAX);
     let mut bytes = Vec::from_slice(alloc, &number.to_le_bytes())?;
     bytes.extend_from_slice(&subtype.to_le_bytes())?;
     bytes.extend_from_slice(&length.to_le_bytes())?;
-    bytes.extend_from_slice(body)?;
+    bytes.extend_from_slice(fields)?;
+    bytes.extend_from_slice(rest)?;
     Ok(Bytes::from_vec(bytes))
 }

@@ -1,8 +1,8 @@
 //! What a step does beside its outcome.
 
-use plain_machine::{Plain, Post, Row, State};
+use plain_machine::{Plain, Post, Row, Sent, State};
 use plain_messages::{Kind, Reading, read};
-use qx_types::{Request, Step, Thread, Worker};
+use qx_types::{Manager, Request, Step, Thread, Worker};
 
 /// What a step does, in two words.
 pub type Deed = (&'static str, &'static str);
@@ -12,7 +12,8 @@ pub fn deed(plain: &Plain, step: &Step) -> Option<Deed> {
     match step {
         Step::Call { request, .. } => Some(call_deed(request)),
         Step::Interrupt { thread } => Some(("interrupt", interrupt_word(plain.row(*thread)?))),
-        Step::Perform { worker, .. } => pulse_deed(plain, *worker),
+        Step::Mount { manager, .. } => Some(("mount", manager_word(*manager))),
+        Step::Perform { worker, .. } => item_deed(plain, *worker),
         Step::Spawn { .. } | Step::TakeReply { .. } | Step::SetPrio { .. } | Step::Receive { .. } =>
             None,
     }
@@ -77,11 +78,43 @@ fn interrupt_word(row: &Row) -> &'static str {
     }
 }
 
-/// What a pulse that a worker holds finds.
-fn pulse_deed(plain: &Plain, worker: Worker) -> Option<Deed> {
+fn manager_word(manager: Manager) -> &'static str {
+    match manager {
+        Manager::Ram => "ram",
+        Manager::Pipe => "pipe",
+    }
+}
+
+/// What the item that a worker holds comes to: a message with a path where it leads, and a pulse what it finds.
+fn item_deed(plain: &Plain, worker: Worker) -> Option<Deed> {
     match plain.hand(worker)? {
+        Post::Message(thread) => match &plain.row(thread)?.state {
+            State::Taken(sent) => place_deed(sent),
+            State::Ready | State::Queued(_) | State::Answered(_) => None,
+        },
         Post::Unblock(thread, call) => Some(("pulse", found_word(plain, thread, call)?)),
-        Post::Message(_) => None,
+    }
+}
+
+/// Where a message leads that a path sent.
+fn place_deed(sent: &Sent) -> Option<Deed> {
+    let mount = match (sent.manager, sent.root?) {
+        (Manager::Ram, 1) => "the top",
+        (Manager::Ram, _) => "a ram mount",
+        (Manager::Pipe, _) => "a pipe mount",
+    };
+    if has_rest(sent) {
+        Some(("below", mount))
+    } else {
+        Some(("root of", mount))
+    }
+}
+
+/// An open and a mknod have 12 bytes before the rest, a stat and an unlink the header's 8.
+fn has_rest(sent: &Sent) -> bool {
+    match read(sent.bytes.as_slice()) {
+        Reading::Known(Kind::Open | Kind::Mknod) => sent.bytes.len() > 12,
+        _ => sent.bytes.len() > 8,
     }
 }
 

@@ -1,20 +1,14 @@
 //! Takes a fixed pseudo-random sequence of steps in a world and in plain vectors, and compares outcomes and reads.
 #![tactic(auto)]
 
-mod choice;
 mod deeds;
-mod dice;
-mod raws;
-mod requests;
 mod tally;
-mod texts;
 
 use anyhow::bail;
-use choice::next_step;
 use deeds::deed;
-use dice::Dice;
 use plain_machine::{Held, Plain, State};
-use qx_types::{Bytes, Config, Manager, Outcome, Proc, Request, Step, Thread, User, Worker};
+use plain_steps::{Dice, next_step};
+use qx_types::{Bytes, Config, Manager, NoMemory, Outcome, Proc, Step, Thread, User, Worker};
 use qx_wire::Parsed;
 use qx_world::{PerformFault, Work, WorkRef, World};
 use std::alloc::{AllocError, Global};
@@ -42,8 +36,10 @@ fn main(rt: HostRuntime) -> anyhow::Result<()> {
 
 /// Takes so many steps in both. A difference is an error, and so is an outcome or a deed that did not come.
 fn compare(alloc: Global, count: u32) -> anyhow::Result<()> {
-    let mut plain = Plain::new(alloc, three_users(alloc)?);
-    let mut world = World::new(alloc, three_users(alloc)?)?;
+    let mut plain = Plain::new(alloc, three_users(alloc)?)?;
+    let Ok(mut world) = World::new(alloc, three_users(alloc)?) else {
+        bail!("out of memory");
+    };
     let mut tally = Tally::new();
     take_steps(alloc, &mut world, &mut plain, &mut tally, count)?;
     judge(&tally)
@@ -123,10 +119,15 @@ fn take(world: &mut World, plain: &Plain, step: &Step) -> anyhow::Result<Outcome
             threads,
             prio,
         } => Ok(world.spawn(*user, *threads, *prio)?),
-        Step::Call { thread, request } => call(world, *thread, request),
+        Step::Call { thread, request } => taken(world.call(*thread, request)),
         Step::TakeReply { thread } => Ok(world.take_reply(*thread)),
         Step::SetPrio { thread, prio } => Ok(world.set_prio(*thread, *prio)),
         Step::Interrupt { thread } => Ok(world.interrupt(*thread)),
+        Step::Mount {
+            thread,
+            path,
+            manager,
+        } => taken(world.mount(*thread, path, *manager)),
         Step::Receive { worker, manager } => Ok(world.receive(*worker, *manager)),
         Step::Perform { worker, moment } => {
             let work = held_work(plain, *worker)?;
@@ -135,8 +136,8 @@ fn take(world: &mut World, plain: &Plain, step: &Step) -> anyhow::Result<Outcome
     }
 }
 
-fn call(world: &mut World, thread: Thread, request: &Request) -> anyhow::Result<Outcome> {
-    match world.call(thread, request) {
+fn taken(given: Result<Outcome, NoMemory>) -> anyhow::Result<Outcome> {
+    match given {
         Ok(outcome) => Ok(outcome),
         Err(_) => bail!("out of memory"),
     }

@@ -4,10 +4,14 @@ use crate::deeds::Deed;
 use qx_types::{Item, Outcome};
 
 /// Each outcome that the steps have to come to, and its error. None other may come.
-const OUTCOMES: [(&str, &str); 22] = [
+const OUTCOMES: [(&str, &str); 27] = [
     ("spawned", ""),
     ("refused", "EINVAL"),
+    ("refused", "ENAMETOOLONG"),
+    ("refused", "EACCES"),
     ("refused", "ENOENT"),
+    ("refused", "EEXIST"),
+    ("refused", "ENOSPC"),
     ("refused", "EBADF"),
     ("refused", "EMFILE"),
     ("refused", "EAGAIN"),
@@ -18,6 +22,7 @@ const OUTCOMES: [(&str, &str); 22] = [
     ("error", "EINVAL"),
     ("error", "ENOSYS"),
     ("error", "EBADF"),
+    ("error", "ENOENT"),
     ("error", "ENFILE"),
     ("error", "EINTR"),
     ("wrongstate", ""),
@@ -30,7 +35,7 @@ const OUTCOMES: [(&str, &str); 22] = [
 ];
 
 /// Each deed that has to be done. None other may be.
-const DEEDS: [(&str, &str); 36] = [
+const DEEDS: [(&str, &str); 44] = [
     ("call", "open"),
     ("call", "stat"),
     ("call", "unlink"),
@@ -59,6 +64,14 @@ const DEEDS: [(&str, &str); 36] = [
     ("raw", "list"),
     ("raw", "chmod"),
     ("raw", "notify"),
+    ("mount", "ram"),
+    ("mount", "pipe"),
+    ("root of", "the top"),
+    ("root of", "a ram mount"),
+    ("root of", "a pipe mount"),
+    ("below", "the top"),
+    ("below", "a ram mount"),
+    ("below", "a pipe mount"),
     ("interrupt", "nothing waits"),
     ("interrupt", "in a line"),
     ("interrupt", "received"),
@@ -72,16 +85,16 @@ const DEEDS: [(&str, &str); 36] = [
 /// Which of the outcomes and deeds came, and how long the line was.
 #[derive(Drop)]
 pub struct Tally {
-    outcomes: [bool; 22],
-    deeds: [bool; 36],
+    outcomes: [bool; 27],
+    deeds: [bool; 44],
     longest: usize,
 }
 
 impl Tally {
     pub fn new() -> Tally {
         Tally {
-            outcomes: [false; 22],
-            deeds: [false; 36],
+            outcomes: [false; 27],
+            deeds: [false; 44],
             longest: 0,
         }
     }

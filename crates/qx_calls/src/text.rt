@@ -56,7 +56,7 @@ pub fn push_call(
 }
 
 /// A space and a number.
-fn push_next_number(text: &mut Vec<u8>, number: u64) -> Result<(), NoMemory>
+pub fn push_next_number(text: &mut Vec<u8>, number: u64) -> Result<(), NoMemory>
     ensures ok { OnOk result (text.new.items ≡ text.old.items ++ codes " " ++ decimal number) }
 {
     text.extend_from_slice(b" ")?;
@@ -64,7 +64,7 @@ fn push_next_number(text: &mut Vec<u8>, number: u64) -> Result<(), NoMemory>
 }
 
 /// A line's first word, a thread and a path.
-fn push_at_path(
+pub fn push_at_path(
     text: &mut Vec<u8>,
     config: &Config,
     name: &[u8],

@@ -4,12 +4,12 @@ use Rattle.std.specs.Str.{bytes_eq}
 use Rattle.qx_types.specs.declared.names.Thread.{Thread}
 use Rattle.qx_types.specs.declared.request.Request.{Request}
 use Rattle.qx_types.specs.declared.step.Step.{Step}
-use Rattle.qx_types.specs.declared.step.Step.TheVariants.{Spawn, Call, TakeReply, SetPrio, Interrupt, Receive, Perform}
+use Rattle.qx_types.specs.declared.step.Step.TheVariants.{Spawn, Call, TakeReply, SetPrio, Interrupt, Mount, Receive, Perform}
 use Rattle.qx_script.specs.declared.command.Command.{Command}
 use Rattle.qx_script.specs.declared.command.Command.TheVariants.{Take, Serve, Do, Show, Trace}
 use Rattle.qx_calls.specs.Calls.{call_of, call_said}
 use Rattle.qx_calls.specs.Forms.{◌then◌, end, Line, Saying, CanBeSaid, by, read_one_of}
-use Rattle.qx_words.specs.Kinds.{AName, AUser, AThread, AByte, AMoment, AManager}
+use Rattle.qx_words.specs.Kinds.{AName, AUser, AThread, AByte, AMoment, APath, AManager}
 use Rattle.qx_words.specs.Words.{◌>>=◌, moment_of}
 
 -- who uses the system, and how many workers serve it
@@ -34,6 +34,9 @@ prio_line = record { name = codes "prio"; form = AThread then AByte then end; ma
 abbrev pub interrupt_line : Line Step
 interrupt_line = record { name = codes "interrupt"; form = AThread then end; made = λ thread. Interrupt thread }
 
+abbrev pub mount_line : Line Step
+mount_line = record { name = codes "mount"; form = AThread then APath then AManager then end; made = λ thread path manager. Mount thread path manager }
+
 abbrev pub receive_line : Line Step
 receive_line = record { name = codes "receive"; form = AByte then AManager then end; made = λ worker manager. Receive (record { 0 = worker }) manager }
 
@@ -41,7 +44,7 @@ abbrev pub perform_line : Line Step
 perform_line = record { name = codes "perform"; form = AByte then AMoment then end; made = λ worker moment. Perform (record { 0 = worker }) moment }
 
 abbrev pub step_lines : List (Line Step)
-step_lines = spawn_line ∷ reply_line ∷ prio_line ∷ interrupt_line ∷ receive_line ∷ perform_line ∷ []
+step_lines = spawn_line ∷ reply_line ∷ prio_line ∷ interrupt_line ∷ mount_line ∷ receive_line ∷ perform_line ∷ []
 
 -- the line that takes the step
 abbrev pub step_said : Step → Saying
@@ -50,6 +53,7 @@ step_said (Call thread request) = call_said thread request
 step_said (TakeReply thread) = by reply_line (thread, tt)
 step_said (SetPrio thread prio) = by prio_line (thread, (prio.0, tt))
 step_said (Interrupt thread) = by interrupt_line (thread, tt)
+step_said (Mount thread path manager) = by mount_line (thread, (path, (manager, tt)))
 step_said (Receive worker manager) = by receive_line (worker.0, (manager, tt))
 step_said (Perform worker moment) = by perform_line (worker.0, (moment, tt))
 

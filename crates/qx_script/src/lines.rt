@@ -1,11 +1,11 @@
 ghost use Rattle.std.specs.Prelude.{◌≡◌, ℕ, IfOk, IfSome, List, map, option_map, true};
 ghost use Rattle.qx_types.specs.Configuration.{is_user_name};
 ghost use Rattle.qx_calls.specs.Forms.{read};
-ghost use Rattle.qx_script.specs.Lines.{command_of, do_of, interrupt_line, perform_line, prio_line, receive_line, reply_line, serve_line, show_line, spawn_line, step_of, trace_line, user_line, workers_line};
+ghost use Rattle.qx_script.specs.Lines.{command_of, do_of, interrupt_line, mount_line, perform_line, prio_line, receive_line, reply_line, serve_line, show_line, spawn_line, step_of, trace_line, user_line, workers_line};
 
 use crate::command::Command;
 use qx_calls::lines::call;
-use qx_types::{NoMemory, Prio, Step, Worker};
+use qx_types::{Bytes, NoMemory, Prio, Step, Worker};
 use qx_words::Users;
 use qx_words::words::{byte, manager, moment, name, thread};
 use std::alloc::Global;
@@ -82,6 +82,27 @@ fn interrupt(users: &Users, words: &[&[u8]]) -> Option<Step>
     Some(Step::Interrupt { thread })
 }
 
+/// `mount THREAD PATH ram|pipe`
+fn mount(alloc: Global, users: &Users, words: &[&[u8]]) -> Result<Option<Step>, NoMemory>
+    ensures step { IfOk result (λ step. step ≡ read mount_line users.now (map (λ word. word.now) words.now)) }
+{
+    let [thread_word, path, manager_word] = words else {
+        return Ok(None);
+    };
+    let Some(thread) = thread(users, *thread_word) else {
+        return Ok(None);
+    };
+    let Some(manager) = manager(*manager_word) else {
+        return Ok(None);
+    };
+    let path = Bytes::from_slice(alloc, *path)?;
+    Ok(Some(Step::Mount {
+        thread,
+        path,
+        manager,
+    }))
+}
+
 /// `receive WORKER ram|pipe`
 fn receive(words: &[&[u8]]) -> Option<Step>
     ensures step { (users : List (List ℕ)) → result ≡ read receive_line users (map (λ word. word.now) words.now) }
@@ -124,6 +145,8 @@ fn step(
         Ok(prio(users, words))
     } else if name == b"interrupt".as_slice() {
         Ok(interrupt(users, words))
+    } else if name == b"mount".as_slice() {
+        mount(alloc, users, words)
     } else if name == b"receive".as_slice() {
         Ok(receive(words))
     } else if name == b"perform".as_slice() {

@@ -6,9 +6,9 @@ ghost use Rattle.qx_types.specs.declared.request.Request.{Request};
 ghost use Rattle.qx_types.specs.declared.step.Step.{Step};
 ghost use Rattle.qx_script.specs.StepText.{step_text};
 
-use qx_calls::text::push_call;
-use qx_types::{Config, Manager, NoMemory, Prio, Request, Step, Thread, User, Worker};
-use qx_words::text::{push_manager, push_number, push_thread, push_user};
+use qx_calls::text::{push_at_path, push_call, push_next_number};
+use qx_types::{Bytes, Config, Manager, NoMemory, Prio, Request, Step, Thread, User, Worker};
+use qx_words::text::{push_manager, push_thread, push_user};
 use std::alloc::Global;
 
 /// The line that takes a step.
@@ -30,6 +30,11 @@ pub fn push_step(
         Step::TakeReply { thread } => push_reply(text, config, *thread),
         Step::SetPrio { thread, prio } => push_prio(text, config, *thread, *prio),
         Step::Interrupt { thread } => push_interrupt(text, config, *thread),
+        Step::Mount {
+            thread,
+            path,
+            manager,
+        } => push_mount(text, config, *thread, path, *manager),
         Step::Receive { worker, manager } => push_receive(text, *worker, *manager),
         Step::Perform { worker, moment } => push_perform(text, *worker, *moment),
     }
@@ -95,6 +100,21 @@ fn push_interrupt(text: &mut Vec<u8>, config: &Config, thread: Thread) -> Result
 }
 
 #[tactic(auto, unfolding(crate::specs::StepText::step_text))]
+fn push_mount(
+    text: &mut Vec<u8>,
+    config: &Config,
+    thread: Thread,
+    path: &Bytes,
+    manager: Manager,
+) -> Result<(), NoMemory>
+    ensures ok { OnOk result (text.new.items ≡ text.old.items ++ step_text config.now (Step.Mount thread path.now manager)) }
+{
+    push_at_path(text, config, b"mount", thread, path)?;
+    text.extend_from_slice(b" ")?;
+    push_manager(text, manager)
+}
+
+#[tactic(auto, unfolding(crate::specs::StepText::step_text))]
 fn push_receive(text: &mut Vec<u8>, worker: Worker, manager: Manager) -> Result<(), NoMemory>
     ensures ok { (config : Configuration) → OnOk result (text.new.items ≡ text.old.items ++ step_text config (Step.Receive worker manager)) }
 {
@@ -111,12 +131,4 @@ fn push_perform(text: &mut Vec<u8>, worker: Worker, moment: u64) -> Result<(), N
     text.extend_from_slice(b"perform")?;
     push_next_number(text, worker.0 as u64)?;
     push_next_number(text, moment)
-}
-
-/// A space and a number.
-fn push_next_number(text: &mut Vec<u8>, number: u64) -> Result<(), NoMemory>
-    ensures ok { OnOk result (text.new.items ≡ text.old.items ++ codes " " ++ decimal number) }
-{
-    text.extend_from_slice(b" ")?;
-    push_number(text, number)
 }

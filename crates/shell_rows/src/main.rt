@@ -9,7 +9,7 @@ use std::fs::File;
 use std::io;
 
 /// The names of the scripts, in the order in which they are run.
-const SCRIPTS: [&str; 49] = [
+const SCRIPTS: [&str; 57] = [
     "empty",
     "first_path",
     "bad_line",
@@ -56,9 +56,17 @@ const SCRIPTS: [&str; 49] = [
     "every_call",
     "too_much",
     "late_pulse",
+    "mounts",
+    "long_paths",
+    "refused_mounts",
+    "pipe_mount",
+    "mount_while_sent",
+    "names_in_names",
     "hex_of_odd_length",
     "offset_with_plus",
     "interrupt_of_nobody",
+    "mount_of_no_manager",
+    "mount_of_two_words",
 ];
 
 fn main(rt: HostRuntime) -> io::Result<()> {

@@ -3,6 +3,7 @@
 
 mod lists;
 mod messages;
+mod paths;
 mod worlds;
 
 use anyhow::bail;
@@ -20,6 +21,8 @@ fn main(rt: HostRuntime) -> anyhow::Result<()> {
             println!(rt; "{closed}")?;
             let bytes = messages::make_calls(alloc, "read", "open", 20, 1000)?;
             println!(rt; "{bytes}")?;
+            let components = paths::make_calls(alloc, "resolve", 16, 8, 20, 1000)?;
+            println!(rt; "{components}")?;
         }
         [_, subject, rest @ ..] if subject.as_str() == "list" => lists::on_words(alloc, rest)?,
         [_, subject, rest @ ..] if subject.as_str() == "world" => {
@@ -30,7 +33,11 @@ fn main(rt: HostRuntime) -> anyhow::Result<()> {
             let bytes = messages::on_words(alloc, rest)?;
             println!(rt; "{bytes}")?;
         }
-        _ => bail!("the first word is list, world or message"),
+        [_, subject, rest @ ..] if subject.as_str() == "path" => {
+            let components = paths::on_words(alloc, rest)?;
+            println!(rt; "{components}")?;
+        }
+        _ => bail!("the first word is list, world, message or path"),
     }
     Ok(())
 }

@@ -49,6 +49,7 @@ pub fn take_steps(
         "spawn" => spawned(alloc, users, count, rounds),
         "opened" => opened_anew(alloc, count, rounds, false),
         "closed" => opened_anew(alloc, count, rounds, true),
+        "stat" => stats_beside(alloc, users, count, rounds),
         _ => opened_and_closed(alloc, users, count, rounds),
     }
 }
@@ -59,9 +60,12 @@ fn boot(alloc: Global, users: usize) -> anyhow::Result<World> {
     for name in NAMES.chunks(1).take(users) {
         names.push(Bytes::from_slice(alloc, name)?)?;
     }
-    match Config::new(names, 1) {
-        Some(config) => Ok(World::new(alloc, config)?),
-        None => bail!("the configuration is refused"),
+    let Some(config) = Config::new(names, 1) else {
+        bail!("the configuration is refused");
+    };
+    match World::new(alloc, config) {
+        Ok(world) => Ok(world),
+        Err(_) => bail!("out of memory"),
     }
 }
 
@@ -140,6 +144,33 @@ fn close_many(world: &mut World, connections: u16) -> u64 {
     answered
 }
 
+/// The first user asks for the status of the root in each round, beside users who have so many mounts, at most 8.
+fn stats_beside(alloc: Global, users: usize, mounts: u16, rounds: u32) -> anyhow::Result<u64> {
+    let mut world = boot(alloc, users)?;
+    spawn_each(&mut world, users, 1)?;
+    for (user, _) in (2..=16).zip(1..users) {
+        mount_many(alloc, &mut world, user, mounts)?;
+    }
+    let path = Bytes::from_vec(root_path(alloc, 1)?);
+    let stat = Request::StatPath { path };
+    let mut answered: u64 = 0;
+    for _ in 0..rounds {
+        answered = answered.saturating_add(exchange(&mut world, thread_at(1, 1, 1), &stat).1);
+    }
+    Ok(answered)
+}
+
+/// The RAM manager at a user's name, and below it until there are so many mounts.
+fn mount_many(alloc: Global, world: &mut World, user: u8, mounts: u16) -> Result<(), AllocError> {
+    for (name, _) in NAMES.iter().zip(1..mounts) {
+        let mut path = root_path(alloc, user)?;
+        path.push(b'/')?;
+        path.push(*name)?;
+        let _ = world.mount(thread_at(user, 1, 1), &Bytes::from_vec(path), Manager::Ram);
+    }
+    Ok(())
+}
+
 /// Each user starts 16 processes, and each opens a connection. All threads but one ask this until one less than so many
 /// wait; then in each round the one that waits for nothing calls, and the first of the line is served.
 fn answered_in_line(
@@ -205,17 +236,22 @@ fn exchange(world: &mut World, thread: Thread, request: &Request) -> (Thread, u6
 
 /// A request to open the user's root.
 fn open_root(alloc: Global, user: u8) -> Result<Request, AllocError> {
+    Ok(Request::OpenPath {
+        path: Bytes::from_vec(root_path(alloc, user)?),
+        flags: OFlags::READ,
+        mode: 0,
+    })
+}
+
+/// A slash and the user's name.
+fn root_path(alloc: Global, user: u8) -> Result<Vec<u8>, AllocError> {
     let mut path = Vec::from_slice(alloc, b"/")?;
     for (name, number) in NAMES.iter().zip(1..=16) {
         if number == user {
             path.push(*name)?;
         }
     }
-    Ok(Request::OpenPath {
-        path: Bytes::from_vec(path),
-        flags: OFlags::READ,
-        mode: 0,
-    })
+    Ok(path)
 }
 
 fn thread_at(user: u8, process: u8, tid: u8) -> Thread {

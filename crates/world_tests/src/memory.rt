@@ -32,7 +32,9 @@ const LINES: &str = "\
     stat bob.1.2 /bob\n\
     dup bob.1.3 3\n\
     raw bob.1.4 3 00\n\
-    write bob.1.1 3 01020304\n";
+    write bob.1.1 3 01020304\n\
+    reply ann.1.1\n\
+    mount ann.1.1 /ann/m/n pipe\n";
 
 /// The steps through the one of a line.
 fn through<'a>(steps: &'a [Step], line: &str) -> Option<&'a [Step]> {
@@ -173,6 +175,11 @@ fn raw_bytes_are_called_at_last(rt: HostRuntime) -> Result<(), NoMemory> {
 #[test]
 fn a_write_is_called_at_last(rt: HostRuntime) -> Result<(), NoMemory> {
     is_taken_at_last(&rt, rt.alloc(), "write bob.1.1 3 01020304")
+}
+
+#[test]
+fn a_mount_is_made_at_last(rt: HostRuntime) -> Result<(), NoMemory> {
+    is_taken_at_last(&rt, rt.alloc(), "mount ann.1.1 /ann/m/n pipe")
 }
 
 /// Lines after which a reply of ann waits to be taken, her second thread is ready, and an open of bob is to be received.

@@ -4,7 +4,7 @@ use crate::same::has_same_transcript;
 use crate::script::{booted, config, ran, run};
 use qx_machine::Entry;
 use qx_types::{
-    Bytes, Item, Manager, NoMemory, OFlags, Outcome, Prio, Proc, Request, Step, Thread, User,
+    Bytes, Errno, Item, Manager, NoMemory, OFlags, Outcome, Prio, Proc, Request, Step, Thread, User,
     Worker,
 };
 use qx_wire::Parsed;
@@ -194,6 +194,20 @@ fn serve_alone(rt: &impl Abort, world: &mut World) -> Result<(), NoMemory> {
     Ok(())
 }
 
+/// The pipe manager is attached below bob's name, once.
+fn mount_alone(rt: &impl Abort, alloc: Global, world: &mut World) -> Result<(), NoMemory> {
+    let path = Bytes::from_slice(alloc, b"/bob/p")?;
+    let bob = first_thread(User(2));
+    assert!(rt; matches!(&world.mount(bob, &path, Manager::Pipe)?, Outcome::Done));
+    assert!(rt;
+        matches!(
+            &world.mount(bob, &path, Manager::Ram)?,
+            Outcome::Refused(Errno::EEXIST)
+        )
+    );
+    Ok(())
+}
+
 /// Nothing is held afterwards, and the priority of bob's thread is set.
 fn rest_alone(rt: &impl Abort, world: &mut World) {
     assert!(rt;
@@ -215,6 +229,7 @@ fn runs_a_world_alone(rt: HostRuntime) -> Result<(), NoMemory> {
     let mut world = World::new(rt.alloc(), config(&rt, rt.alloc())?)?;
     call_alone(&rt, rt.alloc(), &mut world)?;
     serve_alone(&rt, &mut world)?;
+    mount_alone(&rt, rt.alloc(), &mut world)?;
     rest_alone(&rt, &mut world);
     Ok(())
 }

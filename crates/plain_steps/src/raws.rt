@@ -22,7 +22,7 @@ pub fn next_raw(alloc: Global, dice: &mut Dice) -> Result<Bytes, AllocError> {
 /// A message as a request spells it, some of its values out of their ranges.
 fn spoken(alloc: Global, dice: &mut Dice) -> Result<Bytes, AllocError> {
     let request = next_spoken(alloc, dice)?;
-    write(alloc, &request)
+    write(alloc, &request, &[])
 }
 
 /// No bytes, one too few for a header, or a header.
@@ -39,15 +39,14 @@ fn short(alloc: Global, dice: &mut Dice) -> Result<Bytes, AllocError> {
 fn long(alloc: Global, dice: &mut Dice) -> Result<Bytes, AllocError> {
     let body = filled(alloc, 1, 4_160 + dice.below(2) as usize)?;
     let number = 258 + 100 * u16::from(dice.below(2));
-    message(alloc, number, 0, body.as_slice())
+    message(alloc, number, 0, body.as_slice(), &[])
 }
 
 /// A connect message with something behind its mount.
 fn of_path(alloc: Global, dice: &mut Dice) -> Result<Bytes, AllocError> {
     let subtype = 1 + dice.below(4);
-    let mut body = Vec::from_slice(alloc, fields(subtype))?;
-    body.extend_from_slice(next_rest(alloc, dice)?.as_slice())?;
-    message(alloc, 256, u16::from(subtype), body.as_slice())
+    let rest = next_rest(alloc, dice)?;
+    message(alloc, 256, u16::from(subtype), fields(subtype), rest.as_slice())
 }
 
 /// What a connect message has before the rest: flags or a kind, and a mode.

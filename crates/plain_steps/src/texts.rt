@@ -44,7 +44,7 @@ fn rest_word(dice: &mut Dice) -> &'static str {
 }
 
 /// Components of 63 bytes, and at the end one of 1 to 64.
-fn long_rest(alloc: Global, length: usize) -> Result<Vec<u8>, AllocError> {
+pub fn long_rest(alloc: Global, length: usize) -> Result<Vec<u8>, AllocError> {
     let mut rest = filled(alloc, b'a', length)?;
     let last = length.saturating_sub(1);
     for (place, byte) in rest.iter_mut().enumerate() {

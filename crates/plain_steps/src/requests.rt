@@ -1,6 +1,7 @@
 //! Pseudo-random requests, of which some are out of range.
 
 use crate::dice::Dice;
+use crate::paths::next_path;
 use crate::raws::next_raw;
 use crate::texts::{filled, next_name};
 use qx_types::{Bytes, Coid, Conds, NotifyAction, OFlags, Request, User, Whence};
@@ -174,29 +175,6 @@ fn next_connection(dice: &mut Dice) -> Coid {
 /// The last number that a connection may have, or the one after it.
 fn last_connection(dice: &mut Dice) -> Coid {
     Coid(66 + dice.below(2))
-}
-
-fn next_path(alloc: Global, dice: &mut Dice, user: User) -> Result<Bytes, AllocError> {
-    Bytes::from_slice(alloc, path_word(dice, user).as_bytes())
-}
-
-/// The user's own root, and now and then another path.
-fn path_word(dice: &mut Dice, user: User) -> &'static str {
-    if dice.one_in(16) {
-        return match dice.below(6) {
-            0 => "/ann",
-            1 => "/anna",
-            2 => "/an",
-            3 => "/ann/",
-            4 => "/",
-            _ => "",
-        };
-    }
-    match user.0 {
-        1 => "/ann",
-        2 => "/bob",
-        _ => "/cat",
-    }
 }
 
 /// To read, and now and then something else.

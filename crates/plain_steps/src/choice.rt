@@ -1,6 +1,7 @@
-//! A fixed pseudo-random sequence of steps, of which some are wrong.
+//! Which step is next.
 
 use crate::dice::Dice;
+use crate::paths::next_mount_path;
 use crate::requests::next_request;
 use plain_machine::{Plain, Post, State};
 use qx_types::{Manager, Prio, Proc, Step, Thread, User, Worker};
@@ -13,6 +14,7 @@ enum Kind {
     TakeReply,
     SetPrio,
     Interrupt,
+    Mount,
     Receive,
     Perform,
 }
@@ -30,6 +32,7 @@ pub fn next_step(
         Kind::TakeReply => Ok(next_take_reply(dice, plain)),
         Kind::SetPrio => Ok(next_set_prio(dice)),
         Kind::Interrupt => Ok(next_interrupt(dice, plain)),
+        Kind::Mount => next_mount(alloc, dice, plain),
         Kind::Receive => Ok(next_receive(dice, plain)),
         Kind::Perform => Ok(next_perform(dice, plain)),
     }
@@ -71,6 +74,15 @@ fn next_interrupt(dice: &mut Dice, plain: &Plain) -> Step {
     Step::Interrupt { thread }
 }
 
+fn next_mount(alloc: Global, dice: &mut Dice, plain: &Plain) -> Result<Step, AllocError> {
+    let thread = ready_thread(dice, plain);
+    Ok(Step::Mount {
+        thread,
+        path: next_mount_path(alloc, dice, thread.proc.user)?,
+        manager: next_manager(dice),
+    })
+}
+
 fn next_receive(dice: &mut Dice, plain: &Plain) -> Step {
     Step::Receive {
         worker: empty_worker(dice, plain),
@@ -92,7 +104,8 @@ fn next_kind(dice: &mut Dice, busy: bool) -> Kind {
             0 | 1 => Kind::Spawn,
             2..=20 => Kind::Call,
             21 => Kind::SetPrio,
-            22..=25 => Kind::TakeReply,
+            22..=24 => Kind::TakeReply,
+            25 => Kind::Mount,
             26 | 27 => Kind::Interrupt,
             28 | 29 => Kind::Receive,
             _ => Kind::Perform,
@@ -239,7 +252,7 @@ fn any_worker(dice: &mut Dice) -> Worker {
 }
 
 fn next_manager(dice: &mut Dice) -> Manager {
-    if dice.one_in(16) {
+    if dice.one_in(4) {
         Manager::Pipe
     } else {
         Manager::Ram
