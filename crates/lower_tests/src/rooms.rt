@@ -18,6 +18,7 @@ fn sent(alloc: Global) -> Sent
     Sent {
         target: Target {
             manager: Manager::Ram,
+            root: None,
             over: Over::Existing(Coid(3)),
             prio: Prio(10),
         },
