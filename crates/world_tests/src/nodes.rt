@@ -32,11 +32,7 @@ fn take_and_give_back(queues: &mut Queues, proc: Proc) -> Result<(), AllocError>
 }
 
 /// With all memory taken, whether a byte is refused while a process gets its disconnect node.
-fn takes_without_memory(
-    alloc: Global,
-    queues: &mut Queues,
-    proc: Proc,
-) -> Result<bool, AllocError>
+fn takes_without_memory(alloc: Global, queues: &mut Queues, proc: Proc) -> Result<bool, AllocError>
     requires { HasThread queues.old proc }
 {
     let pieces = take_all_memory(alloc)?;

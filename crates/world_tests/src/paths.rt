@@ -4,8 +4,8 @@ use crate::same::has_same_transcript;
 use crate::script::{booted, config, ran, run};
 use qx_machine::Entry;
 use qx_types::{
-    Bytes, Errno, Item, Manager, NoMemory, OFlags, Outcome, Prio, Proc, Request, Step, Thread, User,
-    Worker,
+    Bytes, Errno, Item, Manager, NoMemory, OFlags, Outcome, Prio, Proc, Request, Step, Thread,
+    User, Worker,
 };
 use qx_wire::Parsed;
 use qx_world::{PerformFault, Traced, Work, WorkRef, World};
