@@ -1,5 +1,6 @@
 //! The null manager: nothing is ever read from it, and what is written to it is gone.
 
+use all_memory::take_all_memory;
 use null_manager::{Blocks, Null};
 use qx_machine::{Effect, Opened, Over, Target};
 use qx_resmgr::serve;
@@ -74,5 +75,19 @@ fn a_left_out_function_is_judged_before_all_else(rt: HostRuntime) -> Result<(), 
     assert!(rt; given == Err(Errno::EINVAL));
     let given = served(&mut blocks, Over::New(THREE), nothing, open_message(b"name"))?;
     assert!(rt; given == Err(Errno::ENOENT));
+    Ok(())
+}
+
+#[test]
+fn an_open_without_memory_changes_nothing(rt: HostRuntime) -> Result<(), Fail> {
+    let mut blocks = Blocks::new(rt.alloc())?;
+    let nothing = Err(Errno::EINVAL);
+    let taken = take_all_memory(rt.alloc())?;
+    let refused = served(&mut blocks, Over::New(THREE), nothing, open_message(b"")).is_err();
+    drop(taken);
+    assert!(rt; refused);
+    assert!(rt; blocks.opened(THREE, 1) == Err(Errno::EBADF));
+    let given = served(&mut blocks, Over::New(THREE), nothing, open_message(b""))?;
+    assert!(rt; given.is_ok());
     Ok(())
 }

@@ -9,9 +9,10 @@ use qx_types::Errno;
 use qx_wire::Message;
 use std::alloc::AllocError;
 
-/// Does what a message asks a manager for, by the function for it in one of the manager's tables: ENOSYS where there is
-/// none, EINVAL where the message came the wrong way, and what is `opened`, or the error that nothing is. Only an open
-/// may want memory.
+/// Does what a message asks a manager for at a moment, by the function for it in one of the manager's two tables (Writing
+/// a Resource Manager: `resmgr_handler`). ENOSYS where there is none; EINVAL where an open didn't come over a new
+/// connection, or another message to a path not over a side connection; the error of `opened`, for a message over what is
+/// open; then the function's own errors. An error changes nothing. Only an open may want memory.
 pub fn serve<M: Connect<S> + Io<S>, S>(
     state: &mut S,
     target: Target,
