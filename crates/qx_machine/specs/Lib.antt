@@ -4,6 +4,7 @@ pub mod Clients
 pub mod Examples
 pub mod Files
 pub mod Inodes
+pub mod Functions
 pub mod Judgements
 pub mod Laws
 pub mod Lines

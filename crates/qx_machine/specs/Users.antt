@@ -25,7 +25,7 @@ take part (Unblock process thread call) = part
 
 -- what a worker does with an item that it holds, at a moment; an unblock pulse is for a call that waits, and none waits yet
 unfoldable pub serve : Configuration → ℕ → List OwnItem → Part → OwnItem → ℕ → Served
-serve config user held part (Message process thread) moment = or_kept part (serve_message part process thread)
+serve config user held part (Message process thread) moment = or_kept part (serve_message part process thread moment)
 serve config user held part (Unblock process thread call) moment = record { part = part; changes = [] }
 
 -- what the end of each step of a user settles, from the rows before it; nothing is left to settle yet

@@ -103,6 +103,14 @@ pub struct Opened {
     pub block: Block,
 }
 
+/// What an open is given: the connection that its call made, and the inode of the root of the mount that its path led to
+/// (Writing a Resource Manager: the handle that connect functions are given).
+#[derive(Clone, Copy, Debug, PartialEq, Eq)]
+pub struct NewOpen {
+    pub coid: Coid,
+    pub root: u32,
+}
+
 /// What an inode is.
 #[derive(Clone, Copy, Debug, PartialEq, Eq)]
 pub enum Kind {

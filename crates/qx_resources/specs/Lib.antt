@@ -1,3 +1,3 @@
 pub mod Boot
-pub mod Deeds
 pub mod Lends
+pub mod Memory

@@ -2,7 +2,9 @@
 #![tactic(auto)]
 
 pub mod all;
+mod pipe;
+mod ram;
 pub mod resources;
 
 pub use all::AllResources;
-pub use resources::{Done, NewMount, Resources};
+pub use resources::{NewMount, Resources};

@@ -1,25 +1,28 @@
 //! What the managers keep for a user, and what messages do to it.
 
-ghost use Rattle.std.specs.Prelude.{◌≡◌, None, IsFalse, IsOk, IfOk, OnErr, OnOk};
+ghost use Rattle.std.specs.Prelude.{◌≡◌, None, Ok, IsFalse, IsOk, IfOk, OnErr, OnOk};
 ghost use Rattle.std.specs.Option.{option_copied};
 ghost use Rattle.qx_paths.specs.Mounts.{mount_fault};
 ghost use Rattle.qx_machine.specs.Attributes as attributes;
 ghost use Rattle.qx_machine.specs.Mounting as mounting;
 ghost use Rattle.qx_machine.specs.Mounting.{with_mount};
 ghost use Rattle.qx_machine.specs.Performing as performing;
-ghost use Rattle.qx_machine.specs.Performing.{close_deed, deed_of, fstat_deed, manager_deed, open_deed, stat_deed};
+ghost use Rattle.qx_machine.specs.Performing.{close_deed, deed_of, fstat_deed, open_deed, stat_deed};
 ghost use Rattle.qx_machine.specs.Rows.{row_at};
 ghost use Rattle.qx_machine.specs.Users.{boot_part};
-ghost use Rattle.qx_wire.specs.declared.message.Meaning.TheVariants.{Known};
-ghost use Rattle.qx_resources.specs.Deeds.{deed_with, used_deed, wants_memory};
+ghost use Rattle.qx_resmgr.specs.Deeds.{deed_with};
+ghost use Rattle.qx_resources.specs.Memory.{wants_memory};
 
+use crate::pipe::Pipe;
+use crate::ram::Ram;
 use arrayvec::ArrayVec;
-use qx_attr::{Status, stat_bytes};
-use qx_machine::{Attribute, Block, Effect, Kind, Opened, Over, Target};
+use qx_attr::stat_bytes;
+use qx_machine::{Attribute, Block, Effect, Kind, NewOpen, Opened, Over, Target};
 use qx_paths::{MountFault, Mounts, Path, read_path};
 use qx_process::{Process, places};
+use qx_resmgr::{Done, serve};
 use qx_types::{Config, Errno, Limits, Manager, NoMemory, User};
-use qx_wire::{Meaning, Message, Rest};
+use qx_wire::{Meaning, Rest};
 use std::alloc::{AllocError, Global};
 use std::marker::Model;
 
@@ -56,14 +59,6 @@ impl<'a> Model for NewMount<'a> {
     ghost Value = { MountPoint };
 
     ghost view = { λ m. record { prefix = m.path; manager = m.manager; root = m.root } };
-}
-
-/// What a message came to: the status and the bytes of its reply, and what becomes of its connection.
-#[derive(Drop)]
-pub struct Done {
-    pub status: u64,
-    pub bytes: Status,
-    pub effect: Effect,
 }
 
 impl Resources {
@@ -145,58 +140,41 @@ impl Resources {
         Ok(())
     }
 
-    /// Does what bytes of a process ask its manager for, by what they mean. Only an open may want memory.
+    /// Does what bytes of a process ask its manager for at a moment, by what they mean. Only an open may want memory.
     pub fn perform(
         &mut self,
         process: &Process,
         target: Target,
         meaning: Meaning<'_>,
+        moment: u64,
     ) -> Result<Result<Done, Errno>, AllocError>
-        ensures ok { IfOk result (λ given. deed_with self.new given ≡ deed_of self.old process.now target meaning.entry) }
+        ensures ok { IfOk result (λ given. deed_with self.new given ≡ deed_of self.old process.now target moment meaning.entry) }
         ensures kept { IfOk result (λ given. OnErr given (self.new ≡ self.old)) }
         ensures err { OnErr result (self.new ≡ self.old) }
         ensures sure { IsFalse (wants_memory meaning.entry) → IsOk result }
     {
-        match meaning {
-            Meaning::Known(message) => self.perform_message(process, target, message),
-            Meaning::Unknown => Ok(Err(Errno::ENOSYS)),
-            Meaning::Malformed => Ok(Err(Errno::EINVAL)),
-        }
-    }
-
-    /// Does what a message of a process asks its manager for (Writing a Resource Manager: tables of functions).
-    fn perform_message(
-        &mut self,
-        process: &Process,
-        target: Target,
-        message: Message<'_>,
-    ) -> Result<Result<Done, Errno>, AllocError>
-        ensures ok { IfOk result (λ given. deed_with self.new given ≡ manager_deed target.manager self.old process.now target message.entry) }
-        ensures kept { IfOk result (λ given. OnErr given (self.new ≡ self.old)) }
-        ensures err { OnErr result (self.new ≡ self.old) }
-        ensures sure { IsFalse (wants_memory (Known message.entry)) → IsOk result }
-    {
-        let Manager::Ram = target.manager else {
-            return Ok(Err(Errno::ENOSYS));
+        let message = match meaning {
+            Meaning::Known(message) => message,
+            Meaning::Unknown => return Ok(Err(Errno::ENOSYS)),
+            Meaning::Malformed => return Ok(Err(Errno::EINVAL)),
         };
-        match message {
-            Message::Open { rest, .. } => self.open(target, &rest),
-            Message::Stat { rest } => Ok(self.stat(target, &rest)),
-            Message::Close => Ok(self.close(process, target)),
-            Message::Fstat => Ok(self.fstat(process, target)),
-            _ => Ok(Err(Errno::ENOSYS)),
+        let opened = self.opened_by(process, target);
+        match target.manager {
+            Manager::Ram => serve::<Ram, Resources>(self, target, opened, message, moment),
+            Manager::Pipe => serve::<Pipe, Resources>(self, target, opened, message, moment),
         }
     }
 
     /// Opens a mount's root over a new connection (C Library Reference: `open`).
-    fn open(&mut self, target: Target, rest: &Rest<'_>) -> Result<Result<Done, Errno>, AllocError>
-        ensures ok { IfOk result (λ given. deed_with self.new given ≡ open_deed self.old target rest.now) }
+    pub(crate) fn open(
+        &mut self,
+        over: NewOpen,
+        rest: &Rest<'_>,
+    ) -> Result<Result<Done, Errno>, AllocError>
+        ensures ok { IfOk result (λ given. deed_with self.new given ≡ open_deed self.old over rest.now) }
         ensures kept { IfOk result (λ given. OnErr given (self.new ≡ self.old)) }
         ensures err { OnErr result (self.new ≡ self.old) }
     {
-        let (Over::New(coid), Some(root)) = (target.over, target.root) else {
-            return Ok(Err(Errno::EINVAL));
-        };
         if !is_root(rest) {
             return Ok(Err(Errno::ENOENT));
         }
@@ -204,24 +182,21 @@ impl Resources {
         if number > Limits::BLOCKS {
             return Ok(Err(Errno::ENFILE));
         }
-        places::put(&mut self.blocks, number, Block { inode: root })?;
+        places::put(&mut self.blocks, number, Block { inode: over.root })?;
         Ok(Ok(Done {
-            status: coid.0 as u64,
+            status: over.coid.0 as u64,
             bytes: ArrayVec::new(),
             effect: Effect::Opens {
-                coid,
+                coid: over.coid,
                 block: number as u16,
             },
         }))
     }
 
     /// Tells the status of a mount's root (C Library Reference: `stat`).
-    fn stat(&self, target: Target, rest: &Rest<'_>) -> Result<Done, Errno>
-        ensures { deed_with self.now result ≡ stat_deed self.now target rest.now }
+    pub(crate) fn stat(&self, root: u32, rest: &Rest<'_>) -> Result<Done, Errno>
+        ensures { deed_with self.now result ≡ stat_deed self.now root rest.now }
     {
-        let (Over::Side, Some(root)) = (target.over, target.root) else {
-            return Err(Errno::EINVAL);
-        };
         if !is_root(rest) {
             return Err(Errno::ENOENT);
         }
@@ -234,24 +209,21 @@ impl Resources {
     }
 
     /// Takes a connection and its block away (C Library Reference: `close`).
-    fn close(&mut self, process: &Process, target: Target) -> Result<Done, Errno>
-        ensures done { deed_with self.new result ≡ used_deed close_deed self.old process.now target }
-        ensures kept { OnErr result (self.new ≡ self.old) }
+    pub(crate) fn close(&mut self, opened: Opened) -> Done
+        ensures { deed_with self.new (Ok result) ≡ close_deed self.old opened }
     {
-        let opened = self.opened_by(process, target)?;
         places::free(&mut self.blocks, opened.number as usize);
-        Ok(Done {
+        Done {
             status: 0,
             bytes: ArrayVec::new(),
             effect: Effect::Closes(opened.coid),
-        })
+        }
     }
 
     /// Tells the status of what is open (C Library Reference: `fstat`).
-    fn fstat(&self, process: &Process, target: Target) -> Result<Done, Errno>
-        ensures { deed_with self.now result ≡ used_deed fstat_deed self.now process.now target }
+    pub(crate) fn fstat(&self, opened: Opened) -> Result<Done, Errno>
+        ensures { deed_with self.now result ≡ fstat_deed self.now opened }
     {
-        let opened = self.opened_by(process, target)?;
         let attribute = self.inode(opened.block.inode).ok_or(Errno::EBADF)?;
         Ok(Done {
             status: 0,

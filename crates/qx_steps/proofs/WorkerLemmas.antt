@@ -16,10 +16,11 @@ use Rattle.qx_machine.specs.declared.rows.OwnItem.TheVariants as item
 use Rattle.qx_machine.specs.declared.rows.Queued.{Queued}
 use Rattle.qx_machine.specs.declared.rows.Sent.{Sent}
 use Rattle.qx_machine.specs.declared.rows.ThreadRow.{ThreadRow}
+use Rattle.qx_machine.specs.Functions.{Deed}
 use Rattle.qx_machine.specs.Lines.{line_at}
 use Rattle.qx_machine.specs.Machine.{World, is_worker, named_thread, performed_part, receive_hand, receive_line, received_part, shown_item, step, with_empty_hand, with_taken}
 use Rattle.qx_machine.specs.Parts.{Part, Resources}
-use Rattle.qx_machine.specs.Performing.{Deed, deed_of, taken_in}
+use Rattle.qx_machine.specs.Performing.{deed_of, taken_in}
 use Rattle.qx_machine.specs.Processes.{Process, taken_thread, with_thread}
 use Rattle.qx_machine.specs.Rows.{row_at, with_row}
 use Rattle.qx_machine.specs.Users.{serve, settle, take}
@@ -87,7 +88,7 @@ pub ruleset perform_steps = (perform-no_worker, perform-nothing, perform-handled
 -- ---- a message that a worker holds, or a pulse
 
 pub message-performed : (w : World) (worker : ℕ) (held : Held) (process thread moment : ℕ) → held.item ≡ item.Message process thread
-    → performed_part (with_empty_hand w worker) held moment (row_at w.parts held.user.0) ≡ with_empty_hand (after_message w (named_thread held.user.0 process thread)) worker
+    → performed_part (with_empty_hand w worker) held moment (row_at w.parts held.user.0) ≡ with_empty_hand (after_message w (named_thread held.user.0 process thread) moment) worker
 unfolding serve settle
 message-performed w worker held process thread moment is = elim (option_cases (row_at w.parts held.user.0)) [
   | inl none ↦ rw none refl
@@ -107,11 +108,11 @@ pub held-message : (w : World) (worker : ℕ) (held : Held) (process thread : �
 held-message w worker held process thread valid hand is = rw (valid, hand, is) refl
 
 -- no message of the thread was received
-message_done-none : (w : World) (thread : Thread) (part : Part) → row_at w.parts thread.proc.user.0 ≡ Some part → (row : Option Process) → row_at part.processes thread.proc.num ≡ row
-    → ((x : Process) → row ≡ Some x → taken_of (row_at x.threads thread.tid) ≡ None) → with_message_done w thread (Some part) ≡ w
+message_done-none : (w : World) (thread : Thread) (moment : ℕ) (part : Part) → row_at w.parts thread.proc.user.0 ≡ Some part → (row : Option Process) → row_at part.processes thread.proc.num ≡ row
+    → ((x : Process) → row ≡ Some x → taken_of (row_at x.threads thread.tid) ≡ None) → with_message_done w thread moment (Some part) ≡ w
 unfolding settle
-message_done-none w thread part there None is none = rw (is, set-row w.parts thread.proc.user.0 part there) refl
-message_done-none w thread part there (Some x) is none = elim (option_cases (row_at x.threads thread.tid)) [
+message_done-none w thread moment part there None is none = rw (is, set-row w.parts thread.proc.user.0 part there) refl
+message_done-none w thread moment part there (Some x) is none = elim (option_cases (row_at x.threads thread.tid)) [
   | inl gone ↦ rw (is, gone, set-row w.parts thread.proc.user.0 part there) refl
   | inr row ↦
       let idle : taken_in row.0.state ≡ None = rw row.1 at (none x refl) in
@@ -161,36 +162,36 @@ module _ (config : Configuration) (c : Channel) (rs : List (Option Resources)) (
   -- ---- the message of a thread, which was received, is done
 
   -- there is none
-  pub message-nobody : (thread : Thread) → process_of c.users thread.proc ≡ None → after_message w thread ≡ w
-  message-nobody thread none = elim (option_cases (row_at c.users thread.proc.user.0)) [
+  pub message-nobody : (thread : Thread) (moment : ℕ) → process_of c.users thread.proc ≡ None → after_message w thread moment ≡ w
+  message-nobody thread moment none = elim (option_cases (row_at c.users thread.proc.user.0)) [
     | inl nobody ↦ rw (part-none c.users rs thread.proc.user.0 nobody) refl
     | inr ps ↦
         let there = part-there c.users rs thread.proc.user.0 ps.0 same ps.1 in
-        rw there.1.1 (message_done-none w thread (record { processes = ps.0; resources = there.0 }) there.1.1 None (rw ps.1 at none) (λ x is. let clash : None ≡ Some x = is in absurd (cc)))
+        rw there.1.1 (message_done-none w thread moment (record { processes = ps.0; resources = there.0 }) there.1.1 None (rw ps.1 at none) (λ x is. let clash : None ≡ Some x = is in absurd (cc)))
   ]
 
-  pub message-none : (thread : Thread) (x : Process) → process_of c.users thread.proc ≡ Some x → taken_of (row_at x.threads thread.tid) ≡ None → after_message w thread ≡ w
-  message-none thread x is none = elim (option_cases (row_at c.users thread.proc.user.0)) [
+  pub message-none : (thread : Thread) (moment : ℕ) (x : Process) → process_of c.users thread.proc ≡ Some x → taken_of (row_at x.threads thread.tid) ≡ None → after_message w thread moment ≡ w
+  message-none thread moment x is none = elim (option_cases (row_at c.users thread.proc.user.0)) [
     | inl nobody ↦ rw (part-none c.users rs thread.proc.user.0 nobody) refl
     | inr ps ↦
         let there = part-there c.users rs thread.proc.user.0 ps.0 same ps.1 in
-        rw there.1.1 (message_done-none w thread (record { processes = ps.0; resources = there.0 }) there.1.1 (Some x) (rw ps.1 at is) (λ y its. let equal : x ≡ y = cc in rw (← equal) none))
+        rw there.1.1 (message_done-none w thread moment (record { processes = ps.0; resources = there.0 }) there.1.1 (Some x) (rw ps.1 at is) (λ y its. let equal : x ≡ y = cc in rw (← equal) none))
   ]
 
   -- it comes to a deed, or to an error
-  module _ (thread : Thread) (ps : List (Option Process)) (x : Process) (row : ThreadRow) (sent : Sent) (r : Resources) (user : row_at c.users thread.proc.user.0 ≡ Some ps) (process : row_at ps thread.proc.num ≡ Some x)
+  module _ (thread : Thread) (moment : ℕ) (ps : List (Option Process)) (x : Process) (row : ThreadRow) (sent : Sent) (r : Resources) (user : row_at c.users thread.proc.user.0 ≡ Some ps) (process : row_at ps thread.proc.num ≡ Some x)
       (its : row_at x.threads thread.tid ≡ Some row) (taken : taken_in row.state ≡ Some sent) (resources : row_at rs thread.proc.user.0 ≡ Some r) (part : row_at w.parts thread.proc.user.0 ≡ Some (record { processes = ps; resources = r })) where
-    replied_by : (deed : Deed) → deed_of r x sent.target (meaning sent.bytes) ≡ Ok deed
-        → after_message w thread ≡ world_of config (after_replying c thread deed.effect deed.status deed.bytes) (slice_set rs thread.proc.user.0 (Some deed.resources)) hands
+    replied_by : (deed : Deed Resources) → deed_of r x sent.target moment (meaning sent.bytes) ≡ Ok deed
+        → after_message w thread moment ≡ world_of config (after_replying c thread deed.effect deed.status deed.bytes) (slice_set rs thread.proc.user.0 (Some deed.state)) hands
     unfolding settle
-    replied_by deed is = rw (part, process, its, taken, is, user, process, its, taken, user, parts-set_both c.users rs thread.proc.user.0 _ deed.resources, process) refl
+    replied_by deed is = rw (part, process, its, taken, is, user, process, its, taken, user, parts-set_both c.users rs thread.proc.user.0 _ deed.state, process) refl
 
-    failed_by : (error : Errno) → deed_of r x sent.target (meaning sent.bytes) ≡ Err error → after_message w thread ≡ world_of config (after_failing c thread error) rs hands
+    failed_by : (error : Errno) → deed_of r x sent.target moment (meaning sent.bytes) ≡ Err error → after_message w thread moment ≡ world_of config (after_failing c thread error) rs hands
     unfolding settle
     failed_by error is = rw (part, process, its, taken, is, user, process, its, taken, user, parts-set_processes c.users rs thread.proc.user.0 _ r resources, process, its) refl
 
   -- by what is read of the columns
-  module _ (thread : Thread) (x : Process) (sent : Sent) (r : Resources) (there : process_of c.users thread.proc ≡ Some x) (message : taken_of (row_at x.threads thread.tid) ≡ Some sent) (resources : row_at rs thread.proc.user.0 ≡ Some r) where
+  module _ (thread : Thread) (moment : ℕ) (x : Process) (sent : Sent) (r : Resources) (there : process_of c.users thread.proc ≡ Some x) (message : taken_of (row_at x.threads thread.tid) ≡ Some sent) (resources : row_at rs thread.proc.user.0 ≡ Some r) where
     rows : (P : Type 0) → ((ps : List (Option Process)) (row : ThreadRow) → row_at c.users thread.proc.user.0 ≡ Some ps → row_at ps thread.proc.num ≡ Some x → row_at x.threads thread.tid ≡ Some row → taken_in row.state ≡ Some sent → row_at w.parts thread.proc.user.0 ≡ Some (record { processes = ps; resources = r }) → P) → P
     rows P given = elim (option_cases (row_at c.users thread.proc.user.0)) [
       | inl none ↦ let clash : None ≡ Some x = rw none at there in absurd (cc)
@@ -200,12 +201,12 @@ module _ (config : Configuration) (c : Channel) (rs : List (Option Resources)) (
       ]
     ]
 
-    pub message-replied : (deed : Deed) → deed_of r x sent.target (meaning sent.bytes) ≡ Ok deed
-        → after_message w thread ≡ world_of config (after_replying c thread deed.effect deed.status deed.bytes) (slice_set rs thread.proc.user.0 (Some deed.resources)) hands
-    message-replied deed is = rows _ (λ ps row user process its taken part. replied_by thread ps x row sent r user process its taken resources part deed is)
+    pub message-replied : (deed : Deed Resources) → deed_of r x sent.target moment (meaning sent.bytes) ≡ Ok deed
+        → after_message w thread moment ≡ world_of config (after_replying c thread deed.effect deed.status deed.bytes) (slice_set rs thread.proc.user.0 (Some deed.state)) hands
+    message-replied deed is = rows _ (λ ps row user process its taken part. replied_by thread moment ps x row sent r user process its taken resources part deed is)
 
-    pub message-failed : (error : Errno) → deed_of r x sent.target (meaning sent.bytes) ≡ Err error → after_message w thread ≡ world_of config (after_failing c thread error) rs hands
-    message-failed error is = rows _ (λ ps row user process its taken part. failed_by thread ps x row sent r user process its taken resources part error is)
+    pub message-failed : (error : Errno) → deed_of r x sent.target moment (meaning sent.bytes) ≡ Err error → after_message w thread moment ≡ world_of config (after_failing c thread error) rs hands
+    message-failed error is = rows _ (λ ps row user process its taken part. failed_by thread moment ps x row sent r user process its taken resources part error is)
 
 -- what holds is a clause of an error too
 pub on_err : {T E P : Type 0} (r : Result T E) → P → OnErr r P

@@ -8,7 +8,7 @@ use Rattle.qx_machine.specs.declared.rows.Sent.{Sent}
 use Rattle.qx_machine.specs.Machine.{World, is_worker, named_thread}
 use Rattle.qx_machine.specs.Parts.{Part}
 use Rattle.qx_machine.specs.Rows.{row_at}
-use Rattle.qx_resources.specs.Deeds.{wants_memory}
+use Rattle.qx_resources.specs.Memory.{wants_memory}
 use Rattle.qx_steps.specs.declared.work.Work.{Work}
 use Rattle.qx_steps.specs.declared.work.Work.TheVariants as work
 use Rattle.qx_steps.specs.declared.work.WorkRef.{WorkRef}

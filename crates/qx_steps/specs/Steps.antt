@@ -47,10 +47,10 @@ CanMount (Some part) path = mount_fault part.resources.mounts path ≡ None
 abbrev pub after_mount : World → ℕ → MountPoint → World
 after_mount w user mount = record w { parts = with_row w.parts user (λ part. record part { resources = with_mount user mount part.resources }) }
 
-abbrev pub with_message_done : World → Thread → Option Part → World
-with_message_done w thread None = w
-with_message_done w thread (Some part) = serve_end w thread.proc.user.0 part (or_kept part (serve_message part thread.proc.num thread.tid))
+abbrev pub with_message_done : World → Thread → ℕ → Option Part → World
+with_message_done w thread moment None = w
+with_message_done w thread moment (Some part) = serve_end w thread.proc.user.0 part (or_kept part (serve_message part thread.proc.num thread.tid moment))
 
--- the world once the message of a thread, which was received, is done
-abbrev pub after_message : World → Thread → World
-after_message w thread = with_message_done w thread (row_at w.parts thread.proc.user.0)
+-- the world once the message of a thread, which was received, is done at a moment
+abbrev pub after_message : World → Thread → ℕ → World
+after_message w thread moment = with_message_done w thread moment (row_at w.parts thread.proc.user.0)

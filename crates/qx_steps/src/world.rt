@@ -320,28 +320,39 @@ impl World {
         let Some(held) = self.hand(worker) else {
             return Ok(Outcome::Nothing);
         };
-        self.serve(worker, held, read)?;
+        self.serve(worker, held, read, moment)?;
         Ok(Outcome::Handled)
     }
 
-    /// Does an item that a worker holds, and empties the hand. A pulse asks for nothing yet.
-    fn serve(&mut self, worker: Worker, held: Held, read: Option<&Parsed>) -> Result<(), NoMemory>
+    /// Does an item that a worker holds at a moment, and empties the hand. A pulse asks for nothing yet.
+    fn serve(
+        &mut self,
+        worker: Worker,
+        held: Held,
+        read: Option<&Parsed>,
+        moment: u64,
+    ) -> Result<(), NoMemory>
         requires read { IsReadOf (option_copied read) (taken_item self.old.parts held.user.0 held.item) }
-        ensures ok { OnOk result ((moment : ℕ) → self.new ≡ machine.performed_part (machine.with_empty_hand self.old worker.0) held moment (row_at self.old.parts held.user.0)) }
+        ensures ok { OnOk result (self.new ≡ machine.performed_part (machine.with_empty_hand self.old worker.0) held moment (row_at self.old.parts held.user.0)) }
         ensures err { OnErr result (self.new ≡ self.old) }
         ensures sure { IsFalse (hand_wants_memory self.old (Some held)) → IsOk result }
     {
         if let OwnItem::Message { process, thread } = held.item {
-            self.answer(named_thread(held.user, process, thread), read)?;
+            self.answer(named_thread(held.user, process, thread), read, moment)?;
         }
         places::free(&mut self.hands, worker.0 as usize);
         Ok(())
     }
 
-    /// Does what the message of a thread, which was received, asks for, and answers it.
-    fn answer(&mut self, thread: Thread, read: Option<&Parsed>) -> Result<(), AllocError>
+    /// Does what the message of a thread, which was received, asks for at a moment, and answers it.
+    fn answer(
+        &mut self,
+        thread: Thread,
+        read: Option<&Parsed>,
+        moment: u64,
+    ) -> Result<(), AllocError>
         requires read { IsReadOf (option_copied read) (taken_of (thread_row self.old.parts thread)) }
-        ensures ok { OnOk result (self.new ≡ after_message self.old thread) }
+        ensures ok { OnOk result (self.new ≡ after_message self.old thread moment) }
         ensures err { OnErr result (self.new ≡ self.old) }
         ensures sure { IsFalse (sent_wants_memory (taken_of (thread_row self.old.parts thread))) → IsOk result }
     {
@@ -354,7 +365,8 @@ impl World {
         let Some(resources) = self.resources.user_mut(thread.proc.user) else {
             return Ok(());
         };
-        let given = resources.perform(process, sent.target, meaning_of(&sent.bytes, read))?;
+        let given =
+            resources.perform(process, sent.target, meaning_of(&sent.bytes, read), moment)?;
         match given {
             Ok(done) => {
                 self.channel

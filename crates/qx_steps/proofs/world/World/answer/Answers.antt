@@ -8,10 +8,10 @@ use Rattle.qx_steps.proofs.WorkerLemmas.{message-failed, message-nobody, message
 use Rattle.qx_steps.proofs.world.World.answer.Goals as goal
 
 pub returns-in_default-clause-ok : goal.returns-in_default-clause-ok
-returns-in_default-clause-ok c = rw (← c.self.view_is, message-nobody c.self.inside.config c.self.inside.channel c.self.inside.resources c.self.inside.hands.items c.self.invariant c.args.thread (search rules)) refl
+returns-in_default-clause-ok c = rw (← c.self.view_is, message-nobody c.self.inside.config c.self.inside.channel c.self.inside.resources c.self.inside.hands.items c.self.invariant c.args.thread c.args.moment (search rules)) refl
 
 pub returns-in_default-taken-clause-ok : goal.returns-in_default-taken-clause-ok
-returns-in_default-taken-clause-ok c = rw (← c.self.view_is, message-none c.self.inside.config c.self.inside.channel c.self.inside.resources c.self.inside.hands.items c.self.invariant c.args.thread c.in-Some.process.now (sym c.in-Some.ensures.row) (search rules)) refl
+returns-in_default-taken-clause-ok c = rw (← c.self.view_is, message-none c.self.inside.config c.self.inside.channel c.self.inside.resources c.self.inside.hands.items c.self.invariant c.args.thread c.args.moment c.in-Some.process.now (sym c.in-Some.ensures.row) (search rules)) refl
 
 pub meaning_of-requires : goal.meaning_of-requires
 meaning_of-requires c =
@@ -36,10 +36,10 @@ invariant_of-self-in-Err c = rw c.fail.ensures.failed (same-set_resources (after
 pub returns-in-Ok-clause-ok : goal.returns-in-Ok-clause-ok
 returns-in-Ok-clause-ok c =
     let deed = rw (c.in-Ok.is, c.meaning_of.ensures) at c.in_ok-given.ensures.ok in
-    rw (← c.self.view_is, message-replied c.self.inside.config c.self.inside.channel c.self.inside.resources c.self.inside.hands.items c.self.invariant c.args.thread c.in-Some.process.now c.in-Some-taken.sent.now c.in-Some-user_mut.resources.now (sym c.in-Some.ensures.row) (sym c.in-Some-taken.ensures) (sym c.in-Some-user_mut.ensures.row) _ (sym deed), c.reply.ensures.replied, c.as_slice.ensures.value) refl
+    rw (← c.self.view_is, message-replied c.self.inside.config c.self.inside.channel c.self.inside.resources c.self.inside.hands.items c.self.invariant c.args.thread c.args.moment c.in-Some.process.now c.in-Some-taken.sent.now c.in-Some-user_mut.resources.now (sym c.in-Some.ensures.row) (sym c.in-Some-taken.ensures) (sym c.in-Some-user_mut.ensures.row) _ (sym deed), c.reply.ensures.replied, c.as_slice.ensures.value) refl
 
 pub returns-in-Err-clause-ok : goal.returns-in-Err-clause-ok
 returns-in-Err-clause-ok c =
     let deed = rw (c.in-Err.is, c.meaning_of.ensures) at c.in_ok-given.ensures.ok in
     let kept = rw c.in-Err.is at c.in_ok-given.ensures.kept in
-    rw (← c.self.view_is, message-failed c.self.inside.config c.self.inside.channel c.self.inside.resources c.self.inside.hands.items c.self.invariant c.args.thread c.in-Some.process.now c.in-Some-taken.sent.now c.in-Some-user_mut.resources.now (sym c.in-Some.ensures.row) (sym c.in-Some-taken.ensures) (sym c.in-Some-user_mut.ensures.row) c.in-Err.error (sym deed), c.fail.ensures.failed, kept, set-row c.self.inside.resources c.args.thread.proc.user.0 c.in-Some-user_mut.resources.now (sym c.in-Some-user_mut.ensures.row)) refl
+    rw (← c.self.view_is, message-failed c.self.inside.config c.self.inside.channel c.self.inside.resources c.self.inside.hands.items c.self.invariant c.args.thread c.args.moment c.in-Some.process.now c.in-Some-taken.sent.now c.in-Some-user_mut.resources.now (sym c.in-Some.ensures.row) (sym c.in-Some-taken.ensures) (sym c.in-Some-user_mut.ensures.row) c.in-Err.error (sym deed), c.fail.ensures.failed, kept, set-row c.self.inside.resources c.args.thread.proc.user.0 c.in-Some-user_mut.resources.now (sym c.in-Some-user_mut.ensures.row)) refl

@@ -6,4 +6,4 @@ pub returns-clause-outcome : goal.returns-clause-outcome
 returns-clause-outcome c = rw (perform-handled c.args.self.now c.args.worker c.args.moment c.in-Some.held (search rules) (search rules)) refl
 
 pub returns-clause-world : goal.returns-clause-world
-returns-clause-world c = rw (perform-handled c.args.self.now c.args.worker c.args.moment c.in-Some.held (search rules) (search rules)) (c.in_ok-serve.ensures.ok c.args.moment)
+returns-clause-world c = rw (perform-handled c.args.self.now c.args.worker c.args.moment c.in-Some.held (search rules) (search rules)) c.in_ok-serve.ensures.ok

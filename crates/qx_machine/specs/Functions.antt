@@ -1,0 +1,100 @@
+-- The two tables of functions of a manager, each function as what it means (Writing a Resource Manager: resmgr_connect_funcs_t,
+-- resmgr_io_funcs_t). S is what the manager's functions work on.
+use Rattle.std.specs.Prelude.{ℕ, ℤ, Bool, true, false, List, Option, Some, None, Result, Ok, Err}
+use Rattle.qx_types.specs.declared.errno.Errno.{Errno}
+use Rattle.qx_types.specs.declared.errno.Errno.TheVariants.{EINVAL, ENOSYS}
+use Rattle.qx_types.specs.declared.fields.Whence.{Whence}
+use Rattle.qx_types.specs.declared.flags.OFlags.{OFlags}
+use Rattle.qx_types.specs.declared.names.Coid.{Coid}
+use Rattle.qx_wire.specs.declared.message.Message.{Message}
+use Rattle.qx_wire.specs.declared.message.Message.TheVariants as msg
+use Rattle.qx_machine.specs.declared.rows.Effect.{Effect}
+use Rattle.qx_machine.specs.declared.rows.NewOpen.{NewOpen}
+use Rattle.qx_machine.specs.declared.rows.Opened.{Opened}
+use Rattle.qx_machine.specs.declared.rows.Over.{Over}
+use Rattle.qx_machine.specs.declared.rows.Over.TheVariants.{New, Existing, Side}
+use Rattle.qx_machine.specs.declared.rows.Target.{Target}
+use Rattle.qx_machine.specs.Judgements.{◌>>=◌, found, need}
+
+-- what a message does: status and bytes of its reply, what the functions work on as it is after it, and what becomes of its connection
+pub record Deed (S : Type 0) : Type 0 where
+  pub status : ℕ
+  pub bytes : List ℕ
+  pub state : S
+  pub effect : Effect
+
+-- the functions for messages to a path, each with the moment last; a stat and those after it are given the root of the mount
+pub record ConnectFunctions (S : Type 0) : Type 0 where
+  pub «open» : Option (S → NewOpen → OFlags → ℕ → List (List ℕ) → ℕ → Result (Deed S) Errno)
+  pub stat : Option (S → ℕ → List (List ℕ) → ℕ → Result (Deed S) Errno)
+  pub unlink : Option (S → ℕ → List (List ℕ) → ℕ → Result (Deed S) Errno)
+  pub mknod : Option (S → ℕ → ℕ → List (List ℕ) → ℕ → Result (Deed S) Errno)
+
+-- the functions for messages over what is open, each with the moment last
+pub record IoFunctions (S : Type 0) : Type 0 where
+  pub read : Option (S → Opened → ℕ → ℕ → Result (Deed S) Errno)
+  pub write : Option (S → Opened → List ℕ → ℕ → Result (Deed S) Errno)
+  pub close : Option (S → Opened → ℕ → Result (Deed S) Errno)
+  pub lseek : Option (S → Opened → Whence → ℤ → ℕ → Result (Deed S) Errno)
+  pub fstat : Option (S → Opened → ℕ → Result (Deed S) Errno)
+  pub list : Option (S → Opened → List ℕ → ℕ → Result (Deed S) Errno)
+  pub chmod : Option (S → Opened → ℕ → ℕ → Result (Deed S) Errno)
+
+-- the tables of a manager that has no function
+abbrev pub no_connect : {S : Type 0} → ConnectFunctions S
+no_connect = record { «open» = None; stat = None; unlink = None; mknod = None }
+
+abbrev pub no_io : {S : Type 0} → IoFunctions S
+no_io = record { read = None; write = None; close = None; lseek = None; fstat = None; list = None; chmod = None }
+
+-- ---- what a message came over
+
+abbrev pub new_coid : Over → Option Coid
+new_coid (New coid) = Some coid
+new_coid _ = None
+
+abbrev pub existing_coid : Over → Option Coid
+existing_coid (Existing coid) = Some coid
+existing_coid _ = None
+
+abbrev pub is_side : Over → Bool
+is_side Side = true
+is_side _ = false
+
+-- an open comes over a connection that its call made
+abbrev pub new_open : Target → Result NewOpen Errno
+new_open target = do
+  coid ← found (new_coid target.over) EINVAL
+  root ← found target.root EINVAL
+  Ok (record { coid = coid; root = root })
+
+-- what else is sent to a path comes over a side connection, to the mount with this root
+abbrev pub side_root : Target → Result ℕ Errno
+side_root target = do
+  aside ← need (is_side target.over) EINVAL
+  found target.root EINVAL
+
+-- ---- serving
+
+-- a function is used on what its message came over, if that is good; one that a manager leaves out is ENOSYS before (Writing a Resource
+-- Manager: functions that a manager leaves out)
+abbrev pub call : {F A D : Type 0} → Option F → Result A Errno → (F → A → Result D Errno) → Result D Errno
+call function over result = do
+  f ← found function ENOSYS
+  given ← over
+  result f given
+
+-- a message is served by one function of one of the manager's tables; no manager has one for the other messages
+abbrev pub served : {S : Type 0} → ConnectFunctions S → IoFunctions S → S → Target → Result Opened Errno → ℕ → Message → Result (Deed S) Errno
+served connect io state target opened moment (msg.Open flags mode rest) = call connect.«open» (new_open target) (λ f over. f state over flags mode rest moment)
+served connect io state target opened moment (msg.Stat rest) = call connect.stat (side_root target) (λ f root. f state root rest moment)
+served connect io state target opened moment (msg.Unlink rest) = call connect.unlink (side_root target) (λ f root. f state root rest moment)
+served connect io state target opened moment (msg.Mknod mode rest) = call connect.mknod (side_root target) (λ f root. f state root mode rest moment)
+served connect io state target opened moment (msg.Read count) = call io.read opened (λ f o. f state o count moment)
+served connect io state target opened moment (msg.Write bytes) = call io.write opened (λ f o. f state o bytes moment)
+served connect io state target opened moment msg.Close = call io.close opened (λ f o. f state o moment)
+served connect io state target opened moment (msg.Lseek whence offset) = call io.lseek opened (λ f o. f state o whence offset moment)
+served connect io state target opened moment msg.Fstat = call io.fstat opened (λ f o. f state o moment)
+served connect io state target opened moment (msg.List after) = call io.list opened (λ f o. f state o after moment)
+served connect io state target opened moment (msg.Chmod mode) = call io.chmod opened (λ f o. f state o mode moment)
+served connect io state target opened moment _ = Err ENOSYS
