@@ -13,8 +13,8 @@ use Rattle.qx_machine.specs.Parts.{Resources}
 use Rattle.qx_machine.specs.Rows.{lowest_from, put_row}
 
 -- the top with its root, and nothing open
-abbrev pub boot_resources : ℕ → List ℕ → Resources
-boot_resources user name = record {
+abbrev pub new_resources : ℕ → List ℕ → Resources
+new_resources user name = record {
   mounts = boot_mounts name top_inode;
   inodes = None ∷ Some (root_attribute user) ∷ [];
   blocks = None ∷ [];

@@ -5,14 +5,14 @@ use Rattle.qx_types.specs.declared.step.Step.{Step}
 use Rattle.qx_machine.specs.declared.rows.OwnItem.{OwnItem}
 use Rattle.qx_machine.specs.declared.rows.OwnItem.TheVariants.{Message, Unblock}
 use Rattle.qx_machine.specs.Clients.{ClientStep, client_given, or_unchanged}
-use Rattle.qx_machine.specs.Mounting.{boot_resources}
+use Rattle.qx_machine.specs.Mounting.{new_resources}
 use Rattle.qx_machine.specs.Parts.{Part, with_process}
 use Rattle.qx_machine.specs.Performing.{Served, or_kept, serve_message}
 use Rattle.qx_machine.specs.Processes.{taken_thread, with_thread}
 
 -- the rows of a user at boot
 unfoldable pub boot_part : Configuration → ℕ → Part
-boot_part config user = record { processes = None ∷ []; resources = boot_resources user (name_bytes config user) }
+boot_part config user = record { processes = None ∷ []; resources = new_resources user (name_bytes config user) }
 
 -- a client's step, from its user's rows and the items of that user in workers' hands
 unfoldable pub client : Configuration → ℕ → List OwnItem → Part → Step → ClientStep
