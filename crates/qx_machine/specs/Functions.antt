@@ -78,23 +78,23 @@ side_root target = do
 
 -- a function is used on what its message came over, if that is good; one that a manager leaves out is ENOSYS before (Writing a Resource
 -- Manager: functions that a manager leaves out)
-abbrev pub call : {F A D : Type 0} → Option F → Result A Errno → (F → A → Result D Errno) → Result D Errno
-call function over result = do
+abbrev pub function_deed : {F A D : Type 0} → Option F → Result A Errno → (F → A → Result D Errno) → Result D Errno
+function_deed function over deed = do
   f ← found function ENOSYS
   given ← over
-  result f given
+  deed f given
 
 -- a message is served by one function of one of the manager's tables; no manager has one for the other messages
 abbrev pub served : {S : Type 0} → ConnectFunctions S → IoFunctions S → S → Target → Result Opened Errno → ℕ → Message → Result (Deed S) Errno
-served connect io state target opened moment (msg.Open flags mode rest) = call connect.«open» (new_open target) (λ f over. f state over flags mode rest moment)
-served connect io state target opened moment (msg.Stat rest) = call connect.stat (side_root target) (λ f root. f state root rest moment)
-served connect io state target opened moment (msg.Unlink rest) = call connect.unlink (side_root target) (λ f root. f state root rest moment)
-served connect io state target opened moment (msg.Mknod mode rest) = call connect.mknod (side_root target) (λ f root. f state root mode rest moment)
-served connect io state target opened moment (msg.Read count) = call io.read opened (λ f o. f state o count moment)
-served connect io state target opened moment (msg.Write bytes) = call io.write opened (λ f o. f state o bytes moment)
-served connect io state target opened moment msg.Close = call io.close opened (λ f o. f state o moment)
-served connect io state target opened moment (msg.Lseek whence offset) = call io.lseek opened (λ f o. f state o whence offset moment)
-served connect io state target opened moment msg.Fstat = call io.fstat opened (λ f o. f state o moment)
-served connect io state target opened moment (msg.List after) = call io.list opened (λ f o. f state o after moment)
-served connect io state target opened moment (msg.Chmod mode) = call io.chmod opened (λ f o. f state o mode moment)
+served connect io state target opened moment (msg.Open flags mode rest) = function_deed connect.«open» (new_open target) (λ f over. f state over flags mode rest moment)
+served connect io state target opened moment (msg.Stat rest) = function_deed connect.stat (side_root target) (λ f root. f state root rest moment)
+served connect io state target opened moment (msg.Unlink rest) = function_deed connect.unlink (side_root target) (λ f root. f state root rest moment)
+served connect io state target opened moment (msg.Mknod mode rest) = function_deed connect.mknod (side_root target) (λ f root. f state root mode rest moment)
+served connect io state target opened moment (msg.Read count) = function_deed io.read opened (λ f o. f state o count moment)
+served connect io state target opened moment (msg.Write bytes) = function_deed io.write opened (λ f o. f state o bytes moment)
+served connect io state target opened moment msg.Close = function_deed io.close opened (λ f o. f state o moment)
+served connect io state target opened moment (msg.Lseek whence offset) = function_deed io.lseek opened (λ f o. f state o whence offset moment)
+served connect io state target opened moment msg.Fstat = function_deed io.fstat opened (λ f o. f state o moment)
+served connect io state target opened moment (msg.List after) = function_deed io.list opened (λ f o. f state o after moment)
+served connect io state target opened moment (msg.Chmod mode) = function_deed io.chmod opened (λ f o. f state o mode moment)
 served connect io state target opened moment _ = Err ENOSYS

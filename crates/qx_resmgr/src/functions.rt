@@ -1,6 +1,6 @@
 ghost use Rattle.std.specs.Prelude.{◌≡◌, Err, IfOk, OnErr};
 ghost use Rattle.qx_types.specs.declared.errno.Errno.TheVariants.{ENOSYS};
-ghost use Rattle.qx_machine.specs.Functions.{ConnectFunctions, IoFunctions, call, no_connect, no_io};
+ghost use Rattle.qx_machine.specs.Functions.{ConnectFunctions, IoFunctions, function_deed, no_connect, no_io};
 ghost use Rattle.qx_resmgr.specs.Deeds.{deed_with};
 
 use qx_attr::Status;
@@ -33,18 +33,18 @@ pub trait Connect<S> {
         rest: &Rest<'_>,
         moment: u64,
     ) -> Result<Result<Done, Errno>, AllocError>
-        ensures deed { IfOk result (λ given. deed_with state.new given ≡ call connect.«open» over (λ f over. f state.old over flags mode rest.now moment)) }
+        ensures deed { IfOk result (λ given. deed_with state.new given ≡ function_deed connect.«open» over (λ f over. f state.old over flags mode rest.now moment)) }
         ensures kept { IfOk result (λ given. OnErr given (state.new ≡ state.old)) }
         ensures err { OnErr result (state.new ≡ state.old) };
 
     /// Tells the status of what a path leads to.
     fn stat(state: &mut S, root: Result<u32, Errno>, rest: &Rest<'_>, moment: u64) -> Result<Done, Errno>
-        ensures deed { deed_with state.new result ≡ call connect.stat root (λ f root. f state.old root rest.now moment) }
+        ensures deed { deed_with state.new result ≡ function_deed connect.stat root (λ f root. f state.old root rest.now moment) }
         ensures kept { OnErr result (state.new ≡ state.old) };
 
     /// Removes what a path leads to.
     fn unlink(state: &mut S, root: Result<u32, Errno>, rest: &Rest<'_>, moment: u64) -> Result<Done, Errno>
-        ensures deed { deed_with state.new result ≡ call connect.unlink root (λ f root. f state.old root rest.now moment) }
+        ensures deed { deed_with state.new result ≡ function_deed connect.unlink root (λ f root. f state.old root rest.now moment) }
         ensures kept { OnErr result (state.new ≡ state.old) };
 
     /// Makes a directory.
@@ -55,7 +55,7 @@ pub trait Connect<S> {
         rest: &Rest<'_>,
         moment: u64,
     ) -> Result<Done, Errno>
-        ensures deed { deed_with state.new result ≡ call connect.mknod root (λ f root. f state.old root mode rest.now moment) }
+        ensures deed { deed_with state.new result ≡ function_deed connect.mknod root (λ f root. f state.old root mode rest.now moment) }
         ensures kept { OnErr result (state.new ≡ state.old) };
 }
 
@@ -67,17 +67,17 @@ pub trait Io<S> {
 
     /// Reads at most `count` bytes.
     fn read(state: &mut S, opened: Result<Opened, Errno>, count: u32, moment: u64) -> Result<Done, Errno>
-        ensures deed { deed_with state.new result ≡ call io.read opened (λ f o. f state.old o count moment) }
+        ensures deed { deed_with state.new result ≡ function_deed io.read opened (λ f o. f state.old o count moment) }
         ensures kept { OnErr result (state.new ≡ state.old) };
 
     /// Writes bytes.
     fn write(state: &mut S, opened: Result<Opened, Errno>, bytes: &[u8], moment: u64) -> Result<Done, Errno>
-        ensures deed { deed_with state.new result ≡ call io.write opened (λ f o. f state.old o bytes.now moment) }
+        ensures deed { deed_with state.new result ≡ function_deed io.write opened (λ f o. f state.old o bytes.now moment) }
         ensures kept { OnErr result (state.new ≡ state.old) };
 
     /// Takes a connection away, and its block with it.
     fn close(state: &mut S, opened: Result<Opened, Errno>, moment: u64) -> Result<Done, Errno>
-        ensures deed { deed_with state.new result ≡ call io.close opened (λ f o. f state.old o moment) }
+        ensures deed { deed_with state.new result ≡ function_deed io.close opened (λ f o. f state.old o moment) }
         ensures kept { OnErr result (state.new ≡ state.old) };
 
     /// Sets the offset, in bytes.
@@ -88,22 +88,22 @@ pub trait Io<S> {
         offset: i64,
         moment: u64,
     ) -> Result<Done, Errno>
-        ensures deed { deed_with state.new result ≡ call io.lseek opened (λ f o. f state.old o whence offset moment) }
+        ensures deed { deed_with state.new result ≡ function_deed io.lseek opened (λ f o. f state.old o whence offset moment) }
         ensures kept { OnErr result (state.new ≡ state.old) };
 
     /// Tells the status of what is open.
     fn fstat(state: &mut S, opened: Result<Opened, Errno>, moment: u64) -> Result<Done, Errno>
-        ensures deed { deed_with state.new result ≡ call io.fstat opened (λ f o. f state.old o moment) }
+        ensures deed { deed_with state.new result ≡ function_deed io.fstat opened (λ f o. f state.old o moment) }
         ensures kept { OnErr result (state.new ≡ state.old) };
 
     /// Tells the names of a directory behind the name `after`, or the first ones if that is empty.
     fn list(state: &mut S, opened: Result<Opened, Errno>, after: &[u8], moment: u64) -> Result<Done, Errno>
-        ensures deed { deed_with state.new result ≡ call io.list opened (λ f o. f state.old o after.now moment) }
+        ensures deed { deed_with state.new result ≡ function_deed io.list opened (λ f o. f state.old o after.now moment) }
         ensures kept { OnErr result (state.new ≡ state.old) };
 
     /// Sets the permission bits.
     fn chmod(state: &mut S, opened: Result<Opened, Errno>, mode: u16, moment: u64) -> Result<Done, Errno>
-        ensures deed { deed_with state.new result ≡ call io.chmod opened (λ f o. f state.old o mode moment) }
+        ensures deed { deed_with state.new result ≡ function_deed io.chmod opened (λ f o. f state.old o mode moment) }
         ensures kept { OnErr result (state.new ≡ state.old) };
 }
 
