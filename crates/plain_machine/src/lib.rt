@@ -227,7 +227,10 @@ impl Plain {
             return Ok(Outcome::Refused(error));
         }
         let text = text_of(self.alloc, path)?;
-        match self.mounts.mount(&self.config, thread.proc.user, text, manager)? {
+        match self
+            .mounts
+            .mount(&self.config, thread.proc.user, text, manager)?
+        {
             Ok(()) => Ok(Outcome::Done),
             Err(error) => Ok(Outcome::Refused(error)),
         }
@@ -404,8 +407,8 @@ impl Plain {
             Err(error) => Answer::Failed(error),
             Ok((coid, block)) => {
                 self.detach(proc, coid);
-                self.blocks
-                    .retain(|other| other.user != block.user || other.number != block.number);
+                self.blocks.retain(|other| other.user != block.user
+                    || other.number != block.number);
                 Answer::Reply(0, MessageBytes::inline(self.alloc, &[]))
             }
         }
@@ -439,7 +442,10 @@ impl Plain {
     }
 
     fn status(&self, owner: User, inode: u16) -> Answer {
-        Answer::Reply(0, MessageBytes::inline(self.alloc, &status_bytes(owner, inode)))
+        Answer::Reply(
+            0,
+            MessageBytes::inline(self.alloc, &status_bytes(owner, inode)),
+        )
     }
 
     /// The threads that were started.

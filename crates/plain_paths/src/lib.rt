@@ -88,7 +88,12 @@ impl Mounts {
             return Err(Errno::EACCES);
         }
         let is_own = |mount: &&Mount| mount.user == user;
-        if self.rows.iter().filter(is_own).any(|mount| mount.text.as_slice() == text) {
+        if self
+            .rows
+            .iter()
+            .filter(is_own)
+            .any(|mount| mount.text.as_slice() == text)
+        {
             return Err(Errno::EEXIST);
         }
         if self.rows.iter().filter(is_own).count() >= 8 {

@@ -46,7 +46,13 @@ fn long(alloc: Global, dice: &mut Dice) -> Result<Bytes, AllocError> {
 fn of_path(alloc: Global, dice: &mut Dice) -> Result<Bytes, AllocError> {
     let subtype = 1 + dice.below(4);
     let rest = next_rest(alloc, dice)?;
-    message(alloc, 256, u16::from(subtype), fields(subtype), rest.as_slice())
+    message(
+        alloc,
+        256,
+        u16::from(subtype),
+        fields(subtype),
+        rest.as_slice(),
+    )
 }
 
 /// What a connect message has before the rest: flags or a kind, and a mode.

@@ -1,4 +1,5 @@
-ghost use Rattle.std.specs.Prelude.{◌≡◌};
+ghost use Rattle.std.specs.Prelude.{◌≡◌, Ok, Err, if◌then◌else◌};
+ghost use Rattle.qx_types.specs.declared.errno.Errno.TheVariants.{EACCES};
 ghost use Rattle.qx_machine.specs.Inodes as inodes;
 
 use qx_machine::{Access, Attribute};
@@ -6,8 +7,8 @@ use qx_types::{Errno, User};
 
 /// Whether a user may do that with an inode, else EACCES. The owner is judged by the owner's bits alone, anybody else by the
 /// last three (Writing a Resource Manager: `iofunc_check_access`; that the group's bits are not looked at is this profile).
-pub fn check_access(attribute: &Attribute, user: User, access: Access) -> Result<bool, Errno>
-    ensures access { result ≡ inodes.check_access attribute.now user.0 access }
+pub fn check_access(attribute: &Attribute, user: User, access: Access) -> Result<(), Errno>
+    ensures access { result ≡ (if inodes.may attribute.now user.0 access then Ok tt else Err EACCES) }
 {
     let bit = if attribute.owner == user.0 as u32 {
         owner_bit(access)
@@ -15,7 +16,7 @@ pub fn check_access(attribute: &Attribute, user: User, access: Access) -> Result
         other_bit(access)
     };
     if attribute.mode & bit != 0 {
-        Ok(true)
+        Ok(())
     } else {
         Err(Errno::EACCES)
     }

@@ -3,7 +3,7 @@
 use Rattle.std.specs.Prelude.{ℕ, Bool, true, false, ◌==◌, ◌&&◌, not, List, [], ◌∷◌, Option, Some, None, Result, Ok, Err, count_by, nat_le, slice_set, if◌then◌else◌}
 use Rattle.std.specs.Int.RustNames.{bit_and}
 use Rattle.qx_types.specs.declared.errno.Errno.{Errno}
-use Rattle.qx_types.specs.declared.errno.Errno.TheVariants.{EACCES, ENFILE, ENOSPC}
+use Rattle.qx_types.specs.declared.errno.Errno.TheVariants.{ENFILE, ENOSPC}
 use Rattle.qx_types.specs.declared.flags.OFlags.{OFlags}
 use Rattle.qx_types.specs.declared.flags.TheConstants.OFlags.{READ, WRITE}
 use Rattle.qx_types.specs.declared.limits.TheConstants.Limits.{BLOCKS, INODES}
@@ -12,7 +12,7 @@ use Rattle.qx_machine.specs.declared.rows.Access.TheVariants.{Read, Write, Searc
 use Rattle.qx_machine.specs.declared.rows.Attribute.{Attribute}
 use Rattle.qx_machine.specs.declared.rows.Kind.{Kind}
 use Rattle.qx_machine.specs.declared.rows.Ocb.{Ocb}
-use Rattle.qx_machine.specs.Judgements.{◌>>=◌, need}
+use Rattle.qx_machine.specs.Judgements.{◌>>=◌}
 use Rattle.qx_machine.specs.Rows.{row_at, lowest_from, put_row, with_row}
 
 -- inodes from 1, each as its attribute, and open control blocks from 1
@@ -42,9 +42,6 @@ other_bit Search = 1
 -- the owner is judged by the owner's bits alone, anybody else by the last three
 abbrev pub may : Attribute → ℕ → Access → Bool
 may attribute user access = not (bit_and attribute.mode (if attribute.owner == user then owner_bit access else other_bit access) == 0)
-
-abbrev pub check_access : Attribute → ℕ → Access → Result Bool Errno
-check_access attribute user access = need (may attribute user access) EACCES
 
 -- ---- inodes
 

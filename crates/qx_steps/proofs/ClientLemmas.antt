@@ -32,7 +32,8 @@ use Rattle.qx_chan.specs.Channel.{Channel, after_asking, after_ranking, after_se
 use Rattle.qx_chan.specs.Users.{prio_outcome_in, spawn_number_in, thread_row, IsReady}
 use Rattle.qx_steps.specs.Parts.{parts_of, world_of, SameUsers}
 use Rattle.qx_steps.specs.Steps.{sent_to, target_in}
-use Rattle.qx_steps.proofs.PartsLemmas.{option_cases, part-none, part-there, parts-set_processes, result_cases, row_at-parts}
+use Rattle.qx_chan.proofs.RowReads.{option_cases}
+use Rattle.qx_steps.proofs.PartsLemmas.{part-none, part-there, parts-set_processes, result_cases, row_at-parts}
 
 -- what a thread is told that takes its answer, if it has one
 abbrev pub taken_outcome : Option Answer → Outcome

@@ -26,7 +26,8 @@ use Rattle.qx_chan.specs.Channel.{Channel}
 use Rattle.qx_steps.specs.Parts.{part_of, parts_of, world_of}
 use Rattle.qx_steps.specs.Reads.{is_thread_ready, process_in, thread_row}
 use Rattle.qx_steps.specs.Steps.{after_mount, mount_from, mount_in, CanMount}
-use Rattle.qx_steps.proofs.PartsLemmas.{option_cases, row_at-parts}
+use Rattle.qx_chan.proofs.RowReads.{option_cases}
+use Rattle.qx_steps.proofs.PartsLemmas.{row_at-parts}
 
 -- ---- how it is judged
 

@@ -9,16 +9,13 @@ use Rattle.qx_machine.specs.Parts.{Resources, thread_of}
 use Rattle.qx_machine.specs.Processes.{Process}
 use Rattle.qx_machine.specs.Rows.{row_at, with_row}
 use Rattle.qx_machine.specs.Users.{boot_part}
+use Rattle.qx_chan.proofs.RowReads.{option_cases}
 use Rattle.qx_resources.specs.Boot.{boot_resources}
 use Rattle.qx_chan.specs.Channel.{empty_channel}
 use Rattle.qx_chan.specs.Users as users
 use Rattle.qx_chan.specs.Users.{no_processes}
 use Rattle.qx_steps.specs.Parts.{part_of, parts_of, world_of, SameUsers}
 use Rattle.qx_steps.specs.Reads.{process_of, thread_row}
-
-pub option_cases : {A : Type 0} (o : Option A) → (o ≡ None) ⊎ ((x : A) × (o ≡ Some x))
-option_cases None = inl refl
-option_cases (Some x) = inr (x, refl)
 
 pub result_cases : {A E : Type 0} (r : Result A E) → ((x : A) × (r ≡ Ok x)) ⊎ ((e : E) × (r ≡ Err e))
 result_cases (Ok x) = inl (x, refl)

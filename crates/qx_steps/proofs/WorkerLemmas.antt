@@ -31,7 +31,8 @@ use Rattle.qx_steps.specs.Parts.{world_of, SameUsers}
 use Rattle.qx_steps.specs.Held.{held_work, work_of_sent}
 use Rattle.qx_steps.specs.Reads.{taken_of, thread_row as thread_of_parts}
 use Rattle.qx_steps.specs.Steps.{after_message, with_message_done}
-use Rattle.qx_steps.proofs.PartsLemmas.{option_cases, part-none, part-there, parts-set_both, parts-set_processes, row_at-parts}
+use Rattle.qx_chan.proofs.RowReads.{option_cases}
+use Rattle.qx_steps.proofs.PartsLemmas.{part-none, part-there, parts-set_both, parts-set_processes, row_at-parts}
 
 -- ---- lines
 
