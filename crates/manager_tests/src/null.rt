@@ -53,9 +53,19 @@ fn what_is_written_is_gone(rt: HostRuntime) -> Result<(), Fail> {
     assert!(rt; given == Ok((3, 0, opens)));
     let open = blocks.opened(THREE, 1);
     let bytes = BorrowedBytes::new(b"abc");
-    let given = served(&mut blocks, Over::Existing(THREE), open, Message::Write { bytes })?;
+    let given = served(
+        &mut blocks,
+        Over::Existing(THREE),
+        open,
+        Message::Write { bytes },
+    )?;
     assert!(rt; given == Ok((3, 0, Effect::Keeps)));
-    let given = served(&mut blocks, Over::Existing(THREE), open, Message::Read { count: 3 })?;
+    let given = served(
+        &mut blocks,
+        Over::Existing(THREE),
+        open,
+        Message::Read { count: 3 },
+    )?;
     assert!(rt; given == Ok((0, 0, Effect::Keeps)));
     let given = served(&mut blocks, Over::Existing(THREE), open, Message::Close)?;
     assert!(rt; given == Ok((0, 0, Effect::Closes(THREE))));
@@ -71,9 +81,19 @@ fn a_left_out_function_is_judged_before_all_else(rt: HostRuntime) -> Result<(), 
     assert!(rt; given == Err(Errno::ENOSYS));
     let given = served(&mut blocks, Over::Existing(THREE), nothing, Message::Close)?;
     assert!(rt; given == Err(Errno::EBADF));
-    let given = served(&mut blocks, Over::Existing(THREE), nothing, open_message(b""))?;
+    let given = served(
+        &mut blocks,
+        Over::Existing(THREE),
+        nothing,
+        open_message(b""),
+    )?;
     assert!(rt; given == Err(Errno::EINVAL));
-    let given = served(&mut blocks, Over::New(THREE), nothing, open_message(b"name"))?;
+    let given = served(
+        &mut blocks,
+        Over::New(THREE),
+        nothing,
+        open_message(b"name"),
+    )?;
     assert!(rt; given == Err(Errno::ENOENT));
     Ok(())
 }

@@ -1,5 +1,5 @@
 -- The null manager: nothing is ever read, and what is written is gone. It works on its open control blocks, from 1.
-use Rattle.std.specs.Prelude.{ℕ, List, [], Option, Some, None, Result, Ok, Err, length, nat_le, slice_set}
+use Rattle.std.specs.Prelude.{ℕ, List, [], Option, Some, None, Result, Ok, length, nat_le, slice_set}
 use Rattle.qx_types.specs.declared.errno.Errno.{Errno}
 use Rattle.qx_types.specs.declared.errno.Errno.TheVariants.{EBADF, ENFILE, ENOENT}
 use Rattle.qx_types.specs.declared.limits.TheConstants.Limits.{BLOCKS}

@@ -38,12 +38,22 @@ pub trait Connect<S> {
         ensures err { OnErr result (state.new ≡ state.old) };
 
     /// Tells the status of what a path leads to.
-    fn stat(state: &mut S, root: Result<u32, Errno>, rest: &Rest<'_>, moment: u64) -> Result<Done, Errno>
+    fn stat(
+        state: &mut S,
+        root: Result<u32, Errno>,
+        rest: &Rest<'_>,
+        moment: u64,
+    ) -> Result<Done, Errno>
         ensures deed { deed_with state.new result ≡ function_deed connect.stat root (λ f root. f state.old root rest.now moment) }
         ensures kept { OnErr result (state.new ≡ state.old) };
 
     /// Removes what a path leads to.
-    fn unlink(state: &mut S, root: Result<u32, Errno>, rest: &Rest<'_>, moment: u64) -> Result<Done, Errno>
+    fn unlink(
+        state: &mut S,
+        root: Result<u32, Errno>,
+        rest: &Rest<'_>,
+        moment: u64,
+    ) -> Result<Done, Errno>
         ensures deed { deed_with state.new result ≡ function_deed connect.unlink root (λ f root. f state.old root rest.now moment) }
         ensures kept { OnErr result (state.new ≡ state.old) };
 
@@ -66,12 +76,22 @@ pub trait Io<S> {
     ghost io: { IoFunctions S } = { no_io };
 
     /// Reads at most `count` bytes.
-    fn read(state: &mut S, opened: Result<Opened, Errno>, count: u32, moment: u64) -> Result<Done, Errno>
+    fn read(
+        state: &mut S,
+        opened: Result<Opened, Errno>,
+        count: u32,
+        moment: u64,
+    ) -> Result<Done, Errno>
         ensures deed { deed_with state.new result ≡ function_deed io.read opened (λ f o. f state.old o count moment) }
         ensures kept { OnErr result (state.new ≡ state.old) };
 
     /// Writes bytes.
-    fn write(state: &mut S, opened: Result<Opened, Errno>, bytes: &[u8], moment: u64) -> Result<Done, Errno>
+    fn write(
+        state: &mut S,
+        opened: Result<Opened, Errno>,
+        bytes: &[u8],
+        moment: u64,
+    ) -> Result<Done, Errno>
         ensures deed { deed_with state.new result ≡ function_deed io.write opened (λ f o. f state.old o bytes.now moment) }
         ensures kept { OnErr result (state.new ≡ state.old) };
 
@@ -97,12 +117,22 @@ pub trait Io<S> {
         ensures kept { OnErr result (state.new ≡ state.old) };
 
     /// Tells the names of a directory behind the name `after`, or the first ones if that is empty.
-    fn list(state: &mut S, opened: Result<Opened, Errno>, after: &[u8], moment: u64) -> Result<Done, Errno>
+    fn list(
+        state: &mut S,
+        opened: Result<Opened, Errno>,
+        after: &[u8],
+        moment: u64,
+    ) -> Result<Done, Errno>
         ensures deed { deed_with state.new result ≡ function_deed io.list opened (λ f o. f state.old o after.now moment) }
         ensures kept { OnErr result (state.new ≡ state.old) };
 
     /// Sets the permission bits.
-    fn chmod(state: &mut S, opened: Result<Opened, Errno>, mode: u16, moment: u64) -> Result<Done, Errno>
+    fn chmod(
+        state: &mut S,
+        opened: Result<Opened, Errno>,
+        mode: u16,
+        moment: u64,
+    ) -> Result<Done, Errno>
         ensures deed { deed_with state.new result ≡ function_deed io.chmod opened (λ f o. f state.old o mode moment) }
         ensures kept { OnErr result (state.new ≡ state.old) };
 }

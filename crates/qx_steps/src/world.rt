@@ -365,8 +365,7 @@ impl World {
         let Some(resources) = self.resources.user_mut(thread.proc.user) else {
             return Ok(());
         };
-        let given =
-            resources.perform(process, sent.target, meaning_of(&sent.bytes, read), moment)?;
+        let given = resources.perform(process, sent.target, meaning_of(&sent.bytes, read), moment)?;
         match given {
             Ok(done) => {
                 self.channel
