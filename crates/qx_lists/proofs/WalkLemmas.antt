@@ -43,7 +43,7 @@ past_the_end [] i is = omega arith
 past_the_end (x ∷ xs) zero is = let clash : Some x ≡ None = is in absurd (cc)
 past_the_end (x ∷ xs) (suc i) is = omega (arith, past_the_end xs i is)
 
-without-absent : (x : ℕ) (xs : List ℕ) → AllByRecursion (λ y. nat_eq x y ≡ false) xs → without x xs ≡ xs
+pub without-absent : (x : ℕ) (xs : List ℕ) → AllByRecursion (λ y. nat_eq x y ≡ false) xs → without x xs ≡ xs
 without-absent x [] all = refl
 without-absent x (y ∷ ys) all = let first = all.0 in let rest = without-absent x ys all.1 in grind (arith, nat_tests)
 

@@ -93,6 +93,10 @@ pub open_side : (b : Bool) → not b ≡ false → b ≡ true
 open_side true is = refl
 open_side false is = let clash : true ≡ false = is in absurd (cc)
 
+pub closed_side : (b : Bool) → not b ≡ true → b ≡ false
+closed_side true is = let clash : false ≡ true = is in absurd (cc)
+closed_side false is = refl
+
 -- those who are answered waited before
 module _ (wanted : ℕ → ℕ) (offered : ℕ → List ℕ) where
   pub served-among : (bytes : List ℕ) (readers writers : List ℕ) (who : ℕ) → Contains (mapped (λ a. a.0) (served wanted offered bytes readers writers).answers) who → Contains readers who ⊎ Contains writers who

@@ -10,10 +10,9 @@ use Rattle.std.proofs.lemmas.List.Elements.{Contains-append_right, Contains-appe
 use Rattle.std.proofs.lemmas.Bool.Decides.{eqb_tells}
 use Rattle.qx_types.specs.declared.errno.Errno.{Errno}
 use Rattle.qx_lists.specs.Table.{Table, ContainsList, ContainsNode, IsFree, IsIn, StandsNowhere, nodes_of, with_nodes, with_value, without}
-use Rattle.qx_lists.proofs.MapLemmas.{get-insert_same, get-insert_other}
+use Rattle.qx_lists.proofs.MapLemmas.{get-insert_same, get-insert_other, get-remove_same, get-remove_other, same_map}
 use Rattle.qx_lists.proofs.TableFacts.{nodes_of-with_nodes_same, ContainsList-with_nodes_same, kept_there}
 use Rattle.qx_lists.proofs.ListLemmas.{absent_without, contains_slice_first, contains_first, contains_later, nowhere_from, stands_nowhere, without-first}
-use Rattle.qx_pipe.proofs.WalkLemmas.{filter-absent, filter-there}
 use Rattle.qx_pipe.proofs.PipeLemmas.{settle-same, clean-among, clean-readers, clean-writers, read-same, write-same, served-nobody, served-same, served-reader, served-writer}
 use Rattle.qx_types.specs.declared.outcome.Answer.{Answer}
 use Rattle.qx_types.specs.declared.outcome.Answer.TheVariants.{Reply, Failed}
@@ -21,7 +20,7 @@ use Rattle.qx_types.specs.declared.limits.TheConstants.Limits.{PIPE}
 use Rattle.qx_machine.specs.Pipes.{After, Pipe, one_answered, dismissed, and_then, clean, clean_read, clean_write, answered_first, pipe_of, with_reader, with_writer, first_answered, nobody_answered, served, settle}
 use Rattle.qx_pipe.specs.Laws.{NoneFits}
 use Rattle.qx_machine.specs.declared.rows.Manner.{Manner}
-use Rattle.qx_pipe.specs.Pipe.{Answered, Became, Gave, HandedOver, IsPipeOf, PipeRow, Passed, Turned, at_node, given, handed, pipe_in, settled, told}
+use Rattle.qx_pipe.specs.Pipe.{Answered, Became, Gave, HandedOver, IsPipeOf, MadeIn, PipeRow, Passed, PassedOne, Turned, at_node, given, handed, pipe_in, settled, told}
 
 module _ {T : Type 0} (replied : T → ℕ → List ℕ → T) (failed : T → Errno → T) where
   pub given-handed : (answer : Result (ℕ × Bor (List ℕ)) Errno) (value new : T) → MatchResult answer (λ reply. new ≡ replied value reply.0 reply.1.now) (λ error. new ≡ failed value error) → new ≡ given replied failed (handed answer) value
@@ -49,7 +48,7 @@ module _ {T : Type 0} (replied : T → ℕ → List ℕ → T) (failed : T → E
     room = refl;
   }
 
-  pub passed-is : (t given_t new : Table T) (list node answered : ℕ) (answer : Answer) → answered ≢ list → ContainsList t answered → given_t.lists ≡ t.lists → Gave replied failed t given_t ((node, answer) ∷ []) → new ≡ with_nodes (with_nodes given_t list (without node (nodes_of given_t list))) answered (nodes_of (with_nodes given_t list (without node (nodes_of given_t list))) answered ++ node ∷ []) → Passed replied failed t new list node answered answer
+  pub passed-is : (t given_t new : Table T) (list node answered : ℕ) (answer : Answer) → answered ≢ list → ContainsList t answered → given_t.lists ≡ t.lists → Gave replied failed t given_t ((node, answer) ∷ []) → new ≡ with_nodes (with_nodes given_t list (without node (nodes_of given_t list))) answered (nodes_of (with_nodes given_t list (without node (nodes_of given_t list))) answered ++ node ∷ []) → PassedOne replied failed t new list node answered answer
   passed-is t given_t new list node answered answer apart there same gave is =
       let between : Table T = with_nodes given_t list (without node (nodes_of given_t list)) in
       rw is (record {
@@ -67,8 +66,8 @@ module _ {T : Type 0} (replied : T → ℕ → List ℕ → T) (failed : T → E
     | inr other ↦ ap (λ o. unwrap_or (option_map read o) none) (gave.values who ∙ sym (told-nobody node who answer (map.get t.values who) other.0))
   ]
 
-  -- a node of one of a pipe's lists was answered
-  module _ (t new : Table T) (p q : PipeRow) (answered list other node : ℕ) (answer : Answer) (pipe : IsPipeOf t p answered) (same_readers : q.readers ≡ p.readers) (same_writers : q.writers ≡ p.writers) (passed : Passed replied failed t new list node answered answer) where
+  -- nodes of one of a pipe's lists were answered
+  module _ (t new : Table T) (p q : PipeRow) (answered list : ℕ) (left : List ℕ) (answers : List (ℕ × Answer)) (pipe : IsPipeOf t p answered) (same_readers : q.readers ≡ p.readers) (same_writers : q.writers ≡ p.writers) (passed : Passed replied failed t new list answered left answers) where
     pub pipe-passed : IsPipeOf new q answered
     pipe-passed = record {
       readers = rw same_readers (passed.there p.readers pipe.readers);
@@ -79,14 +78,14 @@ module _ {T : Type 0} (replied : T → ℕ → List ℕ → T) (failed : T → E
       apart_writers = rw same_writers pipe.apart_writers;
     }
 
-    pub answered-passed : (list ≡ p.readers) ⊎ (list ≡ p.writers) → Answered replied failed t new p answered ((node, answer) ∷ [])
+    pub answered-passed : (list ≡ p.readers) ⊎ (list ≡ p.writers) → Answered replied failed t new p answered answers
     answered-passed own = record {
       gave = passed.gave;
       nodes = passed.nodes;
       elsewhere = λ one not_reader not_writer not_answered. passed.elsewhere one (λ is. elim own [ inl r ↦ not_reader (is ∙ r) | inr w ↦ not_writer (is ∙ w) ]) not_answered;
     }
 
-  pub turned-reader : (wanted : T → ℕ) (bytes : T → List ℕ) (t new : Table T) (p q : PipeRow) (answered reader count : ℕ) → count ≡ min (at_node wanted 0 t reader) (length p.bytes) → IsPipeOf t p answered → IsDistinct nat_eq (nodes_of t p.readers) → ((one two node : ℕ) → IsIn t one node → IsIn t two node → one ≡ two) → slice_get (nodes_of t p.readers) 0 ≡ Some reader → 0 < length p.bytes → Passed replied failed t new p.readers reader answered (Reply count (take count p.bytes)) → q ≡ record p { bytes = drop count p.bytes } → Turned wanted bytes replied failed t new p q answered
+  pub turned-reader : (wanted : T → ℕ) (bytes : T → List ℕ) (t new : Table T) (p q : PipeRow) (answered reader count : ℕ) → count ≡ min (at_node wanted 0 t reader) (length p.bytes) → IsPipeOf t p answered → IsDistinct nat_eq (nodes_of t p.readers) → ((one two node : ℕ) → IsIn t one node → IsIn t two node → one ≡ two) → slice_get (nodes_of t p.readers) 0 ≡ Some reader → 0 < length p.bytes → PassedOne replied failed t new p.readers reader answered (Reply count (take count p.bytes)) → q ≡ record p { bytes = drop count p.bytes } → Turned wanted bytes replied failed t new p q answered
   unfolding settle
   turned-reader wanted bytes t new p q answered reader count counted pipe distinct apart first stand passed is =
       let answer : Answer = Reply count (take count p.bytes) in
@@ -101,14 +100,14 @@ module _ {T : Type 0} (replied : T → ℕ → List ℕ → T) (failed : T → E
         who = reader;
         answer = answer;
         rest = served-reader (at_node wanted 0 t) (at_node bytes [] t) p.bytes (nodes_of t p.readers) (nodes_of t p.writers) reader stand first ∙ ap (λ n. first_answered reader (Reply n (take n p.bytes)) (served (at_node wanted 0 t) (at_node bytes [] t) (drop n p.bytes) (drop 1 (nodes_of t p.readers)) (nodes_of t p.writers))) (sym counted) ∙ ap (first_answered reader answer) (sym rest);
-        gave = answered-passed t new p q answered p.readers p.writers reader answer pipe (ap (λ k. k.readers) is) (ap (λ k. k.writers) is) passed (inl refl);
-        pipe = pipe-passed t new p q answered p.readers p.writers reader answer pipe (ap (λ k. k.readers) is) (ap (λ k. k.writers) is) passed;
+        gave = answered-passed t new p q answered p.readers _ _ pipe (ap (λ k. k.readers) is) (ap (λ k. k.writers) is) passed (inl refl);
+        pipe = pipe-passed t new p q answered p.readers _ _ pipe (ap (λ k. k.readers) is) (ap (λ k. k.writers) is) passed;
         fewer = let some : 0 < length (nodes_of t p.readers) = omega (arith, here.1) in rw (is, readers, writers) (omega (arith, length-drop 1 (nodes_of t p.readers)));
         same_readers = ap (λ k. k.readers) is;
         same_writers = ap (λ k. k.writers) is;
       }
 
-  pub turned-writer : (wanted : T → ℕ) (bytes : T → List ℕ) (t new : Table T) (p q : PipeRow) (answered writer : ℕ) (offered : List ℕ) → offered ≡ at_node bytes [] t writer → IsPipeOf t p answered → IsDistinct nat_eq (nodes_of t p.writers) → ((one two node : ℕ) → IsIn t one node → IsIn t two node → one ≡ two) → slice_get (nodes_of t p.writers) 0 ≡ Some writer → (p.bytes ≡ []) ⊎ (nodes_of t p.readers ≡ []) → length p.bytes + length (at_node bytes [] t writer) ≤ PIPE → Passed replied failed t new p.writers writer answered (Reply (length offered) []) → q ≡ record p { bytes = p.bytes ++ offered } → Turned wanted bytes replied failed t new p q answered
+  pub turned-writer : (wanted : T → ℕ) (bytes : T → List ℕ) (t new : Table T) (p q : PipeRow) (answered writer : ℕ) (offered : List ℕ) → offered ≡ at_node bytes [] t writer → IsPipeOf t p answered → IsDistinct nat_eq (nodes_of t p.writers) → ((one two node : ℕ) → IsIn t one node → IsIn t two node → one ≡ two) → slice_get (nodes_of t p.writers) 0 ≡ Some writer → (p.bytes ≡ []) ⊎ (nodes_of t p.readers ≡ []) → length p.bytes + length (at_node bytes [] t writer) ≤ PIPE → PassedOne replied failed t new p.writers writer answered (Reply (length offered) []) → q ≡ record p { bytes = p.bytes ++ offered } → Turned wanted bytes replied failed t new p q answered
   unfolding settle
   turned-writer wanted bytes t new p q answered writer offered offered_is pipe distinct apart first none fits passed is =
       let answer : Answer = Reply (length offered) [] in
@@ -123,8 +122,8 @@ module _ {T : Type 0} (replied : T → ℕ → List ℕ → T) (failed : T → E
         who = writer;
         answer = answer;
         rest = served-writer (at_node wanted 0 t) (at_node bytes [] t) p.bytes (nodes_of t p.readers) (nodes_of t p.writers) writer none first fits ∙ ap (λ given. first_answered writer (Reply (length given) []) (served (at_node wanted 0 t) (at_node bytes [] t) (p.bytes ++ given) (nodes_of t p.readers) (drop 1 (nodes_of t p.writers)))) (sym offered_is) ∙ ap (first_answered writer answer) (sym rest);
-        gave = answered-passed t new p q answered p.writers p.readers writer answer pipe (ap (λ k. k.readers) is) (ap (λ k. k.writers) is) passed (inr refl);
-        pipe = pipe-passed t new p q answered p.writers p.readers writer answer pipe (ap (λ k. k.readers) is) (ap (λ k. k.writers) is) passed;
+        gave = answered-passed t new p q answered p.writers _ _ pipe (ap (λ k. k.readers) is) (ap (λ k. k.writers) is) passed (inr refl);
+        pipe = pipe-passed t new p q answered p.writers _ _ pipe (ap (λ k. k.readers) is) (ap (λ k. k.writers) is) passed;
         fewer = let some : 0 < length (nodes_of t p.writers) = omega (arith, here.1) in rw (is, readers, writers) (omega (arith, length-drop 1 (nodes_of t p.writers)));
         same_readers = ap (λ k. k.readers) is;
         same_writers = ap (λ k. k.writers) is;
@@ -142,19 +141,25 @@ module _ {T : Type 0} (replied : T → ℕ → List ℕ → T) (failed : T → E
   told-nothing node None = refl
   told-nothing node (Some value) = refl
 
+  pub gave-nobody : (t : Table T) → Gave replied failed t t []
+  gave-nobody t = record { values = λ node. told-nothing node (map.get t.values node); room = refl }
+
+  pub gave-then : (one two three : Table T) (xs ys : List (ℕ × Answer)) → Gave replied failed one two xs → Gave replied failed two three ys → Gave replied failed one three (xs ++ ys)
+  gave-then one two three xs ys first second = record {
+    values = λ node. second.values node ∙ ap (option_map (told replied failed ys node)) (first.values node) ∙ told-twice xs ys node (map.get one.values node);
+    room = second.room ∙ first.room;
+  }
+
   pub answered-nobody : (t : Table T) (p : PipeRow) (answered : ℕ) → Answered replied failed t t p answered []
   answered-nobody t p answered = record {
-    gave = record { values = λ node. told-nothing node (map.get t.values node); room = refl };
+    gave = gave-nobody t;
     nodes = sym (append-nil (nodes_of t answered));
     elsewhere = λ list _ _ _. refl;
   }
 
   pub answered-then : (one two three : Table T) (p q : PipeRow) (answered : ℕ) (xs ys : List (ℕ × Answer)) → q.readers ≡ p.readers → q.writers ≡ p.writers → Answered replied failed one two p answered xs → Answered replied failed two three q answered ys → Answered replied failed one three p answered (xs ++ ys)
   answered-then one two three p q answered xs ys same_readers same_writers first second = record {
-    gave = record {
-      values = λ node. second.gave.values node ∙ ap (option_map (told replied failed ys node)) (first.gave.values node) ∙ told-twice xs ys node (map.get one.values node);
-      room = second.gave.room ∙ first.gave.room;
-    };
+    gave = gave-then one two three xs ys first.gave second.gave;
     nodes = second.nodes ∙ ap (λ nodes. nodes ++ mapped (λ a. a.0) ys) first.nodes ∙ append_assoc (nodes_of one answered) (mapped (λ a. a.0) xs) (mapped (λ a. a.0) ys) ∙ ap (λ nodes. nodes_of one answered ++ nodes) (sym (map-append (λ a. a.0) xs ys));
     elsewhere = λ list not_reader not_writer not_answered. second.elsewhere list (λ is. not_reader (is ∙ same_readers)) (λ is. not_writer (is ∙ same_writers)) not_answered ∙ first.elsewhere list not_reader not_writer not_answered;
   }
@@ -439,53 +444,6 @@ module _ {T : Type 0} (replied : T → ℕ → List ℕ → T) (failed : T → E
             write-same (at_node wanted 0 t) (at_node wanted 0 two) (at_node bytes [] t) (at_node bytes [] two) manner node (pipe_in two q) (same_readers_still wanted 0) (same_writers_still bytes []) (same_own bytes []) ∙ ap (clean_write (at_node wanted 0 t) (at_node bytes [] t) manner node) cleaned.pipe in
         became-then t two new p q r answered after_clean (clean_write (at_node wanted 0 t) (at_node bytes [] t) manner node after_clean.pipe) cleaned (rw same at later)
 
-  -- one message leaves, from whichever list it waits in
-  module _ (t new : Table T) (p : PipeRow) (answered node : ℕ) (answer : Answer) (pipe : IsPipeOf t p answered) where
-    abbrev one_leaves : After ℕ
-    one_leaves = dismissed (λ one. one == node) answer (pipe_in t p)
-
-    absent-from : (nodes : List ℕ) → (Contains nodes node → ⊥) → (filter (λ one. one == node) nodes ≡ []) × (without node nodes ≡ nodes)
-    absent-from nodes absent = filter-absent node nodes (λ k within. elim (eqb_tells (get_or nodes k 0) node) [
-      | inl same ↦ absurd (absent (k, within, get_or_default nodes k node 0 within ∙ same.1))
-      | inr other ↦ other.0
-    ])
-
-    pub became-left_readers : IsDistinct nat_eq (nodes_of t p.readers) → ((one two node : ℕ) → IsIn t one node → IsIn t two node → one ≡ two) → IsIn t p.readers node → Passed replied failed t new p.readers node answered answer → Became replied failed t new p p answered one_leaves
-    became-left_readers distinct apart there passed =
-        let others = absent-from (nodes_of t p.writers) (λ at. pipe.two (apart p.readers p.writers node there at)) in
-        let writers : nodes_of new p.writers ≡ nodes_of t p.writers = ap (λ o. unwrap_or o []) (passed.elsewhere p.writers (λ is. pipe.two (sym is)) (λ is. pipe.apart_writers (sym is))) in
-        let answers : one_leaves.answers ≡ (node, answer) ∷ [] = rw (filter-there node (nodes_of t p.readers) distinct there, others.0) refl in
-        record {
-          pipe = rw (passed.from, writers, others.1) refl;
-          gave = rw answers (answered-passed t new p p answered p.readers p.writers node answer pipe refl refl passed (inl refl));
-          of = pipe-passed t new p p answered p.readers p.writers node answer pipe refl refl passed;
-          same_readers = refl;
-          same_writers = refl;
-        }
-
-    pub became-left_writers : IsDistinct nat_eq (nodes_of t p.writers) → (filter (λ one. one == node) (nodes_of t p.readers) ≡ []) × (without node (nodes_of t p.readers) ≡ nodes_of t p.readers) → IsIn t p.writers node → Passed replied failed t new p.writers node answered answer → Became replied failed t new p p answered one_leaves
-    became-left_writers distinct others there passed =
-        let readers : nodes_of new p.readers ≡ nodes_of t p.readers = ap (λ o. unwrap_or o []) (passed.elsewhere p.readers pipe.two (λ is. pipe.apart_readers (sym is))) in
-        let answers : one_leaves.answers ≡ (node, answer) ∷ [] = rw (filter-there node (nodes_of t p.writers) distinct there, others.0) refl in
-        record {
-          pipe = rw (passed.from, readers, others.1) refl;
-          gave = rw answers (answered-passed t new p p answered p.writers p.readers node answer pipe refl refl passed (inr refl));
-          of = pipe-passed t new p p answered p.writers p.readers node answer pipe refl refl passed;
-          same_readers = refl;
-          same_writers = refl;
-        }
-
-  pub became-left_nobody : (t : Table T) (p : PipeRow) (answered node : ℕ) (answer : Answer) → IsPipeOf t p answered → (filter (λ one. one == node) (nodes_of t p.readers) ≡ []) × (without node (nodes_of t p.readers) ≡ nodes_of t p.readers) → (filter (λ one. one == node) (nodes_of t p.writers) ≡ []) × (without node (nodes_of t p.writers) ≡ nodes_of t p.writers) → Became replied failed t t p p answered (dismissed (λ one. one == node) answer (pipe_in t p))
-  became-left_nobody t p answered node answer pipe readers writers =
-      let answers : (dismissed (λ one. one == node) answer (pipe_in t p)).answers ≡ [] = rw (readers.0, writers.0) refl in
-      record {
-        pipe = rw (readers.1, writers.1) refl;
-        gave = rw answers (answered-nobody t p answered);
-        of = pipe;
-        same_readers = refl;
-        same_writers = refl;
-      }
-
   -- those who can be served are, after whatever was done with the pipe
   pub became-settled : (wanted : T → ℕ) (bytes : T → List ℕ) (t two new : Table T) (p q r : PipeRow) (answered : ℕ) (first : After ℕ) → Became replied failed t two p q answered first → ((one other node : ℕ) → IsIn two one node → IsIn two other node → one ≡ other) → Became replied failed two new q r answered (settled wanted bytes two q) → Became replied failed t new p r answered (and_then first (settle (at_node wanted 0 t) (at_node bytes [] t)))
   became-settled wanted bytes t two new p q r answered first done apart later =
@@ -498,6 +456,36 @@ module _ {T : Type 0} (replied : T → ℕ → List ℕ → T) (failed : T → E
           ∙ ap (settle (at_node wanted 0 t) (at_node bytes [] t)) done.pipe in
       became-then t two new p q r answered first (settle (at_node wanted 0 t) (at_node bytes [] t) first.pipe) done (rw same at later)
 
-  pub became-dismissed : (t mid two : Table T) (p q r : PipeRow) (answered : ℕ) (first : After ℕ) (leaves : ℕ → Bool) (answer : Answer) → Became replied failed t mid p q answered first → Became replied failed mid two q r answered (dismissed leaves answer (pipe_in mid q)) → Became replied failed t two p r answered (and_then first (dismissed leaves answer))
-  became-dismissed t mid two p q r answered first leaves answer done later =
-      became-then t mid two p q r answered first (dismissed leaves answer first.pipe) done (subst (λ (pipe : Pipe ℕ). Became replied failed mid two q r answered (dismissed leaves answer pipe)) done.pipe later)
+  -- what follows is done with the pipe as it is then
+  pub became-next : (t mid new : Table T) (p q r : PipeRow) (answered : ℕ) (first : After ℕ) (there here : Pipe ℕ → After ℕ) → Became replied failed t mid p q answered first → Became replied failed mid new q r answered (there (pipe_in mid q)) → there (pipe_in mid q) ≡ here (pipe_in mid q) → Became replied failed t new p r answered (and_then first here)
+  became-next t mid new p q r answered first there here done later same =
+      became-then t mid new p q r answered first (here first.pipe) done (subst (Became replied failed mid new q r answered) (same ∙ ap here done.pipe) later)
+
+  -- those who wait have what they had, whoever was answered
+  module _ (t mid : Table T) (p q : PipeRow) (answered : ℕ) (first : After ℕ) (done : Became replied failed t mid p q answered first) (apart : (one other node : ℕ) → IsIn mid one node → IsIn mid other node → one ≡ other) where
+    pub waiting-same : {A : Type 0} (read : T → A) (none : A) (list : ℕ) → answered ≢ list → (node : ℕ) → Contains (nodes_of mid list) node → at_node read none mid node ≡ at_node read none t node
+    waiting-same read none list differs node at = at_node-absent read none t mid first.answers node done.gave.gave (λ answer. differs (apart answered list node (rw done.gave.nodes (Contains-append_right (nodes_of t answered) (mapped (λ a. a.0) first.answers) node answer)) at))
+
+-- a pipe's lists as they are made
+module _ {T : Type 0} (old new : Table T) (p : PipeRow) where
+  pub made-in : p.bytes ≡ [] → map.get old.lists p.readers ≡ None → map.get (map.insert old.lists p.readers []) p.writers ≡ None → new ≡ with_nodes (with_nodes old p.readers []) p.writers [] → MadeIn old new p
+  made-in bytes readers writers table =
+      let two : p.readers ≢ p.writers = λ is. let clash : Some [] ≡ None = sym (get-insert_same old.lists p.readers []) ∙ ap (λ list. map.get (map.insert old.lists p.readers []) list) is ∙ writers in absurd (cc) in
+      record { bytes = bytes; readers = readers; writers = sym (get-insert_other old.lists p.readers [] p.writers (λ is. two (sym is))) ∙ writers; two = two; table = table }
+
+  pub made-pipe : MadeIn old new p → (answered : ℕ) → ContainsList old answered → IsPipeOf new p answered
+  made-pipe made answered there = rw made.table (record {
+    readers = (kept_there (map.insert old.lists p.readers []) p.writers [] p.readers (ap is_some (get-insert_same old.lists p.readers []))).1;
+    writers = ap is_some (get-insert_same (map.insert old.lists p.readers []) p.writers []);
+    into = (kept_there (map.insert old.lists p.readers []) p.writers [] answered (kept_there old.lists p.readers [] answered there).1).1;
+    two = made.two;
+    apart_readers = λ is. let clash : true ≡ false = sym there ∙ ap (λ list. is_some (map.get old.lists list)) is ∙ ap is_some made.readers in absurd (cc);
+    apart_writers = λ is. let clash : true ≡ false = sym there ∙ ap (λ list. is_some (map.get old.lists list)) is ∙ ap is_some made.writers in absurd (cc);
+  })
+
+-- a list that was made and freed again
+pub list-unmade : (lists : map.FinMap nat_cmp (List ℕ)) (list : ℕ) → map.get lists list ≡ None → map.remove (map.insert lists list []) list ≡ lists
+list-unmade lists list none = same_map _ _ (λ other. elim (eqb_tells other list) [
+  | inl same ↦ rw same.1 (get-remove_same (map.insert lists list []) list ∙ sym none)
+  | inr differs ↦ get-remove_other (map.insert lists list []) list other differs.1 ∙ get-insert_other lists list [] other differs.1
+])

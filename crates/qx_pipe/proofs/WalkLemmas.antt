@@ -8,7 +8,7 @@ use Rattle.std.proofs.lemmas.Bool.Decides.{eqb_tells, nat_tests}
 use Rattle.std.proofs.lemmas.Option.{slice_get_within, get_or_from_slice_get}
 use Rattle.qx_lists.specs.Table.{Table, ContainsList, nodes_of, with_nodes, without, next_after}
 use Rattle.qx_lists.proofs.ListLemmas.{contains_cases, contains_first, contains_later}
-use Rattle.qx_lists.proofs.WalkLemmas.{contains-index}
+use Rattle.qx_lists.proofs.WalkLemmas.{without-absent}
 use Rattle.qx_lists.proofs.MapLemmas.{insert-there, get-insert_same, get-insert_other, same_map}
 
 -- none of the first nodes leaves
@@ -18,9 +18,54 @@ Stays leaves nodes count = (k : ℕ) → k < count → leaves (get_or nodes k 0)
 pub stays-more : (leaves : ℕ → Bool) (nodes : List ℕ) (i node : ℕ) → Stays leaves nodes i → slice_get nodes i ≡ Some node → leaves node ≡ false → Stays leaves nodes (i + 1)
 stays-more leaves nodes i node passed is stays = below_more _ _ passed (rw (get_or_from_slice_get nodes i node 0 is) stays)
 
-pub all-stay : (leaves : ℕ → Bool) (nodes : List ℕ) → Stays leaves nodes (length nodes) → filter (λ node. not (leaves node)) nodes ≡ nodes
-all-stay leaves [] stay = refl
-all-stay leaves (x ∷ xs) stay = let first : leaves x ≡ false = stay 0 (omega arith) in rw first (ap (λ rest. x ∷ rest) (all-stay leaves xs (λ k within. stay (suc k) (omega arith))))
+-- the first one that leaves
+pub first-leaves : (leaves : ℕ → Bool) (nodes : List ℕ) (i node : ℕ) → Stays leaves nodes i → slice_get nodes i ≡ Some node → leaves node ≡ true → slice_get (filter leaves nodes) 0 ≡ Some node
+first-leaves leaves [] i node stayed is leaving = let clash : None ≡ Some node = is in absurd (cc)
+first-leaves leaves (x ∷ xs) zero node stayed is leaving = let same : x ≡ node = cc in let test : leaves x ≡ true = rw same leaving in rw test is
+first-leaves leaves (x ∷ xs) (suc i) node stayed is leaving = let first : leaves x ≡ false = stayed 0 (omega arith) in rw first (first-leaves leaves xs i node (λ k within. stayed (suc k) (omega arith)) is leaving)
+
+pub none-leaves : (leaves : ℕ → Bool) (nodes : List ℕ) → Stays leaves nodes (length nodes) → filter leaves nodes ≡ []
+none-leaves leaves [] stayed = refl
+none-leaves leaves (x ∷ xs) stayed = let first : leaves x ≡ false = stayed 0 (omega arith) in rw first (none-leaves leaves xs (λ k within. stayed (suc k) (omega arith)))
+
+-- where none leaves, all stay
+pub all-stay : (leaves : ℕ → Bool) (nodes : List ℕ) → filter leaves nodes ≡ [] → filter (λ node. not (leaves node)) nodes ≡ nodes
+all-stay leaves [] none = refl
+all-stay leaves (x ∷ xs) none = by_test (leaves x) refl (all-stay leaves xs)
+  where
+    by_test : (b : Bool) → leaves x ≡ b → (filter leaves xs ≡ [] → filter (λ node. not (leaves node)) xs ≡ xs) → filter (λ node. not (leaves node)) (x ∷ xs) ≡ x ∷ xs
+    by_test true is rest = let clash : x ∷ filter leaves xs ≡ [] = rw is at none in absurd (cc)
+    by_test false is rest = rw is (ap (λ xs. x ∷ xs) (rest (rw is at none)))
+
+-- the first one that leaves, and the others
+pub record IsFirst (leaves : ℕ → Bool) (nodes : List ℕ) (node : ℕ) : Type 0 where
+  pub split : filter leaves nodes ≡ node ∷ filter leaves (without node nodes)
+  pub there : Contains nodes node
+  pub is : leaves node ≡ true
+
+pub is_first : (leaves : ℕ → Bool) (nodes : List ℕ) (node : ℕ) → IsDistinct nat_eq nodes → slice_get (filter leaves nodes) 0 ≡ Some node → IsFirst leaves nodes node
+unfolding IsDistinct
+is_first leaves [] node distinct first = let clash : None ≡ Some node = first in absurd (cc)
+is_first leaves (x ∷ xs) node distinct first = by_test (leaves x) refl (is_first leaves xs node distinct.1)
+  where
+    by_test : (b : Bool) → leaves x ≡ b → (slice_get (filter leaves xs) 0 ≡ Some node → IsFirst leaves xs node) → IsFirst leaves (x ∷ xs) node
+    by_test true is rest =
+        let here : slice_get (x ∷ filter leaves xs) 0 ≡ Some node = rw is at first in
+        let same : x ≡ node = cc in
+        let test : nat_eq x x ≡ true = grind (arith, nat_tests) in
+        let others : without x xs ≡ xs = without-absent x xs distinct.0 in
+        rw (← same) (record { split = rw (is, test, others) refl; there = contains_first x xs; is = is })
+    by_test false is rest =
+        let later = rest (rw is at first) in
+        elim (eqb_tells x node) [
+          | inl same ↦ let clash : true ≡ false = sym later.is ∙ ap leaves (sym same.1) ∙ is in absurd (cc)
+          | inr differs ↦ record { split = rw (is, differs.0) (rw is later.split); there = contains_later x node xs later.there; is = later.is }
+        ]
+
+-- two tests that agree on a list
+pub filter-same : (one other : ℕ → Bool) (nodes : List ℕ) → ((node : ℕ) → Contains nodes node → one node ≡ other node) → filter one nodes ≡ filter other nodes
+filter-same one other [] same = refl
+filter-same one other (x ∷ xs) same = rw (same x (contains_first x xs)) (ap (λ rest. if other x then x ∷ rest else rest) (filter-same one other xs (λ node at. same node (contains_later x node xs at))))
 
 pub filter-without : (leaves : ℕ → Bool) (node : ℕ) (nodes : List ℕ) → leaves node ≡ true → filter (λ other. not (leaves other)) (without node nodes) ≡ filter (λ other. not (leaves other)) nodes
 filter-without leaves node [] is = refl
@@ -51,33 +96,3 @@ module _ {T : Type 0} (t : Table T) (list : ℕ) where
 
   pub nodes-twice : (xs ys : List ℕ) → with_nodes (with_nodes t list xs) list ys ≡ with_nodes t list ys
   nodes-twice xs ys = ap (λ lists. record t { lists = lists }) (insert-twice t.lists list xs ys)
-
--- none of the first nodes is the node
-abbrev pub Absent : ℕ → List ℕ → ℕ → Type 0
-Absent node nodes count = (k : ℕ) → k < count → nat_eq (get_or nodes k 0) node ≡ false
-
-pub absent-more : (node : ℕ) (nodes : List ℕ) (i at : ℕ) → Absent node nodes i → slice_get nodes i ≡ Some at → nat_eq at node ≡ false → Absent node nodes (i + 1)
-absent-more node nodes i at passed is differs = below_more _ _ passed (rw (get_or_from_slice_get nodes i at 0 is) differs)
-
--- the node by itself and the others, where it stands and where it does not
-pub filter-absent : (node : ℕ) (nodes : List ℕ) → Absent node nodes (length nodes) → (filter (λ one. one == node) nodes ≡ []) × (without node nodes ≡ nodes)
-filter-absent node [] absent = (refl, refl)
-filter-absent node (x ∷ xs) absent =
-    let first : nat_eq x node ≡ false = absent 0 (omega arith) in
-    let rest = filter-absent node xs (λ k within. absent (suc k) (omega arith)) in
-    (rw first rest.0, rw first (ap (λ xs. x ∷ xs) rest.1))
-
-absent-behind : (x : ℕ) (xs : List ℕ) → AllByRecursion (λ y. nat_eq x y ≡ false) xs → filter (λ one. one == x) xs ≡ []
-absent-behind x [] all = refl
-absent-behind x (y ∷ ys) all = let first = all.0 in let rest = absent-behind x ys all.1 in grind (arith, nat_tests)
-
-pub filter-there : (node : ℕ) (nodes : List ℕ) → IsDistinct nat_eq nodes → Contains nodes node → filter (λ one. one == node) nodes ≡ node ∷ []
-unfolding IsDistinct
-filter-there node [] distinct at = absurd (omega (arith, at.1))
-filter-there node (x ∷ xs) distinct at = elim (eqb_tells x node) [
-  | inl same ↦ rw same.0 (let behind : filter (λ one. one == node) xs ≡ [] = rw (← same.1) (absent-behind x xs distinct.0) in rw behind (ap (λ y. y ∷ []) same.1))
-  | inr differs ↦ elim (contains_cases x node xs at) [
-    | inl first ↦ absurd (differs.1 (sym first))
-    | inr later ↦ rw differs.0 (filter-there node xs distinct.1 later)
-  ]
-]

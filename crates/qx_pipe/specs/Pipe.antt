@@ -1,12 +1,14 @@
 -- A pipe over a table: its waiting readers and writers are two lists of it.
-use Rattle.std.specs.Prelude.{◌≡◌, ◌≢◌, ℕ, ◌+◌, ◌<◌, ◌==◌, List, [], ◌∷◌, ◌++◌, length, map as mapped, Option, Result, Ok, Err, option_map, unwrap_or, if◌then◌else◌}
+use Rattle.std.specs.Prelude.{Bool, true, false, None, ◌≡◌, ◌≢◌, ℕ, ◌+◌, ◌<◌, ◌==◌, List, [], ◌∷◌, ◌++◌, length, map as mapped, Option, Result, Ok, Err, option_map, unwrap_or, if◌then◌else◌}
 use Rattle.std.specs.FinMap as map
 use Rattle.qx_types.specs.declared.errno.Errno.{Errno}
 use Rattle.std.specs.Borrow.{Bor}
-use Rattle.qx_lists.specs.Table.{Table, ContainsList, nodes_of, without}
+use Rattle.qx_lists.specs.Table.{Table, ContainsList, nodes_of, with_nodes, without}
 use Rattle.qx_types.specs.declared.outcome.Answer.{Answer}
 use Rattle.qx_types.specs.declared.outcome.Answer.TheVariants.{Reply, Failed}
 use Rattle.qx_types.specs.declared.limits.TheConstants.Limits.{PIPE}
+use Rattle.qx_pipe.specs.declared.leaving.Leaving.{Leaving}
+use Rattle.qx_pipe.specs.declared.leaving.Leaving.TheVariants.{Gone, Node, Block, All}
 use Rattle.qx_machine.specs.Pipes.{After, Pipe, first_answered, settle}
 
 -- the bytes that stand, and which lists of the table are the pipe's
@@ -36,6 +38,21 @@ module _ {T : Type 0} where
   -- what is read of a node's value
   abbrev pub at_node : {A : Type 0} → (T → A) → A → Table T → ℕ → A
   at_node read none t node = unwrap_or (option_map read (map.get t.values node)) none
+
+  -- a pipe with no bytes, whose lists are new ones of the table, with nobody in them
+  pub record MadeIn (old new : Table T) (p : PipeRow) : Type 0 where
+    pub bytes : p.bytes ≡ []
+    pub readers : map.get old.lists p.readers ≡ None
+    pub writers : map.get old.lists p.writers ≡ None
+    pub two : p.readers ≢ p.writers
+    pub table : new ≡ with_nodes (with_nodes old p.readers []) p.writers []
+
+  -- which nodes of a list are to leave it
+  abbrev pub leaves : (T → ℕ) → (T → Bool) → Table T → Leaving → ℕ → Bool
+  leaves block gone t Gone node = at_node gone false t node
+  leaves block gone t (Node one) node = node == one
+  leaves block gone t (Block key) node = at_node block 0 t node == key
+  leaves block gone t All node = true
 
   abbrev pub settled : (T → ℕ) → (T → List ℕ) → Table T → PipeRow → After ℕ
   settled wanted bytes t p = settle (at_node wanted 0 t) (at_node bytes [] t) (pipe_in t p)
@@ -72,13 +89,17 @@ module _ {T : Type 0} (replied : T → ℕ → List ℕ → T) (failed : T → E
     pub gave : Gave old new ((node, answer) ∷ [])
     pub lists : new.lists ≡ map.insert old.lists answered (nodes_of old answered ++ node ∷ [])
 
-  -- a node of a list was answered, and went last into the list of answered nodes
-  pub record Passed (old new : Table T) (list node answered : ℕ) (answer : Answer) : Type 0 where
-    pub gave : Gave old new ((node, answer) ∷ [])
-    pub from : nodes_of new list ≡ without node (nodes_of old list)
-    pub nodes : nodes_of new answered ≡ nodes_of old answered ++ node ∷ []
+  -- nodes of a list were answered and went last, in order, into the list of answered nodes; the others are left
+  pub record Passed (old new : Table T) (list answered : ℕ) (left : List ℕ) (answers : List (ℕ × Answer)) : Type 0 where
+    pub gave : Gave old new answers
+    pub from : nodes_of new list ≡ left
+    pub nodes : nodes_of new answered ≡ nodes_of old answered ++ mapped (λ a. a.0) answers
     pub elsewhere : (other : ℕ) → other ≢ list → other ≢ answered → map.get new.lists other ≡ map.get old.lists other
     pub there : (other : ℕ) → ContainsList old other → ContainsList new other
+
+  -- one node was
+  abbrev pub PassedOne : (old new : Table T) (list node answered : ℕ) (answer : Answer) → Type 0
+  PassedOne old new list node answered answer = Passed old new list answered (without node (nodes_of old list)) ((node, answer) ∷ [])
 
 -- one of those who wait was answered, and what is left to settle is what there was, without that answer
 pub record Turned {T : Type 0} (wanted : T → ℕ) (bytes : T → List ℕ) (replied : T → ℕ → List ℕ → T) (failed : T → Errno → T) (old new : Table T) (p q : PipeRow) (answered : ℕ) : Type 0 where

@@ -2,7 +2,7 @@
 ghost use Rattle.std.specs.Prelude.{◌≡◌, ◌≢◌, ◌≤◌, ◌∷◌, [], length};
 ghost use Rattle.std.specs.Result.{ForOk};
 ghost use Rattle.qx_lists.specs.Table.{ContainsList, ContainsNode, IsFree, IsIn};
-ghost use Rattle.qx_pipe.specs.Pipe.{Gave, HandedOver, Passed, handed};
+ghost use Rattle.qx_pipe.specs.Pipe.{Gave, HandedOver, PassedOne, handed};
 ghost use Rattle.qx_types.specs.declared.limits.TheConstants.Limits.{TRANSFER};
 
 use qx_lists::Table;
@@ -30,7 +30,7 @@ pub(crate) fn pass<T: Waiter>(
     requires answered { ContainsList table.old answered }
     requires apart { answered ≢ list }
     requires short { ForOk answer (λ reply. length reply.1.now ≤ TRANSFER) }
-    ensures { Passed T.replied T.failed table.old table.new list node answered (handed answer.entry) }
+    ensures { PassedOne T.replied T.failed table.old table.new list node answered (handed answer.entry) }
 {
     table.know();
     give(table, node, answer);

@@ -1,20 +1,20 @@
-ghost use Rattle.std.specs.Prelude.{◌==◌, IfSome, IfNone, true, false, ◌≡◌, ◌≢◌, ◌<◌, ◌≤◌, ◌+◌, ◌∷◌, ◌++◌, ◌⊎◌, [], Some, drop, length, slice_get, take};
+ghost use Rattle.std.specs.Prelude.{◌==◌, IfOk, IfSome, IfNone, OnErr, true, false, ℕ, ◌≡◌, ◌≢◌, ◌<◌, ◌≤◌, ◌+◌, ◌∷◌, ◌++◌, ◌⊎◌, ◌||◌, [], Some, if◌then◌else◌, drop, length, slice_get, take};
 ghost use Rattle.std.specs.Result.{ForOk};
 ghost use Rattle.qx_lists.specs.Table.{ContainsList, IsFree, IsIn, nodes_of};
 ghost use Rattle.qx_machine.specs.Pipes as machine;
 ghost use Rattle.qx_machine.specs.Pipes.{one_answered, with_reader, with_writer, first_answered, nobody_answered};
 ghost use Rattle.qx_pipe.specs.Laws.{NoneFits};
-ghost use Rattle.qx_pipe.specs.Pipe.{Became, HandedOver, IsPipeOf, Passed, Turned, handed, at_node, pipe_in, settled};
+ghost use Rattle.qx_pipe.specs.Pipe.{Became, HandedOver, IsPipeOf, MadeIn, PassedOne, Turned, handed, at_node, leaves, pipe_in, settled};
 ghost use Rattle.qx_types.specs.declared.limits.TheConstants.Limits.{PIPE, TRANSFER};
 ghost use Rattle.qx_types.specs.declared.outcome.Answer.TheVariants.{Failed, Reply};
-ghost use Rattle.qx_types.specs.declared.errno.Errno.TheVariants.{EINTR};
 
 use crate::answers::{hand_over, pass};
-use crate::leaving::{drop_gone, stands_in};
+use crate::leaving::{Leaving, dismiss, drop_gone};
 use circular_buffer::HeapCircularBuffer;
 use qx_lists::Table;
-use qx_machine::Manner;
+use qx_machine::{Manner, Sides};
 use qx_types::{Errno, Limits, Waiter};
+use std::alloc::{AllocError, Global};
 use std::marker::Model;
 
 /// The bytes of a pipe, and its two lists of waiting messages.
@@ -41,6 +41,27 @@ impl Model for Pipe {
 }
 
 impl Pipe {
+    /// A pipe with no bytes, and nobody who waits, whose two lists are made in the table.
+    pub fn new<T: Waiter>(table: &mut Table<T>, alloc: Global) -> Result<Pipe, AllocError>
+        ensures made { IfOk result (MadeIn table.old table.new) }
+        ensures of { IfOk result (λ p. (answered : ℕ) → ContainsList table.old answered → IsPipeOf table.new p answered) }
+        ensures err { OnErr result (table.new ≡ table.old) }
+    {
+        let bytes = HeapCircularBuffer::with_capacity(alloc, Limits::PIPE)?;
+        let readers = table.add_list()?;
+        match table.add_list() {
+            Ok(writers) => Ok(Pipe {
+                bytes,
+                readers,
+                writers,
+            }),
+            Err(error) => {
+                table.free_list(readers);
+                Err(error)
+            }
+        }
+    }
+
     // The first reader gets the first of the bytes that stand.
     fn serve_reader<T: Waiter>(&mut self, table: &mut Table<T>, reader: usize, answered: usize)
         requires pipe { IsPipeOf table.old self.old answered }
@@ -61,7 +82,7 @@ impl Pipe {
         requires apart { answered ≢ self.old.readers }
         requires count { count ≤ length self.old.bytes }
         ensures bytes { self.new ≡ record self.old { bytes = drop count self.old.bytes } }
-        ensures passed { Passed T.replied T.failed table.old table.new self.old.readers reader answered (Reply count (take count self.old.bytes)) }
+        ensures passed { PassedOne T.replied T.failed table.old table.new self.old.readers reader answered (Reply count (take count self.old.bytes)) }
     {
         let mut bytes = [0; Limits::PIPE];
         self.bytes.read_into(&mut bytes[..count]);
@@ -135,7 +156,7 @@ impl Pipe {
     fn served_writer<T: Waiter>(&self, table: &Table<T>) -> Option<usize>
         requires { ContainsList table.now self.now.writers }
         ensures first { IfSome result (λ writer. slice_get (nodes_of table.now self.now.writers) 0 ≡ Some writer) }
-        ensures fits { IfSome result (λ writer. length self.now.bytes + length (at_node T.bytes [] table.now writer) ≤ 4096) }
+        ensures fits { IfSome result (λ writer. length self.now.bytes + length (at_node T.bytes [] table.now writer) ≤ PIPE) }
         ensures none { IfNone result (NoneFits (at_node T.bytes [] table.now) self.now.bytes (nodes_of table.now self.now.writers)) }
     {
         table.know();
@@ -292,17 +313,49 @@ impl Pipe {
         self.write_clean(table, writer, manner, answered);
     }
 
-    // A message that waits here is answered EINTR.
-    fn dismiss<T: Waiter>(&self, table: &mut Table<T>, node: usize, answered: usize)
+    // Those messages that are to leave are answered, readers first.
+    fn dismiss<T: Waiter>(
+        &self,
+        table: &mut Table<T>,
+        leaving: Leaving,
+        answered: usize,
+        error: Errno,
+    )
         requires { IsPipeOf table.old self.now answered }
-        ensures { Became T.replied T.failed table.old table.new self.now self.now answered (machine.dismissed (λ one. one == node) (Failed EINTR) (pipe_in table.old self.now)) }
+        ensures { Became T.replied T.failed table.old table.new self.now self.now answered (machine.dismissed (leaves T.block T.gone table.old leaving) (Failed error) (pipe_in table.old self.now)) }
     {
+        self.dismiss_readers(table, leaving, answered, Err(error));
         table.know();
-        if stands_in(table, self.readers, node) {
-            pass(table, self.readers, node, answered, Err(Errno::EINTR));
-        } else if stands_in(table, self.writers, node) {
-            pass(table, self.writers, node, answered, Err(Errno::EINTR));
-        }
+        self.dismiss_writers(table, leaving, answered, error);
+    }
+
+    // Those readers that are to leave are answered.
+    fn dismiss_readers<T: Waiter>(
+        &self,
+        table: &mut Table<T>,
+        leaving: Leaving,
+        answered: usize,
+        answer: Result<(u64, &[u8]), Errno>,
+    )
+        requires pipe { IsPipeOf table.old self.now answered }
+        requires short { ForOk answer (λ reply. length reply.1.now ≤ TRANSFER) }
+        ensures { Became T.replied T.failed table.old table.new self.now self.now answered (machine.readers_dismissed (leaves T.block T.gone table.old leaving) (handed answer.entry) (pipe_in table.old self.now)) }
+    {
+        dismiss(table, self.readers, leaving, answered, answer);
+    }
+
+    // Those writers that are to leave are answered.
+    fn dismiss_writers<T: Waiter>(
+        &self,
+        table: &mut Table<T>,
+        leaving: Leaving,
+        answered: usize,
+        error: Errno,
+    )
+        requires { IsPipeOf table.old self.now answered }
+        ensures { Became T.replied T.failed table.old table.new self.now self.now answered (machine.writers_dismissed (leaves T.block T.gone table.old leaving) (Failed error) (pipe_in table.old self.now)) }
+    {
+        dismiss(table, self.writers, leaving, answered, Err(error));
     }
 
     /// An unblock of a message: the pipe is cleaned; if the message waits then, it is answered EINTR, and others may be served.
@@ -312,8 +365,63 @@ impl Pipe {
             (machine.cancel (at_node T.wanted 0 table.old) (at_node T.bytes [] table.old) (at_node T.gone false table.old) (λ one. one == node) (pipe_in table.old self.old)) }
     {
         self.clean(table, answered);
-        self.dismiss(table, node, answered);
+        table.know();
+        self.dismiss(table, Leaving::Node(node), answered, Errno::EINTR);
         table.know();
         self.settle(table, answered);
+    }
+
+    /// A block is freed, and `sides` are those for which there are blocks then: the pipe is cleaned; the messages on the
+    /// block, by its key, are answered EBADF, readers first; of a side with no block left, those who wait for it are
+    /// answered, readers with the end of the file and writers EPIPE; others may be served; with the last block go the
+    /// bytes (C Library Reference: `close`).
+    pub fn release<T: Waiter>(
+        &mut self,
+        table: &mut Table<T>,
+        block: usize,
+        sides: Sides,
+        answered: usize,
+    )
+        requires { IsPipeOf table.old self.old answered }
+        ensures { Became T.replied T.failed table.old table.new self.old self.new answered
+            (machine.release (at_node T.wanted 0 table.old) (at_node T.bytes [] table.old) (at_node T.gone false table.old) (λ node. at_node T.block 0 table.old node == block) sides (pipe_in table.old self.old)) }
+    {
+        self.clean(table, answered);
+        table.know();
+        self.dismiss(table, Leaving::Block(block), answered, Errno::EBADF);
+        self.end_readers(table, sides, answered);
+        self.end_writers(table, sides, answered);
+        table.know();
+        self.settle(table, answered);
+        self.discard(sides);
+    }
+
+    // Readers come to the end of a pipe that nobody writes any more.
+    fn end_readers<T: Waiter>(&self, table: &mut Table<T>, sides: Sides, answered: usize)
+        requires { IsPipeOf table.old self.now answered }
+        ensures { Became T.replied T.failed table.old table.new self.now self.now answered (machine.readers_ended sides (pipe_in table.old self.now)) }
+    {
+        if !sides.for_writing {
+            self.dismiss_readers(table, Leaving::All, answered, Ok((0, &[])));
+        }
+    }
+
+    // A pipe that nobody reads any more is broken for writers.
+    fn end_writers<T: Waiter>(&self, table: &mut Table<T>, sides: Sides, answered: usize)
+        requires { IsPipeOf table.old self.now answered }
+        ensures { Became T.replied T.failed table.old table.new self.now self.now answered (machine.writers_ended sides (pipe_in table.old self.now)) }
+    {
+        if !sides.for_reading {
+            self.dismiss_writers(table, Leaving::All, answered, Errno::EPIPE);
+        }
+    }
+
+    // With the last block go the bytes.
+    fn discard(&mut self, sides: Sides)
+        ensures { self.new ≡ (if sides.for_reading || sides.for_writing then self.old else record self.old { bytes = [] }) }
+    {
+        if !sides.for_reading && !sides.for_writing {
+            self.bytes.clear();
+        }
     }
 }

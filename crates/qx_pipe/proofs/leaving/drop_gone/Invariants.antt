@@ -1,13 +1,14 @@
-use Rattle.std.proofs.Common.{◌≡◌, ℕ, false, length, List}
-use Rattle.std.specs.Prelude.{filter, not}
-use Rattle.qx_lists.specs.Table.{ContainsList, nodes_of, with_nodes}
-use Rattle.qx_pipe.specs.Pipe.{at_node}
+use Rattle.std.proofs.Common.{◌≡◌, length}
+use Rattle.qx_lists.specs.Table.{nodes_of, with_nodes}
+use Rattle.qx_machine.specs.Pipes.{staying}
+use Rattle.qx_pipe.specs.Pipe.{leaves}
+use Rattle.qx_pipe.specs.declared.leaving.Leaving.TheVariants.{Gone}
 use Rattle.qx_pipe.proofs.leaving.drop_gone.Given as goal
 
 abbrev pub invariant-gone : goal.invariant-gone
 invariant-gone g l = record {
   is : l.table ≡ with_nodes l.initial.table l.list (nodes_of l.table l.list);
-  kept : filter (λ node. not (at_node g.T.Waiter.gone false l.initial.table node)) (nodes_of l.table l.list) ≡ filter (λ node. not (at_node g.T.Waiter.gone false l.initial.table node)) (nodes_of l.initial.table l.list);
+  kept : staying (leaves g.T.Waiter.block g.T.Waiter.gone l.initial.table Gone) (nodes_of l.table l.list) ≡ staying (leaves g.T.Waiter.block g.T.Waiter.gone l.initial.table Gone) (nodes_of l.initial.table l.list);
 }
 
 abbrev pub decreases-gone : goal.decreases-gone
