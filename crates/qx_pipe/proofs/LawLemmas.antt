@@ -1,15 +1,12 @@
 -- The laws of settling.
-use Rattle.std.proofs.Common.{◌≡◌, ◌⊎◌, inl, inr, ℕ, zero, suc, ◌+◌, ◌≤◌, ◌<◌, Bool, true, false, List, [], ◌∷◌, ◌++◌, length, take, drop, refl, sym, ap, ◌∙◌, append-nil, append_assoc, arith}
-use Rattle.std.specs.Prelude.{nat_le, map, if◌then◌else◌}
-use Rattle.std.proofs.lemmas.Bool.{le-leb, lt-leb}
+use Rattle.std.proofs.Common.{◌≡◌, inl, inr, ℕ, suc, ◌+◌, List, [], ◌∷◌, ◌++◌, length, take, drop, refl, sym, ap, ◌∙◌, append-nil, append_assoc}
+use Rattle.std.specs.Prelude.{map}
 use Rattle.std.proofs.lemmas.Bool.Decides.{leb_tells}
 use Rattle.std.proofs.lemmas.List.{take-append-drop}
-use Rattle.qx_types.specs.declared.outcome.Answer.{Answer}
-use Rattle.qx_types.specs.declared.outcome.Answer.TheVariants.{Reply, Failed}
+use Rattle.qx_types.specs.declared.outcome.Answer.TheVariants.{Reply}
 use Rattle.qx_types.specs.declared.limits.TheConstants.Limits.{PIPE}
 use Rattle.qx_machine.specs.Pipes.{After, Pipe, first_answered, nobody_answered, pipe_of, portion, served, settle}
-use Rattle.qx_pipe.specs.Laws.{NoneFits}
-use Rattle.qx_pipe.specs.Laws.{Conserves, IsMerge, IsSettled, brought, bytes_in, handed_out, retold, retold_after}
+use Rattle.qx_pipe.specs.Laws.{Conserves, IsSettled, brought, handed_out, retold, retold_after}
 
 module _ {W : Type 0} (wanted : W → ℕ) (offered : W → List ℕ) where
   conserves-nobody : (p : Pipe W) → Conserves offered p (nobody_answered p)
@@ -79,7 +76,7 @@ module _ {W V : Type 0} (tell : W → V) (wanted : W → ℕ) (offered : W → L
   retold-served (b ∷ bs) (reader ∷ readers) writers =
       rw (same_wanted reader)
       (ap (first_answered (tell reader) (Reply (portion wanted reader (b ∷ bs)) (take (portion wanted reader (b ∷ bs)) (b ∷ bs))))
-          (retold-served (drop (portion wanted reader (b ∷ bs)) (b ∷ bs)) readers writers))
+      (retold-served (drop (portion wanted reader (b ∷ bs)) (b ∷ bs)) readers writers))
   retold-served [] readers (writer ∷ writers) = elim (leb_tells (0 + length (offered writer)) PIPE) [
     | inl fits ↦ rw (same_offered writer, fits.0) (ap (first_answered (tell writer) (Reply (length (offered writer)) [])) (retold-served ([] ++ offered writer) readers writers))
     | inr full ↦ rw (same_offered writer, full.0) refl

@@ -1,17 +1,16 @@
 -- Nodes of a list that are answered and leave it, one after another.
-use Rattle.std.proofs.Common.{◌≡◌, ◌≢◌, ℕ, ◌==◌, Bool, true, false, List, [], ◌∷◌, ◌++◌, Contains, Some, None, option_map, unwrap_or, slice_get, inl, inr, refl, sym, ap, ◌∙◌, append-nil, append_assoc}
+use Rattle.std.proofs.Common.{◌≡◌, ◌≢◌, ℕ, ◌==◌, Bool, true, false, List, [], ◌∷◌, ◌++◌, Contains, Some, None, unwrap_or, slice_get, inl, inr, refl, sym, ap, ◌∙◌, append-nil, append_assoc}
 use Rattle.std.specs.Prelude.{◌||◌, filter, if◌then◌else◌, not, map as mapped, nat_eq}
 use Rattle.std.specs.List.{IsDistinct}
-use Rattle.std.specs.FinMap as map
 use Rattle.std.proofs.lemmas.List.{map-append}
 use Rattle.qx_types.specs.declared.errno.Errno.{Errno}
 use Rattle.qx_types.specs.declared.errno.Errno.TheVariants.{EPIPE}
 use Rattle.qx_types.specs.declared.outcome.Answer.{Answer}
 use Rattle.qx_types.specs.declared.outcome.Answer.TheVariants.{Reply, Failed}
-use Rattle.qx_lists.specs.Table.{Table, ContainsList, IsIn, nodes_of, without}
+use Rattle.qx_lists.specs.Table.{Table, IsIn, nodes_of, without}
 use Rattle.qx_lists.proofs.ListLemmas.{absent_without, contains_without, none_first}
 use Rattle.qx_machine.specs.Pipes.{After, Pipe, all_answered, and_then, answered_first, dismissed, nobody_answered, readers_dismissed, readers_ended, staying, without_bytes, writers_dismissed, writers_ended}
-use Rattle.qx_pipe.specs.Pipe.{Became, Gave, IsPipeOf, Passed, PassedOne, PipeRow, at_node, leaves, pipe_in}
+use Rattle.qx_pipe.specs.Pipe.{Became, IsPipeOf, Passed, PassedOne, PipeRow, at_node, leaves, pipe_in}
 use Rattle.qx_pipe.specs.declared.leaving.Leaving.{Leaving}
 use Rattle.qx_pipe.specs.declared.leaving.Leaving.TheVariants.{Gone, Node, Block, All}
 use Rattle.qx_machine.specs.declared.rows.Sides.{Sides}

@@ -1,6 +1,6 @@
 -- How a pipe is settled: what it depends on, and what holds of it.
-use Rattle.std.proofs.Common.{◌≡◌, ◌⊎◌, inl, inr, ℕ, zero, suc, ◌+◌, ◌≤◌, ◌<◌, Bool, true, false, Option, None, Some, is_some, not, slice_get, List, [], ◌∷◌, ◌++◌, length, take, drop, Contains, refl, sym, ap, ◌∙◌, arith}
-use Rattle.std.specs.Prelude.{min, nat_le, if◌then◌else◌}
+use Rattle.std.proofs.Common.{◌≡◌, ◌⊎◌, inl, inr, ℕ, zero, suc, ◌+◌, ◌≤◌, ◌<◌, Bool, true, false, None, Some, is_some, not, slice_get, List, [], ◌∷◌, ◌++◌, length, take, drop, Contains, refl, ap, arith}
+use Rattle.std.specs.Prelude.{nat_le, if◌then◌else◌}
 use Rattle.std.proofs.lemmas.Bool.{le-leb, lt-leb}
 use Rattle.qx_lists.proofs.ListLemmas.{contains_cases, contains_first, contains_later}
 use Rattle.std.proofs.lemmas.Bool.Decides.{eqb_tells, leb_tells}
@@ -8,10 +8,9 @@ use Rattle.std.specs.Prelude.{filter, map as mapped, nat_eq}
 use Rattle.qx_types.specs.declared.errno.Errno.TheVariants.{EAGAIN, EINTR}
 use Rattle.qx_machine.specs.declared.rows.Manner.{Manner}
 use Rattle.qx_pipe.proofs.LawLemmas.{conserves}
-use Rattle.qx_types.specs.declared.outcome.Answer.{Answer}
 use Rattle.qx_types.specs.declared.outcome.Answer.TheVariants.{Reply, Failed}
 use Rattle.qx_types.specs.declared.limits.TheConstants.Limits.{PIPE}
-use Rattle.qx_machine.specs.Pipes.{one_answered, clean, removed, clean_read, waiting_unless, with_reader, with_writer, clean_write, After, Pipe, first_answered, nobody_answered, pipe_of, portion, served, settle}
+use Rattle.qx_machine.specs.Pipes.{one_answered, clean, removed, clean_read, waiting_unless, with_reader, clean_write, Pipe, first_answered, nobody_answered, pipe_of, portion, served, settle}
 use Rattle.qx_pipe.specs.Laws.{NoneFits}
 
 -- settling asks only those who wait
@@ -20,15 +19,15 @@ module _ (wanted other_wanted : ℕ → ℕ) (offered other_offered : ℕ → Li
   served-same (b ∷ bs) (reader ∷ readers) writers same_wanted same_offered =
       rw (same_wanted reader (contains_first reader readers))
       (ap (first_answered reader (Reply (portion wanted reader (b ∷ bs)) (take (portion wanted reader (b ∷ bs)) (b ∷ bs))))
-          (served-same (drop (portion wanted reader (b ∷ bs)) (b ∷ bs)) readers writers (λ who at. same_wanted who (contains_later reader who readers at)) same_offered))
+      (served-same (drop (portion wanted reader (b ∷ bs)) (b ∷ bs)) readers writers (λ who at. same_wanted who (contains_later reader who readers at)) same_offered))
   served-same [] readers (writer ∷ writers) same_wanted same_offered =
       rw (same_offered writer (contains_first writer writers))
       (ap (λ rest. if nat_le (0 + length (offered writer)) PIPE then first_answered writer (Reply (length (offered writer)) []) rest else nobody_answered (pipe_of [] readers (writer ∷ writers)))
-          (served-same ([] ++ offered writer) readers writers same_wanted (λ who at. same_offered who (contains_later writer who writers at))))
+      (served-same ([] ++ offered writer) readers writers same_wanted (λ who at. same_offered who (contains_later writer who writers at))))
   served-same (b ∷ bs) [] (writer ∷ writers) same_wanted same_offered =
       rw (same_offered writer (contains_first writer writers))
       (ap (λ rest. if nat_le (length (b ∷ bs) + length (offered writer)) PIPE then first_answered writer (Reply (length (offered writer)) []) rest else nobody_answered (pipe_of (b ∷ bs) [] (writer ∷ writers)))
-          (served-same ((b ∷ bs) ++ offered writer) [] writers same_wanted (λ who at. same_offered who (contains_later writer who writers at))))
+      (served-same ((b ∷ bs) ++ offered writer) [] writers same_wanted (λ who at. same_offered who (contains_later writer who writers at))))
   served-same [] readers [] same_wanted same_offered = refl
   served-same (b ∷ bs) [] [] same_wanted same_offered = refl
 

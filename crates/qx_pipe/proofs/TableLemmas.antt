@@ -1,23 +1,23 @@
 -- A pipe's lists in a table, as answers are given.
-use Rattle.std.proofs.Common.{◌≡◌, ◌≢◌, ◌⊎◌, inl, inr, ℕ, ◌+◌, ◌≤◌, ◌<◌, ◌==◌, Bool, true, false, List, [], ◌∷◌, ◌++◌, length, take, drop, Contains, get_or, Option, None, Some, is_some, option_map, unwrap_or, slice_get, refl, sym, ap, ◌∙◌, subst, append-nil, append_assoc, length-drop, arith}
+use Rattle.std.proofs.Common.{◌≡◌, ◌≢◌, ◌⊎◌, inl, inr, ℕ, ◌+◌, ◌≤◌, ◌<◌, ◌==◌, Bool, true, false, List, [], ◌∷◌, ◌++◌, length, take, drop, Contains, Option, None, Some, is_some, option_map, unwrap_or, slice_get, refl, sym, ap, ◌∙◌, subst, append-nil, append_assoc, length-drop, arith}
 use Rattle.std.specs.Prelude.{Result, Ok, Err, MatchResult, filter, not, map as mapped, min, nat_eq, if◌then◌else◌}
 use Rattle.std.specs.List.{IsDistinct}
 use Rattle.std.specs.Borrow.{Bor}
 use Rattle.std.specs.FinMap as map
 use Rattle.std.specs.Ordering.{nat_cmp}
-use Rattle.std.proofs.lemmas.List.{get_or_default, map-append}
+use Rattle.std.proofs.lemmas.List.{map-append}
 use Rattle.std.proofs.lemmas.List.Elements.{Contains-append_right, Contains-append_cases}
 use Rattle.std.proofs.lemmas.Bool.Decides.{eqb_tells}
 use Rattle.qx_types.specs.declared.errno.Errno.{Errno}
-use Rattle.qx_lists.specs.Table.{Table, ContainsList, ContainsNode, IsFree, IsIn, StandsNowhere, nodes_of, with_nodes, with_value, without}
+use Rattle.qx_lists.specs.Table.{Table, ContainsList, IsFree, IsIn, StandsNowhere, nodes_of, with_nodes, with_value, without}
 use Rattle.qx_lists.proofs.MapLemmas.{get-insert_same, get-insert_other, get-remove_same, get-remove_other, same_map}
-use Rattle.qx_lists.proofs.TableFacts.{nodes_of-with_nodes_same, ContainsList-with_nodes_same, kept_there}
+use Rattle.qx_lists.proofs.TableFacts.{nodes_of-with_nodes_same, kept_there}
 use Rattle.qx_lists.proofs.ListLemmas.{absent_without, contains_slice_first, contains_first, contains_later, nowhere_from, stands_nowhere, without-first}
 use Rattle.qx_pipe.proofs.PipeLemmas.{settle-same, clean-among, clean-readers, clean-writers, read-same, write-same, served-nobody, served-same, served-reader, served-writer}
 use Rattle.qx_types.specs.declared.outcome.Answer.{Answer}
-use Rattle.qx_types.specs.declared.outcome.Answer.TheVariants.{Reply, Failed}
+use Rattle.qx_types.specs.declared.outcome.Answer.TheVariants.{Reply}
 use Rattle.qx_types.specs.declared.limits.TheConstants.Limits.{PIPE}
-use Rattle.qx_machine.specs.Pipes.{After, Pipe, one_answered, dismissed, and_then, clean, clean_read, clean_write, answered_first, pipe_of, with_reader, with_writer, first_answered, nobody_answered, served, settle}
+use Rattle.qx_machine.specs.Pipes.{After, Pipe, one_answered, and_then, clean, clean_read, clean_write, answered_first, pipe_of, with_reader, with_writer, first_answered, nobody_answered, served, settle}
 use Rattle.qx_pipe.specs.Laws.{NoneFits}
 use Rattle.qx_machine.specs.declared.rows.Manner.{Manner}
 use Rattle.qx_pipe.specs.Pipe.{Answered, Became, Gave, HandedOver, IsPipeOf, MadeIn, PipeRow, Passed, PassedOne, Turned, at_node, given, handed, pipe_in, settled, told}
@@ -93,9 +93,9 @@ module _ {T : Type 0} (replied : T → ℕ → List ℕ → T) (failed : T → E
       let readers : nodes_of new p.readers ≡ drop 1 (nodes_of t p.readers) = passed.from ∙ without-first (nodes_of t p.readers) reader distinct first in
       let writers : nodes_of new p.writers ≡ nodes_of t p.writers = ap (λ o. unwrap_or o []) (passed.elsewhere p.writers (λ is. pipe.two (sym is)) (λ is. pipe.apart_writers (sym is))) in
       let rest : settled wanted bytes new q ≡ served (at_node wanted 0 t) (at_node bytes [] t) (drop count p.bytes) (drop 1 (nodes_of t p.readers)) (nodes_of t p.writers) =
-          rw (is, readers, writers) (served-same (at_node wanted 0 t) (at_node wanted 0 new) (at_node bytes [] t) (at_node bytes [] new) (drop count p.bytes) (drop 1 (nodes_of t p.readers)) (nodes_of t p.writers)
-            (λ who at. at_node-other wanted 0 t new reader answer who passed.gave (λ same. absent_without reader (nodes_of t p.readers) (rw (without-first (nodes_of t p.readers) reader distinct first) (rw same at at))))
-            (λ who at. at_node-other bytes [] t new reader answer who passed.gave (λ same. pipe.two (apart p.readers p.writers reader here (rw same at at))))) in
+      rw (is, readers, writers) (served-same (at_node wanted 0 t) (at_node wanted 0 new) (at_node bytes [] t) (at_node bytes [] new) (drop count p.bytes) (drop 1 (nodes_of t p.readers)) (nodes_of t p.writers)
+      (λ who at. at_node-other wanted 0 t new reader answer who passed.gave (λ same. absent_without reader (nodes_of t p.readers) (rw (without-first (nodes_of t p.readers) reader distinct first) (rw same at at))))
+      (λ who at. at_node-other bytes [] t new reader answer who passed.gave (λ same. pipe.two (apart p.readers p.writers reader here (rw same at at))))) in
       record {
         who = reader;
         answer = answer;
@@ -115,9 +115,9 @@ module _ {T : Type 0} (replied : T → ℕ → List ℕ → T) (failed : T → E
       let writers : nodes_of new p.writers ≡ drop 1 (nodes_of t p.writers) = passed.from ∙ without-first (nodes_of t p.writers) writer distinct first in
       let readers : nodes_of new p.readers ≡ nodes_of t p.readers = ap (λ o. unwrap_or o []) (passed.elsewhere p.readers pipe.two (λ is. pipe.apart_readers (sym is))) in
       let rest : settled wanted bytes new q ≡ served (at_node wanted 0 t) (at_node bytes [] t) (p.bytes ++ offered) (nodes_of t p.readers) (drop 1 (nodes_of t p.writers)) =
-          rw (is, readers, writers) (served-same (at_node wanted 0 t) (at_node wanted 0 new) (at_node bytes [] t) (at_node bytes [] new) (p.bytes ++ offered) (nodes_of t p.readers) (drop 1 (nodes_of t p.writers))
-            (λ who at. at_node-other wanted 0 t new writer answer who passed.gave (λ same. pipe.two (apart p.readers p.writers writer (rw same at at) here)))
-            (λ who at. at_node-other bytes [] t new writer answer who passed.gave (λ same. absent_without writer (nodes_of t p.writers) (rw (without-first (nodes_of t p.writers) writer distinct first) (rw same at at))))) in
+      rw (is, readers, writers) (served-same (at_node wanted 0 t) (at_node wanted 0 new) (at_node bytes [] t) (at_node bytes [] new) (p.bytes ++ offered) (nodes_of t p.readers) (drop 1 (nodes_of t p.writers))
+      (λ who at. at_node-other wanted 0 t new writer answer who passed.gave (λ same. pipe.two (apart p.readers p.writers writer (rw same at at) here)))
+      (λ who at. at_node-other bytes [] t new writer answer who passed.gave (λ same. absent_without writer (nodes_of t p.writers) (rw (without-first (nodes_of t p.writers) writer distinct first) (rw same at at))))) in
       record {
         who = writer;
         answer = answer;
@@ -246,10 +246,10 @@ module _ {T : Type 0} (replied : T → ℕ → List ℕ → T) (failed : T → E
     unfolding settle
     became-handed wanted bytes last q r answer same_readers same_writers nowhere over later =
         let same : settled wanted bytes new q ≡ settle (at_node wanted 0 t) (at_node bytes [] t) (pipe_of q.bytes (nodes_of t p.readers) (nodes_of t p.writers)) =
-            rw (same_readers, same_writers, handed_over-readers answer over, handed_over-writers answer over)
-            (served-same (at_node wanted 0 t) (at_node wanted 0 new) (at_node bytes [] t) (at_node bytes [] new) q.bytes (nodes_of t p.readers) (nodes_of t p.writers)
-              (λ who at. at_node-other wanted 0 t new node answer who over.gave (λ is. stands_nowhere t.lists node nowhere p.readers (rw is at at)))
-              (λ who at. at_node-other bytes [] t new node answer who over.gave (λ is. stands_nowhere t.lists node nowhere p.writers (rw is at at)))) in
+        rw (same_readers, same_writers, handed_over-readers answer over, handed_over-writers answer over)
+        (served-same (at_node wanted 0 t) (at_node wanted 0 new) (at_node bytes [] t) (at_node bytes [] new) q.bytes (nodes_of t p.readers) (nodes_of t p.writers)
+        (λ who at. at_node-other wanted 0 t new node answer who over.gave (λ is. stands_nowhere t.lists node nowhere p.readers (rw is at at)))
+        (λ who at. at_node-other bytes [] t new node answer who over.gave (λ is. stands_nowhere t.lists node nowhere p.writers (rw is at at)))) in
         rw (← same) (record {
           pipe = later.pipe;
           gave = answered-then t new last p q answered ((node, answer) ∷ []) (settled wanted bytes new q).answers same_readers same_writers (handed_over-answered answer over) later.gave;
@@ -435,13 +435,13 @@ module _ {T : Type 0} (replied : T → ℕ → List ℕ → T) (failed : T → E
     pub became-read : (manner : Manner) (new : Table T) (r : PipeRow) → Became replied failed two new q r answered (clean_read (at_node wanted 0 two) (at_node bytes [] two) manner node (pipe_in two q)) → Became replied failed t new p r answered (and_then after_clean (clean_read (at_node wanted 0 t) (at_node bytes [] t) manner node))
     became-read manner new r later =
         let same : clean_read (at_node wanted 0 two) (at_node bytes [] two) manner node (pipe_in two q) ≡ clean_read (at_node wanted 0 t) (at_node bytes [] t) manner node after_clean.pipe =
-            read-same (at_node wanted 0 t) (at_node wanted 0 two) (at_node bytes [] t) (at_node bytes [] two) manner node (pipe_in two q) (same_readers_still wanted 0) (same_writers_still bytes []) (same_own wanted 0) ∙ ap (clean_read (at_node wanted 0 t) (at_node bytes [] t) manner node) cleaned.pipe in
+        read-same (at_node wanted 0 t) (at_node wanted 0 two) (at_node bytes [] t) (at_node bytes [] two) manner node (pipe_in two q) (same_readers_still wanted 0) (same_writers_still bytes []) (same_own wanted 0) ∙ ap (clean_read (at_node wanted 0 t) (at_node bytes [] t) manner node) cleaned.pipe in
         became-then t two new p q r answered after_clean (clean_read (at_node wanted 0 t) (at_node bytes [] t) manner node after_clean.pipe) cleaned (rw same at later)
 
     pub became-write : (manner : Manner) (new : Table T) (r : PipeRow) → Became replied failed two new q r answered (clean_write (at_node wanted 0 two) (at_node bytes [] two) manner node (pipe_in two q)) → Became replied failed t new p r answered (and_then after_clean (clean_write (at_node wanted 0 t) (at_node bytes [] t) manner node))
     became-write manner new r later =
         let same : clean_write (at_node wanted 0 two) (at_node bytes [] two) manner node (pipe_in two q) ≡ clean_write (at_node wanted 0 t) (at_node bytes [] t) manner node after_clean.pipe =
-            write-same (at_node wanted 0 t) (at_node wanted 0 two) (at_node bytes [] t) (at_node bytes [] two) manner node (pipe_in two q) (same_readers_still wanted 0) (same_writers_still bytes []) (same_own bytes []) ∙ ap (clean_write (at_node wanted 0 t) (at_node bytes [] t) manner node) cleaned.pipe in
+        write-same (at_node wanted 0 t) (at_node wanted 0 two) (at_node bytes [] t) (at_node bytes [] two) manner node (pipe_in two q) (same_readers_still wanted 0) (same_writers_still bytes []) (same_own bytes []) ∙ ap (clean_write (at_node wanted 0 t) (at_node bytes [] t) manner node) cleaned.pipe in
         became-then t two new p q r answered after_clean (clean_write (at_node wanted 0 t) (at_node bytes [] t) manner node after_clean.pipe) cleaned (rw same at later)
 
   -- those who can be served are, after whatever was done with the pipe
@@ -449,11 +449,11 @@ module _ {T : Type 0} (replied : T → ℕ → List ℕ → T) (failed : T → E
   became-settled wanted bytes t two new p q r answered first done apart later =
       let in_answered : (who : ℕ) → Contains (mapped (λ a. a.0) first.answers) who → IsIn two answered who = λ who at. rw done.gave.nodes (Contains-append_right (nodes_of t answered) (mapped (λ a. a.0) first.answers) who at) in
       let same : settled wanted bytes two q ≡ settle (at_node wanted 0 t) (at_node bytes [] t) first.pipe =
-          settle-same (at_node wanted 0 t) (at_node wanted 0 two) (at_node bytes [] t) (at_node bytes [] two) (pipe_in two q)
-            (λ who at. at_node-absent wanted 0 t two first.answers who done.gave.gave (λ answer. done.of.apart_readers (apart answered q.readers who (in_answered who answer) at)))
-            (λ who at. at_node-absent bytes [] t two first.answers who done.gave.gave (λ answer. done.of.apart_writers (apart answered q.writers who (in_answered who answer) at)))
-            q.bytes
-          ∙ ap (settle (at_node wanted 0 t) (at_node bytes [] t)) done.pipe in
+      settle-same (at_node wanted 0 t) (at_node wanted 0 two) (at_node bytes [] t) (at_node bytes [] two) (pipe_in two q)
+      (λ who at. at_node-absent wanted 0 t two first.answers who done.gave.gave (λ answer. done.of.apart_readers (apart answered q.readers who (in_answered who answer) at)))
+      (λ who at. at_node-absent bytes [] t two first.answers who done.gave.gave (λ answer. done.of.apart_writers (apart answered q.writers who (in_answered who answer) at)))
+      q.bytes
+      ∙ ap (settle (at_node wanted 0 t) (at_node bytes [] t)) done.pipe in
       became-then t two new p q r answered first (settle (at_node wanted 0 t) (at_node bytes [] t) first.pipe) done (rw same at later)
 
   -- what follows is done with the pipe as it is then
@@ -489,3 +489,14 @@ list-unmade lists list none = same_map _ _ (λ other. elim (eqb_tells other list
   | inl same ↦ rw same.1 (get-remove_same (map.insert lists list []) list ∙ sym none)
   | inr differs ↦ get-remove_other (map.insert lists list []) list other differs.1 ∙ get-insert_other lists list [] other differs.1
 ])
+
+-- a pipe's lists are there whichever nodes stand in a list
+pub pipe-with_nodes : {T : Type 0} (t : Table T) (p : PipeRow) (answered list : ℕ) (nodes : List ℕ) → IsPipeOf t p answered → IsPipeOf (with_nodes t list nodes) p answered
+pipe-with_nodes t p answered list nodes pipe = record {
+  readers = (kept_there t.lists list nodes p.readers pipe.readers).1;
+  writers = (kept_there t.lists list nodes p.writers pipe.writers).1;
+  into = (kept_there t.lists list nodes answered pipe.into).1;
+  two = pipe.two;
+  apart_readers = pipe.apart_readers;
+  apart_writers = pipe.apart_writers;
+}

@@ -1,13 +1,13 @@
 -- A list of nodes of which some leave.
-use Rattle.std.proofs.Common.{Bool, true, Option, ◌==◌, nat_lt, below_more, ◌≡◌, inl, inr, ℕ, zero, suc, ◌+◌, ◌<◌, ◌≤◌, false, nat_eq, List, [], ◌∷◌, ◌++◌, length, get_or, Contains, Some, None, is_some, unwrap_or, slice_get, refl, sym, ap, ◌∙◌, arith}
+use Rattle.std.proofs.Common.{Bool, true, Option, below_more, ◌≡◌, inl, inr, ℕ, zero, suc, ◌+◌, ◌<◌, false, nat_eq, List, [], ◌∷◌, length, get_or, Contains, Some, None, is_some, unwrap_or, slice_get, refl, sym, ap, ◌∙◌, arith}
 use Rattle.std.specs.Prelude.{filter, not, if◌then◌else◌}
-use Rattle.std.specs.List.{IsDistinct, AllByRecursion}
+use Rattle.std.specs.List.{IsDistinct}
 use Rattle.std.specs.FinMap as map
 use Rattle.std.specs.Ordering.{nat_cmp}
 use Rattle.std.proofs.lemmas.Bool.Decides.{eqb_tells, nat_tests}
-use Rattle.std.proofs.lemmas.Option.{slice_get_within, get_or_from_slice_get}
-use Rattle.qx_lists.specs.Table.{Table, ContainsList, nodes_of, with_nodes, without, next_after}
-use Rattle.qx_lists.proofs.ListLemmas.{contains_cases, contains_first, contains_later}
+use Rattle.std.proofs.lemmas.Option.{get_or_from_slice_get}
+use Rattle.qx_lists.specs.Table.{Table, ContainsList, nodes_of, with_nodes, without}
+use Rattle.qx_lists.proofs.ListLemmas.{contains_first, contains_later}
 use Rattle.qx_lists.proofs.WalkLemmas.{without-absent}
 use Rattle.qx_lists.proofs.MapLemmas.{insert-there, get-insert_same, get-insert_other, same_map}
 

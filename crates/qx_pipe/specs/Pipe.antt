@@ -1,12 +1,11 @@
 -- A pipe over a table: its waiting readers and writers are two lists of it.
-use Rattle.std.specs.Prelude.{Bool, true, false, None, ◌≡◌, ◌≢◌, ℕ, ◌+◌, ◌<◌, ◌==◌, List, [], ◌∷◌, ◌++◌, length, map as mapped, Option, Result, Ok, Err, option_map, unwrap_or, if◌then◌else◌}
+use Rattle.std.specs.Prelude.{Bool, true, false, None, ◌≡◌, ◌≢◌, ℕ, ◌+◌, ◌<◌, ◌==◌, List, [], ◌∷◌, ◌++◌, length, map as mapped, Result, Ok, Err, option_map, unwrap_or, if◌then◌else◌}
 use Rattle.std.specs.FinMap as map
 use Rattle.qx_types.specs.declared.errno.Errno.{Errno}
 use Rattle.std.specs.Borrow.{Bor}
 use Rattle.qx_lists.specs.Table.{Table, ContainsList, nodes_of, with_nodes, without}
 use Rattle.qx_types.specs.declared.outcome.Answer.{Answer}
 use Rattle.qx_types.specs.declared.outcome.Answer.TheVariants.{Reply, Failed}
-use Rattle.qx_types.specs.declared.limits.TheConstants.Limits.{PIPE}
 use Rattle.qx_pipe.specs.declared.leaving.Leaving.{Leaving}
 use Rattle.qx_pipe.specs.declared.leaving.Leaving.TheVariants.{Gone, Node, Block, All}
 use Rattle.qx_machine.specs.Pipes.{After, Pipe, first_answered, settle}

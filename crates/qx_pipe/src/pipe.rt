@@ -76,7 +76,13 @@ impl Pipe {
     }
 
     // A reader gets so many of the first bytes that stand.
-    fn pass_bytes<T: Waiter>(&mut self, table: &mut Table<T>, reader: usize, answered: usize, count: usize)
+    fn pass_bytes<T: Waiter>(
+        &mut self,
+        table: &mut Table<T>,
+        reader: usize,
+        answered: usize,
+        count: usize,
+    )
         requires waits { IsIn table.old self.old.readers reader }
         requires answered { ContainsList table.old answered }
         requires apart { answered ≢ self.old.readers }
@@ -86,7 +92,13 @@ impl Pipe {
     {
         let mut bytes = [0; Limits::PIPE];
         self.bytes.read_into(&mut bytes[..count]);
-        pass(table, self.readers, reader, answered, Ok((count as u64, &bytes[..count])));
+        pass(
+            table,
+            self.readers,
+            reader,
+            answered,
+            Ok((count as u64, &bytes[..count])),
+        );
     }
 
     // Bytes that fit go in last.
@@ -109,7 +121,13 @@ impl Pipe {
         let bytes = table.value(writer).bytes();
         let count = bytes.len();
         self.append(bytes);
-        pass(table, self.writers, writer, answered, Ok((count as u64, &[])));
+        pass(
+            table,
+            self.writers,
+            writer,
+            answered,
+            Ok((count as u64, &[])),
+        );
     }
 
     /// Answers those who wait, as long as the first reader or the first writer can be served.
@@ -168,7 +186,13 @@ impl Pipe {
     }
 
     // A message that does not wait is answered.
-    fn answer_alone<T: Waiter>(&self, table: &mut Table<T>, node: usize, answered: usize, answer: Result<(u64, &[u8]), Errno>)
+    fn answer_alone<T: Waiter>(
+        &self,
+        table: &mut Table<T>,
+        node: usize,
+        answered: usize,
+        answer: Result<(u64, &[u8]), Errno>,
+    )
         requires pipe { IsPipeOf table.old self.now answered }
         requires free { IsFree table.old node }
         requires short { ForOk answer (λ reply. length reply.1.now ≤ TRANSFER) }
@@ -196,7 +220,13 @@ impl Pipe {
     }
 
     // A reader gets so many of the first bytes that stand, and others may be served then.
-    fn read_now<T: Waiter>(&mut self, table: &mut Table<T>, reader: usize, answered: usize, count: usize)
+    fn read_now<T: Waiter>(
+        &mut self,
+        table: &mut Table<T>,
+        reader: usize,
+        answered: usize,
+        count: usize,
+    )
         requires pipe { IsPipeOf table.old self.old answered }
         requires free { IsFree table.old reader }
         requires count { count ≤ length self.old.bytes }
@@ -208,7 +238,13 @@ impl Pipe {
     }
 
     // A free reader gets so many of the first bytes that stand.
-    fn hand_bytes<T: Waiter>(&mut self, table: &mut Table<T>, reader: usize, answered: usize, count: usize)
+    fn hand_bytes<T: Waiter>(
+        &mut self,
+        table: &mut Table<T>,
+        reader: usize,
+        answered: usize,
+        count: usize,
+    )
         requires free { IsFree table.old reader }
         requires answered { ContainsList table.old answered }
         requires count { count ≤ length self.old.bytes }
@@ -236,7 +272,13 @@ impl Pipe {
     }
 
     // A READ, once the pipe is clean.
-    fn read_clean<T: Waiter>(&mut self, table: &mut Table<T>, reader: usize, manner: Manner, answered: usize)
+    fn read_clean<T: Waiter>(
+        &mut self,
+        table: &mut Table<T>,
+        reader: usize,
+        manner: Manner,
+        answered: usize,
+    )
         requires pipe { IsPipeOf table.old self.old answered }
         requires free { IsFree table.old reader }
         ensures { Became T.replied T.failed table.old table.new self.old self.new answered (machine.clean_read (at_node T.wanted 0 table.old) (at_node T.bytes [] table.old) manner reader (pipe_in table.old self.old)) }
@@ -259,7 +301,13 @@ impl Pipe {
     }
 
     // A WRITE, once the pipe is clean.
-    fn write_clean<T: Waiter>(&mut self, table: &mut Table<T>, writer: usize, manner: Manner, answered: usize)
+    fn write_clean<T: Waiter>(
+        &mut self,
+        table: &mut Table<T>,
+        writer: usize,
+        manner: Manner,
+        answered: usize,
+    )
         requires pipe { IsPipeOf table.old self.old answered }
         requires free { IsFree table.old writer }
         ensures { Became T.replied T.failed table.old table.new self.old self.new answered (machine.clean_write (at_node T.wanted 0 table.old) (at_node T.bytes [] table.old) manner writer (pipe_in table.old self.old)) }
@@ -292,7 +340,13 @@ impl Pipe {
     }
 
     /// A READ of a message that stands in no list: cleans the pipe, and then the message is answered or waits.
-    pub fn read<T: Waiter>(&mut self, table: &mut Table<T>, reader: usize, manner: Manner, answered: usize)
+    pub fn read<T: Waiter>(
+        &mut self,
+        table: &mut Table<T>,
+        reader: usize,
+        manner: Manner,
+        answered: usize,
+    )
         requires pipe { IsPipeOf table.old self.old answered }
         requires free { IsFree table.old reader }
         ensures { Became T.replied T.failed table.old table.new self.old self.new answered (machine.read (at_node T.wanted 0 table.old) (at_node T.bytes [] table.old) (at_node T.gone false table.old) manner reader (pipe_in table.old self.old)) }
@@ -303,7 +357,13 @@ impl Pipe {
     }
 
     /// A WRITE of a message that stands in no list: cleans the pipe, and then the message is answered or waits.
-    pub fn write<T: Waiter>(&mut self, table: &mut Table<T>, writer: usize, manner: Manner, answered: usize)
+    pub fn write<T: Waiter>(
+        &mut self,
+        table: &mut Table<T>,
+        writer: usize,
+        manner: Manner,
+        answered: usize,
+    )
         requires pipe { IsPipeOf table.old self.old answered }
         requires free { IsFree table.old writer }
         ensures { Became T.replied T.failed table.old table.new self.old self.new answered (machine.write (at_node T.wanted 0 table.old) (at_node T.bytes [] table.old) (at_node T.gone false table.old) manner writer (pipe_in table.old self.old)) }

@@ -1,7 +1,7 @@
 use Rattle.std.proofs.Common.{ap, ◌∙◌, is_some}
 use Rattle.std.specs.FinMap as map
-use Rattle.qx_lists.specs.Table.{nodes_of, with_nodes, without}
-use Rattle.std.proofs.Common.{List, ◌++◌, ◌∷◌, []}
+use Rattle.qx_lists.specs.Table.{nodes_of, with_nodes}
+use Rattle.std.proofs.Common.{◌++◌, ◌∷◌, []}
 use Rattle.qx_lists.proofs.TableFacts.{kept_there}
 use Rattle.qx_pipe.proofs.answers.pass.Goals as goal
 use Rattle.qx_pipe.proofs.TableLemmas.{passed-is}

@@ -1,4 +1,4 @@
-use Rattle.std.proofs.Common.{◌≡◌, ◌+◌, ℕ, Bool, true, Contains, List, [], Some, None, length, slice_get, ap, refl, sym, ◌∙◌, arith}
+use Rattle.std.proofs.Common.{◌≡◌, true, [], ap, refl, sym, ◌∙◌, arith}
 use Rattle.std.specs.Prelude.{filter}
 use Rattle.qx_lists.specs.Table.{Table, nodes_of, with_nodes, without}
 use Rattle.qx_lists.proofs.ListLemmas.{none_first}
@@ -41,5 +41,5 @@ pub returns : goal.returns
 returns g c =
     let nobody : filter (leaves g.T.Waiter.block g.T.Waiter.gone c.gone.table Gone) (nodes_of c.gone.table c.args.list) ≡ [] = none_first _ (sym c.first_leaving.ensures ∙ c.in_default.is) in
     let stay : staying (leaves g.T.Waiter.block g.T.Waiter.gone c.args.table.now Gone) (nodes_of c.gone.table c.args.list) ≡ nodes_of c.gone.table c.args.list =
-        ap (λ (t : Table g.row.T.Denot). staying (leaves g.T.Waiter.block g.T.Waiter.gone t Gone) (nodes_of c.gone.table c.args.list)) (sym c.gone.invariant.is) ∙ all-stay _ _ nobody in
+    ap (λ (t : Table g.row.T.Denot). staying (leaves g.T.Waiter.block g.T.Waiter.gone t Gone) (nodes_of c.gone.table c.args.list)) (sym c.gone.invariant.is) ∙ all-stay _ _ nobody in
     c.gone.invariant.is ∙ ap (λ xs. with_nodes c.args.table.now c.args.list xs) (sym stay ∙ c.gone.invariant.kept)

@@ -1,4 +1,4 @@
-use Rattle.std.proofs.Common.{◌≡◌, ◌+◌, Some, Bool, false, true, slice_get, add-one, arith, sym, ap, ◌∙◌}
+use Rattle.std.proofs.Common.{◌≡◌, ◌+◌, Some, slice_get, add-one, arith, sym, ap, ◌∙◌}
 use Rattle.qx_lists.specs.Table.{nodes_of}
 use Rattle.qx_lists.proofs.WalkLemmas.{contains-index, next_after-index, nodes_from-smaller, past_the_end}
 use Rattle.qx_pipe.specs.Pipe.{leaves}

@@ -1,9 +1,5 @@
-use Rattle.std.proofs.Common.{ap, sym, ◌∙◌, is_some, ◌≡◌, false, ℕ, List}
-use Rattle.std.specs.Prelude.{filter, not}
-use Rattle.std.specs.FinMap as map
-use Rattle.qx_lists.specs.Table.{Table, ContainsList, nodes_of, with_nodes}
+use Rattle.std.proofs.Common.{ap}
 use Rattle.qx_lists.proofs.TableFacts.{kept_there}
-use Rattle.qx_pipe.specs.Pipe.{at_node}
 use Rattle.qx_pipe.proofs.pipe.Pipe.clean.Goals as goal
 use Rattle.qx_pipe.proofs.TableLemmas.{cleared-pipe, became-clean}
 

@@ -1,7 +1,6 @@
-use Rattle.std.proofs.Common.{◌≡◌, ◌∙◌, ℕ, List, [], None, ap, sym, refl}
+use Rattle.std.proofs.Common.{◌∙◌, [], ap, sym}
 use Rattle.std.specs.FinMap as map
-use Rattle.std.specs.Ordering.{nat_cmp}
-use Rattle.qx_lists.specs.Table.{Table, ContainsList, with_nodes}
+use Rattle.qx_lists.specs.Table.{Table, with_nodes}
 use Rattle.qx_lists.proofs.MapLemmas.{get-insert_same}
 use Rattle.qx_pipe.proofs.TableLemmas.{list-unmade, made-in, made-pipe}
 use Rattle.qx_pipe.proofs.pipe.Pipe.new.Goals as goal

@@ -1,6 +1,5 @@
-use Rattle.std.proofs.Common.{Contains, ap, sym, ◌∙◌, refl, length, option_map, unwrap_or, ℕ, ◌≡◌, ◌≤◌, arith}
+use Rattle.std.proofs.Common.{ap, sym, ◌∙◌, length, option_map, unwrap_or, ◌≡◌, arith}
 use Rattle.std.specs.Prelude.{min}
-use Rattle.qx_lists.specs.Table.{nodes_of}
 use Rattle.qx_lists.proofs.ListLemmas.{contains_slice_first}
 use Rattle.qx_pipe.specs.Pipe.{at_node}
 use Rattle.qx_pipe.proofs.pipe.Pipe.serve_reader.Goals as goal

@@ -1,7 +1,7 @@
-use Rattle.std.proofs.Common.{Contains, ap, sym, ◌∙◌, refl, length, option_map, unwrap_or, ℕ, ◌≡◌, ◌≤◌, ◌+◌, ◌++◌, [], List, take, arith}
+use Rattle.std.proofs.Common.{Contains, ap, sym, ◌∙◌, option_map, unwrap_or, ◌≡◌, []}
 use Rattle.qx_lists.specs.Table.{nodes_of}
 use Rattle.qx_lists.proofs.ListLemmas.{contains_slice_first}
-use Rattle.qx_pipe.specs.Pipe.{at_node, PipeRow}
+use Rattle.qx_pipe.specs.Pipe.{at_node}
 use Rattle.qx_pipe.proofs.pipe.Pipe.serve_writer.Goals as goal
 use Rattle.qx_pipe.proofs.TableLemmas.{turned-writer}
 

@@ -1,4 +1,3 @@
-use Rattle.std.proofs.Common.{ℕ}
 use Rattle.qx_pipe.specs.Pipe.{waiting}
 use Rattle.qx_pipe.proofs.TableLemmas.{Settling}
 use Rattle.qx_pipe.proofs.pipe.Pipe.settle.Given as goal

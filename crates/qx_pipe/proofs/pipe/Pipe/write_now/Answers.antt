@@ -1,4 +1,4 @@
-use Rattle.std.proofs.Common.{ap, refl, sym, ◌∙◌, ◌≡◌, List, [], length, unwrap_or, option_map}
+use Rattle.std.proofs.Common.{ap, refl, sym, ◌∙◌, ◌≡◌, [], unwrap_or, option_map}
 use Rattle.qx_pipe.specs.Pipe.{at_node}
 use Rattle.qx_pipe.proofs.pipe.Pipe.write_now.Goals as goal
 use Rattle.qx_pipe.proofs.TableLemmas.{became-handed, handed_over-pipe}
