@@ -10,4 +10,4 @@ pub invariant_of-result : goal.invariant_of-result
 invariant_of-result c =
     let there : ContainsList c.add_list.new.self c.in_ok-answered.answered = ap (λ (t : Table Call). is_some (map.get t.lists c.in_ok-answered.answered)) c.in_ok-answered.ensures.made ∙ ap is_some (get-insert_same c.new-table.result.lists c.in_ok-answered.answered []) in
     let made : IsPipeOf c.new.new.table c.in_ok-pipe.pipe c.in_ok-answered.answered = c.in_ok-pipe.ensures.of c.in_ok-answered.answered there in
-    rw c.in_default.ensures.ok (record { of = record { readers = made.readers; writers = made.writers; into = made.into; two = made.two; apart_readers = made.apart_readers; apart_writers = made.apart_writers } })
+    rw c.in_ok-reserve.ensures.ok (record { of = record { readers = made.readers; writers = made.writers; into = made.into; two = made.two; apart_readers = made.apart_readers; apart_writers = made.apart_writers } })
