@@ -22,7 +22,13 @@ fn calls_in_a_row(scene: &mut Scene) -> Result<bool, Fail> {
     scene.write(Call::new(2, 0, 1, 0), PLAIN)?;
     scene.read(Call::new(3, 63, 0, 0), PLAIN)?;
     scene.read(Call::new(4, 1, 0, 0), PLAIN)?;
-    scene.release(0, Sides { for_reading: false, for_writing: false });
+    scene.release(
+        0,
+        Sides {
+            for_reading: false,
+            for_writing: false,
+        },
+    );
     Ok(answers(scene, 4))
 }
 

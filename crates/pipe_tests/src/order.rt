@@ -85,7 +85,13 @@ fn a_freed_block_answers_its_messages_first(rt: HostRuntime) -> Result<(), Fail>
     scene.read(Call::new(1, 1, 0, 5), PLAIN)?;
     scene.read(Call::new(2, 1, 0, 6), PLAIN)?;
     scene.read(Call::new(3, 1, 0, 5), PLAIN)?;
-    scene.release(5, Sides { for_reading: true, for_writing: false });
+    scene.release(
+        5,
+        Sides {
+            for_reading: true,
+            for_writing: false,
+        },
+    );
     assert!(rt; takes(&mut scene, 1, Err(Errno::EBADF)) && takes(&mut scene, 3, Err(Errno::EBADF)));
     assert!(rt; takes(&mut scene, 2, Ok((0, None))) && scene.take().is_none());
     Ok(())
@@ -94,10 +100,34 @@ fn a_freed_block_answers_its_messages_first(rt: HostRuntime) -> Result<(), Fail>
 #[test]
 fn who_does_not_wait_is_told_why(rt: HostRuntime) -> Result<(), Fail> {
     let mut scene = Scene::new(rt.alloc(), 4)?;
-    scene.read(Call::new(1, 1, 0, 0), Manner { has_other_side: false, ..PLAIN })?;
-    scene.read(Call::new(2, 1, 0, 0), Manner { is_nonblock: true, ..PLAIN })?;
-    scene.read(Call::new(3, 1, 0, 0), Manner { is_asked: true, ..PLAIN })?;
-    scene.write(Call::new(4, 0, 0, 0), Manner { has_other_side: false, ..PLAIN })?;
+    scene.read(
+        Call::new(1, 1, 0, 0),
+        Manner {
+            has_other_side: false,
+            ..PLAIN
+        },
+    )?;
+    scene.read(
+        Call::new(2, 1, 0, 0),
+        Manner {
+            is_nonblock: true,
+            ..PLAIN
+        },
+    )?;
+    scene.read(
+        Call::new(3, 1, 0, 0),
+        Manner {
+            is_asked: true,
+            ..PLAIN
+        },
+    )?;
+    scene.write(
+        Call::new(4, 0, 0, 0),
+        Manner {
+            has_other_side: false,
+            ..PLAIN
+        },
+    )?;
     assert!(rt; takes(&mut scene, 1, Ok((0, None))) && takes(&mut scene, 2, Err(Errno::EAGAIN)));
     assert!(rt; takes(&mut scene, 3, Err(Errno::EINTR)) && takes(&mut scene, 4, Err(Errno::EPIPE)));
     Ok(())

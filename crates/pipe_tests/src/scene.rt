@@ -47,7 +47,8 @@ impl Scene {
     /// A WRITE of a new message, whose node this gives.
     pub fn write(&mut self, call: Call, manner: Manner) -> Result<usize, AllocFailed<Call>> {
         let node = self.table.new_node(call)?;
-        self.pipe.write(&mut self.table, node, manner, self.answered);
+        self.pipe
+            .write(&mut self.table, node, manner, self.answered);
         Ok(node)
     }
 
@@ -58,7 +59,8 @@ impl Scene {
 
     /// The freeing of a block.
     pub fn release(&mut self, block: usize, sides: Sides) {
-        self.pipe.release(&mut self.table, block, sides, self.answered);
+        self.pipe
+            .release(&mut self.table, block, sides, self.answered);
     }
 
     /// Takes the message that was answered first.

@@ -1,11 +1,10 @@
 -- Lists of nodes that differ: the place of a node among them, and how long the list is as a node comes or goes.
-use Rattle.std.proofs.Common.{Bool, true, Option, ◌==◌, nat_lt, below_more, ◌≡◌, inl, inr, ℕ, zero, suc, ◌+◌, ◌<◌, ◌≤◌, false, nat_eq, List, [], ◌∷◌, ◌++◌, length, get_or, Contains, Some, None, slice_get, refl, sym, arith, ap, subst, ◌-◌}
-use Rattle.std.specs.Prelude.{if◌then◌else◌}
-use Rattle.std.specs.List.{IsDistinct, AllByRecursion}
-use Rattle.std.proofs.lemmas.Bool.Decides.{eqb_tells, nat_tests}
+use Rattle.std.proofs.Common.{Bool, true, nat_lt, below_more, ◌≡◌, inl, inr, ℕ, zero, suc, ◌+◌, ◌<◌, ◌≤◌, false, nat_eq, List, [], ◌∷◌, ◌++◌, length, get_or, Contains, Some, None, slice_get, refl, arith, ap, subst, ◌-◌}
+use Rattle.std.specs.List.{IsDistinct}
+use Rattle.std.proofs.lemmas.Bool.Decides.{nat_tests}
 use Rattle.std.proofs.lemmas.Option.{slice_get_within, get_or_from_slice_get}
 use Rattle.std.proofs.lemmas.Bool.{cond_both}
-use Rattle.qx_lists.specs.Table.{without, put_before, next_after}
+use Rattle.qx_lists.specs.Table.{put_before}
 use Rattle.qx_lists.proofs.ListLemmas.{contains_cases, contains_first, contains_later}
 use Rattle.qx_lists.proofs.WalkLemmas.{differs_at}
 use Rattle.qx_machine.specs.Laws.{IsInOrder}

@@ -1,4 +1,4 @@
-use Rattle.std.proofs.Common.{◌≡◌, ◌∙◌, ℕ, List, [], ap, sym, is_some}
+use Rattle.std.proofs.Common.{◌∙◌, [], ap, is_some}
 use Rattle.std.specs.FinMap as map
 use Rattle.qx_lists.specs.Table.{Table, ContainsList}
 use Rattle.qx_lists.proofs.MapLemmas.{get-insert_same}

@@ -1,4 +1,3 @@
-use Rattle.std.proofs.Common.{◌≡◌, ℕ}
 use Rattle.qx_pipe.specs.Pipe.{IsPipeOf}
 use Rattle.qx_pipe.proofs.TableLemmas.{pipe-with_nodes}
 use Rattle.pipe_tests.proofs.scene.Scene.take.Goals as goal
