@@ -12,3 +12,5 @@ pub mod ShowsLemmas
 pub mod TableFacts
 -- values of nodes
 pub mod ValueLemmas
+-- walking a list from node to node
+pub mod WalkLemmas

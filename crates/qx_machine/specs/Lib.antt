@@ -12,6 +12,7 @@ pub mod Machine
 pub mod Mounting
 pub mod Parts
 pub mod Performing
+pub mod Pipes
 pub mod Processes
 pub mod Rows
 pub mod Runs

@@ -149,6 +149,24 @@ pub enum Access {
     Search,
 }
 
+/// How a READ or a WRITE of a pipe is done.
+#[derive(Clone, Copy, Debug, PartialEq, Eq)]
+pub struct Manner {
+    /// The pipe has an open control block for the other side: for writing at a READ, for reading at a WRITE.
+    pub has_other_side: bool,
+    /// The message's block is NONBLOCK.
+    pub is_nonblock: bool,
+    /// The call was asked to unblock.
+    pub is_asked: bool,
+}
+
+/// For which of its two sides a pipe has open control blocks.
+#[derive(Clone, Copy, Debug, PartialEq, Eq)]
+pub struct Sides {
+    pub for_reading: bool,
+    pub for_writing: bool,
+}
+
 /// An item of a line or of a worker, by the numbers of its user.
 #[derive(Clone, Copy, Debug, PartialEq, Eq)]
 pub enum OwnItem {

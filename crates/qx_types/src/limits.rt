@@ -38,6 +38,8 @@ impl Limits {
     pub const FILE: usize = 65_536;
     /// Bytes of all files of a user together.
     pub const FILES: usize = 1_048_576;
+    /// Bytes that stand in a pipe.
+    pub const PIPE: usize = 4096;
     /// The greatest offset, 2^63 - 1.
     pub const OFFSET: u64 = 9_223_372_036_854_775_807;
     /// Bytes of a message's body.

@@ -1,7 +1,8 @@
 use Rattle.std.proofs.Common.{◌≡◌, ◌≤◌, ◌-◌, ◌∙◌, Some, arith, length, slice_get, sym}
 use Rattle.std.proofs.lemmas.Bool.Decides.{nat_tests}
 use Rattle.qx_lines.specs.Line.{nodes_in, rank_at}
-use Rattle.qx_lines.proofs.NodeLemmas.{Passes-last, contains-index, into-last, past_the_end}
+use Rattle.qx_lists.proofs.WalkLemmas.{contains-index, past_the_end}
+use Rattle.qx_lines.proofs.NodeLemmas.{Passes-last, into-last}
 use Rattle.qx_lines.proofs.LineFacts.{in_rank_order, rank_at-value}
 use Rattle.qx_lines.proofs.Line.ends_below.Goals as goal
 

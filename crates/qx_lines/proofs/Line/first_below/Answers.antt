@@ -1,6 +1,7 @@
 use Rattle.std.proofs.Common.{◌≡◌, ◌+◌, Some, slice_get, add-one, arith, sym, ◌∙◌}
 use Rattle.qx_lines.specs.Line.{nodes_in, rank_at}
-use Rattle.qx_lines.proofs.NodeLemmas.{contains-index, next_after-index, Passes-more, put_before-index, into-last, nodes_from-smaller, past_the_end}
+use Rattle.qx_lists.proofs.WalkLemmas.{contains-index, next_after-index, nodes_from-smaller, past_the_end}
+use Rattle.qx_lines.proofs.NodeLemmas.{Passes-more, put_before-index, into-last}
 use Rattle.qx_lines.proofs.LineFacts.{rank_at-value}
 use Rattle.qx_lines.proofs.Line.first_below.Goals as goal
 

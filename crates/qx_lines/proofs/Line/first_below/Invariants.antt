@@ -1,6 +1,7 @@
 use Rattle.std.proofs.Common.{◌≡◌, ℕ, length, slice_get}
 use Rattle.qx_lines.specs.Line.{nodes_in, rank_at}
-use Rattle.qx_lines.proofs.NodeLemmas.{Passes, nodes_from}
+use Rattle.qx_lists.proofs.WalkLemmas.{nodes_from}
+use Rattle.qx_lines.proofs.NodeLemmas.{Passes}
 use Rattle.qx_lines.proofs.Line.first_below.Given as goal
 
 abbrev pub invariant-nodes : goal.invariant-nodes

@@ -1,6 +1,6 @@
 use Rattle.std.proofs.Common.{arith}
 use Rattle.qx_lines.specs.Line.{rank_at, nodes_in}
-use Rattle.qx_lines.proofs.NodeLemmas.{length-without}
+use Rattle.qx_lists.proofs.WalkLemmas.{length-without}
 use Rattle.qx_lines.proofs.LineFacts.{in_rank_order, nodes_of-with_nodes, IsLineOf-with_nodes, SameElsewhere-with_nodes, in_order_without}
 use Rattle.qx_lines.proofs.Line.remove.Goals as goal
 

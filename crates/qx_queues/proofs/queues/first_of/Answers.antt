@@ -1,7 +1,7 @@
 use Rattle.std.proofs.Common.{Some, sym, ◌∙◌, ap, option_map, unwrap_or}
 use Rattle.std.proofs.lemmas.Option.{slice_get-map}
 use Rattle.qx_lines.specs.Line.{nodes_in}
-use Rattle.qx_lines.proofs.NodeLemmas.{contains-index}
+use Rattle.qx_lists.proofs.WalkLemmas.{contains-index}
 use Rattle.qx_queues.specs.Kept.{entry_at, nobodys}
 use Rattle.qx_queues.proofs.queues.first_of.Goals as goal
 

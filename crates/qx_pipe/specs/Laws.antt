@@ -1,0 +1,53 @@
+-- What a reader of `settle` asks of it.
+use Rattle.std.specs.Prelude.{◌≡◌, ◌⊎◌, ℕ, ◌+◌, ◌<◌, List, [], ◌∷◌, ◌++◌, length, take, drop, map}
+use Rattle.qx_types.specs.declared.outcome.Answer.{Answer}
+use Rattle.qx_types.specs.declared.outcome.Answer.TheVariants.{Reply, Failed}
+use Rattle.qx_types.specs.declared.limits.TheConstants.Limits.{PIPE}
+use Rattle.qx_machine.specs.Pipes.{After, Pipe}
+
+-- the bytes that an answer carries
+abbrev pub bytes_in : Answer → List ℕ
+bytes_in (Reply status bytes) = bytes
+bytes_in (Failed error) = []
+
+-- nobody waits to write, or the first one's bytes do not fit
+abbrev pub NoneFits : {W : Type 0} → (W → List ℕ) → List ℕ → List W → Type 0
+NoneFits offered bytes [] = Unit {0}
+NoneFits offered bytes (writer ∷ writers) = PIPE < length bytes + length (offered writer)
+
+-- the third list holds the others' members, each once and in their order
+abbrev pub IsMerge : {W : Type 0} → List W → List W → List W → Type 0
+IsMerge xs ys [] = (xs ≡ []) × (ys ≡ [])
+IsMerge {W} xs ys (z ∷ zs) = ((rest : List W) × (xs ≡ z ∷ rest) × IsMerge rest ys zs) ⊎ ((rest : List W) × (ys ≡ z ∷ rest) × IsMerge xs rest zs)
+
+module _ {W : Type 0} where
+  -- the bytes that answers carry, in order
+  abbrev pub handed_out : List (W × Answer) → List ℕ
+  handed_out [] = []
+  handed_out (first ∷ rest) = bytes_in first.1 ++ handed_out rest
+
+  -- the bytes that writers have, in order
+  abbrev pub brought : (W → List ℕ) → List W → List ℕ
+  brought offered [] = []
+  brought offered (writer ∷ writers) = offered writer ++ brought offered writers
+
+  -- the first so many readers and the first so many writers were answered, each once, and the others wait on as they did. What readers got and what stands now is what stood and what these writers gave: no byte is lost, doubled or moved
+  pub record Conserves (offered : W → List ℕ) (p : Pipe W) (after : After W) : Type 0 where
+    pub read : ℕ
+    pub written : ℕ
+    pub readers : after.pipe.readers ≡ drop read p.readers
+    pub writers : after.pipe.writers ≡ drop written p.writers
+    pub whom : IsMerge (take read p.readers) (take written p.writers) (map (λ a. a.0) after.answers)
+    pub bytes : handed_out after.answers ++ after.pipe.bytes ≡ p.bytes ++ brought offered (take written p.writers)
+
+  -- no reader waits beside bytes, and no first writer whose bytes fit
+  abbrev pub IsSettled : (W → List ℕ) → Pipe W → Type 0
+  IsSettled offered p = ((p.bytes ≡ []) ⊎ (p.readers ≡ [])) × NoneFits offered p.bytes p.writers
+
+-- the same pipe, its waiting messages told in another way
+module _ {W V : Type 0} (tell : W → V) where
+  abbrev pub retold : Pipe W → Pipe V
+  retold p = record { bytes = p.bytes; readers = map tell p.readers; writers = map tell p.writers }
+
+  abbrev pub retold_after : After W → After V
+  retold_after after = record { pipe = retold after.pipe; answers = map (λ a. (tell a.0, a.1)) after.answers }
