@@ -1,6 +1,6 @@
 -- Pipes (C Library Reference: pipe, read, write, close; that nobody waits for an open, that a write is never taken in part, and how many
 -- bytes stand in a pipe is this profile). What waits in a pipe are messages, told by whatever stands for them.
-use Rattle.std.specs.Prelude.{Bool, ◌==◌, ◌&&◌, ◌||◌, not, true, filter, ◌≡◌, ℕ, ◌+◌, List, [], ◌∷◌, ◌++◌, length, take, drop, map, min, nat_le, if◌then◌else◌}
+use Rattle.std.specs.Prelude.{Bool, ◌==◌, ◌&&◌, ◌||◌, not, true, filter, ℕ, ◌+◌, List, [], ◌∷◌, ◌++◌, length, take, drop, map, min, nat_le, if◌then◌else◌}
 use Rattle.qx_types.specs.declared.errno.Errno.TheVariants.{EAGAIN, EBADF, EINTR, EPIPE}
 use Rattle.qx_types.specs.declared.limits.TheConstants.Limits.{PIPE}
 use Rattle.qx_types.specs.declared.outcome.Answer.{Answer}
