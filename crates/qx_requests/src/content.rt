@@ -16,9 +16,20 @@ pub fn encoded(alloc: Global, request: &Request, rest: &Path<'_>) -> Result<Mess
     requires sendable { IsTrue (can_send (content_of request.now rest.now)) }
     ensures bytes { IfOk result (λ bytes. bytes ≡ bytes_of (content_of request.now rest.now)) }
 {
+    if rest.is_empty() {
+        return spelled(alloc, &content_of(request, root()));
+    }
     let joined = rest.joined(alloc)?;
-    match content_of(request, Rest::new(joined.as_slice())) {
-        Content::Spelled(message) => encode(alloc, &message),
+    spelled(alloc, &content_of(request, Rest::new(joined.as_slice())))
+}
+
+/// The bytes of what is sent.
+fn spelled(alloc: Global, content: &Content<'_>) -> Result<MessageBytes, NoMemory>
+    requires sendable { IsTrue (can_send content.now) }
+    ensures bytes { IfOk result (λ bytes. bytes ≡ bytes_of content.now) }
+{
+    match content {
+        Content::Spelled(message) => encode(alloc, message),
         Content::Raw(bytes) => Ok(MessageBytes::from_slice(alloc, bytes.as_slice())?),
     }
 }

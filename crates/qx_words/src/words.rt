@@ -17,13 +17,20 @@ pub fn lines(alloc: Global, text: &[u8]) -> Result<Vec<&[u8]>, AllocError>
     text.split(|byte| *byte == b'\n').collect(alloc)
 }
 
+/// As many words as most lines have at the most: room for so many is made at once.
+const MOST_WORDS: usize = 8;
+
 /// The words of a line.
 pub fn words(alloc: Global, line: &[u8]) -> Result<Vec<&[u8]>, AllocError>
     ensures words { IfOk result (λ words. map (λ word. word.now) words.items ≡ words_of line.now) }
 {
-    line.split(|byte| *byte == b' ')
-        .filter(|word| !word.is_empty())
-        .collect(alloc)
+    let mut words = Vec::with_capacity(alloc, MOST_WORDS)?;
+    for word in line.split(|byte| *byte == b' ') {
+        if !word.is_empty() {
+            words.push(word)?;
+        }
+    }
+    Ok(words)
 }
 
 /// Whether there are only digits.
