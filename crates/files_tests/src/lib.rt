@@ -1,4 +1,4 @@
-//! Tests of inodes, open control blocks and the bytes of files through their public calls.
+//! Tests of inodes, open control blocks, names and the bytes of files through their public calls.
 #![tactic(auto)]
 
 #[cfg(test)]
@@ -6,7 +6,11 @@ mod bytes;
 #[cfg(test)]
 mod limits;
 #[cfg(test)]
+mod listing;
+#[cfg(test)]
 mod memory;
+#[cfg(test)]
+mod naming;
 #[cfg(test)]
 mod numbers;
 #[cfg(test)]

@@ -1,25 +1,18 @@
-//! A file has at most 65,536 bytes, and a user's files together 1,048,576.
+//! A file has at most 65,536 bytes, and a user's files together 1,048,576; a user has 1,024 inodes.
 
-use crate::user::{BOTH, goes_to, open_new};
-use qx_attr::Inodes;
-use qx_ram::Files;
+use crate::user::{Home, NEW};
 use qx_types::Errno;
-use std::alloc::{AllocError, Global};
+use std::alloc::AllocError;
 use std::test::Fail;
 
-/// Makes so many files as long as a file may be; whether each was.
-fn fills(
-    alloc: Global,
-    inodes: &mut Inodes,
-    files: &mut Files,
-    count: usize,
-) -> Result<bool, AllocError> {
-    for _ in 0..count {
-        let Ok(number) = open_new(alloc, inodes, files, BOTH)? else {
+/// Makes so many files as long as a file may be, named by one letter each; whether each was.
+fn fills(home: &mut Home, count: u8) -> Result<bool, AllocError> {
+    for letter in 0..count {
+        let Ok(number) = home.open(&[letter.wrapping_add(97)], NEW)? else {
             return Ok(false);
         };
-        let is_last = goes_to(inodes, files, number, 65_535);
-        if !is_last || files.write(inodes, number, 9, b"z")? != Ok(1) {
+        let is_last = home.goes_to(number, 65_535);
+        if !is_last || home.write(number, b"z")? != Ok(1) {
             return Ok(false);
         }
     }
@@ -27,44 +20,40 @@ fn fills(
 }
 
 /// Writes past the end of a file of the greatest length.
-fn ends_there(inodes: &mut Inodes, files: &mut Files) -> Result<bool, AllocError> {
+fn ends_there(home: &mut Home) -> Result<bool, AllocError> {
     Ok(
-        files.write(inodes, 1, 9, b"z")? == Err(Errno::EFBIG)
-            && files.write(inodes, 1, 9, b"")? == Ok(0)
-            && goes_to(inodes, files, 1, 65_535)
-            && files.write(inodes, 1, 9, b"zz")? == Err(Errno::EFBIG)
-            && files.size(1) == Some(65_536),
+        home.write(1, b"z")? == Err(Errno::EFBIG)
+            && home.write(1, b"")? == Ok(0)
+            && home.goes_to(1, 65_535)
+            && home.write(1, b"zz")? == Err(Errno::EFBIG)
+            && home.size(2) == Some(65_536),
     )
 }
 
 /// Writes one byte more than all files may have, before and after a file goes.
-fn is_full_until_a_file_goes(
-    alloc: Global,
-    inodes: &mut Inodes,
-    files: &mut Files,
-) -> Result<bool, AllocError> {
+fn is_full_until_a_file_goes(home: &mut Home) -> Result<bool, AllocError> {
     Ok(
-        open_new(alloc, inodes, files, BOTH)? == Ok(17)
-            && files.write(inodes, 17, 9, b"z")? == Err(Errno::ENOSPC)
-            && files.release(inodes, 3) == Ok(0)
-            && files.write(inodes, 17, 9, b"z")? == Ok(1),
+        home.open(b"z", NEW)? == Ok(17)
+            && home.write(17, b"z")? == Err(Errno::ENOSPC)
+            && home.unlink(b"c") == Ok(0)
+            && home.write(17, b"z")? == Err(Errno::ENOSPC)
+            && home.release(3) == Ok(0)
+            && home.write(17, b"z")? == Ok(1),
     )
 }
 
 #[test]
 fn a_byte_past_the_end_is_refused(rt: HostRuntime) -> Result<(), Fail> {
-    let mut inodes = Inodes::new(rt.alloc())?;
-    let mut files = Files::new(rt.alloc())?;
-    assert!(rt; fills(rt.alloc(), &mut inodes, &mut files, 1)?);
-    assert!(rt; ends_there(&mut inodes, &mut files)?);
+    let mut home = Home::new(rt.alloc())?;
+    assert!(rt; fills(&mut home, 1)?);
+    assert!(rt; ends_there(&mut home)?);
     Ok(())
 }
 
 #[test]
 fn a_user_has_a_mebibyte(rt: HostRuntime) -> Result<(), Fail> {
-    let mut inodes = Inodes::new(rt.alloc())?;
-    let mut files = Files::new(rt.alloc())?;
-    assert!(rt; fills(rt.alloc(), &mut inodes, &mut files, 16)?);
-    assert!(rt; is_full_until_a_file_goes(rt.alloc(), &mut inodes, &mut files)?);
+    let mut home = Home::new(rt.alloc())?;
+    assert!(rt; fills(&mut home, 16)?);
+    assert!(rt; is_full_until_a_file_goes(&mut home)?);
     Ok(())
 }

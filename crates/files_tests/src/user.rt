@@ -1,13 +1,21 @@
 //! A user's inodes and files, as the tests use them.
 
-use qx_attr::Inodes;
+ghost use Rattle.std.specs.Prelude.{◌≡◌, ◌≤◌, length};
+ghost use Rattle.qx_types.specs.declared.limits.TheConstants.Limits.{TRANSFER};
+
+use qx_attr::{Inodes, Reply, Status};
 use qx_machine::{Attribute, Kind};
 use qx_ram::Files;
-use qx_types::{Errno, OFlags, Whence};
+use qx_types::{Errno, OFlags, User, Whence};
+use qx_wire::Rest;
 use std::alloc::{AllocError, Global};
+use std::marker::Model;
 
 /// For reading and writing.
 pub const BOTH: OFlags = OFlags(3);
+
+/// For reading and writing what is made if it is missing.
+pub const NEW: OFlags = OFlags(7);
 
 /// For writing at the end.
 pub const AT_THE_END: OFlags = OFlags(34);
@@ -18,6 +26,21 @@ pub fn attribute(kind: Kind, links: u32) -> Attribute {
         kind,
         mode: 0o600,
         links,
+        owner: 1,
+        size: 0,
+        mtime: 5,
+        ctime: 5,
+    }
+}
+
+/// The inode of a mount's root.
+fn root() -> Attribute
+    ensures { result.links ≡ 1 }
+{
+    Attribute {
+        kind: Kind::Directory,
+        mode: 0o700,
+        links: 1,
         owner: 1,
         size: 0,
         mtime: 5,
@@ -37,35 +60,134 @@ pub fn open(
     }
 }
 
-/// Makes a file that has no name and opens it.
-pub fn open_new(
-    alloc: Global,
-    inodes: &mut Inodes,
-    files: &mut Files,
-    flags: OFlags,
-) -> Result<Result<u16, Errno>, AllocError> {
-    let inode = match inodes.new_inode(attribute(Kind::File, 0))? {
-        Ok(inode) => inode,
-        Err(errno) => return Ok(Err(errno)),
-    };
-    if files.size(inode).is_none() {
-        files.make(alloc, inode)?;
+/// A user's inodes and files, with a mount whose root is the inode 1.
+#[derive(Drop)]
+pub struct Home {
+    inodes: Inodes,
+    files: Files,
+}
+
+impl Model for Home {
+    ghost use Rattle.std.specs.Prelude.{⊤};
+    ghost use Rattle.qx_ram.specs.Fits.{Fits};
+
+    ghost Value = { ⊤ };
+
+    ghost view = { λ h. tt };
+
+    ghost invariant = { λ h. Fits h.inodes.inodes h.files };
+}
+
+impl Home {
+    /// No names yet.
+    pub fn new(alloc: Global) -> Result<Self, AllocError> {
+        let mut inodes = Inodes::new(alloc)?;
+        let mut files = Files::new(alloc)?;
+        files.add_root(1)?;
+        match inodes.new_inode(root())? {
+            Ok(_) => Ok(Home { inodes, files }),
+            Err(_) => Err(AllocError),
+        }
     }
-    open(inodes, inode, flags)
-}
 
-/// What a read gives, or its error.
-pub fn reads(
-    inodes: &mut Inodes,
-    files: &Files,
-    number: u16,
-    count: u32,
-    want: Result<&[u8], Errno>,
-) -> bool {
-    files.read(inodes, number, count) == want
-}
+    /// Opens a path as user 1 at moment 9; what is missing gets the mode 0600.
+    pub fn open(&mut self, path: &[u8], flags: OFlags) -> Result<Result<u16, Errno>, AllocError> {
+        self.open_as(1, path, flags)
+    }
 
-/// Whether a seek from the beginning succeeds.
-pub fn goes_to(inodes: &mut Inodes, files: &Files, number: u16, offset: i64) -> bool {
-    files.seek(inodes, number, Whence::Set, offset).is_ok()
+    /// Opens a path as a user.
+    pub fn open_as(
+        &mut self,
+        user: u8,
+        path: &[u8],
+        flags: OFlags,
+    ) -> Result<Result<u16, Errno>, AllocError> {
+        let rest = Rest::new(path);
+        self.files
+            .connect(&mut self.inodes, User(user), 1, &rest, flags, 0o600, 9)
+    }
+
+    /// Makes a directory of a mode as user 1.
+    pub fn mkdir(&mut self, path: &[u8], mode: u16) -> Result<Result<u64, Errno>, AllocError> {
+        let rest = Rest::new(path);
+        self.files
+            .mkdir(&mut self.inodes, User(1), 1, &rest, mode, 9)
+    }
+
+    /// Takes a name away as user 1.
+    pub fn unlink(&mut self, path: &[u8]) -> Result<u64, Errno> {
+        let rest = Rest::new(path);
+        self.files.unlink(&mut self.inodes, User(1), 1, &rest, 9)
+    }
+
+    /// The status of a path as user 1.
+    pub fn stat(&self, path: &[u8]) -> Result<Status, Errno> {
+        let rest = Rest::new(path);
+        self.files.stat(&self.inodes, User(1), 1, &rest)
+    }
+
+    /// The status of what is open.
+    pub fn fstat(&self, number: u16) -> Result<Status, Errno> {
+        self.files.fstat(&self.inodes, number)
+    }
+
+    /// Writes at a moment.
+    pub fn write_at(
+        &mut self,
+        number: u16,
+        moment: u64,
+        new: &[u8],
+    ) -> Result<Result<u64, Errno>, AllocError>
+        requires few { length new.now ≤ TRANSFER }
+    {
+        self.files.write(&mut self.inodes, number, moment, new)
+    }
+
+    /// Writes at moment 9.
+    pub fn write(&mut self, number: u16, new: &[u8]) -> Result<Result<u64, Errno>, AllocError>
+        requires few { length new.now ≤ TRANSFER }
+    {
+        self.write_at(number, 9, new)
+    }
+
+    /// Whether a read gives that, or that error.
+    pub fn reads(&mut self, number: u16, count: u32, want: Result<&[u8], Errno>) -> bool {
+        self.files.read(&mut self.inodes, number, count) == want
+    }
+
+    /// Moves an open control block.
+    pub fn seek(&mut self, number: u16, whence: Whence, by: i64) -> Result<u64, Errno> {
+        self.files.seek(&mut self.inodes, number, whence, by)
+    }
+
+    /// Whether a seek from the beginning succeeds.
+    pub fn goes_to(&mut self, number: u16, offset: i64) -> bool {
+        self.seek(number, Whence::Set, offset).is_ok()
+    }
+
+    /// Sets the mode of what is open.
+    pub fn chmod(&mut self, number: u16, mode: u16) -> Result<u64, Errno> {
+        self.files.chmod(&mut self.inodes, number, 9, mode)
+    }
+
+    /// Closes an open control block.
+    pub fn release(&mut self, number: u16) -> Result<u64, Errno> {
+        self.files.release(&mut self.inodes, number)
+    }
+
+    /// Lists the names behind one.
+    pub fn list(&self, number: u16, after: &[u8], reply: &mut Reply) -> Result<u64, Errno> {
+        reply.clear();
+        self.files.list(&self.inodes, number, after, reply)
+    }
+
+    /// How many bytes a file has.
+    pub fn size(&self, inode: u32) -> Option<usize> {
+        self.files.size(inode)
+    }
+
+    /// Whether an inode is there.
+    pub fn has(&self, inode: u32) -> bool {
+        self.inodes.attr(inode).is_some()
+    }
 }

@@ -2,14 +2,47 @@
 
 use all_memory::take_all_memory;
 use null_manager::{Blocks, Null};
+use qx_attr::Reply;
 use qx_machine::{Effect, Opened, Over, Target};
 use qx_resmgr::serve;
-use qx_types::{Coid, Errno, Manager, OFlags, Prio};
-use qx_wire::{BorrowedBytes, Message, Rest};
-use std::alloc::AllocError;
+use qx_types::{Coid, Errno, Manager, NoMemory, OFlags, Prio};
+use qx_wire::{BorrowedBytes, Message, Rest, in_ranges};
+use std::alloc::{AllocError, Global};
+use std::process::Abort;
 use std::test::Fail;
 
 const THREE: Coid = Coid(3);
+
+/// The manager at work: what is open, and the bytes of its reply.
+#[derive(Drop)]
+struct Bench {
+    blocks: Blocks,
+    reply: Reply,
+}
+
+impl Bench {
+    fn new(alloc: Global) -> Result<Bench, NoMemory> {
+        Ok(Bench {
+            blocks: Blocks::new(alloc)?,
+            reply: Reply::new(alloc)?,
+        })
+    }
+
+    /// The status, the number of bytes and the effect that a message comes to, or its error.
+    fn served(
+        &mut self,
+        rt: &impl Abort,
+        over: Over,
+        opened: Result<Opened, Errno>,
+        message: Message<'_>,
+    ) -> Result<Result<(u64, usize, Effect), Errno>, AllocError> {
+        assert!(rt; in_ranges(&message));
+        self.reply.clear();
+        let (blocks, reply) = (&mut self.blocks, &mut self.reply);
+        let given = serve::<Null, Blocks>(blocks, target(over), opened, message, 7, reply)?;
+        Ok(given.map(|done| (done.status, self.reply.as_slice().len(), done.effect)))
+    }
+}
 
 /// A message that came so to a mount whose root is the inode 5.
 fn target(over: Over) -> Target {
@@ -19,17 +52,6 @@ fn target(over: Over) -> Target {
         over,
         prio: Prio(10),
     }
-}
-
-/// The status, the number of bytes and the effect that a message comes to, or its error.
-fn served(
-    blocks: &mut Blocks,
-    over: Over,
-    opened: Result<Opened, Errno>,
-    message: Message<'_>,
-) -> Result<Result<(u64, usize, Effect), Errno>, AllocError> {
-    let given = serve::<Null, Blocks>(blocks, target(over), opened, message, 7)?;
-    Ok(given.map(|done| (done.status, done.bytes.len(), done.effect)))
 }
 
 /// An open of what a mount has behind its root.
@@ -43,71 +65,57 @@ fn open_message(rest: &[u8]) -> Message<'_> {
 
 #[test]
 fn what_is_written_is_gone(rt: HostRuntime) -> Result<(), Fail> {
-    let mut blocks = Blocks::new(rt.alloc())?;
+    let mut bench = Bench::new(rt.alloc())?;
     let nothing = Err(Errno::EINVAL);
     let opens = Effect::Opens {
         coid: THREE,
         block: 1,
     };
-    let given = served(&mut blocks, Over::New(THREE), nothing, open_message(b""))?;
+    let given = bench.served(&rt, Over::New(THREE), nothing, open_message(b""))?;
     assert!(rt; given == Ok((3, 0, opens)));
-    let open = blocks.opened(THREE, 1);
+    let open = bench.blocks.opened(THREE, 1);
+    let over = Over::Existing(THREE);
     let bytes = BorrowedBytes::new(b"abc");
-    let given = served(
-        &mut blocks,
-        Over::Existing(THREE),
-        open,
-        Message::Write { bytes },
-    )?;
+    let given = bench.served(&rt, over, open, Message::Write { bytes })?;
     assert!(rt; given == Ok((3, 0, Effect::Keeps)));
-    let given = served(
-        &mut blocks,
-        Over::Existing(THREE),
-        open,
-        Message::Read { count: 3 },
-    )?;
+    let given = bench.served(&rt, over, open, Message::Read { count: 3 })?;
     assert!(rt; given == Ok((0, 0, Effect::Keeps)));
-    let given = served(&mut blocks, Over::Existing(THREE), open, Message::Close)?;
+    let given = bench.served(&rt, over, open, Message::Close)?;
     assert!(rt; given == Ok((0, 0, Effect::Closes(THREE))));
-    assert!(rt; blocks.opened(THREE, 1) == Err(Errno::EBADF));
+    assert!(rt; bench.blocks.opened(THREE, 1) == Err(Errno::EBADF));
     Ok(())
 }
 
 #[test]
 fn a_left_out_function_is_judged_before_all_else(rt: HostRuntime) -> Result<(), Fail> {
-    let mut blocks = Blocks::new(rt.alloc())?;
+    let mut bench = Bench::new(rt.alloc())?;
     let nothing = Err(Errno::EBADF);
-    let given = served(&mut blocks, Over::Existing(THREE), nothing, Message::Fstat)?;
+    let over = Over::Existing(THREE);
+    let given = bench.served(&rt, over, nothing, Message::Fstat)?;
     assert!(rt; given == Err(Errno::ENOSYS));
-    let given = served(&mut blocks, Over::Existing(THREE), nothing, Message::Close)?;
+    let given = bench.served(&rt, over, nothing, Message::Close)?;
     assert!(rt; given == Err(Errno::EBADF));
-    let given = served(
-        &mut blocks,
-        Over::Existing(THREE),
-        nothing,
-        open_message(b""),
-    )?;
+    let given = bench.served(&rt, over, nothing, open_message(b""))?;
     assert!(rt; given == Err(Errno::EINVAL));
-    let given = served(
-        &mut blocks,
-        Over::New(THREE),
-        nothing,
-        open_message(b"name"),
-    )?;
+    let given = bench.served(&rt, Over::New(THREE), nothing, open_message(b"name"))?;
     assert!(rt; given == Err(Errno::ENOENT));
     Ok(())
 }
 
 #[test]
-fn an_open_without_memory_changes_nothing(rt: HostRuntime) -> Result<(), Fail> {
-    let mut blocks = Blocks::new(rt.alloc())?;
+fn without_memory_nothing_changes(rt: HostRuntime) -> Result<(), Fail> {
+    let mut bench = Bench::new(rt.alloc())?;
     let nothing = Err(Errno::EINVAL);
     let taken = take_all_memory(rt.alloc())?;
-    let refused = served(&mut blocks, Over::New(THREE), nothing, open_message(b"")).is_err();
+    let refused = bench
+        .served(&rt, Over::New(THREE), nothing, open_message(b""))
+        .is_err();
+    let judged = bench.served(&rt, Over::New(THREE), nothing, open_message(b"name"));
     drop(taken);
     assert!(rt; refused);
-    assert!(rt; blocks.opened(THREE, 1) == Err(Errno::EBADF));
-    let given = served(&mut blocks, Over::New(THREE), nothing, open_message(b""))?;
+    assert!(rt; judged? == Err(Errno::ENOENT));
+    assert!(rt; bench.blocks.opened(THREE, 1) == Err(Errno::EBADF));
+    let given = bench.served(&rt, Over::New(THREE), nothing, open_message(b""))?;
     assert!(rt; given.is_ok());
     Ok(())
 }

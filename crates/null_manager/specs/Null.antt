@@ -1,41 +1,41 @@
 -- The null manager: nothing is ever read, and what is written is gone. It works on its open control blocks, from 1.
-use Rattle.std.specs.Prelude.{ℕ, List, [], Option, Some, None, Result, Ok, length, nat_le, slice_set}
+use Rattle.std.specs.Prelude.{ℕ, ◌==◌, List, [], Option, Some, None, Result, Ok, length, nat_le, slice_set}
 use Rattle.qx_types.specs.declared.errno.Errno.{Errno}
 use Rattle.qx_types.specs.declared.errno.Errno.TheVariants.{EBADF, ENFILE, ENOENT}
 use Rattle.qx_types.specs.declared.limits.TheConstants.Limits.{BLOCKS}
+use Rattle.qx_types.specs.declared.flags.OFlags.{OFlags}
 use Rattle.qx_types.specs.declared.names.Coid.{Coid}
-use Rattle.qx_machine.specs.declared.rows.Block.{Block}
 use Rattle.qx_machine.specs.declared.rows.Effect.{Effect}
 use Rattle.qx_machine.specs.declared.rows.Effect.TheVariants.{Keeps, Opens, Closes}
 use Rattle.qx_machine.specs.declared.rows.NewOpen.{NewOpen}
+use Rattle.qx_machine.specs.declared.rows.Ocb.{Ocb}
 use Rattle.qx_machine.specs.declared.rows.Opened.{Opened}
 use Rattle.qx_machine.specs.Functions.{ConnectFunctions, Deed, IoFunctions, no_connect, no_io}
 use Rattle.qx_machine.specs.Judgements.{◌>>=◌, found, need}
-use Rattle.qx_machine.specs.Performing.{is_root}
 use Rattle.qx_machine.specs.Rows.{row_at, lowest_from, put_row}
 
 abbrev pub Blocks : Type 0
-Blocks = List (Option Block)
+Blocks = List (Option Ocb)
 
 -- what a connection has open
 abbrev pub opened_at : Blocks → Coid → ℕ → Result Opened Errno
 opened_at blocks coid number = do
   block ← found (row_at blocks number) EBADF
-  Ok (record { coid = coid; number = number; block = block })
+  Ok (record { coid = coid; number = number })
 
 -- a reply without bytes
 abbrev pub replied : ℕ → Blocks → Effect → Result (Deed Blocks) Errno
 replied status blocks effect = Ok (record { status = status; bytes = []; state = blocks; effect = effect })
 
 -- the mount's root alone is there (C Library Reference: open, ENOENT and ENFILE)
-abbrev pub open_deed : Blocks → NewOpen → List (List ℕ) → Result (Deed Blocks) Errno
-open_deed blocks over rest = do
-  there ← need (is_root rest) ENOENT
+abbrev pub open_deed : Blocks → NewOpen → OFlags → List (List ℕ) → Result (Deed Blocks) Errno
+open_deed blocks over flags rest = do
+  there ← need (length rest == 0) ENOENT
   free ← need (nat_le (lowest_from 1 blocks) BLOCKS) ENFILE
-  replied over.coid.0 (put_row blocks (lowest_from 1 blocks) (record { inode = over.root })) (Opens over.coid (lowest_from 1 blocks))
+  replied over.coid.0 (put_row blocks (lowest_from 1 blocks) (record { inode = over.root; flags = flags; offset = 0 })) (Opens over.coid (lowest_from 1 blocks))
 
 abbrev pub null_connect : ConnectFunctions Blocks
-null_connect = record no_connect { «open» = Some (λ blocks over flags mode rest moment. open_deed blocks over rest) }
+null_connect = record no_connect { «open» = Some (λ blocks over flags mode rest moment. open_deed blocks over flags rest) }
 
 abbrev pub null_io : IoFunctions Blocks
 null_io = record no_io {

@@ -1,7 +1,8 @@
 ghost use Rattle.null_manager.specs.Null.{null_connect, null_io};
 
-use crate::blocks::{Blocks, replied};
-use qx_machine::{Effect, NewOpen, Opened};
+use crate::blocks::Blocks;
+use qx_attr::Reply;
+use qx_machine::{NewOpen, Opened};
 use qx_resmgr::{Connect, Done, Io, no_function};
 use qx_types::{Errno, OFlags, Whence};
 use qx_wire::Rest;
@@ -16,13 +17,13 @@ impl Connect<Blocks> for Null {
     fn open(
         state: &mut Blocks,
         over: Result<NewOpen, Errno>,
-        _flags: OFlags,
+        flags: OFlags,
         _mode: u16,
         rest: &Rest<'_>,
         _moment: u64,
     ) -> Result<Result<Done, Errno>, AllocError> {
         match over {
-            Ok(over) => state.open(over, rest),
+            Ok(over) => state.open(over, flags, rest),
             Err(error) => Ok(Err(error)),
         }
     }
@@ -32,6 +33,7 @@ impl Connect<Blocks> for Null {
         _root: Result<u32, Errno>,
         _rest: &Rest<'_>,
         _moment: u64,
+        _reply: &mut Reply,
     ) -> Result<Done, Errno> {
         no_function()
     }
@@ -51,8 +53,8 @@ impl Connect<Blocks> for Null {
         _mode: u16,
         _rest: &Rest<'_>,
         _moment: u64,
-    ) -> Result<Done, Errno> {
-        no_function()
+    ) -> Result<Result<Done, Errno>, AllocError> {
+        Ok(no_function())
     }
 }
 
@@ -64,9 +66,10 @@ impl Io<Blocks> for Null {
         opened: Result<Opened, Errno>,
         _count: u32,
         _moment: u64,
+        _reply: &mut Reply,
     ) -> Result<Done, Errno> {
         opened?;
-        Ok(replied(0, Effect::Keeps))
+        Ok(Done::keeps(0))
     }
 
     fn write(
@@ -74,9 +77,8 @@ impl Io<Blocks> for Null {
         opened: Result<Opened, Errno>,
         bytes: &[u8],
         _moment: u64,
-    ) -> Result<Done, Errno> {
-        opened?;
-        Ok(replied(bytes.len() as u64, Effect::Keeps))
+    ) -> Result<Result<Done, Errno>, AllocError> {
+        Ok(opened.map(|_| Done::keeps(bytes.len() as u64)))
     }
 
     fn close(
@@ -101,6 +103,7 @@ impl Io<Blocks> for Null {
         _state: &mut Blocks,
         _opened: Result<Opened, Errno>,
         _moment: u64,
+        _reply: &mut Reply,
     ) -> Result<Done, Errno> {
         no_function()
     }
@@ -110,6 +113,7 @@ impl Io<Blocks> for Null {
         _opened: Result<Opened, Errno>,
         _after: &[u8],
         _moment: u64,
+        _reply: &mut Reply,
     ) -> Result<Done, Errno> {
         no_function()
     }

@@ -2,15 +2,17 @@
 #![tactic(auto)]
 
 mod rows;
+mod serving;
 
-use plain_messages::{Kind, Reading, read, write};
+use plain_files::Files;
+use plain_messages::{Reading, read, write};
 use plain_paths::{Mount, Mounts, judge_form, text_of};
 use qx_types::{
-    Answer, Bytes, Coid, Config, Errno, Item, Manager, MessageBytes, OFlags, Outcome, Prio, Proc,
-    Request, Step, Thread, User, Worker,
+    Answer, Bytes, Coid, Config, Errno, Item, Manager, Outcome, Prio, Proc, Request, Step, Thread,
+    User, Worker,
 };
 pub use rows::{Over, Post, Row, Sent, State};
-use rows::{Block, Connection, Queued, first_out, line_up};
+use rows::{Connection, Queued, first_out, line_up};
 use std::alloc::{AllocError, Global};
 
 /// All rows of all users, one vector for each kind. Server connections have none: nothing shows them, and no user has
@@ -23,7 +25,7 @@ pub struct Plain {
     threads: Vec<Row>,
     connections: Vec<Connection>,
     mounts: Mounts,
-    blocks: Vec<Block>,
+    files: Files,
     ram: Vec<Queued>,
     pipe: Vec<Queued>,
     hands: Vec<(Worker, Post)>,
@@ -48,6 +50,10 @@ struct Target<'a> {
 impl Plain {
     /// The system at boot.
     pub fn new(alloc: Global, config: Config) -> Result<Plain, AllocError> {
+        let mut files = Files::new(alloc);
+        for (number, _) in (1..=16).zip(config.names()) {
+            files.add_root(User(number), 1)?;
+        }
         Ok(Plain {
             alloc,
             mounts: Mounts::boot(alloc, &config)?,
@@ -55,7 +61,7 @@ impl Plain {
             processes: Vec::new(alloc),
             threads: Vec::new(alloc),
             connections: Vec::new(alloc),
-            blocks: Vec::new(alloc),
+            files,
             ram: Vec::new(alloc),
             pipe: Vec::new(alloc),
             hands: Vec::new(alloc),
@@ -80,7 +86,7 @@ impl Plain {
                 manager,
             } => self.mount(*thread, path.as_slice(), *manager),
             Step::Receive { worker, manager } => self.receive(*worker, *manager),
-            Step::Perform { worker, .. } => self.perform(*worker),
+            Step::Perform { worker, moment } => self.perform(*worker, *moment),
         }
     }
 
@@ -226,14 +232,22 @@ impl Plain {
         if let Err(error) = judge_form(path) {
             return Ok(Outcome::Refused(error));
         }
+        let user = thread.proc.user;
         let text = text_of(self.alloc, path)?;
-        match self
-            .mounts
-            .mount(&self.config, thread.proc.user, text, manager)?
-        {
-            Ok(()) => Ok(Outcome::Done),
+        match self.new_root(user, text.as_slice()) {
+            Ok(root) => {
+                self.files.add_root(user, root)?;
+                self.mounts.add(user, text, manager, root)?;
+                Ok(Outcome::Done)
+            }
             Err(error) => Ok(Outcome::Refused(error)),
         }
+    }
+
+    /// The inode for the root of a new mount at the path of a text.
+    fn new_root(&self, user: User, text: &[u8]) -> Result<u16, Errno> {
+        self.mounts.judge_new(&self.config, user, text)?;
+        self.files.free_inode(user)
     }
 
     fn is_ready(&self, thread: Thread) -> bool {
@@ -322,7 +336,7 @@ impl Plain {
     }
 
     /// A pulse to unblock a thread changes nothing: no call waits at a manager.
-    fn perform(&mut self, worker: Worker) -> Result<Outcome, AllocError> {
+    fn perform(&mut self, worker: Worker, moment: u64) -> Result<Outcome, AllocError> {
         if !self.is_worker(worker) {
             return Ok(Outcome::WrongState);
         }
@@ -331,16 +345,16 @@ impl Plain {
         };
         self.hands.retain(|(holder, _)| *holder != worker);
         if let Post::Message(thread) = post {
-            self.serve(thread)?;
+            self.serve(thread, moment)?;
         }
         Ok(Outcome::Handled)
     }
 
     /// Answers the message of a thread. A pulse that would unblock the thread from it is not needed any more.
-    fn serve(&mut self, thread: Thread) -> Result<(), AllocError> {
+    fn serve(&mut self, thread: Thread, moment: u64) -> Result<(), AllocError> {
         let calls = self.row(thread).map_or(0, |row| row.calls);
         if let Some(sent) = self.withdraw(thread) {
-            let answer = self.answer(thread.proc, &sent)?;
+            let answer = self.answer(thread.proc, &sent, moment)?;
             self.drop_post(sent.manager, Post::Unblock(thread, calls));
             self.end_call(thread, sent.over, answer);
         }
@@ -355,99 +369,6 @@ impl Plain {
         self.set_state(thread, State::Answered(answer));
     }
 
-    /// What a message comes to. The RAM manager has four functions, and the pipe manager none.
-    fn answer(&mut self, proc: Proc, sent: &Sent) -> Result<Answer, AllocError> {
-        let kind = match read(sent.bytes.as_slice()) {
-            Reading::Malformed => return Ok(Answer::Failed(Errno::EINVAL)),
-            Reading::Unknown => return Ok(Answer::Failed(Errno::ENOSYS)),
-            Reading::Known(kind) => kind,
-        };
-        match (sent.manager, kind) {
-            (Manager::Ram, Kind::Open) => self.open(proc, sent),
-            (Manager::Ram, Kind::Stat) => Ok(self.stat(proc.user, sent)),
-            (Manager::Ram, Kind::Close) => Ok(self.close(proc, sent)),
-            (Manager::Ram, Kind::Fstat) => Ok(self.fstat(proc, sent)),
-            _ => Ok(Answer::Failed(Errno::ENOSYS)),
-        }
-    }
-
-    /// Header, flags and mode of an open have 12 bytes, behind which a path's rest stands.
-    fn open(&mut self, proc: Proc, sent: &Sent) -> Result<Answer, AllocError> {
-        let (Over::New(coid), Some(inode)) = (sent.over, sent.root) else {
-            return Ok(Answer::Failed(Errno::EINVAL));
-        };
-        if sent.bytes.len() > 12 {
-            return Ok(Answer::Failed(Errno::ENOENT));
-        }
-        let Some(number) = self.free_block(proc.user) else {
-            return Ok(Answer::Failed(Errno::ENFILE));
-        };
-        self.blocks.push(Block {
-            user: proc.user,
-            number,
-            inode,
-        })?;
-        self.set_block(proc, coid, number);
-        Ok(Answer::Reply(u64::from(coid.0), MessageBytes::inline(self.alloc, &[])))
-    }
-
-    /// A path's rest stands behind the header's 8 bytes.
-    fn stat(&self, user: User, sent: &Sent) -> Answer {
-        let (Over::Side, Some(inode)) = (sent.over, sent.root) else {
-            return Answer::Failed(Errno::EINVAL);
-        };
-        if sent.bytes.len() > 8 {
-            return Answer::Failed(Errno::ENOENT);
-        }
-        self.status(user, inode)
-    }
-
-    fn close(&mut self, proc: Proc, sent: &Sent) -> Answer {
-        match self.opened(proc, sent) {
-            Err(error) => Answer::Failed(error),
-            Ok((coid, block)) => {
-                self.detach(proc, coid);
-                self.blocks.retain(|other| other.user != block.user
-                    || other.number != block.number);
-                Answer::Reply(0, MessageBytes::inline(self.alloc, &[]))
-            }
-        }
-    }
-
-    fn fstat(&self, proc: Proc, sent: &Sent) -> Answer {
-        match self.opened(proc, sent) {
-            Err(error) => Answer::Failed(error),
-            Ok((_, block)) => self.status(block.user, block.inode),
-        }
-    }
-
-    /// The connection of a message and its block. It may have gone since the call, or its open may still wait.
-    fn opened(&self, proc: Proc, sent: &Sent) -> Result<(Coid, Block), Errno> {
-        let Over::Existing(coid) = sent.over else {
-            return Err(Errno::EINVAL);
-        };
-        match self.connection(proc, coid) {
-            Some(row) if row.manager == sent.manager => match self.block(proc.user, row.block) {
-                Some(block) => Ok((coid, *block)),
-                None => Err(Errno::EBADF),
-            },
-            _ => Err(Errno::EBADF),
-        }
-    }
-
-    fn block(&self, user: User, number: Option<u16>) -> Option<&Block> {
-        self.blocks
-            .iter()
-            .find(|block| block.user == user && Some(block.number) == number)
-    }
-
-    fn status(&self, owner: User, inode: u16) -> Answer {
-        Answer::Reply(
-            0,
-            MessageBytes::inline(self.alloc, &status_bytes(owner, inode)),
-        )
-    }
-
     /// The threads that were started.
     pub fn threads(&self) -> &[Row] {
         self.threads.as_slice()
@@ -456,6 +377,37 @@ impl Plain {
     /// The row of a thread.
     pub fn row(&self, thread: Thread) -> Option<&Row> {
         self.threads.iter().find(|row| row.thread == thread)
+    }
+
+    /// How many connections of a process have a block.
+    pub fn open_count(&self, proc: Proc) -> usize {
+        self.connections
+            .iter()
+            .filter(|row| row.proc == proc && row.block.is_some())
+            .count()
+    }
+
+    /// One of the connections of a process that have a block, by its place among them.
+    pub fn open_connection(&self, proc: Proc, place: usize) -> Option<Coid> {
+        self.connections
+            .iter()
+            .filter(|row| row.proc == proc && row.block.is_some())
+            .nth(place)
+            .map(|row| row.coid)
+    }
+
+    /// One of the connections of a process that have a block for writing, by its place among them, and the offset.
+    pub fn writable(&self, proc: Proc, place: usize) -> Option<(Coid, u64)> {
+        self.connections
+            .iter()
+            .filter(|row| row.proc == proc)
+            .filter_map(|row| Some((row.coid, self.files.write_offset(proc.user, row.block?)?)))
+            .nth(place)
+    }
+
+    /// Whether a user can have no further block.
+    pub fn is_full(&self, user: User) -> bool {
+        self.files.block_count(user) >= 256
     }
 
     /// What a worker holds, with the bytes of a message.
@@ -532,10 +484,6 @@ impl Plain {
         }
     }
 
-    fn free_block(&self, user: User) -> Option<u16> {
-        (1..=256).find(|number| self.block(user, Some(*number)).is_none())
-    }
-
     fn connection(&self, proc: Proc, coid: Coid) -> Option<&Connection> {
         self.connections
             .iter()
@@ -598,28 +546,12 @@ fn is_prio(prio: Prio) -> bool {
     0 < prio.0 && prio.0 <= 63
 }
 
-/// Whether the fields of a request are in their ranges, its bytes beside it: a manager could read them. An open has to
-/// ask for reading alone; a connection is judged later, and bytes as they are by their length alone.
+/// Whether the fields of a request are in their ranges, its bytes beside it: a manager could read them. A connection is
+/// judged later, and bytes as they are by their length alone.
 fn is_in_range(request: &Request, bytes: &[u8]) -> bool {
     match request {
         Request::Dup { .. } => true,
         Request::Raw { .. } => bytes.len() <= 4_168,
-        Request::OpenPath { flags, .. } => *flags == OFlags::READ && is_known(bytes),
-        _ => is_known(bytes),
+        _ => matches!(read(bytes), Reading::Known(_)),
     }
-}
-
-fn is_known(bytes: &[u8]) -> bool {
-    matches!(read(bytes), Reading::Known(_))
-}
-
-/// The status of the root of a mount: its inode, a directory, mode 0700, one link, the owner, and no size or times.
-fn status_bytes(owner: User, inode: u16) -> [u8; 40] {
-    let mut bytes = [0; 40];
-    bytes[0..2].copy_from_slice(&inode.to_le_bytes());
-    bytes[4] = 2;
-    bytes[6..8].copy_from_slice(&0o700u16.to_le_bytes());
-    bytes[8] = 1;
-    bytes[12] = owner.0;
-    bytes
 }

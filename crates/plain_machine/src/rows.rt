@@ -1,6 +1,6 @@
 //! The rows of the plain machine, and its lines.
 
-use qx_types::{Answer, Bytes, Coid, Manager, Prio, Proc, Thread, User};
+use qx_types::{Answer, Bytes, Coid, Manager, Prio, Proc, Thread};
 use std::alloc::AllocError;
 
 /// What a message goes over: a connection that its call made, one that was there, or one for the message alone, which
@@ -48,14 +48,6 @@ pub struct Connection {
     pub coid: Coid,
     pub manager: Manager,
     pub block: Option<u16>,
-}
-
-/// An open control block of a user, and the inode that it has open.
-#[derive(Clone, Copy)]
-pub struct Block {
-    pub user: User,
-    pub number: u16,
-    pub inode: u16,
 }
 
 /// What stands in a line and a worker holds: a thread's message, or the pulse to unblock a thread from its call of that

@@ -211,6 +211,19 @@ pub fn write(alloc: Global, request: &Request, rest: &[u8]) -> Result<Bytes, All
     }
 }
 
+/// The number of two bytes at a place of a message.
+pub fn number_at(bytes: &[u8], place: usize) -> u16 {
+    match (bytes.get(place), bytes.get(place.saturating_add(1))) {
+        (Some(low), Some(high)) => u16::from_le_bytes([*low, *high]),
+        _ => 0,
+    }
+}
+
+/// What a message has from a place on.
+pub fn from_place(bytes: &[u8], place: usize) -> &[u8] {
+    bytes.get(place..).unwrap_or(&[])
+}
+
 fn two_words(one: u16, other: u16) -> [u8; 4] {
     let ([a, b], [c, d]) = (one.to_le_bytes(), other.to_le_bytes());
     [a, b, c, d]

@@ -59,31 +59,25 @@ impl Mounts {
         found
     }
 
-    /// Attaches a manager of a user at the path of that text, with the lowest free inode for its root, if it may be
-    /// there.
-    pub fn mount(
+    /// Attaches a manager at the path of a text, with that inode for its root.
+    pub fn add(
         &mut self,
-        config: &Config,
         user: User,
         text: Bytes,
         manager: Manager,
-    ) -> Result<Result<(), Errno>, AllocError> {
-        match self.new_root(config, user, text.as_slice()) {
-            Ok(root) => {
-                self.rows.push(Mount {
-                    user,
-                    text,
-                    manager,
-                    root,
-                })?;
-                Ok(Ok(()))
-            }
-            Err(error) => Ok(Err(error)),
-        }
+        root: u16,
+    ) -> Result<(), AllocError> {
+        self.rows.push(Mount {
+            user,
+            text,
+            manager,
+            root,
+        })?;
+        Ok(())
     }
 
-    /// The inode for the root of a new mount.
-    fn new_root(&self, config: &Config, user: User, text: &[u8]) -> Result<u16, Errno> {
+    /// Whether a user may attach a manager at the path of a text.
+    pub fn judge_new(&self, config: &Config, user: User, text: &[u8]) -> Result<(), Errno> {
         if judge_top(config, user, text).is_err() {
             return Err(Errno::EACCES);
         }
@@ -99,20 +93,7 @@ impl Mounts {
         if self.rows.iter().filter(is_own).count() >= 8 {
             return Err(Errno::ENOSPC);
         }
-        self.free_inode(user)
-    }
-
-    /// The only inodes are the roots of mounts.
-    fn free_inode(&self, user: User) -> Result<u16, Errno> {
-        let is_root = |number| {
-            self.rows
-                .iter()
-                .any(|mount| mount.user == user && mount.root == number)
-        };
-        match (1..=1_024).find(|number| !is_root(*number)) {
-            Some(number) => Ok(number),
-            None => Err(Errno::ENOSPC),
-        }
+        Ok(())
     }
 }
 

@@ -48,7 +48,7 @@ fn next_spawn(dice: &mut Dice) -> Step {
 
 fn next_call(alloc: Global, dice: &mut Dice, plain: &Plain) -> Result<Step, AllocError> {
     let thread = ready_thread(dice, plain);
-    let request = next_request(alloc, dice, thread.proc.user)?;
+    let request = next_request(alloc, dice, plain, thread.proc)?;
     Ok(Step::Call { thread, request })
 }
 
@@ -86,7 +86,7 @@ fn next_mount(alloc: Global, dice: &mut Dice, plain: &Plain) -> Result<Step, All
 fn next_receive(dice: &mut Dice, plain: &Plain) -> Step {
     Step::Receive {
         worker: empty_worker(dice, plain),
-        manager: next_manager(dice),
+        manager: waited_for(dice, plain),
     }
 }
 
@@ -101,22 +101,22 @@ fn next_kind(dice: &mut Dice, busy: bool) -> Kind {
     let number = dice.below(32);
     if busy {
         match number {
-            0 | 1 => Kind::Spawn,
-            2..=20 => Kind::Call,
-            21 => Kind::SetPrio,
-            22..=24 => Kind::TakeReply,
-            25 => Kind::Mount,
-            26 | 27 => Kind::Interrupt,
-            28 | 29 => Kind::Receive,
+            0 => Kind::Spawn,
+            1..=22 => Kind::Call,
+            23 => Kind::SetPrio,
+            24..=26 => Kind::TakeReply,
+            27 => Kind::Mount,
+            28 | 29 => Kind::Interrupt,
+            30 => Kind::Receive,
             _ => Kind::Perform,
         }
     } else {
         match number {
             0 => Kind::SetPrio,
-            1..=3 => Kind::Call,
-            4..=9 => Kind::TakeReply,
-            10 | 11 => Kind::Interrupt,
-            12..=22 => Kind::Receive,
+            1 | 2 => Kind::Call,
+            3..=8 => Kind::TakeReply,
+            9 | 10 => Kind::Interrupt,
+            11..=20 => Kind::Receive,
             _ => Kind::Perform,
         }
     }
@@ -224,7 +224,7 @@ fn empty_worker(dice: &mut Dice, plain: &Plain) -> Worker {
 fn holding_worker(dice: &mut Dice, plain: &Plain) -> Worker {
     for _ in 0..dice.below(16) {
         let worker = any_worker(dice);
-        if !is_late(plain, worker) || dice.one_in(16) {
+        if !is_late(plain, worker) || dice.one_in(8) {
             return worker;
         }
     }
@@ -248,6 +248,16 @@ fn any_worker(dice: &mut Dice) -> Worker {
         Worker(5 * dice.below(2))
     } else {
         Worker(1 + dice.below(4))
+    }
+}
+
+/// Most often a manager in whose line an item waits.
+fn waited_for(dice: &mut Dice, plain: &Plain) -> Manager {
+    let manager = next_manager(dice);
+    if plain.waiting(manager) == 0 && !dice.one_in(8) {
+        next_manager(dice)
+    } else {
+        manager
     }
 }
 

@@ -21,6 +21,15 @@ pub fn next_name(alloc: Global, dice: &mut Dice) -> Result<Vec<u8>, AllocError> 
     }
 }
 
+/// A name behind which names are to be listed: one that a path may have, or any other.
+pub fn next_after(alloc: Global, dice: &mut Dice) -> Result<Vec<u8>, AllocError> {
+    if dice.one_in(2) {
+        filled(alloc, b'a' + dice.below(14), 1)
+    } else {
+        next_name(alloc, dice)
+    }
+}
+
 /// What a path has behind its mount, or what cannot stand there.
 pub fn next_rest(alloc: Global, dice: &mut Dice) -> Result<Vec<u8>, AllocError> {
     match dice.below(8) {

@@ -1,8 +1,8 @@
-//! What a step does beside its outcome.
+//! What a step does beside its outcome, and what a performed message is answered.
 
 use plain_machine::{Plain, Post, Row, Sent, State};
 use plain_messages::{Kind, Reading, read};
-use qx_types::{Manager, Request, Step, Thread, Worker};
+use qx_types::{Answer, Errno, Manager, Request, Step, Thread, Worker};
 
 /// What a step does, in two words.
 pub type Deed = (&'static str, &'static str);
@@ -93,6 +93,57 @@ fn item_deed(plain: &Plain, worker: Worker) -> Option<Deed> {
             State::Ready | State::Queued(_) | State::Answered(_) => None,
         },
         Post::Unblock(thread, call) => Some(("pulse", found_word(plain, thread, call)?)),
+    }
+}
+
+/// The message of the RAM manager that a step is about to perform: whose it is, and its kind.
+pub fn performed(plain: &Plain, step: &Step) -> Option<(Thread, Kind)> {
+    let Step::Perform { worker, .. } = step else {
+        return None;
+    };
+    let Some(Post::Message(thread)) = plain.hand(*worker) else {
+        return None;
+    };
+    match &plain.row(thread)?.state {
+        State::Taken(sent) if sent.manager == Manager::Ram => match read(sent.bytes.as_slice()) {
+            Reading::Known(kind) => Some((thread, kind)),
+            Reading::Malformed | Reading::Unknown => None,
+        },
+        _ => None,
+    }
+}
+
+/// How a thread's message of that kind was answered. That there is no function for it is not told, and that its
+/// connection has no block is told for all kinds in one, but for a read and a write, where EBADF has another cause too.
+pub fn answer_deed(plain: &Plain, thread: Thread, kind: Kind) -> Option<Deed> {
+    match &plain.row(thread)?.state {
+        State::Answered(Answer::Reply(status, bytes)) => {
+            Some((kind_word(kind), reply_word(kind, *status, bytes.as_slice())))
+        }
+        State::Answered(Answer::Failed(Errno::ENOSYS)) => None,
+        State::Answered(Answer::Failed(Errno::EBADF))
+            if !matches!(kind, Kind::Read | Kind::Write) => { Some(("no block", "EBADF")) }
+        State::Answered(Answer::Failed(error)) => Some((kind_word(kind), error.name())),
+        State::Ready | State::Queued(_) | State::Taken(_) => None,
+    }
+}
+
+fn reply_word(kind: Kind, status: u64, bytes: &[u8]) -> &'static str {
+    match kind {
+        Kind::Read | Kind::Write | Kind::List => {
+            if status == 0 { "nothing" } else { "something" }
+        }
+        Kind::Stat | Kind::Fstat => status_word(bytes),
+        _ => "done",
+    }
+}
+
+/// Of what a status is: its kind stands at byte 4, and its links at byte 8.
+fn status_word(bytes: &[u8]) -> &'static str {
+    match (bytes.get(4), bytes.get(8)) {
+        (_, Some(0)) => "of no name",
+        (Some(1), _) => "of a file",
+        _ => "of a directory",
     }
 }
 

@@ -5,7 +5,7 @@ mod deeds;
 mod tally;
 
 use anyhow::bail;
-use deeds::deed;
+use deeds::{answer_deed, deed, performed};
 use plain_machine::{Held, Plain, State};
 use plain_steps::{Dice, next_step};
 use qx_types::{
@@ -68,10 +68,16 @@ fn take_steps(
     let mut dice = Dice::new(1);
     for number in 0..count {
         let step = next_step(alloc, &mut dice, plain, number % ROUND < BUSY)?;
-        let done = deed(plain, &step);
+        let (done, message) = (deed(plain, &step), performed(plain, &step));
         let outcome = take_both(alloc, world, plain, &step)?;
         if !tally.mark(&outcome, done, plain.waiting(Manager::Ram)) {
             bail!("{step:?}: {outcome:?}");
+        }
+        if let Some((thread, kind)) = message
+            && let Some(answer) = answer_deed(plain, thread, kind)
+            && !tally.mark_answer(answer)
+        {
+            bail!("{thread:?}: {answer:?}");
         }
     }
     if !no_others(world, plain) {

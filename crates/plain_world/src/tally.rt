@@ -4,7 +4,7 @@ use crate::deeds::Deed;
 use qx_types::{Item, Outcome};
 
 /// Each outcome that the steps have to come to, and its error. None other may come.
-const OUTCOMES: [(&str, &str); 27] = [
+const OUTCOMES: [(&str, &str); 36] = [
     ("spawned", ""),
     ("refused", "EINVAL"),
     ("refused", "ENAMETOOLONG"),
@@ -24,6 +24,15 @@ const OUTCOMES: [(&str, &str); 27] = [
     ("error", "EBADF"),
     ("error", "ENOENT"),
     ("error", "ENFILE"),
+    ("error", "EACCES"),
+    ("error", "EBUSY"),
+    ("error", "EEXIST"),
+    ("error", "EFBIG"),
+    ("error", "EISDIR"),
+    ("error", "ENOSPC"),
+    ("error", "ENOTDIR"),
+    ("error", "ENOTEMPTY"),
+    ("error", "EPERM"),
     ("error", "EINTR"),
     ("wrongstate", ""),
     ("took a message", ""),
@@ -82,19 +91,73 @@ const DEEDS: [(&str, &str); 44] = [
     ("pulse", "a later call received"),
 ];
 
-/// Which of the outcomes and deeds came, and how long the line was.
+/// Each answer of the RAM manager that has to come, by the kind of its message. None other may.
+const ANSWERS: [(&str, &str); 48] = [
+    ("no block", "EBADF"),
+    ("open", "done"),
+    ("open", "EINVAL"),
+    ("open", "ENOENT"),
+    ("open", "ENOTDIR"),
+    ("open", "EACCES"),
+    ("open", "EEXIST"),
+    ("open", "EISDIR"),
+    ("open", "ENFILE"),
+    ("stat", "of a file"),
+    ("stat", "of a directory"),
+    ("stat", "EINVAL"),
+    ("stat", "ENOENT"),
+    ("stat", "ENOTDIR"),
+    ("stat", "EACCES"),
+    ("unlink", "done"),
+    ("unlink", "EINVAL"),
+    ("unlink", "EBUSY"),
+    ("unlink", "ENOENT"),
+    ("unlink", "ENOTDIR"),
+    ("unlink", "EACCES"),
+    ("unlink", "ENOTEMPTY"),
+    ("mknod", "done"),
+    ("mknod", "EINVAL"),
+    ("mknod", "EEXIST"),
+    ("mknod", "ENOENT"),
+    ("mknod", "ENOTDIR"),
+    ("mknod", "EACCES"),
+    ("read", "something"),
+    ("read", "nothing"),
+    ("read", "EBADF"),
+    ("read", "EISDIR"),
+    ("write", "something"),
+    ("write", "nothing"),
+    ("write", "EBADF"),
+    ("write", "EFBIG"),
+    ("write", "ENOSPC"),
+    ("close", "done"),
+    ("lseek", "done"),
+    ("lseek", "EINVAL"),
+    ("fstat", "of a file"),
+    ("fstat", "of a directory"),
+    ("fstat", "of no name"),
+    ("list", "something"),
+    ("list", "nothing"),
+    ("list", "ENOTDIR"),
+    ("chmod", "done"),
+    ("chmod", "EPERM"),
+];
+
+/// Which of the outcomes, deeds and answers came, and how long the line was.
 #[derive(Drop)]
 pub struct Tally {
-    outcomes: [bool; 27],
+    outcomes: [bool; 36],
     deeds: [bool; 44],
+    answers: [bool; 48],
     longest: usize,
 }
 
 impl Tally {
     pub fn new() -> Tally {
         Tally {
-            outcomes: [false; 27],
+            outcomes: [false; 36],
             deeds: [false; 44],
+            answers: [false; 48],
             longest: 0,
         }
     }
@@ -115,12 +178,16 @@ impl Tally {
         }
     }
 
-    /// An outcome or a deed that did not come.
+    /// Marks an answer. Whether it is of those that may come.
+    pub fn mark_answer(&mut self, answer: Deed) -> bool {
+        mark_row(&ANSWERS, &mut self.answers, answer)
+    }
+
+    /// An outcome, a deed or an answer that did not come.
     pub fn missing(&self) -> Option<Deed> {
-        match missing_row(&OUTCOMES, &self.outcomes) {
-            Some(row) => Some(row),
-            None => missing_row(&DEEDS, &self.deeds),
-        }
+        missing_row(&OUTCOMES, &self.outcomes)
+            .or_else(|| missing_row(&DEEDS, &self.deeds))
+            .or_else(|| missing_row(&ANSWERS, &self.answers))
     }
 
     /// The most items that the line held.

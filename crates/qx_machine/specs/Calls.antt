@@ -1,5 +1,5 @@
 -- How a call of a thread is judged, and what it sends.
-use Rattle.std.specs.Prelude.{ℕ, ⊤, List, [], ◌==◌, ◌&&◌, ◌||◌, Bool, true, false, Option, Some, None, Result, Ok, length, nat_le, nat_lt, count_by, is_some}
+use Rattle.std.specs.Prelude.{ℕ, ⊤, List, [], ◌&&◌, ◌||◌, Bool, true, false, Option, Some, None, Result, Ok, length, nat_le, nat_lt, count_by, is_some}
 use Rattle.qx_types.specs.Configuration.{Configuration, name_bytes}
 use Rattle.qx_types.specs.Managers.{manager_number}
 use Rattle.qx_types.specs.declared.errno.Errno.{Errno}
@@ -57,15 +57,10 @@ abbrev pub bytes_of : Content → List ℕ
 bytes_of (Spelled message) = table.spelling message
 bytes_of (Raw bytes) = bytes
 
--- what is asked of an open is served: to read, and nothing else (this profile)
-abbrev pub is_served : Request → Bool
-is_served (request.OpenPath path flags mode) = flags.0 == 1
-is_served _ = true
-
 -- each field is in its range; a path is none of them, nor is the connection of a dup
 abbrev pub in_ranges : Request → Bool
 in_ranges (request.Dup coid) = true
-in_ranges asked = is_served asked && can_send (content_of asked [])
+in_ranges asked = can_send (content_of asked [])
 
 -- what a request names: a path, over a new connection or a side connection, or a connection that is there, which is used or has
 -- another one made beside it

@@ -134,7 +134,7 @@ mount_by config user part thread path manager = do
 abbrev pub mount : Configuration → ℕ → Part → Thread → List ℕ → Manager → Result ClientStep Outcome
 mount config user part thread path manager = do
   mount ← mount_by config user part thread path manager
-  Ok (record { outcome = Done; part = record part { resources = with_mount user mount part.resources }; changes = [] })
+  Ok (record { outcome = Done; part = record part { resources = with_mount mount part.resources }; changes = [] })
 
 -- what a client's step gives, or the outcome of one that changes nothing
 abbrev pub client_given : Configuration → ℕ → List OwnItem → Part → Step → Result ClientStep Outcome

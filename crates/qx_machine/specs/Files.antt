@@ -1,22 +1,29 @@
--- What the RAM manager does to the bytes of files (C Library Reference: read, write, lseek, chmod, close; the limits are this profile).
+-- What the RAM manager does to what is open (C Library Reference: read, write, lseek, chmod, close; the limits are this profile).
 use Rattle.std.specs.Prelude.{ℕ, ℤ, pos, negsuc, ◌+◌, ◌-◌, ◌==◌, not, List, [], ◌++◌, Option, Some, None, Result, Ok, drop, length, nat_le, nat_lt, replicate, slice_set, take, if◌then◌else◌}
+use Rattle.std.specs.FinMap.{empty}
 use Rattle.std.specs.List.{sum_by}
 use Rattle.qx_types.specs.declared.errno.Errno.{Errno}
 use Rattle.qx_types.specs.declared.errno.Errno.TheVariants.{EBADF, EFBIG, EINVAL, EISDIR, ENOSPC, EPERM}
 use Rattle.qx_types.specs.declared.fields.Whence.{Whence}
 use Rattle.qx_types.specs.declared.fields.Whence.TheVariants.{Set, Current, End}
 use Rattle.qx_types.specs.declared.flags.TheConstants.OFlags.{APPEND}
-use Rattle.qx_types.specs.declared.limits.TheConstants.Limits.{FILE, FILES, OFFSET}
+use Rattle.qx_types.specs.declared.limits.TheConstants.Limits.{FILE, FILES, INODES, OFFSET}
 use Rattle.qx_machine.specs.declared.rows.Attribute.{Attribute}
 use Rattle.qx_machine.specs.declared.rows.Ocb.{Ocb}
 use Rattle.qx_machine.specs.Attributes.{top_inode}
 use Rattle.qx_machine.specs.Inodes.{Inodes, close_block, free_inode, has, is_unused, reads, with_attribute, with_offset, writes}
 use Rattle.qx_machine.specs.Judgements.{◌>>=◌, found, need}
-use Rattle.qx_machine.specs.Rows.{put_row, row_at}
+use Rattle.qx_machine.specs.Names.{Names}
+use Rattle.qx_machine.specs.Rows.{row_at}
 
--- the bytes of a user's files, under the numbers of their inodes
+-- the bytes of a user's files, under the numbers of their inodes, and the names in the RAM manager's mounts
 pub record Files : Type 0 where
   pub contents : List (Option (List ℕ))
+  pub names : Names
+
+-- no file, and a place for the bytes of each inode
+abbrev pub no_files : Files
+no_files = record { contents = replicate (INODES + 1) None; names = empty }
 
 -- what a function gives: status and bytes of its reply, and what there is then
 pub record Given : Type 0 where
@@ -50,7 +57,7 @@ with_contents files inode bytes = record files { contents = slice_set files.cont
 
 -- a file is made, with no bytes
 abbrev pub with_new_file : Files → ℕ → Files
-with_new_file files inode = record files { contents = put_row files.contents inode [] }
+with_new_file files inode = with_contents files inode (Some [])
 
 -- a file's attribute once it has another size
 abbrev pub resized : ℕ → ℕ → Attribute → Attribute

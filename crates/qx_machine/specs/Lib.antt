@@ -10,6 +10,8 @@ pub mod Laws
 pub mod Lines
 pub mod Machine
 pub mod Mounting
+pub mod Names
+pub mod Opening
 pub mod Parts
 pub mod Performing
 pub mod Pipes

@@ -1,30 +1,33 @@
 -- What a user's mounts and their roots are at boot, and once a manager is attached.
-use Rattle.std.specs.Prelude.{ℕ, List, [], ◌∷◌, Some, None, Result, Ok, nat_le}
+use Rattle.std.specs.Prelude.{ℕ, List, [], ◌∷◌, Some, None, Result, Ok}
 use Rattle.qx_types.specs.declared.errno.Errno.{Errno}
-use Rattle.qx_types.specs.declared.errno.Errno.TheVariants.{EACCES, ENOSPC}
-use Rattle.qx_types.specs.declared.limits.TheConstants.Limits.{INODES}
+use Rattle.qx_types.specs.declared.errno.Errno.TheVariants.{EACCES}
 use Rattle.qx_types.specs.declared.names.Manager.{Manager}
+use Rattle.qx_types.specs.declared.names.Manager.TheVariants.{Ram, Pipe}
 use Rattle.qx_paths.specs.Mounts.{boot_mounts, mount_fault, mounted}
 use Rattle.qx_paths.specs.Paths.{read_path, unless}
 use Rattle.qx_paths.specs.Prefixes.{MountPoint, is_under}
 use Rattle.qx_machine.specs.Attributes.{root_attribute, top_inode}
+use Rattle.qx_machine.specs.Files.{Files, no_files}
+use Rattle.qx_machine.specs.Inodes.{inode_number}
 use Rattle.qx_machine.specs.Judgements.{◌>>=◌, need}
+use Rattle.qx_machine.specs.Names.{with_root}
 use Rattle.qx_machine.specs.Parts.{Resources}
-use Rattle.qx_machine.specs.Rows.{lowest_from, put_row}
+use Rattle.qx_machine.specs.Rows.{put_row}
 
--- the top with its root, and nothing open
+-- a manager has a root, in which there is no name yet
+abbrev pub with_manager_root : Manager → ℕ → Files → Files
+with_manager_root Ram root files = record files { names = with_root files.names root }
+with_manager_root Pipe root files = files
+
+-- the top with its root, which is empty, and nothing open
 abbrev pub new_resources : ℕ → List ℕ → Resources
 new_resources user name = record {
+  user = user;
   mounts = boot_mounts name top_inode;
-  inodes = None ∷ Some (root_attribute user) ∷ [];
-  blocks = None ∷ [];
+  inodes = record { attributes = None ∷ Some (root_attribute user) ∷ []; blocks = None ∷ [] };
+  files = with_manager_root Ram top_inode no_files;
 }
-
--- the lowest free inode (C Library Reference: ENOSPC)
-abbrev pub free_inode : Resources → Result ℕ Errno
-free_inode resources = do
-  free ← need (nat_le (lowest_from 1 resources.inodes) INODES) ENOSPC
-  Ok (lowest_from 1 resources.inodes)
 
 -- a manager's mount at a path of a user of that name: at the name or below it, where no mount is, with a root of its own (C Library
 -- Reference: resmgr_attach, EEXIST and ENOSPC; that any other path is EACCES, whoever has its first name, is this profile)
@@ -33,12 +36,13 @@ new_mount name path manager resources = do
   names ← read_path path
   own ← need (is_under name names) EACCES
   free ← unless (mount_fault resources.mounts names) names
-  root ← free_inode resources
+  root ← inode_number resources.inodes
   Ok (record { prefix = names; manager = manager; root = root })
 
 -- the mount and its root are there
-abbrev pub with_mount : ℕ → MountPoint → Resources → Resources
-with_mount user mount resources = record resources {
+abbrev pub with_mount : MountPoint → Resources → Resources
+with_mount mount resources = record resources {
   mounts = mounted resources.mounts mount.prefix mount.manager mount.root;
-  inodes = put_row resources.inodes mount.root (root_attribute user);
+  inodes = record resources.inodes { attributes = put_row resources.inodes.attributes mount.root (root_attribute resources.user) };
+  files = with_manager_root mount.manager mount.root resources.files;
 }

@@ -3,19 +3,20 @@ use Rattle.std.specs.Prelude.{ℕ, List, Option, Some, None}
 use Rattle.qx_types.specs.declared.names.Manager.{Manager}
 use Rattle.qx_types.specs.declared.names.Thread.{Thread}
 use Rattle.qx_paths.specs.Prefixes.{MountPoint}
-use Rattle.qx_machine.specs.declared.rows.Attribute.{Attribute}
-use Rattle.qx_machine.specs.declared.rows.Block.{Block}
 use Rattle.qx_machine.specs.declared.rows.Connection.{Connection}
 use Rattle.qx_machine.specs.declared.rows.OwnItem.{OwnItem}
 use Rattle.qx_machine.specs.declared.rows.ThreadRow.{ThreadRow}
+use Rattle.qx_machine.specs.Files.{Files}
+use Rattle.qx_machine.specs.Inodes.{Inodes}
 use Rattle.qx_machine.specs.Processes.{Process, with_thread}
 use Rattle.qx_machine.specs.Rows.{row_at, with_row}
 
--- what the managers keep for a user: where they are attached, inodes from 1 and open blocks from 1
+-- what the managers keep for a user: where they are attached, inodes and open control blocks, and files
 pub record Resources : Type 0 where
+  pub user : ℕ
   pub mounts : List MountPoint
-  pub inodes : List (Option Attribute)
-  pub blocks : List (Option Block)
+  pub inodes : Inodes
+  pub files : Files
 
 -- a user's processes from 1, and resources
 pub record Part : Type 0 where

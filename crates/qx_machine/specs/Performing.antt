@@ -1,9 +1,9 @@
 -- What a message that a worker holds does to the rows of its user.
-use Rattle.std.specs.Prelude.{ℕ, Bool, ◌==◌, List, [], ◌∷◌, Option, Some, None, Result, Ok, Err, length, nat_le, slice_set}
+use Rattle.std.specs.Prelude.{ℕ, List, [], ◌∷◌, Option, Some, None, Result, Ok, Err}
 use Rattle.qx_types.specs.Managers.{manager_number}
 use Rattle.qx_types.specs.declared.errno.Errno.{Errno}
-use Rattle.qx_types.specs.declared.errno.Errno.TheVariants.{EBADF, EINVAL, ENFILE, ENOENT, ENOSYS}
-use Rattle.qx_types.specs.declared.limits.TheConstants.Limits.{BLOCKS}
+use Rattle.qx_types.specs.declared.errno.Errno.TheVariants.{EBADF, EINVAL, ENOSYS}
+use Rattle.qx_types.specs.declared.flags.OFlags.{OFlags}
 use Rattle.qx_types.specs.declared.names.Manager.{Manager}
 use Rattle.qx_types.specs.declared.names.Manager.TheVariants.{Ram, Pipe}
 use Rattle.qx_types.specs.declared.outcome.Answer.TheVariants.{Reply, Failed}
@@ -13,6 +13,7 @@ use Rattle.qx_wire.specs.declared.message.Meaning.{Meaning}
 use Rattle.qx_wire.specs.declared.message.Meaning.TheVariants.{Known, Unknown, Malformed}
 use Rattle.qx_wire.specs.declared.message.Message.{Message}
 use Rattle.qx_wire.specs.Reading.{meaning}
+use Rattle.qx_machine.specs.declared.rows.Effect.{Effect}
 use Rattle.qx_machine.specs.declared.rows.Effect.TheVariants.{Keeps, Opens, Closes}
 use Rattle.qx_machine.specs.declared.rows.NewOpen.{NewOpen}
 use Rattle.qx_machine.specs.declared.rows.Opened.{Opened}
@@ -22,12 +23,13 @@ use Rattle.qx_machine.specs.declared.rows.Sent.{Sent}
 use Rattle.qx_machine.specs.declared.rows.State.{State}
 use Rattle.qx_machine.specs.declared.rows.State.TheVariants.{Taken}
 use Rattle.qx_machine.specs.declared.rows.Target.{Target}
-use Rattle.qx_machine.specs.Attributes.{stat_bytes}
+use Rattle.qx_machine.specs.Files.{Given, chmod_file, read_file, release_file, seek_file, write_file}
 use Rattle.qx_machine.specs.Functions.{ConnectFunctions, Deed, IoFunctions, existing_coid, no_connect, no_io, served}
 use Rattle.qx_machine.specs.Judgements.{◌>>=◌, found, need}
+use Rattle.qx_machine.specs.Opening.{fstat_file, list_file, make_directory, open_file, stat_file, unlink_file}
 use Rattle.qx_machine.specs.Parts.{Part, Change, Remove, Resources, with_process}
 use Rattle.qx_machine.specs.Processes.{Process, after_effect, after_error, after_reply, answered_thread, with_thread}
-use Rattle.qx_machine.specs.Rows.{row_at, lowest_from, put_row}
+use Rattle.qx_machine.specs.Rows.{row_at}
 use Rattle.qx_machine.specs.Servers.{is_numbered}
 
 -- what performing an item gives
@@ -36,61 +38,54 @@ pub record Served : Type 0 where
   pub changes : List Change
 
 -- what a message's connection has open: the connection is there still, at this manager, with a block (C Library Reference: EBADF)
-abbrev pub opened_by : Resources → Process → Target → Result Opened Errno
-opened_by resources process target = do
+abbrev pub opened_by : Process → Target → Result Opened Errno
+opened_by process target = do
   coid ← found (existing_coid target.over) EINVAL
   connection ← found (row_at process.connections coid.0) EBADF
   here ← need (is_numbered (manager_number target.manager) connection.manager) EBADF
   number ← found connection.block EBADF
-  block ← found (row_at resources.blocks number) EBADF
-  Ok (record { coid = coid; number = number; block = block })
+  Ok (record { coid = coid; number = number })
 
 -- ---- the RAM manager's functions
 
--- a mount's root, below which nothing lies
-abbrev pub is_root : List (List ℕ) → Bool
-is_root rest = length rest == 0
+-- what there is after a function, and what becomes of the connection
+abbrev pub done : Resources → Given → Effect → Deed Resources
+done resources given effect = record { status = given.status; bytes = given.bytes; state = record resources { inodes = given.inodes; files = given.files }; effect = effect }
 
--- an open makes an open control block for its connection, whose number is the status (C Library Reference: open, ENFILE)
-abbrev pub open_deed : Resources → NewOpen → List (List ℕ) → Result (Deed Resources) Errno
-open_deed resources over rest = do
-  there ← need (is_root rest) ENOENT
-  free ← need (nat_le (lowest_from 1 resources.blocks) BLOCKS) ENFILE
-  Ok (record {
-    status = over.coid.0;
-    bytes = [];
-    state = record resources { blocks = put_row resources.blocks (lowest_from 1 resources.blocks) (record { inode = over.root }) };
-    effect = Opens over.coid (lowest_from 1 resources.blocks);
-  })
+-- a function that leaves the connection as it is
+abbrev pub kept : Resources → Result Given Errno → Result (Deed Resources) Errno
+kept resources (Ok given) = Ok (done resources given Keeps)
+kept resources (Err error) = Err error
 
--- a stat tells the status of what a path leads to (C Library Reference: stat)
-abbrev pub stat_deed : Resources → ℕ → List (List ℕ) → Result (Deed Resources) Errno
-stat_deed resources root rest = do
-  there ← need (is_root rest) ENOENT
-  attribute ← found (row_at resources.inodes root) ENOENT
-  Ok (record { status = 0; bytes = stat_bytes root attribute; state = resources; effect = Keeps })
+-- an open's connection has its open control block, and the status is the connection (C Library Reference: open)
+abbrev pub open_deed : Resources → NewOpen → OFlags → ℕ → List (List ℕ) → ℕ → Result (Deed Resources) Errno
+open_deed resources over flags mode rest moment = do
+  given ← open_file resources.inodes resources.files resources.user over.root rest flags mode moment
+  Ok (record (done resources given (Opens over.coid given.status)) { status = over.coid.0 })
 
--- a close takes the connection and its block away (C Library Reference: close)
+-- a close takes the connection and its open control block away (C Library Reference: close)
 abbrev pub close_deed : Resources → Opened → Result (Deed Resources) Errno
-close_deed resources opened =
-    Ok (record { status = 0; bytes = []; state = record resources { blocks = slice_set resources.blocks opened.number None }; effect = Closes opened.coid })
-
--- an fstat tells the status of what is open (C Library Reference: fstat)
-abbrev pub fstat_deed : Resources → Opened → Result (Deed Resources) Errno
-fstat_deed resources opened = do
-  attribute ← found (row_at resources.inodes opened.block.inode) EBADF
-  Ok (record { status = 0; bytes = stat_bytes opened.block.inode attribute; state = resources; effect = Keeps })
+close_deed resources opened = do
+  given ← release_file resources.inodes resources.files opened.number
+  Ok (done resources given (Closes opened.coid))
 
 abbrev pub ram_connect : ConnectFunctions Resources
-ram_connect = record no_connect {
-  «open» = Some (λ resources over flags mode rest moment. open_deed resources over rest);
-  stat = Some (λ resources root rest moment. stat_deed resources root rest);
+ram_connect = record {
+  «open» = Some (λ r over flags mode rest moment. open_deed r over flags mode rest moment);
+  stat = Some (λ r root rest moment. kept r (stat_file r.inodes r.files r.user root rest));
+  unlink = Some (λ r root rest moment. kept r (unlink_file r.inodes r.files r.user root rest moment));
+  mknod = Some (λ r root mode rest moment. kept r (make_directory r.inodes r.files r.user root rest mode moment));
 }
 
 abbrev pub ram_io : IoFunctions Resources
-ram_io = record no_io {
-  close = Some (λ resources opened moment. close_deed resources opened);
-  fstat = Some (λ resources opened moment. fstat_deed resources opened);
+ram_io = record {
+  read = Some (λ r opened count moment. kept r (read_file r.inodes r.files opened.number count));
+  write = Some (λ r opened bytes moment. kept r (write_file r.inodes r.files opened.number moment bytes));
+  close = Some (λ r opened moment. close_deed r opened);
+  lseek = Some (λ r opened whence offset moment. kept r (seek_file r.inodes r.files opened.number whence offset));
+  fstat = Some (λ r opened moment. kept r (fstat_file r.inodes r.files opened.number));
+  list = Some (λ r opened after moment. kept r (list_file r.inodes r.files opened.number after));
+  chmod = Some (λ r opened mode moment. kept r (chmod_file r.inodes r.files opened.number moment mode));
 }
 
 -- ---- what a manager does with bytes
@@ -111,7 +106,7 @@ read_message Malformed = Err EINVAL
 abbrev pub deed_of : Resources → Process → Target → ℕ → Meaning → Result (Deed Resources) Errno
 deed_of resources process target moment given = do
   message ← read_message given
-  manager_deed target.manager resources target (opened_by resources process target) moment message
+  manager_deed target.manager resources target (opened_by process target) moment message
 
 -- the rows once the message is answered (C Library Reference: MsgReply, MsgError)
 abbrev pub after_answer : Part → ℕ → ℕ → Over → Result (Deed Resources) Errno → Part

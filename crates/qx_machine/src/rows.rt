@@ -79,12 +79,6 @@ pub struct ServerConnection {
     pub number: u8,
 }
 
-/// An open control block: the inode that it has open (Writing a Resource Manager: `iofunc_ocb_t`).
-#[derive(Clone, Copy, Debug, PartialEq, Eq)]
-pub struct Block {
-    pub inode: u32,
-}
-
 /// What a message does to the connection that it came over, once it is done.
 #[derive(Clone, Copy, Debug, PartialEq, Eq)]
 pub enum Effect {
@@ -95,12 +89,11 @@ pub enum Effect {
     Closes(Coid),
 }
 
-/// What a message's connection has open: the connection, and its open control block with its number.
+/// What a message's connection has open: the connection, and the number of its open control block.
 #[derive(Clone, Copy, Debug, PartialEq, Eq)]
 pub struct Opened {
     pub coid: Coid,
     pub number: u16,
-    pub block: Block,
 }
 
 /// What an open is given: the connection that its call made, and the inode of the root of the mount that its path led to

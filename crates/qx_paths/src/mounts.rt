@@ -1,9 +1,9 @@
-ghost use Rattle.std.specs.Prelude.{◌≡◌, IfErr, IfOk, None, OnErr, OnOk, Some, length, slice_get};
+ghost use Rattle.std.specs.Prelude.{◌≡◌, List, [], ◌∷◌, ◌++◌, IfErr, IfOk, None, OnErr, OnOk, Some, length, slice_get};
 ghost use Rattle.std.specs.Option.{option_copied};
 ghost use Rattle.std.specs.List.{list_any};
 ghost use Rattle.std.specs.Str.{bytes_eq};
 ghost use Rattle.qx_paths.specs.Mounts.{IsMountError, boot_mounts, fit, longer, longest, mount_fault, mounted, name_fault, resolve, top_fault};
-ghost use Rattle.qx_paths.specs.Prefixes.{is_at};
+ghost use Rattle.qx_paths.specs.Prefixes.{MountPoint, is_at};
 
 use crate::mount::Mount;
 use crate::path::Path;
@@ -108,6 +108,13 @@ impl Mounts {
         }
         self.push(alloc, path, manager, root)?;
         Ok(())
+    }
+
+    /// Takes the mount away that was added last, for who could not finish what goes with it.
+    pub fn take_last(&mut self)
+        ensures before { (mounts : List MountPoint) (last : MountPoint) → self.old ≡ mounts ++ last ∷ [] → self.new ≡ mounts }
+    {
+        let _ = self.rows.pop();
     }
 
     /// Attaches a manager at a path where nothing refuses it.

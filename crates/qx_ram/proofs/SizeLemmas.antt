@@ -1,13 +1,11 @@
 -- The sum of the sizes of files, as one of them changes.
-use Rattle.std.proofs.Common.{◌≡◌, ℕ, zero, suc, ◌+◌, ◌-◌, ◌<◌, ◌≤◌, List, [], ◌∷◌, length, get_or, sym, ap, ◌∙◌, arith, Option, Some, None, slice_set, Bool, true, false, ltb, refl, ◌++◌}
+use Rattle.std.proofs.Common.{◌≡◌, ℕ, zero, suc, ◌+◌, ◌-◌, ◌<◌, ◌≤◌, List, [], ◌∷◌, length, get_or, sym, ap, ◌∙◌, arith, Option, Some, None, slice_set, refl}
 use Rattle.std.specs.List.{sum_by}
-use Rattle.std.specs.Prelude.{if◌then◌else◌}
-use Rattle.std.proofs.lemmas.Bool.{ltb-true}
 use Rattle.std.proofs.lemmas.List.{get_or-set_same}
-use Rattle.std.proofs.lemmas.List.Sums.{sum_by-append, sum_by-set}
+use Rattle.std.proofs.lemmas.List.Sums.{sum_by-cons, sum_by-set}
 use Rattle.std.proofs.lemmas.Option.{unwrap_or-slice_get}
 use Rattle.qx_machine.specs.Files.{size_of}
-use Rattle.qx_machine.specs.Rows.{put_row, row_at, with_row}
+use Rattle.qx_machine.specs.Rows.{row_at, with_row}
 use Rattle.qx_process.proofs.RowLemmas.{with_row-none}
 
 within_table : (contents : List (Option (List ℕ))) (n : ℕ) (bytes : List ℕ) → row_at contents n ≡ Some bytes → n < length contents
@@ -51,12 +49,9 @@ after_total contents now n total before after change is summed was has =
     ap (λ k. total - before + k) is_size ∙ (omega (arith, sum, le, summed, was) ∙ ap (sum_by size_of) (sym is))
 
 -- a file that comes has no bytes
-pub total_put : (contents : List (Option (List ℕ))) (n : ℕ) → row_at contents n ≡ None → sum_by size_of (put_row contents n []) ≡ sum_by size_of contents
-total_put contents n free = by_test (ltb n (length contents)) refl
-  where
-    by_test : (test : Bool) → ltb n (length contents) ≡ test → sum_by size_of (if test then slice_set contents n (Some []) else contents ++ Some [] ∷ []) ≡ sum_by size_of contents
-    by_test true inside =
-        let set = sum_by-set size_of contents n (Some []) None (ltb-true n (length contents) inside) in
-        let was : size_of (get_or contents n None) ≡ 0 = ap size_of (sym (unwrap_or-slice_get contents n None) ∙ free) in
-        omega (arith, set, was)
-    by_test false beyond = sum_by-append size_of contents (Some [] ∷ []) ∙ omega arith
+pub total_new : (contents : List (Option (List ℕ))) (n : ℕ) → row_at contents n ≡ None → sum_by size_of (slice_set contents n (Some [])) ≡ sum_by size_of contents
+total_new [] n free = refl
+total_new (None ∷ contents) zero free = refl
+total_new (Some bytes ∷ contents) zero free = absurd (cc)
+total_new (place ∷ contents) (suc n) free =
+    sum_by-cons size_of place (slice_set contents n (Some [])) ∙ (ap (λ sum. size_of place + sum) (total_new contents n free) ∙ sym (sum_by-cons size_of place contents))

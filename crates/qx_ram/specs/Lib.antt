@@ -1,3 +1,5 @@
+pub mod Fits
 pub mod Lends
 pub mod Given
 pub mod Laws
+pub mod Makes

@@ -1,11 +1,13 @@
-ghost use Rattle.std.specs.Prelude.{◌≡◌, [], ◌∷◌, None, Some, IfOk, OnOk, OnErr, slice_set};
+ghost use Rattle.std.specs.Prelude.{◌≡◌, ◌+◌, [], None, Some, IfOk, replicate, slice_set};
 ghost use Rattle.std.specs.Option.{option_copied, option_copied_mut};
 ghost use Rattle.std.specs.Borrow.{sem};
-ghost use Rattle.qx_machine.specs.Rows.{put_row, row_at};
+ghost use Rattle.qx_machine.specs.Rows.{row_at};
+ghost use Rattle.qx_types.specs.declared.limits.TheConstants.Limits.{INODES};
 ghost use Rattle.qx_ram.specs.Lends.{lends_bytes};
 
 use crate::data::Data;
 use qx_process::places;
+use qx_types::Limits;
 use std::alloc::{AllocError, Global};
 use std::marker::Model;
 
@@ -24,13 +26,15 @@ impl Model for Contents {
 }
 
 impl Contents {
-    /// None.
+    /// A place for each inode, and no bytes.
     pub fn new(alloc: Global) -> Result<Self, AllocError>
-        ensures none { IfOk result (λ contents. contents ≡ None ∷ []) }
+        ensures none { IfOk result (λ contents. contents ≡ replicate (INODES + 1) None) }
     {
-        Ok(Contents {
-            places: places::empty(alloc)?,
-        })
+        let mut places = Vec::with_capacity(alloc, Limits::INODES + 1)?;
+        for _ in 0..Limits::INODES + 1 {
+            places.push_reserved(None);
+        }
+        Ok(Contents { places })
     }
 
     /// The bytes of a file.
@@ -41,11 +45,11 @@ impl Contents {
     }
 
     /// Puts a file with no bytes under a number.
-    pub fn put(&mut self, alloc: Global, inode: u32) -> Result<(), AllocError>
-        ensures ok { OnOk result (self.new ≡ put_row self.old inode []) }
-        ensures err { OnErr result (self.new ≡ self.old) }
+    pub fn put(&mut self, inode: u32)
+        ensures put { self.new ≡ slice_set self.old inode (Some []) }
     {
-        places::put(&mut self.places, inode as usize, Data::new(alloc))
+        let data = Data::new(*self.places.allocator());
+        places::set(&mut self.places, inode as usize, data);
     }
 
     /// The bytes of a file, for writing.

@@ -1,8 +1,11 @@
-ghost use Rattle.std.specs.Prelude.{◌≡◌, ◌+◌, ◌<◌, ◌≤◌, ◌^◌, ◌∷◌, [], None, Some, Err, Ok, IfOk, IsSome, OnOk, OnErr, length, option_map};
+ghost use Rattle.std.specs.Prelude.{◌≡◌, ◌+◌, ◌<◌, ◌≤◌, ◌^◌, ◌∷◌, [], None, Some, Err, Ok, IfOk, IsOk, IsSome, OnOk, OnErr, length, option_map};
 ghost use Rattle.std.specs.Result.{result_map_both};
 ghost use Rattle.qx_machine.specs.Files as machine;
 ghost use Rattle.qx_machine.specs.Files.{get, put, total_size};
+ghost use Rattle.qx_machine.specs.Names.{with_root};
 ghost use Rattle.qx_machine.specs.Rows.{row_at, with_row};
+ghost use Rattle.qx_names.specs.Paths.{IsUnnamed};
+ghost use Rattle.qx_ram.specs.Fits.{Fits};
 ghost use Rattle.qx_ram.specs.Given.{block_for, given, given_bytes, moved_to, pasted, target, write_fault};
 ghost use Rattle.qx_types.specs.declared.limits.TheConstants.Limits.{FILE, FILES, TRANSFER};
 
@@ -11,6 +14,7 @@ use crate::target::Target;
 use bitflags::Flags;
 use qx_attr::{Inodes, Ocb};
 use qx_machine::Attribute;
+use qx_names::Names;
 use qx_types::{Errno, Limits, OFlags, Whence};
 use std::alloc::{AllocError, Global};
 use std::marker::Model;
@@ -18,12 +22,14 @@ use std::marker::Model;
 /// The number of the root of a user's top.
 const TOP_INODE: u32 = 1;
 
-/// The files of one user (Writing a Resource Manager: I/O functions).
+/// The files of one user: their bytes, and the names in the RAM manager's mounts (Writing a Resource Manager: connect and
+/// I/O functions).
 #[derive(Drop)]
 pub struct Files {
     contents: Contents,
     // The sum of the sizes.
     total: usize,
+    pub(crate) names: Names,
 }
 
 impl Model for Files {
@@ -31,10 +37,14 @@ impl Model for Files {
     ghost use Rattle.std.specs.List.{sum_by};
     ghost use Rattle.qx_machine.specs.Files as machine;
     ghost use Rattle.qx_types.specs.declared.limits.TheConstants.Limits.{FILES};
+    ghost use Rattle.std.specs.Coded.{codes};
+    ghost use Rattle.qx_names.specs.Paths.{names_code};
 
     ghost Value = { machine.Files };
 
-    ghost view = { λ f. record { contents = f.contents } };
+    ghost coded = { Prim.hlevel (codes, names_code) };
+
+    ghost view = { λ f. record { contents = f.contents; names = f.names } };
 
     ghost invariant = { λ f. record {
       summed : f.total ≡ sum_by machine.size_of f.contents;
@@ -45,12 +55,22 @@ impl Model for Files {
 impl Files {
     /// None.
     pub fn new(alloc: Global) -> Result<Self, AllocError>
-        ensures none { IfOk result (λ files. files ≡ record { contents = None ∷ [] }) }
+        ensures none { IfOk result (λ files. files ≡ machine.no_files) }
     {
         Ok(Files {
             contents: Contents::new(alloc)?,
             total: 0,
+            names: Names::new(alloc),
         })
+    }
+
+    /// Names a mount's root, to which no path led. Where memory is short, nothing changes.
+    pub fn add_root(&mut self, root: u32) -> Result<(), AllocError>
+        requires new { IsUnnamed self.old.names root }
+        ensures ok { OnOk result (self.new ≡ record self.old { names = with_root self.old.names root }) }
+        ensures err { OnErr result (self.new ≡ self.old) }
+    {
+        self.names.add_root(root)
     }
 
     /// How many bytes a file has; none where the inode has no bytes.
@@ -63,21 +83,21 @@ impl Files {
         }
     }
 
-    /// Makes a file with no bytes, under the number of an inode that has none. Nothing changes where memory is short.
-    pub fn make(&mut self, alloc: Global, inode: u32) -> Result<(), AllocError>
+    /// Makes a file with no bytes, under the number of an inode that has none.
+    pub(crate) fn make(&mut self, inode: u32)
         requires free { row_at self.old.contents inode ≡ None }
-        ensures made { OnOk result (self.new ≡ machine.with_new_file self.old inode) }
-        ensures err { OnErr result (self.new ≡ self.old) }
+        ensures made { self.new ≡ machine.with_new_file self.old inode }
     {
-        self.contents.put(alloc, inode)?;
-        Ok(())
+        self.contents.put(inode);
     }
 
     /// Makes a file empty and sets its times (C Library Reference: `open`, `O_TRUNC`).
     pub fn truncate(&mut self, inodes: &mut Inodes, inode: u32, attribute: &Attribute, moment: u64)
+        requires fits { Fits inodes.old.inodes self.old }
         requires there { row_at inodes.old.inodes.attributes inode ≡ Some attribute.now }
         requires file { IsSome (row_at self.old.contents inode) }
         ensures empty { given inodes.new.inodes self.new (Ok 0) ≡ Ok (machine.truncated inodes.old.inodes self.old inode attribute.now moment) }
+        ensures fits { Fits inodes.new.inodes self.new }
     {
         self.clear(inode);
         let attribute = Attribute {
@@ -103,8 +123,10 @@ impl Files {
     /// The bytes from where an open control block stands, at most so many, which lend themselves to be copied; their number
     /// is the status (C Library Reference: `read`). EBADF without a block for reading, EISDIR on a directory.
     pub fn read(&self, inodes: &mut Inodes, number: u16, count: u32) -> Result<&[u8], Errno>
+        requires fits { Fits inodes.old.inodes self.now }
         ensures given { given_bytes inodes.new.inodes self.now (result_map_both (λ bytes. bytes.now) (λ error. error) result) ≡ machine.read_file inodes.old.inodes self.now number count }
         ensures kept { OnErr result (inodes.new ≡ inodes.old) }
+        ensures fits { Fits inodes.new.inodes self.now }
     {
         let block = block_for(inodes, number, OFlags::READ)?;
         let Some(data) = self.contents.get(block.inode) else {
@@ -118,7 +140,7 @@ impl Files {
     /// Writes bytes where an open control block stands, or with APPEND at the end, and gives their number; a gap is filled
     /// with zero bytes (C Library Reference: `write`). EBADF without a block for writing, EFBIG past 65,536 bytes, ENOSPC
     /// where the user's files would have more than 1,048,576 bytes together. Where an error comes or memory is short,
-    /// nothing changes.
+    /// nothing changes; memory is wanted only where no error comes.
     pub fn write(
         &mut self,
         inodes: &mut Inodes,
@@ -126,10 +148,13 @@ impl Files {
         moment: u64,
         new: &[u8],
     ) -> Result<Result<u64, Errno>, AllocError>
+        requires fits { Fits inodes.old.inodes self.old }
         requires few { length new.now ≤ TRANSFER }
         ensures given { IfOk result (λ r. given inodes.new.inodes self.new r ≡ machine.write_file inodes.old.inodes self.old number moment new.now) }
         ensures kept { IfOk result (λ r. OnErr r ((self.new ≡ self.old) × (inodes.new ≡ inodes.old))) }
         ensures err { OnErr result ((self.new ≡ self.old) × (inodes.new ≡ inodes.old)) }
+        ensures wanted { OnErr result (IsOk (machine.write_file inodes.old.inodes self.old number moment new.now)) }
+        ensures fits { Fits inodes.new.inodes self.new }
     {
         let target = match self.target(inodes, number) {
             Ok(target) => target,
@@ -163,8 +188,10 @@ impl Files {
         whence: Whence,
         by: i64,
     ) -> Result<u64, Errno>
+        requires fits { Fits inodes.old.inodes self.now }
         ensures given { given inodes.new.inodes self.now result ≡ machine.seek_file inodes.old.inodes self.now number whence by }
         ensures kept { OnErr result (inodes.new ≡ inodes.old) }
+        ensures fits { Fits inodes.new.inodes self.now }
     {
         let Some(block) = inodes.block(number) else {
             return Err(Errno::EBADF);
@@ -190,8 +217,10 @@ impl Files {
         moment: u64,
         mode: u16,
     ) -> Result<u64, Errno>
+        requires fits { Fits inodes.old.inodes self.now }
         ensures given { given inodes.new.inodes self.now result ≡ machine.chmod_file inodes.old.inodes self.now number moment mode }
         ensures kept { OnErr result (inodes.new ≡ inodes.old) }
+        ensures fits { Fits inodes.new.inodes self.now }
     {
         let Some(block) = inodes.block(number) else {
             return Err(Errno::EBADF);
@@ -215,18 +244,29 @@ impl Files {
     /// Takes an open control block away (C Library Reference: `close`), and what was open with it, with its bytes, where
     /// nothing names that and nothing else has it open.
     pub fn release(&mut self, inodes: &mut Inodes, number: u16) -> Result<u64, Errno>
+        requires fits { Fits inodes.old.inodes self.old }
         ensures given { given inodes.new.inodes self.new result ≡ machine.release_file inodes.old.inodes self.old number }
         ensures kept { OnErr result ((self.new ≡ self.old) × (inodes.new ≡ inodes.old)) }
+        ensures fits { Fits inodes.new.inodes self.new }
     {
         let Some(block) = inodes.block(number) else {
             return Err(Errno::EBADF);
         };
         let inode = block.inode;
         inodes.close_block(number);
+        self.free(inodes, inode);
+        Ok(0)
+    }
+
+    /// Frees an inode that nothing names and nothing has open, with its bytes.
+    pub(crate) fn free(&mut self, inodes: &mut Inodes, inode: u32)
+        requires fits { Fits inodes.old.inodes self.old }
+        ensures freed { given inodes.new.inodes self.new (Ok 0) ≡ Ok (machine.without_unused inodes.old.inodes self.old inode) }
+        ensures fits { Fits inodes.new.inodes self.new }
+    {
         if inodes.free_inode(inode) {
             self.remove(inode);
         }
-        Ok(0)
     }
 
     /// Takes the bytes of a file away, if it has any.

@@ -5,6 +5,7 @@ mod contents;
 mod data;
 pub mod files;
 pub mod laws;
+mod opening;
 mod target;
 
 pub use files::Files;

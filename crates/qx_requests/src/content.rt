@@ -6,7 +6,7 @@ ghost use Rattle.qx_machine.specs.Calls.{bytes_of, can_send, content_of, in_rang
 
 use qx_machine::Content;
 use qx_paths::Path;
-use qx_types::{Limits, MessageBytes, NoMemory, OFlags, Request};
+use qx_types::{Limits, MessageBytes, NoMemory, Request};
 use qx_wire::{BorrowedBytes, Message, Rest, encode};
 use std::alloc::Global;
 
@@ -41,7 +41,6 @@ pub(crate) fn is_in_ranges(request: &Request) -> bool
 {
     match request {
         Request::Dup { .. } => true,
-        Request::OpenPath { flags, .. } if *flags != OFlags::READ => false,
         _ => can_send(&content_of(request, root())),
     }
 }

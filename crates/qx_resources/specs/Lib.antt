@@ -1,3 +1,4 @@
 pub mod Boot
 pub mod Lends
 pub mod Memory
+pub mod Mounts

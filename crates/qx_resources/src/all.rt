@@ -19,10 +19,14 @@ pub struct AllResources {
 }
 
 impl Model for AllResources {
+    ghost use Rattle.std.specs.Coded.{codes};
     ghost use Rattle.std.specs.Prelude.{List, Option};
     ghost use Rattle.qx_machine.specs.Parts as parts;
+    ghost use Rattle.qx_names.specs.Paths.{names_code};
 
     ghost Value = { List (Option parts.Resources) };
+
+    ghost coded = { Prim.hlevel (codes, names_code) };
 
     ghost view = { λ a. a.rows.items };
 }

@@ -1,4 +1,5 @@
 use crate::resources::Resources;
+use qx_attr::Reply;
 use qx_machine::{NewOpen, Opened};
 use qx_resmgr::{Connect, Done, Io, no_function};
 use qx_types::{Errno, OFlags, Whence};
@@ -25,6 +26,7 @@ impl Connect<Resources> for Pipe {
         _root: Result<u32, Errno>,
         _rest: &Rest<'_>,
         _moment: u64,
+        _reply: &mut Reply,
     ) -> Result<Done, Errno> {
         no_function()
     }
@@ -44,8 +46,8 @@ impl Connect<Resources> for Pipe {
         _mode: u16,
         _rest: &Rest<'_>,
         _moment: u64,
-    ) -> Result<Done, Errno> {
-        no_function()
+    ) -> Result<Result<Done, Errno>, AllocError> {
+        Ok(no_function())
     }
 }
 
@@ -55,6 +57,7 @@ impl Io<Resources> for Pipe {
         _opened: Result<Opened, Errno>,
         _count: u32,
         _moment: u64,
+        _reply: &mut Reply,
     ) -> Result<Done, Errno> {
         no_function()
     }
@@ -64,8 +67,8 @@ impl Io<Resources> for Pipe {
         _opened: Result<Opened, Errno>,
         _bytes: &[u8],
         _moment: u64,
-    ) -> Result<Done, Errno> {
-        no_function()
+    ) -> Result<Result<Done, Errno>, AllocError> {
+        Ok(no_function())
     }
 
     fn close(
@@ -90,6 +93,7 @@ impl Io<Resources> for Pipe {
         _state: &mut Resources,
         _opened: Result<Opened, Errno>,
         _moment: u64,
+        _reply: &mut Reply,
     ) -> Result<Done, Errno> {
         no_function()
     }
@@ -99,6 +103,7 @@ impl Io<Resources> for Pipe {
         _opened: Result<Opened, Errno>,
         _after: &[u8],
         _moment: u64,
+        _reply: &mut Reply,
     ) -> Result<Done, Errno> {
         no_function()
     }

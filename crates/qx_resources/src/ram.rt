@@ -1,8 +1,10 @@
+ghost use Rattle.std.specs.Prelude.{true};
 ghost use Rattle.qx_machine.specs.Performing.{ram_connect, ram_io};
 
 use crate::resources::Resources;
-use qx_machine::{NewOpen, Opened};
-use qx_resmgr::{Connect, Done, Io, no_function};
+use qx_attr::Reply;
+use qx_machine::{Effect, NewOpen, Opened};
+use qx_resmgr::{Connect, Done, Io};
 use qx_types::{Errno, OFlags, Whence};
 use qx_wire::Rest;
 use std::alloc::AllocError;
@@ -16,13 +18,30 @@ impl Connect<Resources> for Ram {
     fn open(
         state: &mut Resources,
         over: Result<NewOpen, Errno>,
-        _flags: OFlags,
-        _mode: u16,
+        flags: OFlags,
+        mode: u16,
         rest: &Rest<'_>,
-        _moment: u64,
+        moment: u64,
     ) -> Result<Result<Done, Errno>, AllocError> {
-        match over {
-            Ok(over) => state.open(over, rest),
+        let over = match over {
+            Ok(over) => over,
+            Err(error) => return Ok(Err(error)),
+        };
+        let Resources {
+            user,
+            inodes,
+            files,
+            ..
+        } = state;
+        let opened = files.connect(inodes, *user, over.root, rest, flags, mode, moment)?;
+        match opened {
+            Ok(number) => Ok(Ok(Done {
+                status: over.coid.0 as u64,
+                effect: Effect::Opens {
+                    coid: over.coid,
+                    block: number,
+                },
+            })),
             Err(error) => Ok(Err(error)),
         }
     }
@@ -32,49 +51,74 @@ impl Connect<Resources> for Ram {
         root: Result<u32, Errno>,
         rest: &Rest<'_>,
         _moment: u64,
+        reply: &mut Reply,
     ) -> Result<Done, Errno> {
-        state.stat(root?, rest)
+        let status = state.files.stat(&state.inodes, state.user, root?, rest)?;
+        reply.push(status.as_slice());
+        Ok(Done::keeps(0))
     }
 
     fn unlink(
-        _state: &mut Resources,
-        _root: Result<u32, Errno>,
-        _rest: &Rest<'_>,
-        _moment: u64,
+        state: &mut Resources,
+        root: Result<u32, Errno>,
+        rest: &Rest<'_>,
+        moment: u64,
     ) -> Result<Done, Errno> {
-        no_function()
+        let status = state
+            .files
+            .unlink(&mut state.inodes, state.user, root?, rest, moment)?;
+        Ok(Done::keeps(status))
     }
 
     fn mknod(
-        _state: &mut Resources,
-        _root: Result<u32, Errno>,
-        _mode: u16,
-        _rest: &Rest<'_>,
-        _moment: u64,
-    ) -> Result<Done, Errno> {
-        no_function()
+        state: &mut Resources,
+        root: Result<u32, Errno>,
+        mode: u16,
+        rest: &Rest<'_>,
+        moment: u64,
+    ) -> Result<Result<Done, Errno>, AllocError> {
+        let root = match root {
+            Ok(root) => root,
+            Err(error) => return Ok(Err(error)),
+        };
+        let made = state
+            .files
+            .mkdir(&mut state.inodes, state.user, root, rest, mode, moment)?;
+        Ok(made.map(Done::keeps))
     }
 }
 
 impl Io<Resources> for Ram {
     ghost io = { ram_io };
 
+    ghost wants = { true };
+
     fn read(
-        _state: &mut Resources,
-        _opened: Result<Opened, Errno>,
-        _count: u32,
+        state: &mut Resources,
+        opened: Result<Opened, Errno>,
+        count: u32,
         _moment: u64,
+        reply: &mut Reply,
     ) -> Result<Done, Errno> {
-        no_function()
+        let bytes = state.files.read(&mut state.inodes, opened?.number, count)?;
+        reply.push(bytes);
+        Ok(Done::keeps(bytes.len() as u64))
     }
 
     fn write(
-        _state: &mut Resources,
-        _opened: Result<Opened, Errno>,
-        _bytes: &[u8],
-        _moment: u64,
-    ) -> Result<Done, Errno> {
-        no_function()
+        state: &mut Resources,
+        opened: Result<Opened, Errno>,
+        bytes: &[u8],
+        moment: u64,
+    ) -> Result<Result<Done, Errno>, AllocError> {
+        let opened = match opened {
+            Ok(opened) => opened,
+            Err(error) => return Ok(Err(error)),
+        };
+        let written = state
+            .files
+            .write(&mut state.inodes, opened.number, moment, bytes)?;
+        Ok(written.map(Done::keeps))
     }
 
     fn close(
@@ -82,42 +126,60 @@ impl Io<Resources> for Ram {
         opened: Result<Opened, Errno>,
         _moment: u64,
     ) -> Result<Done, Errno> {
-        Ok(state.close(opened?))
+        let opened = opened?;
+        let status = state.files.release(&mut state.inodes, opened.number)?;
+        Ok(Done {
+            status,
+            effect: Effect::Closes(opened.coid),
+        })
     }
 
     fn lseek(
-        _state: &mut Resources,
-        _opened: Result<Opened, Errno>,
-        _whence: Whence,
-        _offset: i64,
+        state: &mut Resources,
+        opened: Result<Opened, Errno>,
+        whence: Whence,
+        offset: i64,
         _moment: u64,
     ) -> Result<Done, Errno> {
-        no_function()
+        let status = state
+            .files
+            .seek(&mut state.inodes, opened?.number, whence, offset)?;
+        Ok(Done::keeps(status))
     }
 
     fn fstat(
         state: &mut Resources,
         opened: Result<Opened, Errno>,
         _moment: u64,
+        reply: &mut Reply,
     ) -> Result<Done, Errno> {
-        state.fstat(opened?)
+        let status = state.files.fstat(&state.inodes, opened?.number)?;
+        reply.push(status.as_slice());
+        Ok(Done::keeps(0))
     }
 
     fn list(
-        _state: &mut Resources,
-        _opened: Result<Opened, Errno>,
-        _after: &[u8],
+        state: &mut Resources,
+        opened: Result<Opened, Errno>,
+        after: &[u8],
         _moment: u64,
+        reply: &mut Reply,
     ) -> Result<Done, Errno> {
-        no_function()
+        let count = state
+            .files
+            .list(&state.inodes, opened?.number, after, reply)?;
+        Ok(Done::keeps(count))
     }
 
     fn chmod(
-        _state: &mut Resources,
-        _opened: Result<Opened, Errno>,
-        _mode: u16,
-        _moment: u64,
+        state: &mut Resources,
+        opened: Result<Opened, Errno>,
+        mode: u16,
+        moment: u64,
     ) -> Result<Done, Errno> {
-        no_function()
+        let status = state
+            .files
+            .chmod(&mut state.inodes, opened?.number, moment, mode)?;
+        Ok(Done::keeps(status))
     }
 }

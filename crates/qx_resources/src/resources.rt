@@ -1,48 +1,57 @@
 //! What the managers keep for a user, and what messages do to it.
 
-ghost use Rattle.std.specs.Prelude.{◌≡◌, None, Ok, IsFalse, IsOk, IfOk, OnErr, OnOk};
-ghost use Rattle.std.specs.Option.{option_copied};
-ghost use Rattle.qx_paths.specs.Mounts.{mount_fault};
+ghost use Rattle.std.specs.Prelude.{◌≡◌, ◌<◌, IsFalse, IsOk, IfOk, OnErr, OnOk};
 ghost use Rattle.qx_machine.specs.Attributes as attributes;
+ghost use Rattle.qx_attr.specs.Counts.{numbered};
+ghost use Rattle.qx_machine.specs.Inodes.{inode_number, new_inode};
 ghost use Rattle.qx_machine.specs.Mounting as mounting;
-ghost use Rattle.qx_machine.specs.Mounting.{with_mount};
+ghost use Rattle.qx_machine.specs.Mounting.{with_manager_root, with_mount};
 ghost use Rattle.qx_machine.specs.Performing as performing;
-ghost use Rattle.qx_machine.specs.Performing.{close_deed, deed_of, fstat_deed, open_deed, stat_deed};
-ghost use Rattle.qx_machine.specs.Rows.{row_at};
+ghost use Rattle.qx_machine.specs.Performing.{deed_of};
 ghost use Rattle.qx_machine.specs.Users.{boot_part};
+ghost use Rattle.qx_names.specs.Paths.{IsUnnamed};
 ghost use Rattle.qx_resmgr.specs.Deeds.{deed_with};
-ghost use Rattle.qx_resources.specs.Memory.{wants_memory};
+ghost use Rattle.qx_resources.specs.Memory.{IsInRanges, wants_memory};
+ghost use Rattle.qx_resources.specs.Mounts.{CanMount};
 
 use crate::pipe::Pipe;
 use crate::ram::Ram;
-use arrayvec::ArrayVec;
-use qx_attr::stat_bytes;
-use qx_machine::{Attribute, Block, Effect, Kind, NewOpen, Opened, Over, Target};
+use qx_attr::{Inodes, Reply};
+use qx_machine::{Attribute, Kind, Opened, Over, Target};
 use qx_paths::{MountFault, Mounts, Path, read_path};
-use qx_process::{Process, places};
+use qx_process::Process;
+use qx_ram::Files;
 use qx_resmgr::{Done, serve};
-use qx_types::{Config, Errno, Limits, Manager, NoMemory, User};
-use qx_wire::{Meaning, Rest};
+use qx_types::{Config, Errno, Manager, NoMemory, User};
+use qx_wire::Meaning;
 use std::alloc::{AllocError, Global};
 use std::marker::Model;
 
 /// The root of a user's top.
 const TOP_INODE: u32 = 1;
 
-/// What the managers keep for a user: where they are attached, inodes from 1 and open blocks from 1.
+/// What the managers keep for a user: where they are attached, inodes and open control blocks, and files.
 #[derive(Drop)]
 pub struct Resources {
+    pub(crate) user: User,
     mounts: Mounts,
-    inodes: Vec<Option<Attribute>>,
-    blocks: Vec<Option<Block>>,
+    pub(crate) inodes: Inodes,
+    pub(crate) files: Files,
 }
 
 impl Model for Resources {
+    ghost use Rattle.std.specs.Coded.{codes};
     ghost use Rattle.qx_machine.specs.Parts as parts;
+    ghost use Rattle.qx_names.specs.Paths.{names_code};
+    ghost use Rattle.qx_ram.specs.Fits.{Fits};
 
     ghost Value = { parts.Resources };
 
-    ghost view = { λ r. record { mounts = r.mounts; inodes = r.inodes.items; blocks = r.blocks.items } };
+    ghost coded = { Prim.hlevel (codes, names_code) };
+
+    ghost view = { λ r. record { user = r.user.0; mounts = r.mounts; inodes = r.inodes.inodes; files = r.files } };
+
+    ghost invariant = { λ r. Fits r.inodes.inodes r.files };
 }
 
 /// A mount that is judged and not made yet: its path, its manager, and the inode that its root will have.
@@ -67,12 +76,16 @@ impl Resources {
     pub fn boot(alloc: Global, config: &Config, user: User) -> Result<Self, NoMemory>
         ensures { IfOk result (λ resources. resources ≡ (boot_part config.now user.0).resources) }
     {
-        let mut inodes = places::empty(alloc)?;
-        places::put(&mut inodes, TOP_INODE as usize, root_attribute(user))?;
+        let mut inodes = Inodes::new(alloc)?;
+        inodes.reserve(1)?;
+        make_root(&mut inodes, user);
+        let mut files = Files::new(alloc)?;
+        files.add_root(TOP_INODE)?;
         Ok(Resources {
+            user,
             mounts: Mounts::boot(alloc, config.name_bytes(user), TOP_INODE)?,
             inodes,
-            blocks: places::empty(alloc)?,
+            files,
         })
     }
 
@@ -92,7 +105,7 @@ impl Resources {
         path: &'a [u8],
         manager: Manager,
     ) -> Result<NewMount<'a>, Errno>
-        ensures free { IfOk result (λ mount. mount_fault self.now.mounts mount.prefix ≡ None) }
+        ensures can { IfOk result (λ mount. CanMount self.now mount) }
         ensures mount { result ≡ mounting.new_mount name.now path.now manager self.now }
     {
         let path = read_path(path)?;
@@ -102,7 +115,7 @@ impl Resources {
         if let Some(errno) = self.mounts.fault(&path) {
             return Err(errno);
         }
-        let root = self.free_inode()?;
+        let root = self.inodes.inode_number()?;
         Ok(NewMount {
             path,
             manager,
@@ -110,21 +123,10 @@ impl Resources {
         })
     }
 
-    /// The lowest free inode.
-    fn free_inode(&self) -> Result<u32, Errno>
-        ensures { result ≡ mounting.free_inode self.now }
-    {
-        let number = places::lowest_free(self.inodes.as_slice(), 1);
-        if number > Limits::INODES {
-            return Err(Errno::ENOSPC);
-        }
-        Ok(number as u32)
-    }
-
     /// Attaches a manager, with a root of its own.
-    pub fn mount(&mut self, alloc: Global, user: User, mount: &NewMount<'_>) -> Result<(), NoMemory>
-        requires free { mount_fault self.old.mounts mount.now.prefix ≡ None }
-        ensures ok { OnOk result (self.new ≡ with_mount user.0 mount.now self.old) }
+    pub fn mount(&mut self, alloc: Global, mount: &NewMount<'_>) -> Result<(), NoMemory>
+        requires can { CanMount self.old mount.now }
+        ensures ok { OnOk result (self.new ≡ with_mount mount.now self.old) }
         ensures err { OnErr result (self.new ≡ self.old) }
     {
         self.inodes.reserve(1)?;
@@ -136,133 +138,85 @@ impl Resources {
             Err(MountFault::NoMemory) => return Err(NoMemory),
             Err(MountFault::Refused(_)) => unreachable!(),
         }
-        places::put_reserved(&mut self.inodes, mount.root as usize, root_attribute(user));
+        if name_root(&mut self.files, mount.manager, mount.root).is_err() {
+            self.mounts.take_last();
+            return Err(NoMemory);
+        }
+        make_root(&mut self.inodes, self.user);
         Ok(())
     }
 
-    /// Does what bytes of a process ask its manager for at a moment, by what they mean. Only an open may want memory.
+    /// Does what bytes of a process ask its manager for at a moment, by what they mean; the bytes of the reply are then in
+    /// `reply`. Only an open, a mknod and a write to the RAM manager may want memory, and only where they would be done.
     pub fn perform(
         &mut self,
         process: &Process,
         target: Target,
         meaning: Meaning<'_>,
         moment: u64,
+        reply: &mut Reply,
     ) -> Result<Result<Done, Errno>, AllocError>
-        ensures ok { IfOk result (λ given. deed_with self.new given ≡ deed_of self.old process.now target moment meaning.entry) }
+        requires ranges { IsInRanges meaning }
+        ensures ok { IfOk result (λ given. deed_with self.new reply.new given ≡ deed_of self.old process.now target moment meaning.entry) }
         ensures kept { IfOk result (λ given. OnErr given (self.new ≡ self.old)) }
         ensures err { OnErr result (self.new ≡ self.old) }
-        ensures sure { IsFalse (wants_memory meaning.entry) → IsOk result }
+        ensures wanted { OnErr result (IsOk (deed_of self.old process.now target moment meaning.entry)) }
+        ensures sure { IsFalse (wants_memory target.manager meaning.entry) → IsOk result }
     {
         let message = match meaning {
             Meaning::Known(message) => message,
             Meaning::Unknown => return Ok(Err(Errno::ENOSYS)),
             Meaning::Malformed => return Ok(Err(Errno::EINVAL)),
         };
-        let opened = self.opened_by(process, target);
+        reply.clear();
+        let opened = opened_by(process, target);
         match target.manager {
-            Manager::Ram => serve::<Ram, Resources>(self, target, opened, message, moment),
-            Manager::Pipe => serve::<Pipe, Resources>(self, target, opened, message, moment),
+            Manager::Ram => serve::<Ram, Resources>(self, target, opened, message, moment, reply),
+            Manager::Pipe => serve::<Pipe, Resources>(self, target, opened, message, moment, reply),
         }
     }
+}
 
-    /// Opens a mount's root over a new connection (C Library Reference: `open`).
-    pub(crate) fn open(
-        &mut self,
-        over: NewOpen,
-        rest: &Rest<'_>,
-    ) -> Result<Result<Done, Errno>, AllocError>
-        ensures ok { IfOk result (λ given. deed_with self.new given ≡ open_deed self.old over rest.now) }
-        ensures kept { IfOk result (λ given. OnErr given (self.new ≡ self.old)) }
-        ensures err { OnErr result (self.new ≡ self.old) }
-    {
-        if !is_root(rest) {
-            return Ok(Err(Errno::ENOENT));
-        }
-        let number = places::lowest_free(self.blocks.as_slice(), 1);
-        if number > Limits::BLOCKS {
-            return Ok(Err(Errno::ENFILE));
-        }
-        places::put(&mut self.blocks, number, Block { inode: over.root })?;
-        Ok(Ok(Done {
-            status: over.coid.0 as u64,
-            bytes: ArrayVec::new(),
-            effect: Effect::Opens {
-                coid: over.coid,
-                block: number as u16,
-            },
-        }))
+/// Names the root of a manager's mount, to which no path led. Where memory is short, nothing changes.
+fn name_root(files: &mut Files, manager: Manager, root: u32) -> Result<(), AllocError>
+    requires new { IsUnnamed files.old.names root }
+    ensures ok { OnOk result (files.new ≡ with_manager_root manager root files.old) }
+    ensures err { OnErr result (files.new ≡ files.old) }
+{
+    match manager {
+        Manager::Ram => files.add_root(root),
+        Manager::Pipe => Ok(()),
     }
+}
 
-    /// Tells the status of a mount's root (C Library Reference: `stat`).
-    pub(crate) fn stat(&self, root: u32, rest: &Rest<'_>) -> Result<Done, Errno>
-        ensures { deed_with self.now result ≡ stat_deed self.now root rest.now }
-    {
-        if !is_root(rest) {
-            return Err(Errno::ENOENT);
-        }
-        let attribute = self.inode(root).ok_or(Errno::ENOENT)?;
-        Ok(Done {
-            status: 0,
-            bytes: stat_bytes(root, attribute),
-            effect: Effect::Keeps,
-        })
+/// Makes the inode of a mount's root, for which there is a number and room.
+fn make_root(inodes: &mut Inodes, user: User)
+    requires room { 0 < inodes.old.room }
+    requires number { IsOk (inode_number inodes.old.inodes) }
+    ensures made { numbered inodes.new.inodes (inode_number inodes.old.inodes) ≡ new_inode inodes.old.inodes (attributes.root_attribute user.0) }
+{
+    match inodes.new_inode(root_attribute(user)) {
+        Ok(Ok(_)) => {}
+        _ => unreachable!(),
     }
+}
 
-    /// Takes a connection and its block away (C Library Reference: `close`).
-    pub(crate) fn close(&mut self, opened: Opened) -> Done
-        ensures { deed_with self.new (Ok result) ≡ close_deed self.old opened }
-    {
-        places::free(&mut self.blocks, opened.number as usize);
-        Done {
-            status: 0,
-            bytes: ArrayVec::new(),
-            effect: Effect::Closes(opened.coid),
-        }
+/// What the connection of a message has open.
+fn opened_by(process: &Process, target: Target) -> Result<Opened, Errno>
+    ensures { result ≡ performing.opened_by process.now target }
+{
+    let Over::Existing(coid) = target.over else {
+        return Err(Errno::EINVAL);
+    };
+    let Some(connection) = process.conn_of(coid) else {
+        return Err(Errno::EBADF);
+    };
+    if connection.manager.number() != target.manager.number() {
+        return Err(Errno::EBADF);
     }
-
-    /// Tells the status of what is open (C Library Reference: `fstat`).
-    pub(crate) fn fstat(&self, opened: Opened) -> Result<Done, Errno>
-        ensures { deed_with self.now result ≡ fstat_deed self.now opened }
-    {
-        let attribute = self.inode(opened.block.inode).ok_or(Errno::EBADF)?;
-        Ok(Done {
-            status: 0,
-            bytes: stat_bytes(opened.block.inode, attribute),
-            effect: Effect::Keeps,
-        })
-    }
-
-    /// The attribute of an inode.
-    fn inode(&self, number: u32) -> Option<&Attribute>
-        ensures { option_copied result ≡ row_at self.now.inodes number }
-    {
-        places::row(self.inodes.as_slice(), number as usize)
-    }
-
-    /// What the connection of a message has open.
-    fn opened_by(&self, process: &Process, target: Target) -> Result<Opened, Errno>
-        ensures { result ≡ performing.opened_by self.now process.now target }
-    {
-        let Over::Existing(coid) = target.over else {
-            return Err(Errno::EINVAL);
-        };
-        let Some(connection) = process.conn_of(coid) else {
-            return Err(Errno::EBADF);
-        };
-        if connection.manager.number() != target.manager.number() {
-            return Err(Errno::EBADF);
-        }
-        let Some(number) = connection.block else {
-            return Err(Errno::EBADF);
-        };
-        let Some(block) = places::row(self.blocks.as_slice(), number as usize) else {
-            return Err(Errno::EBADF);
-        };
-        Ok(Opened {
-            coid,
-            number,
-            block: *block,
-        })
+    match connection.block {
+        Some(number) => Ok(Opened { coid, number }),
+        None => Err(Errno::EBADF),
     }
 }
 
@@ -279,11 +233,4 @@ fn root_attribute(user: User) -> Attribute
         mtime: 0,
         ctime: 0,
     }
-}
-
-/// Whether a path has nothing behind its mount.
-fn is_root(rest: &Rest<'_>) -> bool
-    ensures { result ≡ performing.is_root rest.now }
-{
-    rest.components().next().is_none()
 }

@@ -9,7 +9,6 @@ use Rattle.qx_types.specs.declared.names.Thread.{Thread}
 use Rattle.qx_types.specs.declared.outcome.Outcome.{Outcome}
 use Rattle.qx_types.specs.declared.outcome.Outcome.TheVariants.{Done, WrongState}
 use Rattle.qx_types.specs.declared.step.Step.TheVariants.{Mount}
-use Rattle.qx_paths.specs.Mounts.{mount_fault}
 use Rattle.qx_paths.specs.Prefixes.{MountPoint}
 use Rattle.qx_machine.specs.declared.rows.Held.{Held}
 use Rattle.qx_machine.specs.Calls.{is_ready}
@@ -22,6 +21,7 @@ use Rattle.qx_machine.specs.Processes.{Process}
 use Rattle.qx_machine.specs.Rows.{row_at, with_row}
 use Rattle.qx_machine.specs.Users.{client, settle}
 use Rattle.qx_machine.proofs.Places.{set-row_at}
+use Rattle.qx_resources.specs.Mounts as mounts
 use Rattle.qx_chan.specs.Channel.{Channel}
 use Rattle.qx_steps.specs.Parts.{part_of, parts_of, world_of}
 use Rattle.qx_steps.specs.Reads.{is_thread_ready, process_in, thread_row}
@@ -57,12 +57,12 @@ nobody-mount w us rs thread path manager is none =
     ])
 
 ready_part : (config : Configuration) (thread : Thread) (path : List ℕ) (manager : Manager) (ps : Option (List (Option Process))) (r : Resources) → is_thread_ready (thread_of thread.tid (process_in thread.proc.num (part_of ps (Some r)))) ≡ true
-    → (mount_from config thread path manager (part_of ps (Some r)) ≡ or_refused (new_mount (name_bytes config thread.proc.user.0) path manager r)) × ((names : List (List ℕ)) → mount_fault r.mounts names ≡ None → CanMount (part_of ps (Some r)) names)
+    → (mount_from config thread path manager (part_of ps (Some r)) ≡ or_refused (new_mount (name_bytes config thread.proc.user.0) path manager r)) × ((mount : MountPoint) → mounts.CanMount r mount → CanMount (part_of ps (Some r)) mount)
 ready_part config thread path manager None r is = absurd (false≢true is)
-ready_part config thread path manager (Some ps) r is = (ready config thread path manager (record { processes = ps; resources = r }) is, λ names free. free)
+ready_part config thread path manager (Some ps) r is = (ready config thread path manager (record { processes = ps; resources = r }) is, λ mount can. can)
 
 pub ready-mount : (w : World) (us : List (Option (List (Option Process)))) (rs : List (Option Resources)) (thread : Thread) (path : List ℕ) (manager : Manager) (r : Resources) → w.parts ≡ parts_of us rs → row_at rs thread.proc.user.0 ≡ Some r → is_thread_ready (thread_row w.parts thread) ≡ true
-    → (mount_in w thread path manager ≡ or_refused (new_mount (name_bytes w.config thread.proc.user.0) path manager r)) × ((names : List (List ℕ)) → mount_fault r.mounts names ≡ None → CanMount (row_at w.parts thread.proc.user.0) names)
+    → (mount_in w thread path manager ≡ or_refused (new_mount (name_bytes w.config thread.proc.user.0) path manager r)) × ((mount : MountPoint) → mounts.CanMount r mount → CanMount (row_at w.parts thread.proc.user.0) mount)
 ready-mount w us rs thread path manager r parts there is =
     let row : row_at w.parts thread.proc.user.0 ≡ part_of (row_at us thread.proc.user.0) (Some r) = rw (parts, row_at-parts us rs thread.proc.user.0, there) refl in
     let free : is_thread_ready (thread_of thread.tid (process_in thread.proc.num (part_of (row_at us thread.proc.user.0) (Some r)))) ≡ true = rw row at is in
@@ -111,22 +111,22 @@ parts-with_resources (Some ps ∷ us) (Some r ∷ rs) zero change = refl
 parts-with_resources (u ∷ us) (r ∷ rs) (suc user) change = ap (λ parts. part_of u r ∷ parts) (parts-with_resources us rs user change)
 
 pub attached : (config : Configuration) (c : Channel) (rs : List (Option Resources)) (hands : List (Option Held)) (user : ℕ) (r : Resources) (mount : MountPoint) → row_at rs user ≡ Some r
-    → world_of config c (slice_set rs user (Some (with_mount user mount r))) hands ≡ after_mount (world_of config c rs hands) user mount
+    → world_of config c (slice_set rs user (Some (with_mount mount r))) hands ≡ after_mount (world_of config c rs hands) user mount
 attached config c rs hands user r mount there =
-    let change : Resources → Resources = with_mount user mount in
+    let change : Resources → Resources = with_mount mount in
     let row : with_row rs user change ≡ slice_set rs user (Some (change r)) = rw there refl in
     ap (λ parts. record (world_of config c rs hands) { parts = parts }) (ap (parts_of c.users) (sym row) ∙ parts-with_resources c.users rs user change)
 
-unmounted : (ps : Option (List (Option Process))) (names : List (List ℕ)) → CanMount (part_of ps None) names → ⊥
-unmounted None names can = can
-unmounted (Some ps) names can = can
+unmounted : (ps : Option (List (Option Process))) (mount : MountPoint) → CanMount (part_of ps None) mount → ⊥
+unmounted None mount can = can
+unmounted (Some ps) mount can = can
 
-pub nobody-attached : (us : List (Option (List (Option Process)))) (rs : List (Option Resources)) (user : ℕ) (names : List (List ℕ)) → row_at rs user ≡ None → CanMount (row_at (parts_of us rs) user) names → ⊥
-nobody-attached us rs user names none can = unmounted (row_at us user) names (rw (row_at-parts us rs user, none) at can)
+pub nobody-attached : (us : List (Option (List (Option Process)))) (rs : List (Option Resources)) (user : ℕ) (mount : MountPoint) → row_at rs user ≡ None → CanMount (row_at (parts_of us rs) user) mount → ⊥
+nobody-attached us rs user mount none can = unmounted (row_at us user) mount (rw (row_at-parts us rs user, none) at can)
 
-free_by : (ps : Option (List (Option Process))) (r : Resources) (names : List (List ℕ)) → CanMount (part_of ps (Some r)) names → mount_fault r.mounts names ≡ None
-free_by None r names can = absurd can
-free_by (Some ps) r names can = can
+can_by : (ps : Option (List (Option Process))) (r : Resources) (mount : MountPoint) → CanMount (part_of ps (Some r)) mount → mounts.CanMount r mount
+can_by None r mount can = absurd can
+can_by (Some ps) r mount can = can
 
-pub attached-free : (us : List (Option (List (Option Process)))) (rs : List (Option Resources)) (user : ℕ) (r : Resources) (names : List (List ℕ)) → row_at rs user ≡ Some r → CanMount (row_at (parts_of us rs) user) names → mount_fault r.mounts names ≡ None
-attached-free us rs user r names there can = free_by (row_at us user) r names (rw (row_at-parts us rs user, there) at can)
+pub attached-can : (us : List (Option (List (Option Process)))) (rs : List (Option Resources)) (user : ℕ) (r : Resources) (mount : MountPoint) → row_at rs user ≡ Some r → CanMount (row_at (parts_of us rs) user) mount → mounts.CanMount r mount
+attached-can us rs user r mount there can = can_by (row_at us user) r mount (rw (row_at-parts us rs user, there) at can)

@@ -1,6 +1,7 @@
 -- A worker's step, by what the channel and the resources make of it.
 use Rattle.std.proofs.Common.{◌≡◌, inl, inr, ℕ, zero, suc, List, [], ◌∷◌, true, false, drop, Option, Some, None, Ok, Err, slice_set, is_some, refl, sym, ap, ◌∙◌}
-use Rattle.std.specs.Prelude.{Result, OnErr, slice_get}
+use Rattle.std.specs.Prelude.{Bool, ◌&&◌, IsFalse, IsOk, Result, OnErr, is_ok, slice_get}
+use Rattle.std.proofs.lemmas.Bool.{cases_Bool, false≢true}
 use Rattle.qx_types.specs.Configuration.{Configuration}
 use Rattle.qx_types.specs.Managers.{manager_number}
 use Rattle.qx_types.specs.declared.errno.Errno.{Errno}
@@ -9,7 +10,10 @@ use Rattle.qx_types.specs.declared.names.Thread.{Thread}
 use Rattle.qx_types.specs.declared.names.Worker.{Worker}
 use Rattle.qx_types.specs.declared.outcome.Outcome.TheVariants.{WrongState, Took, Idle, Busy, Handled, Nothing}
 use Rattle.qx_types.specs.declared.step.Step.TheVariants.{Receive, Perform}
-use Rattle.qx_wire.specs.Reading.{meaning}
+use Rattle.qx_wire.specs.declared.message.Meaning.{Meaning}
+use Rattle.qx_wire.specs.declared.message.Meaning.TheVariants.{Known, Unknown, Malformed}
+use Rattle.qx_wire.specs.Reading.{cut, judged, meaning}
+use Rattle.qx_wire.specs.Table.{in_ranges}
 use Rattle.qx_machine.specs.declared.rows.Held.{Held}
 use Rattle.qx_machine.specs.declared.rows.OwnItem.{OwnItem}
 use Rattle.qx_machine.specs.declared.rows.OwnItem.TheVariants as item
@@ -28,7 +32,8 @@ use Rattle.qx_process.proofs.RowLemmas.{set-row, with_row-none}
 use Rattle.qx_chan.specs.Channel.{Channel, after_failing, after_receive, after_replying, channel_line, with_first_taken}
 use Rattle.qx_chan.specs.Users.{process_of}
 use Rattle.qx_steps.specs.Parts.{world_of, SameUsers}
-use Rattle.qx_steps.specs.Held.{held_work, work_of_sent}
+use Rattle.qx_resources.specs.Memory.{wants_memory, IsInRanges}
+use Rattle.qx_steps.specs.Held.{held_work, thread_wants_memory, work_of_sent}
 use Rattle.qx_steps.specs.Reads.{taken_of, thread_row as thread_of_parts}
 use Rattle.qx_steps.specs.Steps.{after_message, with_message_done}
 use Rattle.qx_chan.proofs.RowReads.{option_cases}
@@ -207,6 +212,29 @@ module _ (config : Configuration) (c : Channel) (rs : List (Option Resources)) (
 
     pub message-failed : (error : Errno) → deed_of r x sent.target moment (meaning sent.bytes) ≡ Err error → after_message w thread moment ≡ world_of config (after_failing c thread error) rs hands
     message-failed error is = rows _ (λ ps row user process its taken part. failed_by thread moment ps x row sent r user process its taken resources part error is)
+
+    -- whether doing it wants memory
+    pub message-wants : thread_wants_memory w.parts thread moment ≡ (wants_memory sent.target.manager (meaning sent.bytes) && is_ok (deed_of r x sent.target moment (meaning sent.bytes)))
+    message-wants = rows _ (λ ps row user process its taken part. rw (part, process, its, taken) refl)
+
+-- memory is short only where it may be wanted, and where the message would be done
+pub unwanted : (wants : Bool) (deed : Result (Deed Resources) Errno) → (IsFalse wants → ⊥) → IsOk deed → IsFalse (wants && is_ok deed) → ⊥
+unwanted true (Ok deed) short done none = false≢true (sym none)
+unwanted true (Err error) short done none = false≢true done
+unwanted false deed short done none = short refl
+
+-- bytes mean no message whose values are out of their ranges
+judged-in_ranges : (given : Meaning) → IsInRanges (judged given)
+judged-in_ranges Unknown = tt
+judged-in_ranges Malformed = tt
+judged-in_ranges (Known message) = elim (cases_Bool (in_ranges message)) [
+  | inl good ↦ rw good good
+  | inr wrong ↦ rw wrong tt
+]
+
+pub meaning-in_ranges : (bytes : List ℕ) → IsInRanges (meaning bytes)
+unfolding meaning
+meaning-in_ranges bytes = judged-in_ranges (cut bytes)
 
 -- what holds is a clause of an error too
 pub on_err : {T E P : Type 0} (r : Result T E) → P → OnErr r P

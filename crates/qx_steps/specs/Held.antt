@@ -1,12 +1,15 @@
 -- What a worker holds, as the work that it has to do.
-use Rattle.std.specs.Prelude.{◌≡◌, ◌≢◌, ⊤, ℕ, List, Bool, false, Option, Some, None, if◌then◌else◌}
+use Rattle.std.specs.Prelude.{◌≡◌, ◌≢◌, ⊤, ℕ, List, Bool, false, ◌&&◌, Option, Some, None, is_ok, if◌then◌else◌}
 use Rattle.qx_wire.specs.Reading.{meaning}
+use Rattle.qx_types.specs.declared.names.Thread.{Thread}
 use Rattle.qx_machine.specs.declared.rows.Held.{Held}
 use Rattle.qx_machine.specs.declared.rows.OwnItem.{OwnItem}
 use Rattle.qx_machine.specs.declared.rows.OwnItem.TheVariants as item
 use Rattle.qx_machine.specs.declared.rows.Sent.{Sent}
 use Rattle.qx_machine.specs.Machine.{World, is_worker, named_thread}
-use Rattle.qx_machine.specs.Parts.{Part}
+use Rattle.qx_machine.specs.Parts.{Part, Resources}
+use Rattle.qx_machine.specs.Performing.{deed_of}
+use Rattle.qx_machine.specs.Processes.{Process}
 use Rattle.qx_machine.specs.Rows.{row_at}
 use Rattle.qx_resources.specs.Memory.{wants_memory}
 use Rattle.qx_steps.specs.declared.work.Work.{Work}
@@ -57,17 +60,35 @@ abbrev pub IsReadOf : Option (List ℕ) → Option Sent → Type 0
 IsReadOf (Some bytes) (Some sent) = bytes ≡ sent.bytes
 IsReadOf _ _ = ⊤
 
-abbrev pub sent_wants_memory : Option Sent → Bool
-sent_wants_memory None = false
-sent_wants_memory (Some sent) = wants_memory (meaning sent.bytes)
+-- doing a received message of a process at a moment may want memory: its function may, and the message is done
+abbrev pub sent_wants_memory : Resources → Process → ℕ → Option Sent → Bool
+sent_wants_memory resources process moment None = false
+sent_wants_memory resources process moment (Some sent) =
+    wants_memory sent.target.manager (meaning sent.bytes) && is_ok (deed_of resources process sent.target moment (meaning sent.bytes))
 
--- doing what is held may want memory
-abbrev pub hand_wants_memory : World → Option Held → Bool
-hand_wants_memory w None = false
-hand_wants_memory w (Some held) = sent_wants_memory (taken_item w.parts held.user.0 held.item)
+abbrev pub process_wants_memory : Resources → ℕ → ℕ → Option Process → Bool
+process_wants_memory resources thread moment None = false
+process_wants_memory resources thread moment (Some process) = sent_wants_memory resources process moment (taken_of (row_at process.threads thread))
 
-abbrev pub holds_wanting : World → ℕ → Bool
-holds_wanting w worker = hand_wants_memory w (row_at w.hands worker)
+abbrev pub part_wants_memory : Thread → ℕ → Option Part → Bool
+part_wants_memory thread moment None = false
+part_wants_memory thread moment (Some part) = process_wants_memory part.resources thread.tid moment (row_at part.processes thread.proc.num)
+
+-- doing the message of a thread, which was received, may want memory
+abbrev pub thread_wants_memory : List (Option Part) → Thread → ℕ → Bool
+thread_wants_memory parts thread moment = part_wants_memory thread moment (row_at parts thread.proc.user.0)
+
+abbrev pub item_wants_memory : List (Option Part) → ℕ → OwnItem → ℕ → Bool
+item_wants_memory parts user (item.Message process thread) moment = thread_wants_memory parts (named_thread user process thread) moment
+item_wants_memory parts user (item.Unblock process thread call) moment = false
+
+abbrev pub hand_wants_memory : World → Option Held → ℕ → Bool
+hand_wants_memory w None moment = false
+hand_wants_memory w (Some held) moment = item_wants_memory w.parts held.user.0 held.item moment
+
+-- doing at a moment what a worker holds may want memory: a message that is answered an error wants none, nor does a pulse
+abbrev pub holds_wanting : World → ℕ → ℕ → Bool
+holds_wanting w worker moment = hand_wants_memory w (row_at w.hands worker) moment
 
 -- the bytes of the message that is to be done
 abbrev pub bytes_in : Work → Option (List ℕ)

@@ -1,12 +1,11 @@
 -- A call, a mount and a perform in parts: how a call and a mount are judged, and the world once a message is done.
-use Rattle.std.specs.Prelude.{◌≡◌, ℕ, false, List, Option, Some, None, Result, Err}
+use Rattle.std.specs.Prelude.{ℕ, false, List, Option, Some, None, Result, Err}
 use Rattle.qx_types.specs.Configuration.{Configuration}
 use Rattle.qx_types.specs.declared.names.Manager.{Manager}
 use Rattle.qx_types.specs.declared.names.Thread.{Thread}
 use Rattle.qx_types.specs.declared.outcome.Outcome.{Outcome}
 use Rattle.qx_types.specs.declared.outcome.Outcome.TheVariants.{WrongState}
 use Rattle.qx_types.specs.declared.request.Request.{Request}
-use Rattle.qx_paths.specs.Mounts.{mount_fault}
 use Rattle.qx_paths.specs.Prefixes.{MountPoint}
 use Rattle.qx_machine.specs.declared.rows.Addressed.{Addressed}
 use Rattle.qx_machine.specs.declared.rows.Sent.{Sent}
@@ -17,6 +16,7 @@ use Rattle.qx_machine.specs.Mounting.{with_mount}
 use Rattle.qx_machine.specs.Parts.{Part}
 use Rattle.qx_machine.specs.Performing.{or_kept, serve_message}
 use Rattle.qx_machine.specs.Rows.{row_at, with_row}
+use Rattle.qx_resources.specs.Mounts as mounts
 
 abbrev pub target_from : Configuration → Thread → Request → Option Part → Result Addressed Outcome
 target_from config thread request None = Err WrongState
@@ -38,14 +38,14 @@ mount_from config thread path manager (Some part) = mount_by config thread.proc.
 abbrev pub mount_in : World → Thread → List ℕ → Manager → Result MountPoint Outcome
 mount_in w thread path manager = mount_from w.config thread path manager (row_at w.parts thread.proc.user.0)
 
--- nothing refuses a mount at that path of a user who is there
-abbrev pub CanMount : Option Part → List (List ℕ) → Type 0
-CanMount None path = ⊥
-CanMount (Some part) path = mount_fault part.resources.mounts path ≡ None
+-- nothing refuses that mount of a user who is there
+abbrev pub CanMount : Option Part → MountPoint → Type 0
+CanMount None mount = ⊥
+CanMount (Some part) mount = mounts.CanMount part.resources mount
 
 -- the world with one more mount of a user
 abbrev pub after_mount : World → ℕ → MountPoint → World
-after_mount w user mount = record w { parts = with_row w.parts user (λ part. record part { resources = with_mount user mount part.resources }) }
+after_mount w user mount = record w { parts = with_row w.parts user (λ part. record part { resources = with_mount mount part.resources }) }
 
 abbrev pub with_message_done : World → Thread → ℕ → Option Part → World
 with_message_done w thread moment None = w

@@ -10,11 +10,13 @@ ghost use Rattle.qx_machine.specs.Calls.{can_send, content_of};
 ghost use Rattle.qx_machine.specs.Rows.{row_at};
 ghost use Rattle.qx_process.specs.Reads.{is_thread_blocked, CanCall, CanGo};
 ghost use Rattle.qx_chan.specs.Users.{IsReady};
-ghost use Rattle.qx_steps.specs.Held.{bytes_in, hand_wants_memory, held_work, holds_wanting, sent_wants_memory, taken_item, work_now, IsReadFor, IsReadOf, IsStale};
+ghost use Rattle.qx_resources.specs.Memory.{IsInRanges};
+ghost use Rattle.qx_steps.specs.Held.{bytes_in, hand_wants_memory, held_work, holds_wanting, taken_item, thread_wants_memory, work_now, IsReadFor, IsReadOf, IsStale};
 ghost use Rattle.qx_steps.specs.Reads.{is_thread_answered, is_thread_ready, taken_of, thread_row};
 ghost use Rattle.qx_steps.specs.Steps.{after_message, after_mount, mount_in, target_in, CanMount};
 
 use crate::work::{PerformFault, Work, WorkRef};
+use qx_attr::Reply;
 use qx_chan::Channel;
 use qx_machine::{Addressed, Held, OwnItem, Queued, Sent, State};
 use qx_process::{Process, places};
@@ -36,13 +38,19 @@ pub struct World {
     channel: Channel,
     resources: AllResources,
     hands: Vec<Option<Held>>,
+    /// The bytes of the reply to the message that is being done.
+    reply: Reply,
 }
 
 impl Model for World {
+    ghost use Rattle.std.specs.Coded.{codes};
+    ghost use Rattle.qx_names.specs.Paths.{names_code};
     ghost use Rattle.qx_machine.specs.Machine as machine;
     ghost use Rattle.qx_steps.specs.Parts.{world_of, SameUsers};
 
     ghost Value = { machine.World };
+
+    ghost coded = { Prim.hlevel (codes, names_code) };
 
     ghost view = { λ w. world_of w.config w.channel w.resources w.hands.items };
 
@@ -57,12 +65,14 @@ impl World {
         let channel = Channel::new(alloc, config.user_count())?;
         let resources = AllResources::boot(alloc, &config)?;
         let hands = empty_hands(alloc, config.workers())?;
+        let reply = Reply::new(alloc)?;
         Ok(World {
             alloc,
             config,
             channel,
             resources,
             hands,
+            reply,
         })
     }
 
@@ -197,7 +207,7 @@ impl World {
         path: &'a Bytes,
         manager: Manager,
     ) -> Result<NewMount<'a>, Outcome>
-        ensures free { IfOk result (λ mount. CanMount (row_at self.now.parts thread.proc.user.0) mount.prefix) }
+        ensures can { IfOk result (λ mount. CanMount (row_at self.now.parts thread.proc.user.0) mount) }
         ensures mount { result ≡ mount_in self.now thread path.now manager }
     {
         if !self.is_ready(thread) {
@@ -224,14 +234,14 @@ impl World {
 
     /// A manager is attached for a user.
     fn attach(&mut self, user: User, mount: &NewMount<'_>) -> Result<(), NoMemory>
-        requires free { CanMount (row_at self.old.parts user.0) mount.now.prefix }
+        requires can { CanMount (row_at self.old.parts user.0) mount.now }
         ensures ok { OnOk result (self.new ≡ after_mount self.old user.0 mount.now) }
         ensures err { OnErr result (self.new ≡ self.old) }
     {
         let Some(resources) = self.resources.user_mut(user) else {
             return Ok(());
         };
-        resources.mount(self.alloc, user, mount)?;
+        resources.mount(self.alloc, mount)?;
         Ok(())
     }
 
@@ -270,12 +280,13 @@ impl World {
     }
 
     /// A worker does what it holds (C Library Reference: `MsgReply`, `MsgError`), at a moment that becomes the times of
-    /// what it changes. `WrongState` where there is no such worker, `Nothing` where it holds nothing.
+    /// what it changes. `WrongState` where there is no such worker, `Nothing` where it holds nothing. Only an open, a mkdir
+    /// and a write to the RAM manager may want memory; one that is answered an error wants none.
     pub fn perform_held(&mut self, worker: Worker, moment: u64) -> Result<Outcome, NoMemory>
         ensures outcome { IfOk result (λ outcome. outcome ≡ (machine.step self.old (Step.Perform worker moment)).outcome) }
         ensures world { OnOk result (self.new ≡ (machine.step self.old (Step.Perform worker moment)).world) }
         ensures err { OnErr result (self.new ≡ self.old) }
-        ensures sure { IsFalse (holds_wanting self.old worker.0) → IsOk result }
+        ensures sure { IsFalse (holds_wanting self.old worker.0 moment) → IsOk result }
     {
         self.perform_item(worker, None, moment)
     }
@@ -292,7 +303,7 @@ impl World {
         ensures world { OnOk result (self.new ≡ (machine.step self.old (Step.Perform worker moment)).world) }
         ensures err { OnErr result (self.new ≡ self.old) }
         ensures stale { IsErrOf result PerformFault.Stale ↔ IsStale (held_work self.old worker.0) work.now }
-        ensures sure { IsFalse (holds_wanting self.old worker.0) → result ≢ Err PerformFault.NoMemory }
+        ensures sure { IsFalse (holds_wanting self.old worker.0 moment) → result ≢ Err PerformFault.NoMemory }
     {
         if self.is_stale(worker, work) {
             return Err(PerformFault::Stale);
@@ -312,7 +323,7 @@ impl World {
         ensures outcome { IfOk result (λ outcome. outcome ≡ (machine.step self.old (Step.Perform worker moment)).outcome) }
         ensures world { OnOk result (self.new ≡ (machine.step self.old (Step.Perform worker moment)).world) }
         ensures err { OnErr result (self.new ≡ self.old) }
-        ensures sure { IsFalse (holds_wanting self.old worker.0) → IsOk result }
+        ensures sure { IsFalse (holds_wanting self.old worker.0 moment) → IsOk result }
     {
         if !self.is_worker(worker) {
             return Ok(Outcome::WrongState);
@@ -335,7 +346,7 @@ impl World {
         requires read { IsReadOf (option_copied read) (taken_item self.old.parts held.user.0 held.item) }
         ensures ok { OnOk result (self.new ≡ machine.performed_part (machine.with_empty_hand self.old worker.0) held moment (row_at self.old.parts held.user.0)) }
         ensures err { OnErr result (self.new ≡ self.old) }
-        ensures sure { IsFalse (hand_wants_memory self.old (Some held)) → IsOk result }
+        ensures sure { IsFalse (hand_wants_memory self.old (Some held) moment) → IsOk result }
     {
         if let OwnItem::Message { process, thread } = held.item {
             self.answer(named_thread(held.user, process, thread), read, moment)?;
@@ -354,7 +365,7 @@ impl World {
         requires read { IsReadOf (option_copied read) (taken_of (thread_row self.old.parts thread)) }
         ensures ok { OnOk result (self.new ≡ after_message self.old thread moment) }
         ensures err { OnErr result (self.new ≡ self.old) }
-        ensures sure { IsFalse (sent_wants_memory (taken_of (thread_row self.old.parts thread))) → IsOk result }
+        ensures sure { IsFalse (thread_wants_memory self.old.parts thread moment) → IsOk result }
     {
         let Some(process) = self.channel.process(thread.proc) else {
             return Ok(());
@@ -365,11 +376,17 @@ impl World {
         let Some(resources) = self.resources.user_mut(thread.proc.user) else {
             return Ok(());
         };
-        let given = resources.perform(process, sent.target, meaning_of(&sent.bytes, read), moment)?;
+        let given = resources.perform(
+            process,
+            sent.target,
+            meaning_of(&sent.bytes, read),
+            moment,
+            &mut self.reply,
+        )?;
         match given {
             Ok(done) => {
                 self.channel
-                    .reply(thread, done.effect, done.status, done.bytes.as_slice());
+                    .reply(thread, done.effect, done.status, self.reply.as_slice());
             }
             Err(error) => self.channel.fail(thread, error),
         }
@@ -538,7 +555,8 @@ fn taken(process: &Process, thread: u8) -> Option<&Sent>
 /// What the bytes of a message mean, which may have been read before.
 fn meaning_of<'a>(bytes: &'a MessageBytes, read: Option<&'a Parsed>) -> Meaning<'a>
     requires { IfSome read (λ read. read.now ≡ bytes.now) }
-    ensures { result ≡ reading.meaning bytes.now }
+    ensures meaning { result ≡ reading.meaning bytes.now }
+    ensures ranges { IsInRanges result }
 {
     match read {
         Some(read) => read.meaning(),

@@ -1,4 +1,8 @@
 //! Runs each script of its folder, and prints what the script writes and how it ends.
+//!
+//! The file `stdout` has what is wanted, script after script in the order of `SCRIPTS`: a line with `==` and the script's
+//! name, the lines of its `show` and `trace`, a line with the exit status, and the report where there is one. The texts
+//! were worked out from the rules of `docs/MACHINE.md`, line by line, and not taken from the program.
 #![tactic(auto)]
 
 use qx_sh::ending::report;
@@ -9,7 +13,7 @@ use std::fs::File;
 use std::io;
 
 /// The names of the scripts, in the order in which they are run.
-const SCRIPTS: [&str; 57] = [
+const SCRIPTS: [&str; 81] = [
     "empty",
     "first_path",
     "bad_line",
@@ -67,6 +71,30 @@ const SCRIPTS: [&str; 57] = [
     "interrupt_of_nobody",
     "mount_of_no_manager",
     "mount_of_two_words",
+    "tops_of_others",
+    "many_slashes",
+    "last_byte",
+    "fixed_top",
+    "mode_of_a_file",
+    "walks",
+    "owner_bits",
+    "opens",
+    "directories",
+    "directory_modes",
+    "gaps",
+    "appends",
+    "reads",
+    "seeks",
+    "sums_of_sizes",
+    "lists",
+    "long_lists",
+    "chmods",
+    "hidden_names",
+    "freed_numbers",
+    "not_in_part",
+    "no_such_function",
+    "written_and_removed",
+    "no_free_block",
 ];
 
 fn main(rt: HostRuntime) -> io::Result<()> {

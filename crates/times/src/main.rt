@@ -1,6 +1,7 @@
 //! Does one thing so many times: a clock outside measures it. With no words it does a little of each.
 #![tactic(auto)]
 
+mod files;
 mod lists;
 mod messages;
 mod paths;
@@ -23,6 +24,10 @@ fn main(rt: HostRuntime) -> anyhow::Result<()> {
             println!(rt; "{bytes}")?;
             let components = paths::make_calls(alloc, "resolve", 16, 8, 20, 1000)?;
             println!(rt; "{components}")?;
+            for (calls, first, second) in [("whole", 16, 0), ("open", 8, 100), ("list", 100, 50)] {
+                let answered = files::make_calls(alloc, calls, first, second, 10)?;
+                println!(rt; "{answered}")?;
+            }
         }
         [_, subject, rest @ ..] if subject.as_str() == "list" => lists::on_words(alloc, rest)?,
         [_, subject, rest @ ..] if subject.as_str() == "world" => {
@@ -37,7 +42,11 @@ fn main(rt: HostRuntime) -> anyhow::Result<()> {
             let components = paths::on_words(alloc, rest)?;
             println!(rt; "{components}")?;
         }
-        _ => bail!("the first word is list, world, message or path"),
+        [_, subject, rest @ ..] if subject.as_str() == "file" => {
+            let answered = files::on_words(alloc, rest)?;
+            println!(rt; "{answered}")?;
+        }
+        _ => bail!("the first word is list, world, message, path or file"),
     }
     Ok(())
 }

@@ -55,7 +55,7 @@ pub fn take_steps(
 }
 
 /// A world of so many users, at most 16, and a worker.
-fn boot(alloc: Global, users: usize) -> anyhow::Result<World> {
+pub fn boot(alloc: Global, users: usize) -> anyhow::Result<World> {
     let mut names = Vec::new(alloc);
     for name in NAMES.chunks(1).take(users) {
         names.push(Bytes::from_slice(alloc, name)?)?;
@@ -70,7 +70,7 @@ fn boot(alloc: Global, users: usize) -> anyhow::Result<World> {
 }
 
 /// Starts so many processes of four threads for each user, and tells how many were started.
-fn spawn_each(world: &mut World, users: usize, processes: u16) -> Result<u64, AllocError> {
+pub fn spawn_each(world: &mut World, users: usize, processes: u16) -> Result<u64, AllocError> {
     let mut started: u64 = 0;
     for _ in 0..processes {
         for (user, _) in (1..=16).zip(0..users) {
@@ -222,7 +222,7 @@ fn line_up(world: &mut World, users: usize, items: u16, request: &Request) -> Th
 
 /// A thread calls, the first of the line is received and performed, and its thread takes the answer. Tells that thread,
 /// and how many answers it got, none or one.
-fn exchange(world: &mut World, thread: Thread, request: &Request) -> (Thread, u64) {
+pub fn exchange(world: &mut World, thread: Thread, request: &Request) -> (Thread, u64) {
     let _ = world.call(thread, request);
     let Outcome::Took(Item::Message(first)) = world.receive(WORKER, Manager::Ram) else {
         return (thread, 0);
@@ -244,7 +244,7 @@ fn open_root(alloc: Global, user: u8) -> Result<Request, AllocError> {
 }
 
 /// A slash and the user's name.
-fn root_path(alloc: Global, user: u8) -> Result<Vec<u8>, AllocError> {
+pub fn root_path(alloc: Global, user: u8) -> Result<Vec<u8>, AllocError> {
     let mut path = Vec::from_slice(alloc, b"/")?;
     for (name, number) in NAMES.iter().zip(1..=16) {
         if number == user {
@@ -254,7 +254,7 @@ fn root_path(alloc: Global, user: u8) -> Result<Vec<u8>, AllocError> {
     Ok(path)
 }
 
-fn thread_at(user: u8, process: u8, tid: u8) -> Thread {
+pub fn thread_at(user: u8, process: u8, tid: u8) -> Thread {
     let proc = Proc {
         user: User(user),
         num: process,

@@ -36,9 +36,9 @@ const LINES: &str = "\
     reply ann.1.1\n\
     mount ann.1.1 /ann/m/n pipe\n";
 
-/// The steps through the one of a line.
-fn through<'a>(steps: &'a [Step], line: &str) -> Option<&'a [Step]> {
-    let place = LINES.lines().position(|other| other == line)?;
+/// The steps of lines, through the one of a line.
+pub(crate) fn through<'a>(steps: &'a [Step], lines: &str, line: &str) -> Option<&'a [Step]> {
+    let place = lines.lines().position(|other| other == line)?;
     steps.get(..=place)
 }
 
@@ -51,7 +51,7 @@ fn refused(traced: &mut Traced, step: Step) -> Option<Step> {
 }
 
 /// Asserts that all is as in a run of these steps without trouble.
-fn assert_untroubled(
+pub(crate) fn assert_untroubled(
     rt: &impl Abort,
     alloc: Global,
     traced: &Traced,
@@ -88,13 +88,23 @@ fn take_last_at_last(rt: &impl Abort, alloc: Global, steps: &[Step]) -> Result<(
     assert_untroubled(rt, alloc, &traced, steps)
 }
 
-/// The step of a line is taken at last.
-fn is_taken_at_last(rt: &impl Abort, alloc: Global, line: &str) -> Result<(), NoMemory> {
-    let steps = steps(rt, alloc, LINES)?;
-    match through(&steps, line) {
+/// The step of one of these lines is taken at last.
+pub(crate) fn is_one_taken_at_last(
+    rt: &impl Abort,
+    alloc: Global,
+    lines: &str,
+    line: &str,
+) -> Result<(), NoMemory> {
+    let steps = steps(rt, alloc, lines)?;
+    match through(&steps, lines, line) {
         Some(steps) => take_last_at_last(rt, alloc, steps),
         None => panic!(rt; "no such line"),
     }
+}
+
+/// The step of a line is taken at last.
+fn is_taken_at_last(rt: &impl Abort, alloc: Global, line: &str) -> Result<(), NoMemory> {
+    is_one_taken_at_last(rt, alloc, LINES, line)
 }
 
 #[test]
@@ -238,7 +248,7 @@ fn stores_without_memory(
 }
 
 /// Sure steps are stored with all memory taken. Then all is as in a run without trouble.
-fn store_sure_steps(
+pub(crate) fn store_sure_steps(
     rt: &impl Abort,
     alloc: Global,
     traced: &mut Traced,
@@ -274,27 +284,20 @@ fn received_calls_are_interrupted_without_memory(rt: HostRuntime) -> Result<(), 
     are_sure(&rt, rt.alloc(), RECEIVED_INTERRUPTS)
 }
 
-/// Whether a step is refused and comes back.
-fn comes_back(traced: &mut Traced, step: &Step) -> bool {
-    let Ok(copy) = step.clone() else {
-        return false;
-    };
-    match refused(traced, copy) {
-        Some(returned) => returned == *step,
-        None => false,
-    }
-}
-
-/// With all memory taken, whether a step comes back. The copy of one with no path wants no memory.
-fn comes_back_without_memory(
+/// With all memory taken, whether a step is refused and comes back.
+pub(crate) fn comes_back_without_memory(
     alloc: Global,
     traced: &mut Traced,
     step: &Step,
 ) -> Result<bool, AllocError> {
+    let copy = step.clone()?;
     let pieces = take_all_memory(alloc)?;
-    let came_back = comes_back(traced, step);
+    let returned = refused(traced, copy);
     drop(pieces);
-    Ok(came_back)
+    Ok(match returned {
+        Some(returned) => returned == *step,
+        None => false,
+    })
 }
 
 /// A spawn comes back, with all memory taken.

@@ -1,10 +1,14 @@
-use Rattle.std.proofs.Common.{◌≡◌, ◌==◌, false, Ok, None, Some, ap, arith, length, refl, sym, ◌∙◌}
+use Rattle.std.proofs.Common.{◌≡◌, ◌+◌, ◌==◌, false, Ok, None, Some, ap, arith, length, refl, sym, ◌∙◌}
+use Rattle.std.proofs.lemmas.Result.{err_from_is_err_and}
 use Rattle.qx_machine.specs.Files as machine
-use Rattle.qx_machine.specs.Files.{put, size_of, total_size}
+use Rattle.qx_machine.specs.Files.{put, resized, size_of, total_size}
 use Rattle.qx_machine.specs.Rows.{row_at}
-use Rattle.qx_ram.specs.Given.{target, write_fault}
+use Rattle.qx_machine.specs.Inodes.{with_attribute}
+use Rattle.qx_ram.specs.Fits.{Fits}
+use Rattle.qx_ram.specs.Given.{pasted, target, write_fault}
+use Rattle.qx_ram.proofs.FitLemmas.{attribute_fits, bytes_fit, offset_fits}
 use Rattle.qx_ram.proofs.SizeLemmas.{size_within}
-use Rattle.qx_ram.proofs.WriteLemmas.{answered, fits, pasted_size, target_is, write_given, written}
+use Rattle.qx_ram.proofs.WriteLemmas.{answered, fits, pasted_is, pasted_size, target_is, write_given, written}
 use Rattle.qx_ram.proofs.files.Files.write.Goals as goal
 
 pub write_fault-requires-clause-size : goal.write_fault-requires-clause-size
@@ -43,3 +47,29 @@ returns-clause-given c =
     let none : write_fault (total_size c.args.self.now) t (length new) ≡ None = sym c.in_default.ensures in
     let all = written c.args.inodes.now.inodes c.args.self.now c.args.number c.args.moment t it new c.in_ok-size.size some size ∙ ap (λ fault. answered fault given) none in
     rw (all, c.in_ok-size.ensures.ok, c.set_offset.ensures.moved, c.set_attribute.ensures.set) refl
+
+pub returns-clause-fits : goal.returns-clause-fits
+returns-clause-fits c =
+    let is : target c.args.inodes.now.inodes c.args.self.now c.args.number ≡ Ok c.in-Ok.target = sym c.in-Ok.ensures in
+    let it = target_is c.args.inodes.now.inodes c.args.self.now c.args.number c.in-Ok.target is in
+    let t = c.in-Ok.target in
+    let files = pasted c.args.self.now t.block.inode t.offset c.args.new.now in
+    let bytes : Fits c.args.inodes.now.inodes files =
+    rw (pasted_is c.args.self.now t.block.inode t.offset it.bytes c.args.new.now it.contents_are)
+    (bytes_fit c.args.inodes.now.inodes c.args.self.now t.block.inode t.attribute (put it.bytes t.offset c.args.new.now) it.attribute_is c.requires.fits) in
+    rw (c.set_offset.ensures.moved, c.set_attribute.ensures.set, c.in_ok-size.ensures.ok)
+    (offset_fits (with_attribute c.args.inodes.now.inodes t.block.inode (resized c.in_ok-size.size c.args.moment t.attribute)) files c.args.number (t.offset + length c.args.new.now)
+    (attribute_fits c.args.inodes.now.inodes files t.block.inode t.attribute (resized c.in_ok-size.size c.args.moment t.attribute) it.attribute_is refl bytes))
+
+pub returns-in_err-size-clause-wanted : goal.returns-in_err-size-clause-wanted
+returns-in_err-size-clause-wanted c =
+    let is : target c.args.inodes.now.inodes c.args.self.now c.args.number ≡ Ok c.in-Ok.target = sym c.in-Ok.ensures in
+    let it = target_is c.args.inodes.now.inodes c.args.self.now c.args.number c.in-Ok.target is in
+    let new = c.args.new.now in
+    let t = c.in-Ok.target in
+    let given = write_given c.args.inodes.now.inodes c.args.self.now c.args.number c.args.moment t (length (put it.bytes t.offset new)) new in
+    let some : (length new == 0) ≡ false = sym c.if-is_empty.ensures in
+    let none : write_fault (total_size c.args.self.now) t (length new) ≡ None = sym c.in_default.ensures in
+    let all = written c.args.inodes.now.inodes c.args.self.now c.args.number c.args.moment t it new (length (put it.bytes t.offset new)) some refl ∙ ap (λ fault. answered fault given) none in
+    let error = err_from_is_err_and c.from_residual.result c.from_residual.ensures.1 in
+    rw (error.1, all) refl

@@ -1,15 +1,15 @@
 use Rattle.std.proofs.Common.{sym}
 use Rattle.qx_process.proofs.RowLemmas.{set-row}
-use Rattle.qx_steps.proofs.MountLemmas.{attached, attached-free, nobody-attached}
+use Rattle.qx_steps.proofs.MountLemmas.{attached, attached-can, nobody-attached}
 use Rattle.qx_steps.proofs.PartsLemmas.{same-set_resources}
 use Rattle.qx_steps.proofs.WorkerLemmas.{on_err}
 use Rattle.qx_steps.proofs.world.World.attach.Goals as goal
 
 pub returns-in_default-clause-ok : goal.returns-in_default-clause-ok
-returns-in_default-clause-ok c = absurd (nobody-attached c.self.inside.channel.users c.self.inside.resources c.args.user.0 c.args.mount.now.prefix (sym c.in_default.ensures.row) (rw (← c.self.view_is) at c.requires.free))
+returns-in_default-clause-ok c = absurd (nobody-attached c.self.inside.channel.users c.self.inside.resources c.args.user.0 c.args.mount.now (sym c.in_default.ensures.row) (rw (← c.self.view_is) at c.requires.can))
 
 pub mount-requires : goal.mount-requires
-mount-requires c = record { free = attached-free c.self.inside.channel.users c.self.inside.resources c.args.user.0 c.in-Some.resources.now c.args.mount.now.prefix (sym c.in-Some.ensures.row) (rw (← c.self.view_is) at c.requires.free) }
+mount-requires c = record { can = attached-can c.self.inside.channel.users c.self.inside.resources c.args.user.0 c.in-Some.resources.now c.args.mount.now (sym c.in-Some.ensures.row) (rw (← c.self.view_is) at c.requires.can) }
 
 pub invariant_of-self-in_err-mount : goal.invariant_of-self-in_err-mount
 invariant_of-self-in_err-mount c = same-set_resources c.self.inside.channel.users c.self.inside.resources c.args.user.0 c.in-Some.resources.now c.mount.new.self (sym c.in-Some.ensures.row) c.self.invariant

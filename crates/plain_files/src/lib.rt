@@ -1,0 +1,11 @@
+//! The rules of RAM files once more, over plain vectors: a row for each path that leads somewhere, one for each inode
+//! and one for each open block, of all users.
+#![tactic(auto)]
+
+mod fault;
+mod opened;
+mod rows;
+mod walk;
+
+pub use fault::Fault;
+pub use rows::{Files, Place};

@@ -1,0 +1,148 @@
+//! What a message comes to that a worker performs.
+
+use crate::Plain;
+use crate::rows::{Over, Sent};
+use plain_files::{Fault, Place};
+use plain_messages::{Kind, Reading, from_place, number_at, read};
+use qx_types::{Answer, Coid, Errno, Manager, MessageBytes, OFlags, Proc};
+use std::alloc::AllocError;
+
+/// Status and bytes of a reply.
+type Reply = (u64, Vec<u8>);
+
+/// Where the body of a message stands, and in an open and a mknod the rest of the path.
+const BODY: usize = 8;
+
+const REST: usize = 12;
+
+impl Plain {
+    /// The answer to a message.
+    pub fn answer(&mut self, proc: Proc, sent: &Sent, moment: u64) -> Result<Answer, AllocError> {
+        match self.served(proc, sent, moment) {
+            Ok((status, bytes)) => Ok(Answer::Reply(status, MessageBytes::from_vec(bytes))),
+            Err(Fault::Refused(error)) => Ok(Answer::Failed(error)),
+            Err(Fault::Memory(error)) => Err(error),
+        }
+    }
+
+    /// The RAM manager has functions for all messages but dup and notify, and the pipe manager none.
+    fn served(&mut self, proc: Proc, sent: &Sent, moment: u64) -> Result<Reply, Fault> {
+        match (sent.manager, read(sent.bytes.as_slice())) {
+            (_, Reading::Malformed) => Err(Fault::Refused(Errno::EINVAL)),
+            (Manager::Pipe, _) | (_, Reading::Unknown | Reading::Known(Kind::Dup | Kind::Notify)) =>
+                Err(Fault::Refused(Errno::ENOSYS)),
+            (Manager::Ram, Reading::Known(Kind::Open)) => self.open(proc, sent, moment),
+            (Manager::Ram, Reading::Known(kind @ (Kind::Stat | Kind::Unlink | Kind::Mknod))) =>
+                self.at_path(proc, sent, moment, kind),
+            (Manager::Ram, Reading::Known(kind)) => self.over_block(proc, sent, moment, kind),
+        }
+    }
+
+    fn open(&mut self, proc: Proc, sent: &Sent, moment: u64) -> Result<Reply, Fault> {
+        let (Over::New(coid), Some(root)) = (sent.over, sent.root) else {
+            return Err(Fault::Refused(Errno::EINVAL));
+        };
+        let bytes = sent.bytes.as_slice();
+        let place = Place {
+            user: proc.user,
+            root,
+            path: from_place(bytes, REST),
+            moment,
+        };
+        let flags = OFlags(number_at(bytes, BODY));
+        let block = self.files.open(&place, flags, number_at(bytes, BODY + 2))?;
+        self.set_block(proc, coid, block);
+        Ok((u64::from(coid.0), Vec::new(self.alloc)))
+    }
+
+    fn at_path(
+        &mut self,
+        proc: Proc,
+        sent: &Sent,
+        moment: u64,
+        kind: Kind,
+    ) -> Result<Reply, Fault> {
+        let (Over::Side, Some(root)) = (sent.over, sent.root) else {
+            return Err(Fault::Refused(Errno::EINVAL));
+        };
+        let bytes = sent.bytes.as_slice();
+        let rest = if kind == Kind::Mknod { REST } else { BODY };
+        let place = Place {
+            user: proc.user,
+            root,
+            path: from_place(bytes, rest),
+            moment,
+        };
+        match kind {
+            Kind::Stat => {
+                let status = self.files.stat(&place)?;
+                return Ok((0, Vec::from_slice(self.alloc, &status)?));
+            }
+            Kind::Unlink => self.files.unlink(&place)?,
+            _ => self.files.mkdir(&place, number_at(bytes, BODY + 2))?,
+        }
+        Ok((0, Vec::new(self.alloc)))
+    }
+
+    fn over_block(
+        &mut self,
+        proc: Proc,
+        sent: &Sent,
+        moment: u64,
+        kind: Kind,
+    ) -> Result<Reply, Fault> {
+        let (coid, block) = self.opened(proc, sent)?;
+        let bytes = sent.bytes.as_slice();
+        let (user, body) = (proc.user, from_place(bytes, BODY));
+        let none = Vec::new(self.alloc);
+        match kind {
+            Kind::Read => {
+                let given = self
+                    .files
+                    .read(user, block, usize::from(number_at(bytes, BODY)))?;
+                Ok((given.len() as u64, given))
+            }
+            Kind::Write => Ok((self.files.write(user, block, body, moment)?, none)),
+            Kind::Lseek => {
+                let whence = number_at(bytes, 2);
+                Ok((self.files.seek(user, block, whence, offset_of(body))?, none))
+            }
+            Kind::List => self.files.list(user, block, body),
+            Kind::Chmod => {
+                self.files
+                    .chmod(user, block, number_at(bytes, BODY), moment)?;
+                Ok((0, none))
+            }
+            Kind::Fstat => {
+                let status = self.files.fstat(user, block)?;
+                Ok((0, Vec::from_slice(self.alloc, &status)?))
+            }
+            _ => {
+                self.files.close(user, block);
+                self.detach(proc, coid);
+                Ok((0, none))
+            }
+        }
+    }
+
+    /// The connection of a message and its block. It may have gone since the call, or its open may still wait.
+    fn opened(&self, proc: Proc, sent: &Sent) -> Result<(Coid, u16), Errno> {
+        let Over::Existing(coid) = sent.over else {
+            return Err(Errno::EINVAL);
+        };
+        match self.connection(proc, coid) {
+            Some(row) if row.manager == sent.manager => match row.block {
+                Some(block) => Ok((coid, block)),
+                None => Err(Errno::EBADF),
+            },
+            _ => Err(Errno::EBADF),
+        }
+    }
+}
+
+fn offset_of(body: &[u8]) -> i64 {
+    match body {
+        [a, b, c, d, e, f, g, h] => i64::from_le_bytes([*a, *b, *c, *d, *e, *f, *g, *h]),
+        _ => 0,
+    }
+}

@@ -1,0 +1,125 @@
+-- Names of files and directories: where a path leads, and what is in a directory (C Library Reference: open, stat, readdir; that a path is
+-- searched from its mount's root on is this profile).
+use Rattle.std.specs.Prelude.{ℕ, ◌+◌, ◌-◌, ◌==◌, ◌++◌, Bool, true, false, List, [], ◌∷◌, Option, Some, None, Result, Ok, Err, filter, length, nat_le, if◌then◌else◌}
+use Rattle.std.specs.Cmp.Lexicographic.{slice_cmp}
+use Rattle.std.specs.FinMap.{FinMap, entries, get, insert}
+use Rattle.std.specs.List.{flat_map}
+use Rattle.std.specs.Ordering.{is_lt, nat_cmp, on, then_cmp}
+use Rattle.std.specs.declared.cmp.Ordering.{Ordering}
+use Rattle.qx_types.specs.declared.errno.Errno.{Errno}
+use Rattle.qx_types.specs.declared.errno.Errno.TheVariants.{EACCES, ENOENT, ENOTDIR}
+use Rattle.qx_types.specs.declared.limits.TheConstants.Limits.{TRANSFER}
+use Rattle.qx_machine.specs.declared.rows.Access.TheVariants.{Search}
+use Rattle.qx_machine.specs.declared.rows.Kind.{Kind}
+use Rattle.qx_machine.specs.declared.rows.Kind.TheVariants.{Directory}
+use Rattle.qx_machine.specs.Inodes.{Inodes, may}
+use Rattle.qx_machine.specs.Judgements.{◌>>=◌, found, need}
+use Rattle.qx_machine.specs.Rows.{row_at}
+
+-- a path in a mount: the inode of the mount's root, and the path's components, the last one first; so what is in a directory has one
+-- component more, in front
+abbrev pub Key : Type 0
+Key = ℕ × List (List ℕ)
+
+-- by mount, and then the names of one directory in the order of their bytes
+abbrev pub key_cmp : Key → Key → Ordering
+key_cmp = then_cmp (on (λ key. key.0) nat_cmp) (on (λ key. key.1) (slice_cmp (slice_cmp nat_cmp)))
+
+-- the inodes to which paths lead, those of the mounts' roots among them
+abbrev pub Names : Type 0
+Names = FinMap key_cmp ℕ
+
+abbrev pub root_key : ℕ → Key
+root_key root = (root, [])
+
+-- the path of a name in a directory
+abbrev pub under : Key → List ℕ → Key
+under directory name = (directory.0, name ∷ directory.1)
+
+-- a mount's root is named
+abbrev pub with_root : Names → ℕ → Names
+with_root names root = insert names (root_key root) root
+
+-- ---- walking
+
+abbrev pub is_directory : Kind → Bool
+is_directory Directory = true
+is_directory _ = false
+
+-- a name may be looked up in what a path leads to: in a directory, with search (C Library Reference: ENOTDIR, EACCES)
+abbrev pub search : Inodes → ℕ → ℕ → Result Bool Errno
+search inodes user inode = do
+  attribute ← found (row_at inodes.attributes inode) ENOENT
+  directory ← need (is_directory attribute.kind) ENOTDIR
+  need (may attribute user Search) EACCES
+
+-- where a path leads: the directory in which its last component is looked up, the path's own key, and what is there
+pub record Spot : Type 0 where
+  pub parent : ℕ
+  pub key : Key
+  pub inode : Option ℕ
+
+-- from a directory, that has this path, along one name and further ones
+abbrev pub walk : Inodes → Names → ℕ → ℕ → Key → List ℕ → List (List ℕ) → Result Spot Errno
+walk inodes names user directory key name [] = do
+  searched ← search inodes user directory
+  Ok (record { parent = directory; key = under key name; inode = get names (under key name) })
+walk inodes names user directory key name (further ∷ rest) = do
+  searched ← search inodes user directory
+  next ← found (get names (under key name)) ENOENT
+  walk inodes names user next (under key name) further rest
+
+-- where the path of a mount's root leads
+abbrev pub start : Names → ℕ → Result ℕ Errno
+start names root = found (get names (root_key root)) ENOENT
+
+-- a path with nothing behind its mount is at the mount's root, for which this is the error; any other is walked wholly
+abbrev pub spot : Inodes → Names → ℕ → ℕ → List (List ℕ) → Errno → Result Spot Errno
+spot inodes names user root [] at_root = Err at_root
+spot inodes names user root (name ∷ rest) at_root = do
+  first ← start names root
+  walk inodes names user first (root_key root) name rest
+
+-- the inode to which a path leads
+abbrev pub inode_at : Inodes → Names → ℕ → ℕ → List (List ℕ) → Result ℕ Errno
+inode_at inodes names user root [] = Ok root
+inode_at inodes names user root (name ∷ rest) = do
+  first ← start names root
+  at ← walk inodes names user first (root_key root) name rest
+  found at.inode ENOENT
+
+-- ---- directories
+
+-- whether a path leads to that inode
+abbrev pub is_there : Option ℕ → ℕ → Bool
+is_there None inode = false
+is_there (Some there) inode = there == inode
+
+-- the name of an entry, if it is in that directory
+abbrev pub name_in : Names → ℕ → Key × ℕ → List (List ℕ)
+name_in names directory ((root, []), inode) = []
+name_in names directory ((root, name ∷ above), inode) = if is_there (get names (root, above)) directory then name ∷ [] else []
+
+-- the names in a directory, in the order of their bytes
+abbrev pub names_in : Names → ℕ → List (List ℕ)
+names_in names directory = flat_map (name_in names directory) (entries names)
+
+abbrev pub is_empty : List (List ℕ) → Bool
+is_empty names = length names == 0
+
+-- as many whole names as fit so many bytes, each followed by a zero byte
+abbrev pub fitting : ℕ → List (List ℕ) → List (List ℕ)
+fitting room [] = []
+fitting room (name ∷ names) = if nat_le (length name + 1) room then name ∷ fitting (room - (length name + 1)) names else []
+
+-- those behind a name
+abbrev pub behind : List ℕ → List (List ℕ) → List (List ℕ)
+behind after names = filter (λ name. is_lt (slice_cmp nat_cmp after name)) names
+
+-- what one listing of a directory gives
+abbrev pub listed : Names → ℕ → List ℕ → List (List ℕ)
+listed names directory after = fitting TRANSFER (behind after (names_in names directory))
+
+-- the names, each followed by a zero byte
+abbrev pub listing : List (List ℕ) → List ℕ
+listing names = flat_map (λ name. name ++ 0 ∷ []) names

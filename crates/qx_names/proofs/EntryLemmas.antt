@@ -1,0 +1,169 @@
+-- The names in a directory: those of its entries.
+use Rattle.std.specs.Prelude.{ℕ, suc, List, [], ◌∷◌, ◌++◌, Option, Some, None, map as mapped, length, if◌then◌else◌}
+use Rattle.std.specs.Cmp.Lexicographic.{slice_cmp, lists_total, nat_list_cmp_total}
+use Rattle.std.specs.Cmp.{nat_cmp_total, tied_itself}
+use Rattle.std.specs.FinMap as map
+use Rattle.std.specs.FinMap.{entries, entries_sorted, get, get-entries}
+use Rattle.std.specs.FinMap.Entries.{below_all, find, is_sorted, same_entries}
+use Rattle.std.specs.List.{flat_map}
+use Rattle.std.specs.Ordering.{eq_by_cmp, is_eq, is_lt, nat_cmp, ordering_then}
+use Rattle.std.specs.declared.cmp.Ordering.{Ordering}
+use Rattle.std.specs.declared.cmp.Ordering.TheVariants.{Less, Equal, Greater}
+use Rattle.std.proofs.Common.{◌≡◌, Bool, true, false, ◌&&◌, T, cond, ap, refl, sym, ◌∙◌, subst, arith}
+use Rattle.std.proofs.lemmas.Bool.{eq-eqb, eqb-true}
+use Rattle.qx_machine.specs.Names.{Key, Names, is_there, key_cmp, name_in, names_in, under}
+use Rattle.qx_names.specs.Folders.{Folder}
+use Rattle.qx_names.specs.Paths.{IsUnnamed, path_of}
+use Rattle.qx_names.specs.Shows.{Shows, key_total, key-IsAntisymmetric}
+use Rattle.qx_names.proofs.FolderLemmas.{names_same}
+use Rattle.qx_names.proofs.MapLemmas.{untied}
+use Rattle.qx_names.proofs.PathLemmas.{first, second, is_named}
+use Rattle.qx_names.proofs.ShowsLemmas.{entry_under, no_entries}
+
+abbrev name_cmp : List ℕ → List ℕ → Ordering
+name_cmp = slice_cmp nat_cmp
+
+-- a name of a directory, with what it names
+abbrev pair_in : Names → ℕ → Key × ℕ → List (List ℕ × ℕ)
+pair_in names directory ((root, []), inode) = []
+pair_in names directory ((root, name ∷ above), inode) = if is_there (get names (root, above)) directory then (name, inode) ∷ [] else []
+
+there_is : (x : Option ℕ) (directory : ℕ) → is_there x directory ≡ true → x ≡ Some directory
+there_is None directory e = cc
+there_is (Some value) directory e = ap Some (eqb-true value directory e)
+
+not_there : (x : Option ℕ) (directory : ℕ) → (x ≡ Some directory → ⊥) → is_there x directory ≡ false
+not_there x directory apart = by (is_there x directory) refl
+  where
+    by : (b : Bool) → is_there x directory ≡ b → is_there x directory ≡ false
+    by true e = absurd (apart (there_is x directory e))
+    by false e = e
+
+is_there-Some : (directory : ℕ) → is_there (Some directory) directory ≡ true
+is_there-Some directory = eq-eqb directory directory refl
+
+-- two names of one directory are in the order of their keys
+less_names : (r s t : Ordering) → r ≡ Equal → t ≡ Equal → T (is_lt (ordering_then r (ordering_then s t))) → T (is_lt s)
+less_names r Less t e f h = tt
+less_names r Equal t e f h = let gone : T (is_lt Equal) = subst (λ x. T (is_lt x)) f (subst (λ x. T (is_lt (ordering_then x (ordering_then Equal t)))) e h) in absurd gone
+less_names r Greater t e f h = let gone : T (is_lt Greater) = subst (λ x. T (is_lt (ordering_then x (ordering_then Greater t)))) e h in absurd gone
+
+true_false : true ≡ false → ⊥
+true_false e = cc
+
+then_Equal : (r : Ordering) → is_eq (ordering_then r Equal) ≡ is_eq r
+then_Equal Less = refl
+then_Equal Equal = refl
+then_Equal Greater = refl
+
+abbrev above : Key → Key
+above (mount, []) = (mount, [])
+above (mount, name ∷ path) = (mount, path)
+
+both : (a b : Bool) → T a → T b → T (a && b)
+both true b p q = q
+both false b p q = p
+
+name_in-pair : (names : Names) (directory : ℕ) (entry : Key × ℕ) → name_in names directory entry ≡ mapped (λ pair. pair.0) (pair_in names directory entry)
+name_in-pair names directory ((root, []), inode) = refl
+name_in-pair names directory ((root, name ∷ above), inode) = by (is_there (get names (root, above)) directory)
+  where
+    by : (b : Bool) → (if b then name ∷ [] else []) ≡ mapped (λ (pair : List ℕ × ℕ). pair.0) (if b then (name, inode) ∷ [] else [])
+    by true = refl
+    by false = refl
+
+map-append : (one two : List (List ℕ × ℕ)) → mapped (λ pair. pair.0) (one ++ two) ≡ mapped (λ pair. pair.0) one ++ mapped (λ pair. pair.0) two
+map-append [] two = refl
+map-append (pair ∷ one) two = ap (pair.0 ∷◌) (map-append one two)
+
+names-pairs : (names : Names) (directory : ℕ) (es : List (Key × ℕ)) → flat_map (name_in names directory) es ≡ mapped (λ pair. pair.0) (flat_map (pair_in names directory) es)
+names-pairs names directory [] = refl
+names-pairs names directory (e ∷ es) =
+    ap (◌++ flat_map (name_in names directory) es) (name_in-pair names directory e)
+    ∙ ap (mapped (λ pair. pair.0) (pair_in names directory e) ++◌) (names-pairs names directory es)
+    ∙ sym (map-append (pair_in names directory e) (flat_map (pair_in names directory) es))
+
+module _ (root : ℕ → Bool) (entry : ℕ → List ℕ → Option ℕ) (names : Names) (s : Shows root entry names) (directory : ℕ) where
+  abbrev pairs : List (Key × ℕ) → List (List ℕ × ℕ)
+  pairs es = flat_map (pair_in names directory) es
+
+  below_pairs : (mount : ℕ) (name : List ℕ) (above : List (List ℕ)) (es : List (Key × ℕ)) → get names (mount, above) ≡ Some directory → T (below_all key_cmp (mount, name ∷ above) es) → T (below_all name_cmp name (pairs es))
+  below_pairs mount name above [] led below = tt
+  below_pairs mount name above (((other, []), inode) ∷ es) led below = below_pairs mount name above es led (second _ _ below)
+  below_pairs mount name above (((other, last ∷ path), inode) ∷ es) led below =
+      by (below_pairs mount name above es led (second _ _ below)) (is_there (get names (other, path)) directory) refl
+    where
+      by : T (below_all name_cmp name (pairs es)) → (b : Bool) → is_there (get names (other, path)) directory ≡ b → T (below_all name_cmp name ((if b then (last, inode) ∷ [] else []) ++ pairs es))
+      by rest true e =
+          let keys : (mount, above) ≡ (other, path) = s.single (mount, above) (other, path) directory led (there_is _ directory e) in
+          both _ _ (less_names (nat_cmp mount other) (name_cmp name last) (slice_cmp name_cmp above path)
+          (ap (nat_cmp mount) (sym (λ i. (keys i).0)) ∙ tied_itself nat_cmp_total mount)
+          (ap (slice_cmp name_cmp above) (sym (λ i. (keys i).1)) ∙ tied_itself (lists_total nat_list_cmp_total) above)
+          (first _ _ below)) rest
+      by rest false e = rest
+
+  sorted_pairs : (es : List (Key × ℕ)) → T (is_sorted key_cmp es) → T (is_sorted name_cmp (pairs es))
+  sorted_pairs [] sorted = tt
+  sorted_pairs (((mount, []), inode) ∷ es) sorted = sorted_pairs es (second _ _ sorted)
+  sorted_pairs (((mount, name ∷ above), inode) ∷ es) sorted = by (sorted_pairs es (second _ _ sorted)) (is_there (get names (mount, above)) directory) refl
+    where
+      by : T (is_sorted name_cmp (pairs es)) → (b : Bool) → is_there (get names (mount, above)) directory ≡ b → T (is_sorted name_cmp ((if b then (name, inode) ∷ [] else []) ++ pairs es))
+      by rest true e = both _ _ (below_pairs mount name above es (there_is _ directory e) (first _ _ sorted)) rest
+      by rest false e = rest
+
+  -- where a path leads to the directory, its names are found under that path
+  find_pairs : (key : Key) → get names key ≡ Some directory → (name : List ℕ) (es : List (Key × ℕ)) → find name_cmp name (pairs es) ≡ find key_cmp (under key name) es
+  find_pairs key led name [] = refl
+  find_pairs key led name (((other, []), inode) ∷ es) =
+      find_pairs key led name es ∙ sym (ap (λ b. cond b (Some inode) (find key_cmp (under key name) es)) (untied key_total key-IsAntisymmetric (under key name) (other, []) (λ e. no_cons e)))
+    where
+      no_cons : under key name ≡ (other, []) → ⊥
+      no_cons e = let lengths : suc (length key.1) ≡ 0 = ap (λ (k : Key). length k.1) e in omega (arith, lengths)
+  find_pairs key led name (((other, last ∷ path), inode) ∷ es) = by (find_pairs key led name es) (is_there (get names (other, path)) directory) refl
+    where
+      tied_under : (key : Key) (one two : List ℕ) → eq_by_cmp name_cmp one two ≡ eq_by_cmp key_cmp (under key one) (under key two)
+      tied_under key one two =
+          sym (ap (λ r. is_eq (ordering_then r (ordering_then (name_cmp one two) (slice_cmp name_cmp key.1 key.1)))) (tied_itself nat_cmp_total key.0)
+          ∙ ap (λ r. is_eq (ordering_then (name_cmp one two) r)) (tied_itself (lists_total nat_list_cmp_total) key.1) ∙ then_Equal (name_cmp one two))
+
+      by : find name_cmp name (pairs es) ≡ find key_cmp (under key name) es → (b : Bool) → is_there (get names (other, path)) directory ≡ b
+          → find name_cmp name ((if b then (last, inode) ∷ [] else []) ++ pairs es) ≡ find key_cmp (under key name) (((other, last ∷ path), inode) ∷ es)
+      by rest true e =
+          let keys : key ≡ (other, path) = s.single key (other, path) directory led (there_is _ directory e) in
+          ap (cond (eq_by_cmp name_cmp name last) (Some inode)) rest
+          ∙ ap (λ b. cond b (Some inode) (find key_cmp (under key name) es)) (tied_under key name last ∙ ap (λ k. eq_by_cmp key_cmp (under key name) (under k last)) keys)
+      by rest false e =
+          rest ∙ sym (ap (λ b. cond b (Some inode) (find key_cmp (under key name) es)) (untied key_total key-IsAntisymmetric (under key name) (other, last ∷ path) (λ p.
+          true_false (sym (is_there-Some directory) ∙ ap (λ x. is_there x directory) (sym led ∙ ap (get names) (λ i. above (p i))) ∙ e))))
+
+  -- where no path leads to the directory, it has no names
+  no_pairs : IsUnnamed names directory → (es : List (Key × ℕ)) → pairs es ≡ []
+  no_pairs unnamed [] = refl
+  no_pairs unnamed (((other, []), inode) ∷ es) = no_pairs unnamed es
+  no_pairs unnamed (((other, last ∷ path), inode) ∷ es) =
+      ap (λ b. (if b then (last, inode) ∷ [] else []) ++ pairs es) (not_there (get names (other, path)) directory (unnamed (other, path))) ∙ no_pairs unnamed es
+
+  find-names : (name : List ℕ) → find name_cmp name (pairs (entries names)) ≡ entry directory name
+  find-names name = by (is_there (get names (path_of names directory)) directory) refl
+    where
+      by : (b : Bool) → is_there (get names (path_of names directory)) directory ≡ b → find name_cmp name (pairs (entries names)) ≡ entry directory name
+      by true e =
+          let led = there_is _ directory e in
+          find_pairs (path_of names directory) led name (entries names) ∙ sym (get-entries names (under (path_of names directory) name)) ∙ entry_under root entry names s (path_of names directory) directory name led
+      by false e =
+          let unnamed : IsUnnamed names directory = λ key at. true_false (sym (is_there-Some directory) ∙ ap (λ x. is_there x directory) (sym (is_named names key directory at)) ∙ e) in
+          ap (find name_cmp name) (no_pairs unnamed (entries names)) ∙ sym (no_entries root entry names s directory unnamed name)
+
+  -- the names in a directory are those of the map that gives its entries
+  pub names_are_keys : (folder : Folder) → ((name : List ℕ) → map.get folder name ≡ entry directory name) → names_in names directory ≡ map.keys folder
+  names_are_keys folder gives =
+      names-pairs names directory (entries names)
+      ∙ ap (mapped (λ pair. pair.0)) (same_entries name_cmp nat_list_cmp_total names_same (pairs (entries names)) (entries folder) (sorted_pairs (entries names) (entries_sorted names)) (entries_sorted folder) (λ name. find-names name ∙ sym (gives name) ∙ get-entries folder name))
+
+  no_first : (xs : List (List ℕ × ℕ)) → mapped (λ (pair : List ℕ × ℕ). pair.0) xs ≡ [] → xs ≡ []
+  no_first [] e = refl
+  no_first (x ∷ xs) e = cc
+
+  -- a directory with no names has no entries
+  pub empty_alone : names_in names directory ≡ [] → (name : List ℕ) → entry directory name ≡ None
+  empty_alone e name = sym (find-names name) ∙ ap (find name_cmp name) (no_first (pairs (entries names)) (sym (names-pairs names directory (entries names)) ∙ e))

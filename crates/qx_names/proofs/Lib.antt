@@ -1,0 +1,16 @@
+-- a directory's entries as a map
+pub mod FolderLemmas
+-- maps, one entry changed
+pub mod MapLemmas
+-- what is left to be listed
+pub mod ListingLemmas
+-- names that are kept, call by call
+pub mod NamesLemmas
+-- paths that lead to an inode
+pub mod PathLemmas
+-- walks, step by step
+pub mod WalkLemmas
+-- what the directories show, call by call
+pub mod ShowsLemmas
+-- the names in a directory
+pub mod EntryLemmas

@@ -1,0 +1,68 @@
+-- The names that are kept beside the directories, call by call.
+use Rattle.std.specs.Prelude.{ℕ, Result, Ok, Err, OnOk, OnErr, List, [], ◌∷◌, ◌++◌, Option, None, Some, IfSome, length, map as mapped, slice_get}
+use Rattle.std.specs.Cmp.Lexicographic.{slice_cmp}
+use Rattle.std.specs.Ordering.{nat_cmp}
+use Rattle.std.specs.FinMap as map
+use Rattle.std.specs.declared.alloc.AllocError.{AllocError}
+use Rattle.std.proofs.Common.{◌≡◌, ap, refl, sym, subst, ◌∙◌, arith}
+use Rattle.qx_machine.specs.Names.{Key, Names, names_in, under, with_root}
+use Rattle.qx_names.specs.Folders.{Changes, Folder, entry_at, entry_in}
+use Rattle.qx_names.specs.Paths.{IsNamed, IsUnnamed, path_of}
+use Rattle.qx_names.specs.Shows.{Shows, is_root, shown_names}
+use Rattle.qx_names.proofs.EntryLemmas.{empty_alone, names_are_keys}
+use Rattle.qx_names.proofs.ShowsLemmas.{Shows-empty, Shows-insert, Shows-push, Shows-remove, names_shown, unnamed_now}
+
+no_entries : (es : List (List ℕ × ℕ)) → length es ≡ 0 → es ≡ []
+no_entries [] e = refl
+no_entries (entry ∷ es) e = let nothing : ⊥ = omega (arith, e) in absurd nothing
+
+keys-empty : map.keys (map.empty {X = ℕ} {R = slice_cmp nat_cmp}) ≡ []
+keys-empty = ap (mapped (λ entry. entry.0)) (no_entries (map.entries (map.empty {X = ℕ} {R = slice_cmp nat_cmp})) (sym (map.len-entries map.empty) ∙ map.len-empty (slice_cmp nat_cmp) ℕ))
+
+-- nothing is named at first
+pub new_shows : (roots : List ℕ) (folders : List Folder) → roots ≡ [] → folders ≡ [] → Shows (is_root roots) (entry_at folders) map.empty
+new_shows roots folders e f = rw (e, f) (Shows-empty (entry_at []) (λ directory name. refl))
+
+module _ (roots : List ℕ) (folders : List Folder) (kept : (names : Names) × Shows (is_root roots) (entry_at folders) names) (now : Names) (view : shown_names (is_root roots) (entry_at folders) kept ≡ now) where
+  pub shows_now : Shows (is_root roots) (entry_at folders) now
+  shows_now = subst (Shows (is_root roots) (entry_at folders)) view (names_shown (is_root roots) (entry_at folders) kept)
+
+  -- the directories give the same entries
+  pub same_shows : (new : List Folder) → entry_at new ≡ entry_at folders → Shows (is_root roots) (entry_at new) now
+  same_shows new e = subst (λ entry. Shows (is_root roots) entry now) (sym e) shows_now
+
+  pub root_shows : (new : List ℕ) (root : ℕ) → new ≡ roots ++ root ∷ [] → IsUnnamed now root → Shows (is_root new) (entry_at folders) (with_root now root)
+  root_shows new root e unnamed = subst (λ rs. Shows (is_root rs) (entry_at folders) (with_root now root)) (sym e) (Shows-push roots (entry_at folders) now shows_now root unnamed)
+
+  pub insert_shows : (new : List Folder) (directory : ℕ) (name : List ℕ) (inode : ℕ) → IsNamed now directory → map.get now (under (path_of now directory) name) ≡ None → IsUnnamed now inode → Changes (entry_at folders) (entry_at new) directory name (Some inode)
+      → Shows (is_root roots) (entry_at new) (map.insert now (under (path_of now directory) name) inode)
+  insert_shows new directory name inode named free unnamed changes =
+      Shows-insert (is_root roots) (entry_at folders) now shows_now (entry_at new) (path_of now directory) directory inode name named free unnamed changes
+
+  -- an entry is put in, or nothing changes
+  pub put_kept : (r : Result (Unit {0}) AllocError) (new : List Folder) (directory : ℕ) (name : List ℕ) (inode : ℕ) → IsNamed now directory → map.get now (under (path_of now directory) name) ≡ None → IsUnnamed now inode → OnOk r (Changes (entry_at folders) (entry_at new) directory name (Some inode)) → OnErr r (entry_at new ≡ entry_at folders)
+      → (names : Names) × Shows (is_root roots) (entry_at new) names
+  put_kept (Ok done) new directory name inode named free unnamed ok err = (_, insert_shows new directory name inode named free unnamed ok)
+  put_kept (Err error) new directory name inode named free unnamed ok err = (now, same_shows new err)
+
+  alone : (key : Key) → IfSome (map.get now key) (λ inode. names_in now inode ≡ []) → (value : ℕ) → map.get now key ≡ Some value → (last : List ℕ) → entry_at folders value last ≡ None
+  alone key empty value e last = empty_alone (is_root roots) (entry_at folders) now shows_now value (subst (λ x. IfSome x (λ inode. names_in now inode ≡ [])) e empty) last
+
+  module _ (new : List Folder) (directory : ℕ) (name : List ℕ) (named : IsNamed now directory) (empty : IfSome (map.get now (under (path_of now directory) name)) (λ inode. names_in now inode ≡ [])) (changes : Changes (entry_at folders) (entry_at new) directory name None) where
+    pub remove_shows : Shows (is_root roots) (entry_at new) (map.remove now (under (path_of now directory) name))
+    remove_shows = Shows-remove (is_root roots) (entry_at folders) now shows_now (entry_at new) (path_of now directory) directory name named (alone (under (path_of now directory) name) empty) changes
+
+    unnamed_by : (x : Option ℕ) → map.get now (under (path_of now directory) name) ≡ x → IfSome x (IsUnnamed (map.remove now (under (path_of now directory) name)))
+    unnamed_by None e = tt
+    unnamed_by (Some value) e = unnamed_now (is_root roots) (entry_at folders) now shows_now (entry_at new) (path_of now directory) directory name named (alone (under (path_of now directory) name) empty) changes value e
+
+    pub removed_unnamed : IfSome (map.get now (under (path_of now directory) name)) (IsUnnamed (map.remove now (under (path_of now directory) name)))
+    removed_unnamed = unnamed_by _ refl
+
+  -- the names in a directory that has a row, and in one that has none
+  pub row_names : (directory : ℕ) (folder : Folder) → Some folder ≡ slice_get folders directory → names_in now directory ≡ map.keys folder
+  row_names directory folder e = names_are_keys (is_root roots) (entry_at folders) now shows_now directory folder (λ name. ap (λ f. entry_in f name) e)
+
+  pub no_row_names : (directory : ℕ) → None ≡ slice_get folders directory → names_in now directory ≡ []
+  no_row_names directory e =
+      names_are_keys (is_root roots) (entry_at folders) now shows_now directory map.empty (λ name. map.get-empty _ name ∙ ap (λ f. entry_in f name) e) ∙ keys-empty

@@ -1,0 +1,215 @@
+ghost use Rattle.std.specs.Prelude.{◌≡◌, ◌==◌, ℕ, [], None, Some, IfOk, IfSome, OnOk, OnErr, length, if◌then◌else◌};
+ghost use Rattle.std.specs.FinMap as map;
+ghost use Rattle.qx_machine.specs.Names as machine;
+ghost use Rattle.qx_names.specs.Paths.{IsNamed, IsUnnamed, path_of};
+ghost use Rattle.qx_names.specs.Folders.{entry_at};
+ghost use Rattle.qx_names.specs.Shows.{Shows, is_root, shown_once};
+ghost use Rattle.qx_names.specs.Spots.{spot_found};
+
+use crate::folder::Folder;
+use crate::folders;
+use crate::spot::{Spot, search};
+use qx_attr::{Inodes, Reply};
+use qx_types::{Errno, User};
+use qx_wire::{Components, Rest};
+use std::alloc::{AllocError, Global};
+use std::marker::Model;
+
+/// The names in the mounts of a user's RAM manager, which contracts see as a map from whole paths to inodes.
+#[derive(Drop)]
+pub struct Names {
+    // The inodes of the mounts' roots.
+    roots: Vec<u32>,
+    // Each directory's entries, under its inode; none where it has never had any.
+    folders: Vec<Folder>,
+    ghost kept: { (names : machine.Names) × Shows (is_root roots.items) (entry_at folders.items) names } by { shown_once (is_root roots.items) (entry_at folders.items) },
+}
+
+impl Model for Names {
+    ghost use Rattle.qx_machine.specs.Names.{Names as Contents};
+    ghost use Rattle.qx_names.specs.Folders.{entry_at};
+    ghost use Rattle.qx_names.specs.Paths.{names_code};
+    ghost use Rattle.qx_names.specs.Shows.{is_root, shown_names};
+
+    ghost Value = { Contents };
+
+    ghost coded = { names_code };
+
+    ghost view = { λ n. shown_names (is_root n.roots.items) (entry_at n.folders.items) n.kept };
+}
+
+impl Names {
+    /// No names.
+    pub fn new(alloc: Global) -> Self
+        ensures none { result ≡ map.empty }
+    {
+        Names {
+            roots: Vec::new(alloc),
+            folders: Vec::new(alloc),
+        }
+    }
+
+    /// Names a mount's root, to which no path led. Where memory is short, nothing changes.
+    pub fn add_root(&mut self, root: u32) -> Result<(), AllocError>
+        requires new { IsUnnamed self.old root }
+        ensures ok { OnOk result (self.new ≡ machine.with_root self.old root) }
+        ensures err { OnErr result (self.new ≡ self.old) }
+    {
+        self.roots.reserve(1)?;
+        self.roots.push_reserved(root);
+        Ok(())
+    }
+
+    /// Whether an inode is a mount's root.
+    pub fn is_root(&self, inode: u32) -> bool
+        ensures root { map.get self.now (machine.root_key inode) ≡ (if result then Some inode else None) }
+    {
+        self.roots.contains(&inode)
+    }
+
+    /// Names an inode, to which no path led, in a directory that has no such name (C Library Reference: `open`, `mkdir`).
+    /// Where memory is short, nothing changes.
+    pub fn insert(&mut self, directory: u32, name: &[u8], inode: u32) -> Result<(), AllocError>
+        requires directory { IsNamed self.old directory }
+        requires free { map.get self.old (machine.under (path_of self.old directory) name.now) ≡ None }
+        requires new { IsUnnamed self.old inode }
+        ensures ok { OnOk result (self.new ≡ map.insert self.old (machine.under (path_of self.old directory) name.now) inode) }
+        ensures err { OnErr result (self.new ≡ self.old) }
+    {
+        folders::put(&mut self.folders, directory, name, inode)?;
+        Ok(())
+    }
+
+    /// Takes the name of a file or of an empty directory (C Library Reference: `unlink`).
+    pub fn remove(&mut self, directory: u32, name: &[u8])
+        requires directory { IsNamed self.old directory }
+        requires empty { IfSome (map.get self.old (machine.under (path_of self.old directory) name.now)) (λ inode. machine.names_in self.old inode ≡ []) }
+        ensures removed { self.new ≡ map.remove self.old (machine.under (path_of self.old directory) name.now) }
+        ensures unnamed { IfSome (map.get self.old (machine.under (path_of self.old directory) name.now)) (IsUnnamed self.new) }
+    {
+        folders::take(&mut self.folders, directory, name);
+    }
+
+    /// Whether no names are in a directory.
+    pub fn is_empty(&self, directory: u32) -> bool
+        ensures empty { result ≡ machine.is_empty (machine.names_in self.now directory) }
+    {
+        match folders::folder(self.folders.as_slice(), directory) {
+            Some(folder) => folder.is_empty(),
+            None => true,
+        }
+    }
+
+    /// Writes the names in a directory that stand behind one, in the order of their bytes, each followed by a zero byte, as
+    /// many whole names as fit 4,096 bytes, and tells how many (C Library Reference: `readdir`; how a listing is cut is this
+    /// profile).
+    pub fn list(&self, directory: u32, after: &[u8], reply: &mut Reply) -> u64
+        requires empty { reply.old ≡ [] }
+        ensures names { reply.new ≡ machine.listing (machine.listed self.now directory after.now) }
+        ensures count { result ≡ length (machine.listed self.now directory after.now) }
+    {
+        match folders::folder(self.folders.as_slice(), directory) {
+            Some(folder) => folder.list(after, reply),
+            None => 0,
+        }
+    }
+
+    /// Tells that no two paths lead to one inode.
+    pub fn named_once(&self)
+        ensures once { (one two : machine.Key) (inode : ℕ) → map.get self.now one ≡ Some inode → map.get self.now two ≡ Some inode → one ≡ two }
+        ensures path { (key : machine.Key) (inode : ℕ) → map.get self.now key ≡ Some inode → path_of self.now inode ≡ key }
+    {
+        let _count = self.roots.len();
+    }
+
+    /// Where a path leads from a mount's root, walked wholly, with search of each directory in which a name is looked up;
+    /// a path with nothing behind its mount has that error (C Library Reference: ENOENT, ENOTDIR, EACCES).
+    pub fn spot<'a>(
+        &self,
+        inodes: &Inodes,
+        user: User,
+        root: u32,
+        rest: &Rest<'a>,
+        at_root: Errno,
+    ) -> Result<Spot<'a>, Errno>
+        ensures spot { spot_found self.now result ≡ machine.spot inodes.now.inodes self.now user.0 root rest.now at_root }
+        ensures parent { IfOk result (λ at. IsNamed self.now at.parent) }
+    {
+        let mut components = rest.components();
+        let Some(name) = components.next() else {
+            return Err(at_root);
+        };
+        self.start(root)?;
+        self.walk(inodes, user, root, name, components)
+    }
+
+    /// The inode to which a path leads.
+    pub fn inode_at<'a>(
+        &self,
+        inodes: &Inodes,
+        user: User,
+        root: u32,
+        rest: &Rest<'a>,
+    ) -> Result<u32, Errno>
+        ensures inode { result ≡ machine.inode_at inodes.now.inodes self.now user.0 root rest.now }
+    {
+        let mut components = rest.components();
+        let Some(name) = components.next() else {
+            return Ok(root);
+        };
+        self.start(root)?;
+        let at = self.walk(inodes, user, root, name, components)?;
+        at.inode.ok_or(Errno::ENOENT)
+    }
+
+    /// Where the path of a mount's root leads: to the root, else ENOENT.
+    fn start(&self, root: u32) -> Result<u32, Errno>
+        ensures start { result ≡ machine.start self.now root }
+        ensures root { IfOk result (λ first. first ≡ root) }
+    {
+        if self.is_root(root) {
+            Ok(root)
+        } else {
+            Err(Errno::ENOENT)
+        }
+    }
+
+    /// Walks from a mount's root along one name and further ones.
+    fn walk<'a>(
+        &self,
+        inodes: &Inodes,
+        user: User,
+        root: u32,
+        name: &'a [u8],
+        mut rest: Components<'a>,
+    ) -> Result<Spot<'a>, Errno>
+        requires root { map.get self.now (machine.root_key root) ≡ Some root }
+        ensures spot { spot_found self.now result ≡ machine.walk inodes.now.inodes self.now user.0 root (machine.root_key root) name.now rest.entry }
+        ensures parent { IfOk result (λ at. IsNamed self.now at.parent) }
+    {
+        self.named_once();
+        let mut parent = root;
+        let mut last = name;
+        while let Some(next) = rest.next() {
+            search(inodes, user, parent)?;
+            parent = self.entry(parent, last).ok_or(Errno::ENOENT)?;
+            last = next;
+        }
+        search(inodes, user, parent)?;
+        Ok(Spot {
+            parent,
+            name: last,
+            inode: self.entry(parent, last),
+        })
+    }
+
+    /// What a name names in a directory.
+    fn entry(&self, directory: u32, name: &[u8]) -> Option<u32>
+        requires directory { IsNamed self.now directory }
+        ensures entry { result ≡ map.get self.now (machine.under (path_of self.now directory) name.now) }
+        ensures named { IfSome result (λ inode. IsNamed self.now inode) }
+        ensures path { IfSome result (λ inode. path_of self.now inode ≡ machine.under (path_of self.now directory) name.now) }
+    {
+        folders::entry(self.folders.as_slice(), directory, name)
+    }
+}
