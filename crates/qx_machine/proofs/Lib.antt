@@ -1,5 +1,9 @@
 -- a user's changes of lines, as that user and as others see them
 pub mod Changes
+-- the names in a directory
+pub mod Directories
+-- directories read listing by listing
+pub mod Listings
 -- lines in order of priority
 pub mod Orders
 -- a perform, in its user's view and in others'

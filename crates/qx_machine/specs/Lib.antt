@@ -8,6 +8,7 @@ pub mod Functions
 pub mod Judgements
 pub mod Laws
 pub mod Lines
+pub mod Listings
 pub mod Machine
 pub mod Mounting
 pub mod Names

@@ -1,13 +1,18 @@
 //! The laws of the machine, each a theorem over every configuration, every list of steps and every user number.
 
-ghost use Rattle.std.specs.Prelude.{◌≡◌, ◌≢◌, ℕ, ◌<◌, ◌≤◌, false, true, length, slice_get, List, Option, Some, None};
+ghost use Rattle.std.specs.Prelude.{◌≡◌, ◌≢◌, ℕ, ◌<◌, ◌≤◌, false, true, All, length, slice_get, List, [], Option, Some, None};
+ghost use Rattle.std.specs.Cmp.Lexicographic.{slice_cmp};
+ghost use Rattle.std.specs.List.Sorted.{IsStrictlySortedBy};
+ghost use Rattle.std.specs.Ordering.{nat_cmp};
 ghost use Rattle.qx_types.specs.Configuration.{Configuration};
 ghost use Rattle.qx_types.specs.Managers.{manager_number, managers};
 ghost use Rattle.qx_types.specs.declared.names.TheConstants.Manager.{COUNT};
 ghost use Rattle.qx_types.specs.declared.names.Manager.{Manager};
 ghost use Rattle.qx_types.specs.declared.step.Step.{Step};
 ghost use Rattle.qx_machine.specs.Laws.{HoldsOfOwnSteps, IsInOrder, is_refusal, own_entries};
+ghost use Rattle.qx_machine.specs.Listings.{HasAtMostOnePath, HasSizedNames, IsZeroFree, listed_by, listed_next};
 ghost use Rattle.qx_machine.specs.Machine.{World, boot, line_of, owner, rank, step, view};
+ghost use Rattle.qx_machine.specs.Names.{Names, listing, names_in};
 ghost use Rattle.qx_machine.specs.Rows.{lowest_from, row_at};
 ghost use Rattle.qx_machine.specs.Runs.{erase, is_owner, received, run};
 
@@ -75,4 +80,19 @@ pub fn lowest_free<T>()
     ensures free { (first : ℕ) (places : List (Option T)) → row_at places (lowest_from first places) ≡ None }
     ensures not_below { (first : ℕ) (places : List (Option T)) → first ≤ lowest_from first places }
     ensures lowest { (first number : ℕ) (places : List (Option T)) → first ≤ number → number < lowest_from first places → row_at places number ≢ None }
+{}
+
+/// Whoever reads a directory listing by listing, each behind the last name given before, the first behind the empty name,
+/// has all its names once a listing gives nothing, each once and in the order of their bytes (C Library Reference:
+/// `readdir`). After as many listings as there are names, the next gives nothing. No two paths lead to the directory, and
+/// its names have 1 to 64 bytes.
+pub fn names_listed_whole()
+    ensures rising { (names : Names) (directory : ℕ) → HasAtMostOnePath names directory → IsStrictlySortedBy (slice_cmp nat_cmp) (names_in names directory) }
+    ensures whole { (names : Names) (directory listings : ℕ) → HasAtMostOnePath names directory → HasSizedNames names directory → listed_next names directory (listed_by listings names directory) ≡ [] → listed_by listings names directory ≡ names_in names directory }
+    ensures ends { (names : Names) (directory listings : ℕ) → HasAtMostOnePath names directory → HasSizedNames names directory → length (names_in names directory) ≤ listings → listed_next names directory (listed_by listings names directory) ≡ [] }
+{}
+
+/// The bytes of a listing tell its names, where none has a zero byte.
+pub fn listing_told()
+    ensures { (names others : List (List ℕ)) → All IsZeroFree names → All IsZeroFree others → listing names ≡ listing others → names ≡ others }
 {}
