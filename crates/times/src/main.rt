@@ -24,9 +24,14 @@ fn main(rt: HostRuntime) -> anyhow::Result<()> {
             println!(rt; "{bytes}")?;
             let components = paths::make_calls(alloc, "resolve", 16, 8, 20, 1000)?;
             println!(rt; "{components}")?;
-            for (calls, first, second) in [("whole", 16, 0), ("open", 8, 100), ("list", 100, 50)] {
-                let answered = files::make_calls(alloc, calls, first, second, 10)?;
-                println!(rt; "{answered}")?;
+            for (calls, first, second) in [
+                ("whole", 16, 0),
+                ("open", 8, 100),
+                ("parts", 100, 50),
+                ("beside", 4, 10),
+            ] {
+                let done = files::make_calls(alloc, calls, first, second, 10)?;
+                println!(rt; "{done}")?;
             }
         }
         [_, subject, rest @ ..] if subject.as_str() == "list" => lists::on_words(alloc, rest)?,
@@ -43,8 +48,8 @@ fn main(rt: HostRuntime) -> anyhow::Result<()> {
             println!(rt; "{components}")?;
         }
         [_, subject, rest @ ..] if subject.as_str() == "file" => {
-            let answered = files::on_words(alloc, rest)?;
-            println!(rt; "{answered}")?;
+            let done = files::on_words(alloc, rest)?;
+            println!(rt; "{done}")?;
         }
         _ => bail!("the first word is list, world, message, path or file"),
     }

@@ -129,7 +129,7 @@ fn opened_anew(alloc: Global, connections: u16, rounds: u32, closes: bool) -> an
 fn open_many(world: &mut World, open: &Request, connections: u16) -> u64 {
     let mut answered: u64 = 0;
     for _ in 0..connections {
-        answered = answered.saturating_add(exchange(world, thread_at(1, 1, 1), open).1);
+        answered = answered.saturating_add(answers(&ask(world, 1, open)));
     }
     answered
 }
@@ -139,7 +139,7 @@ fn close_many(world: &mut World, connections: u16) -> u64 {
     let mut answered: u64 = 0;
     for (coid, _) in (3..=66).zip(0..connections) {
         let close = Request::Close { coid: Coid(coid) };
-        answered = answered.saturating_add(exchange(world, thread_at(1, 1, 1), &close).1);
+        answered = answered.saturating_add(answers(&ask(world, 1, &close)));
     }
     answered
 }
@@ -155,7 +155,7 @@ fn stats_beside(alloc: Global, users: usize, mounts: u16, rounds: u32) -> anyhow
     let stat = Request::StatPath { path };
     let mut answered: u64 = 0;
     for _ in 0..rounds {
-        answered = answered.saturating_add(exchange(&mut world, thread_at(1, 1, 1), &stat).1);
+        answered = answered.saturating_add(answers(&ask(&mut world, 1, &stat)));
     }
     Ok(answered)
 }
@@ -186,9 +186,9 @@ fn answered_in_line(
     let mut thread = line_up(&mut world, users, items, request);
     let mut answered: u64 = 0;
     for _ in 0..rounds {
-        let (first, answers) = exchange(&mut world, thread, request);
+        let (first, outcome) = exchange(&mut world, thread, request);
         thread = first;
-        answered = answered.saturating_add(answers);
+        answered = answered.saturating_add(answers(&outcome));
     }
     Ok(answered)
 }
@@ -221,16 +221,26 @@ fn line_up(world: &mut World, users: usize, items: u16, request: &Request) -> Th
 }
 
 /// A thread calls, the first of the line is received and performed, and its thread takes the answer. Tells that thread,
-/// and how many answers it got, none or one.
-pub fn exchange(world: &mut World, thread: Thread, request: &Request) -> (Thread, u64) {
+/// and the outcome of its last step.
+fn exchange(world: &mut World, thread: Thread, request: &Request) -> (Thread, Outcome) {
     let _ = world.call(thread, request);
     let Outcome::Took(Item::Message(first)) = world.receive(WORKER, Manager::Ram) else {
-        return (thread, 0);
+        return (thread, Outcome::Nothing);
     };
     let _ = world.perform_held(WORKER, 5);
-    match world.take_reply(first) {
-        Outcome::Reply(..) | Outcome::Failed(_) => (first, 1),
-        _ => (first, 0),
+    (first, world.take_reply(first))
+}
+
+/// The user's first thread calls, while nothing waits, is served and takes the answer. Tells the outcome of that.
+pub fn ask(world: &mut World, user: u8, request: &Request) -> Outcome {
+    exchange(world, thread_at(user, 1, 1), request).1
+}
+
+/// How many answers that is, none or one.
+fn answers(outcome: &Outcome) -> u64 {
+    match outcome {
+        Outcome::Reply(..) | Outcome::Failed(_) => 1,
+        _ => 0,
     }
 }
 
@@ -254,7 +264,7 @@ pub fn root_path(alloc: Global, user: u8) -> Result<Vec<u8>, AllocError> {
     Ok(path)
 }
 
-pub fn thread_at(user: u8, process: u8, tid: u8) -> Thread {
+fn thread_at(user: u8, process: u8, tid: u8) -> Thread {
     let proc = Proc {
         user: User(user),
         num: process,
