@@ -11,26 +11,16 @@ use Rattle.std.specs.declared.cmp.Ordering.{Ordering}
 use Rattle.std.specs.declared.cmp.Ordering.TheVariants.{Less, Equal, Greater}
 use Rattle.std.proofs.Common.{◌≡◌, Bool, true, false, ◌&&◌, T, cond, ap, refl, sym, ◌∙◌, subst, arith}
 use Rattle.std.proofs.lemmas.Bool.{eq-eqb, eqb-true}
-use Rattle.qx_machine.specs.Names.{Key, Names, is_there, key_cmp, name_in, names_in, under}
+use Rattle.qx_machine.specs.Listings.{HasAtMostOnePath}
+use Rattle.qx_machine.specs.Names.{Key, Names, is_there, key_cmp, names_in, under}
+use Rattle.qx_machine.proofs.Directories.{name_cmp, names-pairs, pair_in, pairs_in, sorted_pairs, there_is}
 use Rattle.qx_names.specs.Folders.{Folder}
 use Rattle.qx_names.specs.Paths.{IsUnnamed, path_of}
 use Rattle.qx_names.specs.Shows.{Shows, key_total, key-IsAntisymmetric}
 use Rattle.qx_names.proofs.FolderLemmas.{names_same}
 use Rattle.qx_names.proofs.MapLemmas.{untied}
-use Rattle.qx_names.proofs.PathLemmas.{first, second, is_named}
+use Rattle.qx_names.proofs.PathLemmas.{is_named}
 use Rattle.qx_names.proofs.ShowsLemmas.{entry_under, no_entries}
-
-abbrev name_cmp : List ℕ → List ℕ → Ordering
-name_cmp = slice_cmp nat_cmp
-
--- a name of a directory, with what it names
-abbrev pair_in : Names → ℕ → Key × ℕ → List (List ℕ × ℕ)
-pair_in names directory ((root, []), inode) = []
-pair_in names directory ((root, name ∷ above), inode) = if is_there (get names (root, above)) directory then (name, inode) ∷ [] else []
-
-there_is : (x : Option ℕ) (directory : ℕ) → is_there x directory ≡ true → x ≡ Some directory
-there_is None directory e = cc
-there_is (Some value) directory e = ap Some (eqb-true value directory e)
 
 not_there : (x : Option ℕ) (directory : ℕ) → (x ≡ Some directory → ⊥) → is_there x directory ≡ false
 not_there x directory apart = by (is_there x directory) refl
@@ -41,12 +31,6 @@ not_there x directory apart = by (is_there x directory) refl
 
 is_there-Some : (directory : ℕ) → is_there (Some directory) directory ≡ true
 is_there-Some directory = eq-eqb directory directory refl
-
--- two names of one directory are in the order of their keys
-less_names : (r s t : Ordering) → r ≡ Equal → t ≡ Equal → T (is_lt (ordering_then r (ordering_then s t))) → T (is_lt s)
-less_names r Less t e f h = tt
-less_names r Equal t e f h = let gone : T (is_lt Equal) = subst (λ x. T (is_lt x)) f (subst (λ x. T (is_lt (ordering_then x (ordering_then Equal t)))) e h) in absurd gone
-less_names r Greater t e f h = let gone : T (is_lt Greater) = subst (λ x. T (is_lt (ordering_then x (ordering_then Greater t)))) e h in absurd gone
 
 true_false : true ≡ false → ⊥
 true_false e = cc
@@ -60,56 +44,12 @@ abbrev above : Key → Key
 above (mount, []) = (mount, [])
 above (mount, name ∷ path) = (mount, path)
 
-both : (a b : Bool) → T a → T b → T (a && b)
-both true b p q = q
-both false b p q = p
-
-name_in-pair : (names : Names) (directory : ℕ) (entry : Key × ℕ) → name_in names directory entry ≡ mapped (λ pair. pair.0) (pair_in names directory entry)
-name_in-pair names directory ((root, []), inode) = refl
-name_in-pair names directory ((root, name ∷ above), inode) = by (is_there (get names (root, above)) directory)
-  where
-    by : (b : Bool) → (if b then name ∷ [] else []) ≡ mapped (λ (pair : List ℕ × ℕ). pair.0) (if b then (name, inode) ∷ [] else [])
-    by true = refl
-    by false = refl
-
-map-append : (one two : List (List ℕ × ℕ)) → mapped (λ pair. pair.0) (one ++ two) ≡ mapped (λ pair. pair.0) one ++ mapped (λ pair. pair.0) two
-map-append [] two = refl
-map-append (pair ∷ one) two = ap (pair.0 ∷◌) (map-append one two)
-
-names-pairs : (names : Names) (directory : ℕ) (es : List (Key × ℕ)) → flat_map (name_in names directory) es ≡ mapped (λ pair. pair.0) (flat_map (pair_in names directory) es)
-names-pairs names directory [] = refl
-names-pairs names directory (e ∷ es) =
-    ap (◌++ flat_map (name_in names directory) es) (name_in-pair names directory e)
-    ∙ ap (mapped (λ pair. pair.0) (pair_in names directory e) ++◌) (names-pairs names directory es)
-    ∙ sym (map-append (pair_in names directory e) (flat_map (pair_in names directory) es))
-
 module _ (root : ℕ → Bool) (entry : ℕ → List ℕ → Option ℕ) (names : Names) (s : Shows root entry names) (directory : ℕ) where
   abbrev pairs : List (Key × ℕ) → List (List ℕ × ℕ)
-  pairs es = flat_map (pair_in names directory) es
+  pairs = pairs_in names directory
 
-  below_pairs : (mount : ℕ) (name : List ℕ) (above : List (List ℕ)) (es : List (Key × ℕ)) → get names (mount, above) ≡ Some directory → T (below_all key_cmp (mount, name ∷ above) es) → T (below_all name_cmp name (pairs es))
-  below_pairs mount name above [] led below = tt
-  below_pairs mount name above (((other, []), inode) ∷ es) led below = below_pairs mount name above es led (second _ _ below)
-  below_pairs mount name above (((other, last ∷ path), inode) ∷ es) led below =
-      by (below_pairs mount name above es led (second _ _ below)) (is_there (get names (other, path)) directory) refl
-    where
-      by : T (below_all name_cmp name (pairs es)) → (b : Bool) → is_there (get names (other, path)) directory ≡ b → T (below_all name_cmp name ((if b then (last, inode) ∷ [] else []) ++ pairs es))
-      by rest true e =
-          let keys : (mount, above) ≡ (other, path) = s.single (mount, above) (other, path) directory led (there_is _ directory e) in
-          both _ _ (less_names (nat_cmp mount other) (name_cmp name last) (slice_cmp name_cmp above path)
-          (ap (nat_cmp mount) (sym (λ i. (keys i).0)) ∙ tied_itself nat_cmp_total mount)
-          (ap (slice_cmp name_cmp above) (sym (λ i. (keys i).1)) ∙ tied_itself (lists_total nat_list_cmp_total) above)
-          (first _ _ below)) rest
-      by rest false e = rest
-
-  sorted_pairs : (es : List (Key × ℕ)) → T (is_sorted key_cmp es) → T (is_sorted name_cmp (pairs es))
-  sorted_pairs [] sorted = tt
-  sorted_pairs (((mount, []), inode) ∷ es) sorted = sorted_pairs es (second _ _ sorted)
-  sorted_pairs (((mount, name ∷ above), inode) ∷ es) sorted = by (sorted_pairs es (second _ _ sorted)) (is_there (get names (mount, above)) directory) refl
-    where
-      by : T (is_sorted name_cmp (pairs es)) → (b : Bool) → is_there (get names (mount, above)) directory ≡ b → T (is_sorted name_cmp ((if b then (name, inode) ∷ [] else []) ++ pairs es))
-      by rest true e = both _ _ (below_pairs mount name above es (there_is _ directory e) (first _ _ sorted)) rest
-      by rest false e = rest
+  abbrev single : HasAtMostOnePath names directory
+  single one two = s.single one two directory
 
   -- where a path leads to the directory, its names are found under that path
   find_pairs : (key : Key) → get names key ≡ Some directory → (name : List ℕ) (es : List (Key × ℕ)) → find name_cmp name (pairs es) ≡ find key_cmp (under key name) es
@@ -158,7 +98,7 @@ module _ (root : ℕ → Bool) (entry : ℕ → List ℕ → Option ℕ) (names 
   pub names_are_keys : (folder : Folder) → ((name : List ℕ) → map.get folder name ≡ entry directory name) → names_in names directory ≡ map.keys folder
   names_are_keys folder gives =
       names-pairs names directory (entries names)
-      ∙ ap (mapped (λ pair. pair.0)) (same_entries name_cmp nat_list_cmp_total names_same (pairs (entries names)) (entries folder) (sorted_pairs (entries names) (entries_sorted names)) (entries_sorted folder) (λ name. find-names name ∙ sym (gives name) ∙ get-entries folder name))
+      ∙ ap (mapped (λ pair. pair.0)) (same_entries name_cmp nat_list_cmp_total names_same (pairs (entries names)) (entries folder) (sorted_pairs names directory single (entries names) (entries_sorted names)) (entries_sorted folder) (λ name. find-names name ∙ sym (gives name) ∙ get-entries folder name))
 
   no_first : (xs : List (List ℕ × ℕ)) → mapped (λ (pair : List ℕ × ℕ). pair.0) xs ≡ [] → xs ≡ []
   no_first [] e = refl

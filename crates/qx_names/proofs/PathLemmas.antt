@@ -9,17 +9,10 @@ use Rattle.std.specs.declared.cmp.Ordering.TheVariants.{Equal}
 use Rattle.std.proofs.Common.{◌≡◌, Bool, true, false, ◌&&◌, T, cond, ap, refl, sym, ◌∙◌, subst}
 use Rattle.std.proofs.lemmas.Bool.{eq-eqb, eqb-true}
 use Rattle.qx_machine.specs.Names.{Key, Names, root_key}
+use Rattle.qx_machine.proofs.Directories.{first, second}
 use Rattle.qx_names.specs.Paths.{IsNamed, key_in, path_of}
 use Rattle.qx_names.specs.Shows.{Shows, key_total, key-IsAntisymmetric}
 use Rattle.qx_names.proofs.MapLemmas.{is_equal}
-
-pub first : (a b : Bool) → T (a && b) → T a
-first true b p = tt
-first false b p = absurd p
-
-pub second : (a b : Bool) → T (a && b) → T b
-second true b p = p
-second false b p = absurd p
 
 pub not_less : (r : Ordering) → r ≡ Equal → T (is_lt r) → ⊥
 not_less r e p = subst (λ x. T (is_lt x)) e p

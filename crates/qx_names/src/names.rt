@@ -1,5 +1,9 @@
-ghost use Rattle.std.specs.Prelude.{◌≡◌, ◌==◌, ℕ, [], None, Some, IfOk, IfSome, OnOk, OnErr, length, if◌then◌else◌};
+ghost use Rattle.std.specs.Prelude.{◌≡◌, ◌==◌, ◌≤◌, ℕ, [], None, Some, IfOk, IfSome, OnOk, OnErr, length, if◌then◌else◌};
+ghost use Rattle.std.specs.Cmp.Lexicographic.{slice_cmp};
 ghost use Rattle.std.specs.FinMap as map;
+ghost use Rattle.std.specs.List.Sorted.{IsStrictlySortedBy};
+ghost use Rattle.std.specs.Ordering.{nat_cmp};
+ghost use Rattle.qx_machine.specs.Listings.{HasSizedNames, listed_by, listed_next};
 ghost use Rattle.qx_machine.specs.Names as machine;
 ghost use Rattle.qx_names.specs.Paths.{IsNamed, IsUnnamed, path_of};
 ghost use Rattle.qx_names.specs.Folders.{entry_at};
@@ -10,6 +14,7 @@ use crate::folder::Folder;
 use crate::folders;
 use crate::spot::{Spot, search};
 use qx_attr::{Inodes, Reply};
+use qx_machine::laws;
 use qx_types::{Errno, User};
 use qx_wire::{Components, Rest};
 use std::alloc::{AllocError, Global};
@@ -120,6 +125,18 @@ impl Names {
         ensures path { (key : machine.Key) (inode : ℕ) → map.get self.now key ≡ Some inode → path_of self.now inode ≡ key }
     {
         let _count = self.roots.len();
+    }
+
+    /// Tells that listings in turn, each behind the last name given before, the first behind the empty name, have given all
+    /// names in a directory once the next gives nothing, each once and in the order of their bytes, where each name has 1
+    /// to 64 bytes (C Library Reference: `readdir`).
+    pub fn listed_whole(&self)
+        ensures rising { (directory : ℕ) → IsStrictlySortedBy (slice_cmp nat_cmp) (machine.names_in self.now directory) }
+        ensures whole { (directory listings : ℕ) → HasSizedNames self.now directory → listed_next self.now directory (listed_by listings self.now directory) ≡ [] → listed_by listings self.now directory ≡ machine.names_in self.now directory }
+        ensures ends { (directory listings : ℕ) → HasSizedNames self.now directory → length (machine.names_in self.now directory) ≤ listings → listed_next self.now directory (listed_by listings self.now directory) ≡ [] }
+    {
+        self.named_once();
+        laws::names_listed_whole();
     }
 
     /// Where a path leads from a mount's root, walked wholly, with search of each directory in which a name is looked up;
