@@ -1,6 +1,7 @@
 //! A user's inodes and files, as the tests use them.
 
-ghost use Rattle.std.specs.Prelude.{◌≡◌, ◌≤◌, length};
+ghost use Rattle.std.specs.Prelude.{◌≡◌, ◌≤◌, None, Some, length};
+ghost use Rattle.qx_ram.specs.Fits.{file_size};
 ghost use Rattle.qx_types.specs.declared.limits.TheConstants.Limits.{TRANSFER};
 
 use qx_attr::{Inodes, Reply, Status};
@@ -35,7 +36,8 @@ pub fn attribute(kind: Kind, links: u32) -> Attribute {
 
 /// The inode of a mount's root.
 fn root() -> Attribute
-    ensures { result.links ≡ 1 }
+    ensures linked { result.links ≡ 1 }
+    ensures directory { file_size (Some result) ≡ None }
 {
     Attribute {
         kind: Kind::Directory,

@@ -34,7 +34,7 @@ counted_inode attrs blocks n attr no_blocks no_readers no_writers free are = rec
 
 -- ---- open control blocks come and go
 
-within_table : {A : Type 0} (xs : List (Option A)) (n : ℕ) (x : A) → row_at xs n ≡ Some x → n < length xs
+pub within_table : {A : Type 0} (xs : List (Option A)) (n : ℕ) (x : A) → row_at xs n ≡ Some x → n < length xs
 within_table [] n x e = absurd (cc)
 within_table (y ∷ xs) zero x e = omega arith
 within_table (y ∷ xs) (suc n) x e = let rest = within_table xs n x e in omega (arith, rest)
@@ -53,24 +53,24 @@ module _ (p : Option Ocb → Bool) (none : p None ≡ false) where
       omega (arith, set, was)
   by_test blocks n block free false beyond = sum_by-append (λ row. one (p row)) blocks (Some block ∷ []) ∙ ap (λ k. count_by p blocks + k) (omega arith)
 
-  count-put : (blocks : List (Option Ocb)) (n : ℕ) (block : Ocb) → row_at blocks n ≡ None → count_by p (put_row blocks n block) ≡ count_by p blocks + one (p (Some block))
+  pub count-put : (blocks : List (Option Ocb)) (n : ℕ) (block : Ocb) → row_at blocks n ≡ None → count_by p (put_row blocks n block) ≡ count_by p blocks + one (p (Some block))
   count-put blocks n block free = by_test blocks n block free (ltb n (length blocks)) refl
 
-  count-free : (blocks : List (Option Ocb)) (n : ℕ) (block : Ocb) → row_at blocks n ≡ Some block → count_by p (slice_set blocks n None) + one (p (Some block)) ≡ count_by p blocks
+  pub count-free : (blocks : List (Option Ocb)) (n : ℕ) (block : Ocb) → row_at blocks n ≡ Some block → count_by p (slice_set blocks n None) + one (p (Some block)) ≡ count_by p blocks
   count-free blocks n block is =
       let set = sum_by-set (λ row. one (p row)) blocks n None None (within_table blocks n block is) in
       let was : one (p (get_or blocks n None)) ≡ one (p (Some block)) = ap (λ row. one (p row)) (sym (read_row blocks n) ∙ is) in
       let no : one (p None) ≡ 0 = ap one none in
       omega (arith, set, was, no)
 
-  count-same : (blocks : List (Option Ocb)) (n : ℕ) (block now : Ocb) → row_at blocks n ≡ Some block → p (Some now) ≡ p (Some block) → count_by p (slice_set blocks n (Some now)) ≡ count_by p blocks
+  pub count-same : (blocks : List (Option Ocb)) (n : ℕ) (block now : Ocb) → row_at blocks n ≡ Some block → p (Some now) ≡ p (Some block) → count_by p (slice_set blocks n (Some now)) ≡ count_by p blocks
   count-same blocks n block now is same =
       let set = sum_by-set (λ row. one (p row)) blocks n (Some now) None (within_table blocks n block is) in
       let was : one (p (get_or blocks n None)) ≡ one (p (Some block)) = ap (λ row. one (p row)) (sym (read_row blocks n) ∙ is) in
       let kept : one (p (Some now)) ≡ one (p (Some block)) = ap one same in
       omega (arith, set, was, kept)
 
-row-set_same : {A : Type 0} (xs : List (Option A)) (n : ℕ) (x y : A) → row_at xs n ≡ Some x → row_at (slice_set xs n (Some y)) n ≡ Some y
+pub row-set_same : {A : Type 0} (xs : List (Option A)) (n : ℕ) (x y : A) → row_at xs n ≡ Some x → row_at (slice_set xs n (Some y)) n ≡ Some y
 row-set_same xs n x y is = read_row (slice_set xs n (Some y)) n ∙ get_or-set_same xs n (Some y) None (within_table xs n x is)
 
 eqb-same : (n : ℕ) → (n == n) ≡ true
@@ -80,7 +80,7 @@ eqb-same n = grind (arith, nat_tests)
 counts_own : (which : OFlags → Bool) (block : Ocb) (m : ℕ) → m ≡ block.inode → is_open which m (Some block) ≡ which block.flags
 counts_own which block m same = ap (λ test. test && which block.flags) (ap (λ n. block.inode == n) same ∙ eqb-same block.inode)
 
-counts_other : (which : OFlags → Bool) (block : Ocb) (m : ℕ) → m ≢ block.inode → is_open which m (Some block) ≡ false
+pub counts_other : (which : OFlags → Bool) (block : Ocb) (m : ℕ) → m ≢ block.inode → is_open which m (Some block) ≡ false
 counts_other which block m differs = ap (λ test. test && which block.flags) (ne_eqb block.inode m (λ e. differs (sym e)))
 
 module _ (count : Attr → ℕ) (which : OFlags → Bool) (attrs : List (Option Attr)) (blocks : List (Option Ocb)) (n : ℕ) (block : Ocb) (attr now : Attr) (there : row_at attrs block.inode ≡ Some attr) (are : IsCounted count which attrs blocks) where

@@ -1,27 +1,23 @@
 -- What an open comes to, once it is known what may be opened or made.
-use Rattle.std.proofs.Common.{◌≡◌, ◌⊎◌, inl, inr, ℕ, ◌<◌, ◌&&◌, Bool, true, false, not, List, [], ◌∷◌, length, arith, refl, sym, ap, ◌∙◌, subst, Option, Some, None, Result, Ok, Err, IsSome}
+use Rattle.std.proofs.Common.{◌≡◌, ◌⊎◌, inl, inr, ℕ, ◌&&◌, Bool, true, false, not, [], refl, sym, ap, ◌∙◌, subst, Option, Some, None, Result, Ok, Err, IsOk}
 use Rattle.std.specs.Prelude.{nat_le, if◌then◌else◌}
 use Rattle.qx_types.specs.declared.errno.Errno.{Errno}
-use Rattle.qx_types.specs.declared.errno.Errno.TheVariants.{EACCES, EEXIST, EISDIR, ENOENT, ENOSPC}
+use Rattle.qx_types.specs.declared.errno.Errno.TheVariants.{EACCES, EEXIST, EISDIR, ENFILE, ENOENT}
 use Rattle.qx_types.specs.declared.flags.OFlags.{OFlags}
-use Rattle.qx_types.specs.declared.flags.TheConstants.OFlags.{CREAT, EXCL}
-use Rattle.qx_types.specs.declared.limits.TheConstants.Limits.{INODES}
-use Rattle.qx_machine.specs.declared.rows.Access.TheVariants.{Write}
-use Rattle.qx_machine.specs.declared.rows.Attribute.{Attribute}
-use Rattle.qx_machine.specs.Files.{Files, Given, with_new_file}
-use Rattle.qx_machine.specs.Inodes.{Inodes, Numbered, block_number, has, inode_number, may, new_inode, open_block, with_attribute, within, writes}
-use Rattle.qx_machine.specs.Judgements.{◌>>=◌, found, need}
-use Rattle.qx_machine.specs.Names.{Key, is_directory}
-use Rattle.qx_machine.specs.Opening.{after_opening, allows, changed, open_existing, with_name}
-use Rattle.qx_machine.specs.Rows.{lowest_from, put_row, row_at}
-use Rattle.qx_machine.proofs.Places.{lowest_from_free}
+use Rattle.qx_types.specs.declared.flags.TheConstants.OFlags.{CREAT, EXCL, TRUNC}
+use Rattle.qx_types.specs.declared.limits.TheConstants.Limits.{BLOCKS}
 use Rattle.qx_attr.specs.Counts.{numbered}
-use Rattle.qx_attr.proofs.TableLemmas.{row-put}
-use Rattle.qx_ram.specs.Fits.{Fits, IsLinked}
-use Rattle.qx_ram.specs.Makes.{may_make, may_open}
-use Rattle.qx_ram.specs.declared.opening.New.{New}
-use Rattle.qx_ram.proofs.FitLemmas.{attribute_fits, bytes_fit}
-use Rattle.qx_ram.proofs.NamingLemmas.{named_fits, row_at-next}
+use Rattle.qx_machine.proofs.Places.{lowest_from_free}
+use Rattle.qx_machine.specs.declared.rows.Attribute.{Attribute}
+use Rattle.qx_machine.specs.Files.{Files, Given}
+use Rattle.qx_machine.specs.Inodes.{Inodes, Numbered, block_number, has, open_block, writes}
+use Rattle.qx_machine.specs.Judgements.{◌>>=◌, found, need}
+use Rattle.qx_machine.specs.Names.{is_directory}
+use Rattle.qx_machine.specs.Opening.{after_opening, allows, emptied, open_existing}
+use Rattle.qx_machine.specs.Rows.{lowest_from, put_row, row_at}
+use Rattle.qx_ram.specs.Fits.{Fits}
+use Rattle.qx_ram.specs.Makes.{may_open}
+use Rattle.qx_ram.proofs.FitLemmas.{block_fits}
 
 -- ---- what is there
 
@@ -64,6 +60,18 @@ module _ (allowed : Attribute → Bool) (number : Result ℕ Errno) (made : ℕ 
       by_tests true true (Ok n) = refl
       by_tests true true (Err error) = refl
 
+judged_number : (number : Result ℕ Errno) (attribute : Attribute) (shared : Bool) (fitting allowed : Attribute → Bool) (row : Option Attribute) → judged shared fitting allowed number row ≡ Ok attribute → IsOk number
+unfolding judged
+judged_number number attribute shared fitting allowed None is = absurd (cc)
+judged_number number attribute false fitting allowed (Some there) is = absurd (cc)
+judged_number number attribute true fitting allowed (Some there) is = by_tests (fitting there) (allowed there) number is
+  where
+    by_tests : (fits may : Bool) (number : Result ℕ Errno) → (need fits EISDIR >>= (λ _. need may EACCES >>= (λ _. number >>= (λ _. Ok there)))) ≡ Ok attribute → IsOk number
+    by_tests false may number is = absurd (cc)
+    by_tests true false number is = absurd (cc)
+    by_tests true true (Ok n) is = refl
+    by_tests true true (Err error) is = absurd (cc)
+
 -- what is given, once a block is there
 abbrev pub opened_given : Files → ℕ → OFlags → ℕ → Attribute → Numbered → Given
 opened_given files inode flags moment attribute opened = record (after_opening opened.inodes files inode flags attribute moment) { status = opened.number }
@@ -78,100 +86,55 @@ module _ (inodes : Inodes) (files : Files) (user inode : ℕ) (flags : OFlags) (
   pub existing_refused : (error : Errno) → may_open inodes user inode flags ≡ Err error → open_existing inodes files user inode flags moment ≡ Err error
   existing_refused error refused = existing_is ∙ ap (λ r. r >>= (λ attribute. open_block inodes inode flags >>= (λ opened. Ok (opened_given files inode flags moment attribute opened)))) refused
 
--- inodes with the same attributes fit the same files
-attributes_fit : (inodes now : Inodes) (files : Files) → now.attributes ≡ inodes.attributes → Fits inodes files → Fits now files
-attributes_fit inodes now files same fits = record {
-  linked = λ key inode leads. subst (λ attributes. IsLinked (row_at attributes inode)) (sym same) (fits.linked key inode leads);
-  bytes = λ inode none. fits.bytes inode (ap (λ attributes. row_at attributes inode) (sym same) ∙ none);
-  places = subst (λ attributes. 0 < length attributes) (sym same) fits.places;
-}
+  pub existing_opened : (attribute : Attribute) (now : Inodes) (number : ℕ) → may_open inodes user inode flags ≡ Ok attribute → numbered now (Ok number) ≡ open_block inodes inode flags
+      → open_existing inodes files user inode flags moment ≡ Ok (opened_given files inode flags moment attribute (record { number = number; inodes = now }))
+  existing_opened attribute now number may opened =
+      existing_is ∙
+      (ap (λ r. r >>= (λ attribute. open_block inodes inode flags >>= (λ opened. Ok (opened_given files inode flags moment attribute opened)))) may ∙
+      ap (λ r. r >>= (λ opened. Ok (opened_given files inode flags moment attribute opened))) (sym opened))
 
--- ---- what is missing
+  number_there : (attribute : Attribute) → may_open inodes user inode flags ≡ Ok attribute → IsOk (block_number inodes)
+  unfolding judged
+  number_there attribute may =
+      judged_number (block_number inodes) attribute (not (has flags CREAT && has flags EXCL)) (λ attribute. not (is_directory attribute.kind && writes flags)) (λ attribute. allows attribute user flags) (row_at inodes.attributes inode) may
 
-has_places : {A : Type 0} (places : List (Option A)) (there : ℕ) (one : A) → row_at places there ≡ Some one → 0 < length places
-has_places [] there one is = absurd (cc)
-has_places (place ∷ places) there one is = omega arith
-
-within_is : (limit number n : ℕ) (error : Errno) → within limit number error ≡ Ok n → number ≡ n
-within_is limit number n error = by_test (nat_le number limit)
-  where
-    by_test : (few : Bool) → (if few then Ok number else Err error) ≡ Ok n → number ≡ n
-    by_test true is = cc
-    by_test false is = absurd (cc)
-
-module _ (inodes : Inodes) (user directory : ℕ) (flags : OFlags) (new : New) (judged_so : may_make inodes user directory flags ≡ Ok new) where
-  by_parts : (making : Bool) (row : Option Attribute) (allowed : Attribute → Bool) (number inode : Result ℕ Errno)
-      → (need making ENOENT >>= (λ _. (found row ENOENT >>= (λ attribute. need (allowed attribute) EACCES >>= (λ _. Ok attribute))) >>= (λ parent. number >>= (λ _. inode >>= (λ next. Ok (record { inode = next; parent = parent })))))) ≡ Ok new
-      → (row ≡ Some new.parent) × (inode ≡ Ok new.inode)
-  by_parts false row allowed number inode is = absurd (cc)
-  by_parts true None allowed number inode is = absurd (cc)
-  by_parts true (Some attribute) allowed number inode is = by_rest (allowed attribute) number inode is
+  pub existing_wanted : (attribute : Attribute) → may_open inodes user inode flags ≡ Ok attribute → IsOk (open_existing inodes files user inode flags moment)
+  existing_wanted attribute may =
+      subst IsOk (sym (existing_is ∙ ap (λ r. r >>= (λ attribute. open_block inodes inode flags >>= (λ opened. Ok (opened_given files inode flags moment attribute opened)))) may))
+      (by_number (block_number inodes) (number_there attribute may))
     where
-      by_rest : (may_write : Bool) (number inode : Result ℕ Errno)
-          → ((need may_write EACCES >>= (λ _. Ok attribute)) >>= (λ parent. number >>= (λ _. inode >>= (λ next. Ok (record { inode = next; parent = parent }))))) ≡ Ok new
-          → (Some attribute ≡ Some new.parent) × (inode ≡ Ok new.inode)
-      by_rest false number inode is = absurd (cc)
-      by_rest true (Err error) inode is = absurd (cc)
-      by_rest true (Ok free) (Err error) is = absurd (cc)
-      by_rest true (Ok free) (Ok next) is =
-          let same : record { inode = next; parent = attribute } ≡ new = cc in
-          (ap (λ (n : New). Some n.parent) same, ap (λ (n : New). Ok n.inode) same)
+      by_number : (number : Result ℕ Errno) → IsOk number
+          → IsOk ((number >>= (λ n. Ok (record { number = n; inodes = record inodes { blocks = put_row inodes.blocks n (record { inode = inode; flags = flags; offset = 0 }) } }))) >>= (λ opened. Ok (opened_given files inode flags moment attribute opened)))
+      by_number (Ok n) is = refl
+      by_number (Err error) is = absurd (cc)
 
-  parts : (row_at inodes.attributes directory ≡ Some new.parent) × (inode_number inodes ≡ Ok new.inode)
-  parts = by_parts (has flags CREAT) (row_at inodes.attributes directory) (λ attribute. may attribute user Write) (block_number inodes) (inode_number inodes) judged_so
+-- nothing is emptied but a file that is opened for writing with TRUNC
+pub unchanged : (files : Files) (inode moment : ℕ) (flags : OFlags) (attribute : Attribute) (opened : Numbered) → ((has flags TRUNC && writes flags) ≡ false) ⊎ (row_at files.contents inode ≡ None)
+    → opened_given files inode flags moment attribute opened ≡ record { status = opened.number; bytes = []; inodes = opened.inodes; files = files }
+unchanged files inode moment flags attribute opened (inl kept) = rw kept refl
+unchanged files inode moment flags attribute opened (inr none) = by_test (has flags TRUNC && writes flags)
+  where
+    by_test : (test : Bool) → record (if test then emptied opened.inodes files inode (row_at files.contents inode) attribute moment else record { status = 0; bytes = []; inodes = opened.inodes; files = files }) { status = opened.number } ≡ record { status = opened.number; bytes = []; inodes = opened.inodes; files = files }
+    by_test true = rw none refl
+    by_test false = refl
 
-  next_is : lowest_from 1 inodes.attributes ≡ new.inode
-  next_is = within_is INODES (lowest_from 1 inodes.attributes) new.inode ENOSPC parts.1
+-- ---- once it is open
 
-  pub free_is : row_at inodes.attributes new.inode ≡ None
-  free_is = ap (row_at inodes.attributes) (sym next_is) ∙ lowest_from_free 1 inodes.attributes
+module _ (inodes now : Inodes) (inode number : ℕ) (flags : OFlags) (opened : numbered now (Ok number) ≡ open_block inodes inode flags) where
+  opened_is : now ≡ record inodes { blocks = put_row inodes.blocks (lowest_from 1 inodes.blocks) (record { inode = inode; flags = flags; offset = 0 }) }
+  opened_is = by_test (nat_le (lowest_from 1 inodes.blocks) BLOCKS) opened
+    where
+      by_test : (few : Bool) → numbered now (Ok number) ≡ ((if few then Ok (lowest_from 1 inodes.blocks) else Err ENFILE) >>= (λ n. Ok (record { number = n; inodes = record inodes { blocks = put_row inodes.blocks n (record { inode = inode; flags = flags; offset = 0 }) } })))
+          → now ≡ record inodes { blocks = put_row inodes.blocks (lowest_from 1 inodes.blocks) (record { inode = inode; flags = flags; offset = 0 }) }
+      by_test true e =
+          let equal : record { number = number; inodes = now } ≡ record { number = lowest_from 1 inodes.blocks; inodes = record inodes { blocks = put_row inodes.blocks (lowest_from 1 inodes.blocks) (record { inode = inode; flags = flags; offset = 0 }) } } = cc in
+          ap (λ (given : Numbered). given.inodes) equal
+      by_test false e = absurd (cc)
 
-  module _ (old now : Inodes) (attribute : Attribute) (same : old ≡ inodes) (made_so : numbered now (inode_number old) ≡ new_inode old attribute) where
-    rows : List (Option Attribute)
-    rows = put_row inodes.attributes new.inode attribute
+  pub opened_attributes : now.attributes ≡ inodes.attributes
+  opened_attributes = ap (λ (i : Inodes). i.attributes) opened_is
 
-    now_is : now ≡ record inodes { attributes = put_row inodes.attributes new.inode attribute }
-    now_is =
-        let there : numbered now (inode_number inodes) ≡ new_inode inodes attribute = rw same at made_so in
-        by_number (inode_number inodes) parts.1 there
-      where
-        by_number : (number : Result ℕ Errno) → number ≡ Ok new.inode → numbered now number ≡ (number >>= (λ n. Ok (record { number = n; inodes = record inodes { attributes = put_row inodes.attributes n attribute } }))) → now ≡ record inodes { attributes = put_row inodes.attributes new.inode attribute }
-        by_number (Err error) is e = absurd (cc)
-        by_number (Ok n) is e =
-            let number : n ≡ new.inode = cc in
-            let equal : record { number = n; inodes = now } ≡ record { number = n; inodes = record inodes { attributes = put_row inodes.attributes n attribute } } = cc in
-            ap (λ (given : Numbered). given.inodes) equal ∙ ap (λ n. record inodes { attributes = put_row inodes.attributes n attribute }) number
-
-    new_row : row_at (put_row inodes.attributes new.inode attribute) new.inode ≡ Some attribute
-    new_row = ap (λ n. row_at (put_row inodes.attributes n attribute) n) (sym next_is) ∙ row_at-next inodes.attributes attribute (has_places inodes.attributes directory new.parent parts.0)
-
-    parent_row : row_at (put_row inodes.attributes new.inode attribute) directory ≡ Some new.parent
-    parent_row = by_row (row-put inodes.attributes new.inode attribute free_is directory)
-      where
-        by_row : (row_at (put_row inodes.attributes new.inode attribute) directory ≡ row_at inodes.attributes directory) ⊎ ((row_at (put_row inodes.attributes new.inode attribute) directory ≡ Some attribute) × (row_at inodes.attributes directory ≡ None))
-            → row_at (put_row inodes.attributes new.inode attribute) directory ≡ Some new.parent
-        by_row (inl kept) = kept ∙ parts.0
-        by_row (inr fresh) = let clash : None ≡ Some new.parent = sym fresh.1 ∙ parts.0 in absurd (cc)
-
-    pub made_there : IsSome (row_at now.attributes new.inode)
-    made_there = rw (now_is, new_row) refl
-
-    module _ (later : Inodes) (number : ℕ) (opened_so : numbered later (Ok number) ≡ open_block now new.inode flags) where
-      later_is : later.attributes ≡ put_row inodes.attributes new.inode attribute
-      later_is = by_number (block_number now) opened_so ∙ ap (λ (i : Inodes). i.attributes) now_is
-        where
-          by_number : (block : Result ℕ Errno) → numbered later (Ok number) ≡ (block >>= (λ n. Ok (record { number = n; inodes = record now { blocks = put_row now.blocks n (record { inode = new.inode; flags = flags; offset = 0 }) } }))) → later.attributes ≡ now.attributes
-          by_number (Ok n) e =
-              let equal : record { number = number; inodes = later } ≡ record { number = n; inodes = record now { blocks = put_row now.blocks n (record { inode = new.inode; flags = flags; offset = 0 }) } } = cc in
-              ap (λ (given : Numbered). given.inodes.attributes) equal
-          by_number (Err error) e = absurd (cc)
-
-      pub parent_there : IsSome (row_at later.attributes directory)
-      parent_there = rw (later_is, parent_row) refl
-
-      pub made_fits : (files : Files) (key : Key) (moment : ℕ) → attribute.links ≡ 1 → Fits inodes files → Fits (with_attribute later directory (changed moment new.parent)) (with_new_file (with_name files key new.inode) new.inode)
-      made_fits files key moment links fits =
-          let named = named_fits inodes files fits key new.inode attribute free_is links new_row in
-          let bytes = bytes_fit (record inodes { attributes = put_row inodes.attributes new.inode attribute }) (with_name files key new.inode) new.inode attribute [] new_row named in
-          let opened = attributes_fit (record inodes { attributes = put_row inodes.attributes new.inode attribute }) later (with_new_file (with_name files key new.inode) new.inode) later_is bytes in
-          attribute_fits later (with_new_file (with_name files key new.inode) new.inode) directory new.parent (changed moment new.parent) (ap (λ rows. row_at rows directory) later_is ∙ parent_row) refl opened
+  pub opened_fits : (files : Files) → Fits inodes files → Fits now files
+  opened_fits files fits =
+      subst (λ (i : Inodes). Fits i files) (sym opened_is)
+      (block_fits inodes files (lowest_from 1 inodes.blocks) (record { inode = inode; flags = flags; offset = 0 }) (lowest_from_free 1 inodes.blocks) fits)

@@ -1,17 +1,14 @@
 -- The sum of the sizes of files, as one of them changes.
-use Rattle.std.proofs.Common.{◌≡◌, ℕ, zero, suc, ◌+◌, ◌-◌, ◌<◌, ◌≤◌, List, [], ◌∷◌, length, get_or, sym, ap, ◌∙◌, arith, Option, Some, None, slice_set, refl}
+use Rattle.std.proofs.Common.{◌≡◌, ℕ, zero, suc, ◌+◌, ◌-◌, ◌≤◌, List, [], ◌∷◌, length, get_or, sym, ap, ◌∙◌, arith, Option, Some, None, slice_set, refl, option_map, unwrap_or}
 use Rattle.std.specs.List.{sum_by}
-use Rattle.std.proofs.lemmas.List.{get_or-set_same}
 use Rattle.std.proofs.lemmas.List.Sums.{sum_by-cons, sum_by-set}
 use Rattle.std.proofs.lemmas.Option.{unwrap_or-slice_get}
+use Rattle.qx_attr.proofs.CountLemmas.{row-set_same, within_table}
 use Rattle.qx_machine.specs.Files.{size_of}
 use Rattle.qx_machine.specs.Rows.{row_at, with_row}
 use Rattle.qx_process.proofs.RowLemmas.{with_row-none}
-
-within_table : (contents : List (Option (List ℕ))) (n : ℕ) (bytes : List ℕ) → row_at contents n ≡ Some bytes → n < length contents
-within_table [] n bytes e = absurd (cc)
-within_table (y ∷ contents) zero bytes e = omega arith
-within_table (y ∷ contents) (suc n) bytes e = let rest = within_table contents n bytes e in omega (arith, rest)
+use Rattle.qx_ram.specs.Fits.{file_size}
+use Rattle.qx_ram.specs.Laws.{TotalOfSizes}
 
 pub total_set : (contents : List (Option (List ℕ))) (n : ℕ) (bytes : List ℕ) (now : Option (List ℕ)) → row_at contents n ≡ Some bytes → sum_by size_of (slice_set contents n now) + length bytes ≡ sum_by size_of contents + size_of now
 total_set contents n bytes now is =
@@ -21,9 +18,6 @@ total_set contents n bytes now is =
 
 pub size_within : (contents : List (Option (List ℕ))) (n : ℕ) (bytes : List ℕ) → row_at contents n ≡ Some bytes → length bytes ≤ sum_by size_of contents
 size_within contents n bytes is = let freed = total_set contents n bytes None is in omega (arith, freed)
-
-pub row_of_set : (contents : List (Option (List ℕ))) (n : ℕ) (bytes now : List ℕ) → row_at contents n ≡ Some bytes → row_at (slice_set contents n (Some now)) n ≡ Some now
-row_of_set contents n bytes now is = unwrap_or-slice_get (slice_set contents n (Some now)) n None ∙ get_or-set_same contents n (Some now) None (within_table contents n bytes is)
 
 pub size_le : (contents : List (Option (List ℕ))) (n : ℕ) → size_of (row_at contents n) ≤ sum_by size_of contents
 size_le contents n = by_row (row_at contents n) refl
@@ -38,7 +32,7 @@ total_with contents n change = by_row (row_at contents n) refl
   where
     by_row : (row : Option (List ℕ)) → row_at contents n ≡ row → sum_by size_of (with_row contents n change) + size_of (row_at contents n) ≡ sum_by size_of contents + size_of (row_at (with_row contents n change) n)
     by_row None is = rw (with_row-none contents n change is) refl
-    by_row (Some bytes) is = rw (is, row_of_set contents n bytes (change bytes) is) (total_set contents n bytes (Some (change bytes)) is)
+    by_row (Some bytes) is = rw (is, row-set_same contents n bytes (change bytes) is) (total_set contents n bytes (Some (change bytes)) is)
 
 -- the sum that is kept beside the files
 pub after_total : (contents now : List (Option (List ℕ))) (n total before after : ℕ) (change : List ℕ → List ℕ) → now ≡ with_row contents n change → total ≡ sum_by size_of contents → before ≡ size_of (row_at contents n) → after ≡ size_of (row_at now n) → total - before + after ≡ sum_by size_of now
@@ -55,3 +49,33 @@ total_new (None ∷ contents) zero free = refl
 total_new (Some bytes ∷ contents) zero free = absurd (cc)
 total_new (place ∷ contents) (suc n) free =
     sum_by-cons size_of place (slice_set contents n (Some [])) ∙ (ap (λ sum. size_of place + sum) (total_new contents n free) ∙ sym (sum_by-cons size_of place contents))
+
+-- ---- the sizes that inodes have
+
+-- two tables whose rows come to the same numbers
+same_sums : {A B : Type 0} (f : Option A → ℕ) (g : Option B → ℕ) (xs : List (Option A)) (ys : List (Option B)) → f None ≡ 0 → g None ≡ 0 → ((n : ℕ) → f (row_at xs n) ≡ g (row_at ys n)) → sum_by f xs ≡ sum_by g ys
+same_sums f g [] [] f_none g_none same = refl
+same_sums f g [] (y ∷ ys) f_none g_none same =
+    let rest : 0 ≡ sum_by g ys = same_sums f g [] ys f_none g_none (λ n. same (suc n)) in
+    let head : f None ≡ g y = same 0 in
+    let sum = sum_by-cons g y ys in
+    omega (arith, rest, head, sum, f_none)
+same_sums f g (x ∷ xs) [] f_none g_none same =
+    let rest : sum_by f xs ≡ 0 = same_sums f g xs [] f_none g_none (λ n. same (suc n)) in
+    let head : f x ≡ g None = same 0 in
+    let sum = sum_by-cons f x xs in
+    omega (arith, rest, head, sum, g_none)
+same_sums f g (x ∷ xs) (y ∷ ys) f_none g_none same =
+    let rest : sum_by f xs ≡ sum_by g ys = same_sums f g xs ys f_none g_none (λ n. same (suc n)) in
+    let head : f x ≡ g y = same 0 in
+    let one = sum_by-cons f x xs in
+    let two = sum_by-cons g y ys in
+    omega (arith, rest, head, one, two)
+
+pub total_of_sizes : TotalOfSizes
+total_of_sizes inodes files fits =
+    same_sums size_of (λ row. unwrap_or (file_size row) 0) files.contents inodes.attributes refl refl (λ n. by_bytes (row_at files.contents n) ∙ ap (λ size. unwrap_or size 0) (fits.sized n))
+  where
+    by_bytes : (bytes : Option (List ℕ)) → size_of bytes ≡ unwrap_or (option_map (λ bytes. length bytes) bytes) 0
+    by_bytes None = refl
+    by_bytes (Some bytes) = refl

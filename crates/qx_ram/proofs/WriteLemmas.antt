@@ -6,6 +6,7 @@ use Rattle.qx_types.specs.declared.errno.Errno.{Errno}
 use Rattle.qx_types.specs.declared.errno.Errno.TheVariants.{EBADF, EFBIG, ENOSPC}
 use Rattle.qx_types.specs.declared.flags.TheConstants.OFlags.{WRITE}
 use Rattle.qx_types.specs.declared.limits.TheConstants.Limits.{FILE, FILES}
+use Rattle.qx_attr.proofs.CountLemmas.{row-set_same}
 use Rattle.qx_machine.specs.declared.rows.Attribute.{Attribute}
 use Rattle.qx_machine.specs.declared.rows.Ocb.{Ocb}
 use Rattle.qx_machine.specs.Files.{Files, Given, put, resized, size_of, total_size, with_contents, write_at, write_file, write_offset, write_some}
@@ -15,7 +16,7 @@ use Rattle.qx_machine.specs.Rows.{row_at}
 use Rattle.qx_ram.specs.declared.target.Target.{Target}
 use Rattle.qx_ram.specs.Given.{pasted, target, write_fault}
 use Rattle.qx_ram.proofs.PutLemmas.{length-put}
-use Rattle.qx_ram.proofs.SizeLemmas.{row_of_set, size_within, total_set}
+use Rattle.qx_ram.proofs.SizeLemmas.{size_within, total_set}
 
 -- what a write goes to is there
 pub record IsTarget (inodes : Inodes) (files : Files) (number : ℕ) (t : Target) : Type 0 where
@@ -116,7 +117,7 @@ module _ (inodes : Inodes) (files : Files) (number moment : ℕ) (t : Target) (i
   same_fault = rw (it.size_is, it.offset_is, total_after files t.block.inode (write_offset t.block it.bytes) it.bytes new it.contents_are) refl
 
   pub pasted_size : size_of (row_at (pasted files t.block.inode t.offset new).contents t.block.inode) ≡ length (put it.bytes t.offset new)
-  pasted_size = rw it.contents_are (ap size_of (row_of_set files.contents t.block.inode it.bytes (put it.bytes t.offset new) it.contents_are))
+  pasted_size = rw it.contents_are (ap size_of (row-set_same files.contents t.block.inode it.bytes (put it.bytes t.offset new) it.contents_are))
 
   same_given : (size : ℕ) → size ≡ length (put it.bytes t.offset new) → exact ≡ write_given inodes files number moment t size new
   unfolding now exact

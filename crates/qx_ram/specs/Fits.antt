@@ -1,9 +1,12 @@
 -- How names, inodes and the bytes of files stand together.
-use Rattle.std.specs.Prelude.{ℕ, ◌≡◌, ◌<◌, Option, Some, None, length}
+use Rattle.std.specs.Prelude.{ℕ, ◌≡◌, ◌<◌, Bool, true, false, Option, Some, None, length, option_map, if◌then◌else◌}
 use Rattle.std.specs.FinMap.{get}
+use Rattle.qx_types.specs.declared.limits.TheConstants.Limits.{INODES}
 use Rattle.qx_machine.specs.declared.rows.Attribute.{Attribute}
+use Rattle.qx_machine.specs.declared.rows.Kind.{Kind}
+use Rattle.qx_machine.specs.declared.rows.Kind.TheVariants.{File}
 use Rattle.qx_machine.specs.Files.{Files}
-use Rattle.qx_machine.specs.Inodes.{Inodes}
+use Rattle.qx_machine.specs.Inodes.{Inodes, is_unused}
 use Rattle.qx_machine.specs.Names.{Key}
 use Rattle.qx_machine.specs.Rows.{row_at}
 
@@ -12,8 +15,23 @@ abbrev pub IsLinked : Option Attribute → Type 0
 IsLinked None = ⊥
 IsLinked (Some attribute) = 0 < attribute.links
 
--- each path leads to an inode that is there and linked, where there is no inode there are no bytes, and inodes are numbered from 1
+abbrev pub is_file : Kind → Bool
+is_file File = true
+is_file _ = false
+
+-- the size of a file; nothing else has one
+abbrev pub file_size : Option Attribute → Option ℕ
+file_size None = None
+file_size (Some attribute) = if is_file attribute.kind then Some attribute.size else None
+
 pub record Fits (inodes : Inodes) (files : Files) : Type 0 where
+  -- each path leads to an inode that is there and linked
   pub linked : (key : Key) (inode : ℕ) → get files.names key ≡ Some inode → IsLinked (row_at inodes.attributes inode)
-  pub bytes : (inode : ℕ) → row_at inodes.attributes inode ≡ None → row_at files.contents inode ≡ None
+  -- each inode that is there is linked or open
+  pub used : (inode : ℕ) → is_unused inodes inode (row_at inodes.attributes inode) ≡ false
+  -- a file has as many bytes as its size says; what is no file, and where there is no inode, has none
+  pub sized : (inode : ℕ) → option_map (λ bytes. length bytes) (row_at files.contents inode) ≡ file_size (row_at inodes.attributes inode)
+  -- inodes are numbered from 1
   pub places : 0 < length inodes.attributes
+  -- there is a place for the bytes of each inode
+  pub room : INODES < length files.contents

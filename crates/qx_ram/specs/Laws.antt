@@ -1,6 +1,11 @@
--- What holds of the bytes of a file by their definitions alone.
-use Rattle.std.specs.Prelude.{ℕ, ◌≡◌, ◌+◌, ◌-◌, List, ◌++◌, drop, length, replicate, take}
-use Rattle.qx_machine.specs.Files.{get, put}
+-- What holds of files by their definitions alone.
+use Rattle.std.specs.Prelude.{ℕ, ◌≡◌, ◌+◌, ◌-◌, List, [], ◌++◌, Ok, drop, length, replicate, take, unwrap_or}
+use Rattle.std.specs.List.{sum_by}
+use Rattle.qx_machine.specs.Files.{Files, Given, get, put, total_size}
+use Rattle.qx_machine.specs.Inodes.{Inodes}
+use Rattle.qx_machine.specs.Names.{inode_at, names_in}
+use Rattle.qx_machine.specs.Opening.{unlink_file}
+use Rattle.qx_ram.specs.Fits.{Fits, file_size}
 
 -- what was written is read back at its place
 abbrev pub ReadBack : Type 0
@@ -13,3 +18,12 @@ KeptBefore = (bytes : List ℕ) (offset : ℕ) (new : List ℕ) → take offset 
 -- behind it stands what stood there
 abbrev pub KeptBehind : Type 0
 KeptBehind = (bytes : List ℕ) (offset : ℕ) (new : List ℕ) → drop (offset + length new) (put bytes offset new) ≡ drop (offset + length new) bytes
+
+-- the sum of the sizes of a user's files is that of the sizes that their inodes have
+abbrev pub TotalOfSizes : Type 0
+TotalOfSizes = (inodes : Inodes) (files : Files) → Fits inodes files → total_size files ≡ sum_by (λ row. unwrap_or (file_size row) 0) inodes.attributes
+
+-- what is removed had no names in it
+abbrev pub RemovedEmpty : Type 0
+RemovedEmpty = (inodes : Inodes) (files : Files) (user root : ℕ) (rest : List (List ℕ)) (moment inode : ℕ) (given : Given) →
+    unlink_file inodes files user root rest moment ≡ Ok given → inode_at inodes files.names user root rest ≡ Ok inode → names_in files.names inode ≡ []

@@ -260,9 +260,7 @@ impl Files {
 
     /// Frees an inode that nothing names and nothing has open, with its bytes.
     pub(crate) fn free(&mut self, inodes: &mut Inodes, inode: u32)
-        requires fits { Fits inodes.old.inodes self.old }
         ensures freed { given inodes.new.inodes self.new (Ok 0) ≡ Ok (machine.without_unused inodes.old.inodes self.old inode) }
-        ensures fits { Fits inodes.new.inodes self.new }
     {
         if inodes.free_inode(inode) {
             self.remove(inode);

@@ -1,9 +1,9 @@
 use Rattle.std.proofs.Common.{◌≡◌, None, Some, ap, sym, ◌∙◌}
 use Rattle.std.proofs.lemmas.Result.{err_from_is_err_and}
+use Rattle.qx_attr.proofs.CountLemmas.{row-set_same}
 use Rattle.qx_machine.specs.Files.{put, size_of}
 use Rattle.qx_machine.specs.Rows.{row_at}
 use Rattle.qx_process.proofs.RowLemmas.{set-row, with_row-none}
-use Rattle.qx_ram.proofs.SizeLemmas.{row_of_set}
 use Rattle.qx_ram.proofs.files.paste.Goals as goal
 
 pub returns-in_default-clause-ok : goal.returns-in_default-clause-ok
@@ -20,4 +20,4 @@ returns-in_err-write-clause-err c =
 pub returns-clause-after : goal.returns-clause-after
 returns-clause-after c =
     let is : row_at c.args.contents.now c.args.inode ≡ Some c.in-Some.data.now = sym c.in-Some.ensures.bytes in
-    c.len.ensures ∙ ap size_of (sym (row_of_set c.args.contents.now c.args.inode c.in-Some.data.now c.write.new.self is))
+    c.len.ensures ∙ ap size_of (sym (row-set_same c.args.contents.now c.args.inode c.in-Some.data.now c.write.new.self is))

@@ -3,4 +3,4 @@ use Rattle.qx_ram.proofs.FitLemmas.{attribute_fits}
 use Rattle.qx_ram.proofs.files.Files.chmod.Goals as goal
 
 pub returns-clause-fits : goal.returns-clause-fits
-returns-clause-fits c = rw c.set_attribute.ensures.set (attribute_fits c.args.inodes.now.inodes c.args.self.now c.in-Some.block.now.inode c.in-Some-attr.attr.now.attribute _ (sym c.in-Some-attr.ensures.attribute) refl c.requires.fits)
+returns-clause-fits c = rw c.set_attribute.ensures.set (attribute_fits c.args.inodes.now.inodes c.args.self.now c.in-Some.block.now.inode c.in-Some-attr.attr.now.attribute _ (sym c.in-Some-attr.ensures.attribute) refl refl c.requires.fits)

@@ -1,4 +1,4 @@
-use Rattle.std.proofs.Common.{◌≡◌, ap, sym, subst, ◌∙◌}
+use Rattle.std.proofs.Common.{◌≡◌, None, Some, ap, sym, subst, ◌∙◌}
 use Rattle.std.specs.FinMap.{insert}
 use Rattle.qx_attr.specs.Counts.{Reserved}
 use Rattle.qx_types.specs.declared.errno.Errno.TheVariants.{EEXIST}
@@ -9,9 +9,9 @@ use Rattle.qx_machine.specs.Names as names
 use Rattle.qx_machine.specs.Opening as machine
 use Rattle.qx_names.specs.Paths.{path_of}
 use Rattle.qx_names.specs.Spots.{spot_of}
-use Rattle.qx_ram.specs.Fits.{Fits}
-use Rattle.qx_ram.proofs.MakeLemmas.{directory_fits, made_from, makes, number_free, parent_there, refused}
-use Rattle.qx_ram.proofs.NamingLemmas.{unnamed_free}
+use Rattle.qx_ram.specs.Fits.{Fits, file_size}
+use Rattle.qx_ram.proofs.FitLemmas.{unnamed_free}
+use Rattle.qx_ram.proofs.MakeLemmas.{directory_fits, directory_makes, directory_missing, made_from, number_free, parent_there, refused}
 use Rattle.qx_ram.proofs.SpotLemmas.{at_spot}
 use Rattle.qx_ram.proofs.files.Files.mkdir.Goals as goal
 
@@ -25,22 +25,22 @@ returns-in-Err-may_make_directory-clause-given c =
 pub insert-requires-clause-free : goal.insert-requires-clause-free
 insert-requires-clause-free c =
     let at : names.Spot = spot_of c.self.inside.names c.in-Ok.at in
-    let it = makes c.args.inodes.now.inodes c.args.user.0 c.in-Ok.at.parent c.in-Ok.at.inode c.in-Ok-may_make_directory.new c.in-Ok-may_make_directory.ensures.may in
-    sym (at_spot c.args.inodes.now.inodes c.self.inside.names c.args.user.0 c.args.root c.args.rest.now EEXIST at c.in-Ok.ensures.spot) ∙ it.missing
+    sym (at_spot c.args.inodes.now.inodes c.self.inside.names c.args.user.0 c.args.root c.args.rest.now EEXIST at c.in-Ok.ensures.spot)
+    ∙ directory_missing c.args.inodes.now.inodes c.args.user.0 c.in-Ok.at.parent c.in-Ok-may_make_directory.new c.in-Ok.at.inode c.in-Ok-may_make_directory.ensures.may
 
 pub insert-requires-clause-new : goal.insert-requires-clause-new
 insert-requires-clause-new c =
     let files : Files = record { contents = c.self.inside.contents; names = c.self.inside.names } in
     let fits : Fits c.args.inodes.now.inodes files = subst (Fits c.args.inodes.now.inodes) (sym c.self.view_is) c.requires.fits in
-    let it = makes c.args.inodes.now.inodes c.args.user.0 c.in-Ok.at.parent c.in-Ok.at.inode c.in-Ok-may_make_directory.new c.in-Ok-may_make_directory.ensures.may in
+    let it = directory_makes c.args.inodes.now.inodes c.args.user.0 c.in-Ok.at.parent c.in-Ok-may_make_directory.new c.in-Ok.at.inode c.in-Ok-may_make_directory.ensures.may in
     unnamed_free c.args.inodes.now.inodes files fits c.in-Ok-may_make_directory.new.inode (number_free c.args.inodes.now.inodes c.in-Ok-may_make_directory.new.inode it.number_is)
 
 pub set_attribute-requires : goal.set_attribute-requires
 set_attribute-requires c =
-    let it = makes c.args.inodes.now.inodes c.args.user.0 c.in-Ok.at.parent c.in-Ok.at.inode c.in-Ok-may_make_directory.new c.in-Ok-may_make_directory.ensures.may in
+    let it = directory_makes c.args.inodes.now.inodes c.args.user.0 c.in-Ok.at.parent c.in-Ok-may_make_directory.new c.in-Ok.at.inode c.in-Ok-may_make_directory.ensures.may in
     let reserved : c.reserve.new.self.inodes ≡ c.args.inodes.now.inodes = ap (λ (r : Reserved). r.inodes) c.in_ok-reserve.ensures.ok in
-    let now = made_from c.args.inodes.now.inodes c.reserve.new.self.inodes c.made.new.inodes.inodes c.new_attribute.result c.in-Ok.at.parent c.in-Ok.at.inode c.in-Ok-may_make_directory.new reserved it c.made.ensures.made in
-    record { there = parent_there c.args.inodes.now.inodes c.made.new.inodes.inodes c.new_attribute.result c.in-Ok.at.parent c.in-Ok.at.inode c.in-Ok-may_make_directory.new it now }
+    let now = made_from c.args.inodes.now.inodes c.in-Ok.at.parent c.in-Ok-may_make_directory.new it c.new_attribute.result c.reserve.new.self.inodes c.made.new.inodes.inodes reserved c.made.ensures.made in
+    record { there = parent_there c.args.inodes.now.inodes c.in-Ok.at.parent c.in-Ok-may_make_directory.new it c.new_attribute.result c.made.new.inodes.inodes now }
 
 pub returns-clause-fits : goal.returns-clause-fits
 returns-clause-fits c =
@@ -49,10 +49,11 @@ returns-clause-fits c =
     let new = c.in-Ok-may_make_directory.new in
     let parent = c.in-Ok.at.parent in
     let key = names.under (path_of c.self.inside.names c.in-Ok.at.parent) c.in-Ok.at.name.now in
-    let it = makes c.args.inodes.now.inodes c.args.user.0 parent c.in-Ok.at.inode new c.in-Ok-may_make_directory.ensures.may in
+    let it = directory_makes c.args.inodes.now.inodes c.args.user.0 parent new c.in-Ok.at.inode c.in-Ok-may_make_directory.ensures.may in
     let reserved : c.reserve.new.self.inodes ≡ c.args.inodes.now.inodes = ap (λ (r : Reserved). r.inodes) c.in_ok-reserve.ensures.ok in
-    let now = made_from c.args.inodes.now.inodes c.reserve.new.self.inodes c.made.new.inodes.inodes c.new_attribute.result parent c.in-Ok.at.inode new reserved it c.made.ensures.made in
+    let now = made_from c.args.inodes.now.inodes parent new it c.new_attribute.result c.reserve.new.self.inodes c.made.new.inodes.inodes reserved c.made.ensures.made in
     let set : c.set_attribute.new.self.inodes ≡ with_attribute c.made.new.inodes.inodes parent c.changed.result = ap (λ (r : Reserved). r.inodes) c.set_attribute.ensures.set in
     let named : c.insert.new.self ≡ insert c.self.inside.names key new.inode = c.in_ok-insert.ensures.ok in
     let one : c.new_attribute.result.links ≡ 1 = ap (λ (a : Attribute). a.links) c.new_attribute.ensures in
-    rw (set, now, c.changed.ensures, named) (directory_fits c.args.inodes.now.inodes files parent c.args.moment c.in-Ok.at.inode new key c.new_attribute.result fits it one)
+    let none : file_size (Some c.new_attribute.result) ≡ None = ap (λ (a : Attribute). file_size (Some a)) c.new_attribute.ensures in
+    rw (set, now, c.changed.ensures, named) (directory_fits c.args.inodes.now.inodes parent new it c.new_attribute.result files key c.args.moment one none fits)

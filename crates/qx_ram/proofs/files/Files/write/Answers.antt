@@ -6,7 +6,7 @@ use Rattle.qx_machine.specs.Rows.{row_at}
 use Rattle.qx_machine.specs.Inodes.{with_attribute}
 use Rattle.qx_ram.specs.Fits.{Fits}
 use Rattle.qx_ram.specs.Given.{pasted, target, write_fault}
-use Rattle.qx_ram.proofs.FitLemmas.{attribute_fits, bytes_fit, offset_fits}
+use Rattle.qx_ram.proofs.FitLemmas.{offset_fits, resized_fits}
 use Rattle.qx_ram.proofs.SizeLemmas.{size_within}
 use Rattle.qx_ram.proofs.WriteLemmas.{answered, fits, pasted_is, pasted_size, target_is, write_given, written}
 use Rattle.qx_ram.proofs.files.Files.write.Goals as goal
@@ -53,13 +53,14 @@ returns-clause-fits c =
     let is : target c.args.inodes.now.inodes c.args.self.now c.args.number ≡ Ok c.in-Ok.target = sym c.in-Ok.ensures in
     let it = target_is c.args.inodes.now.inodes c.args.self.now c.args.number c.in-Ok.target is in
     let t = c.in-Ok.target in
-    let files = pasted c.args.self.now t.block.inode t.offset c.args.new.now in
-    let bytes : Fits c.args.inodes.now.inodes files =
-    rw (pasted_is c.args.self.now t.block.inode t.offset it.bytes c.args.new.now it.contents_are)
-    (bytes_fit c.args.inodes.now.inodes c.args.self.now t.block.inode t.attribute (put it.bytes t.offset c.args.new.now) it.attribute_is c.requires.fits) in
-    rw (c.set_offset.ensures.moved, c.set_attribute.ensures.set, c.in_ok-size.ensures.ok)
-    (offset_fits (with_attribute c.args.inodes.now.inodes t.block.inode (resized c.in_ok-size.size c.args.moment t.attribute)) files c.args.number (t.offset + length c.args.new.now)
-    (attribute_fits c.args.inodes.now.inodes files t.block.inode t.attribute (resized c.in_ok-size.size c.args.moment t.attribute) it.attribute_is refl bytes))
+    let new = c.args.new.now in
+    let files = pasted c.args.self.now t.block.inode t.offset new in
+    let now = with_attribute c.args.inodes.now.inodes t.block.inode (resized c.in_ok-size.size c.args.moment t.attribute) in
+    let size : c.in_ok-size.size ≡ length (put it.bytes t.offset new) = c.in_ok-size.ensures.size ∙ (ap (λ (files : machine.Files). size_of (row_at files.contents t.block.inode)) c.in_ok-size.ensures.ok ∙ pasted_size c.args.inodes.now.inodes c.args.self.now c.args.number c.args.moment t it new) in
+    let sized : Fits now files =
+    rw (pasted_is c.args.self.now t.block.inode t.offset it.bytes new it.contents_are)
+    (resized_fits c.args.inodes.now.inodes c.args.self.now t.block.inode c.in_ok-size.size c.args.moment t.attribute it.bytes (put it.bytes t.offset new) it.attribute_is it.contents_are size c.requires.fits) in
+    rw (c.set_offset.ensures.moved, c.set_attribute.ensures.set, c.in_ok-size.ensures.ok) (offset_fits now files c.args.number (t.offset + length new) sized)
 
 pub returns-in_err-size-clause-wanted : goal.returns-in_err-size-clause-wanted
 returns-in_err-size-clause-wanted c =

@@ -6,7 +6,9 @@ use Rattle.qx_machine.specs.Files.{Files, no_files}
 use Rattle.qx_machine.specs.Inodes.{Inodes, inode_number, new_inode, no_inodes}
 use Rattle.qx_machine.specs.Mounting.{with_manager_root}
 use Rattle.qx_machine.specs.Rows.{put_row}
-use Rattle.qx_resources.proofs.MountLemmas.{made_root, mount_fits, none_fit, none_named}
+use Rattle.qx_ram.proofs.FitLemmas.{none_fit, none_named}
+use Rattle.qx_ram.proofs.MakeLemmas.{made_is}
+use Rattle.qx_resources.proofs.MountLemmas.{mount_fits}
 use Rattle.qx_resources.proofs.resources.Resources.boot.Goals as goal
 
 pub add_root-requires : goal.add_root-requires
@@ -20,7 +22,7 @@ invariant_of-result c =
     ap (λ (all : Reserved). all.inodes) c.in_ok-reserve.ensures.ok ∙ ap (λ (all : Reserved). all.inodes) c.in_ok-inodes.ensures.none in
     let made : numbered new (inode_number no_inodes) ≡ new_inode no_inodes (root_attribute user) =
     subst (λ (old : Inodes). numbered new (inode_number old) ≡ new_inode old (root_attribute user)) old c.make_root.ensures.made in
-    let is : new ≡ record no_inodes { attributes = put_row no_inodes.attributes 1 (root_attribute user) } = made_root no_inodes new 1 (root_attribute user) refl made in
+    let is : new ≡ record no_inodes { attributes = put_row no_inodes.attributes 1 (root_attribute user) } = made_is no_inodes new (root_attribute user) (inode_number no_inodes) 1 refl made in
     let files : c.add_root.new.self ≡ with_manager_root Ram 1 no_files =
     c.in_ok-add_root.ensures.ok ∙ ap (λ (files : Files). with_manager_root Ram 1 files) c.in_ok-files.ensures.none in
     rw (is, files) (mount_fits Ram no_inodes no_files user 1 none_fit refl)

@@ -6,14 +6,16 @@ use Rattle.qx_machine.specs.Inodes.{Inodes, inode_number, new_inode}
 use Rattle.qx_machine.specs.Mounting.{with_manager_root}
 use Rattle.qx_machine.specs.Parts as parts
 use Rattle.qx_machine.specs.Rows.{put_row}
-use Rattle.qx_resources.proofs.MountLemmas.{made_root, mount_fits, next_unnamed}
+use Rattle.qx_ram.proofs.FitLemmas.{unnamed_free}
+use Rattle.qx_ram.proofs.MakeLemmas.{made_is, number_free}
+use Rattle.qx_resources.proofs.MountLemmas.{mount_fits}
 use Rattle.qx_resources.proofs.resources.Resources.mount.Goals as goal
 
 pub name_root-requires : goal.name_root-requires
 name_root-requires c =
     let next : inode_number c.self.inside.inodes.inodes ≡ Ok c.mount.inside.root =
     ap (λ (all : parts.Resources). inode_number all.inodes) c.self.view_is ∙ (c.requires.can.next ∙ ap (λ (mount : MountPoint). Ok mount.root) (sym c.mount.view_is)) in
-    record { new = next_unnamed c.self.inside.inodes.inodes c.self.inside.files c.mount.inside.root c.self.invariant next }
+    record { new = unnamed_free c.self.inside.inodes.inodes c.self.inside.files c.self.invariant c.mount.inside.root (number_free c.self.inside.inodes.inodes c.mount.inside.root next) }
 
 pub invariant_of-self-2 : goal.invariant_of-self-2
 invariant_of-self-2 c =
@@ -26,6 +28,6 @@ invariant_of-self-2 c =
     let old : c.reserve.new.self.inodes ≡ inodes = ap (λ (all : Reserved). all.inodes) c.in_ok-reserve.ensures.ok in
     let made : numbered new (inode_number inodes) ≡ new_inode inodes (root_attribute user) =
     subst (λ (old : Inodes). numbered new (inode_number old) ≡ new_inode old (root_attribute user)) old c.make_root.ensures.made in
-    let is : new ≡ record inodes { attributes = put_row inodes.attributes root (root_attribute user) } = made_root inodes new root (root_attribute user) next made in
+    let is : new ≡ record inodes { attributes = put_row inodes.attributes root (root_attribute user) } = made_is inodes new (root_attribute user) (inode_number inodes) root next made in
     let files : c.name_root.new.files ≡ with_manager_root c.mount.inside.manager root c.self.inside.files = search rules in
     rw (is, files) (mount_fits c.mount.inside.manager inodes c.self.inside.files user root c.self.invariant next)
