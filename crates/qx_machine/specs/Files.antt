@@ -1,20 +1,22 @@
--- What the RAM manager does to what is open (C Library Reference: read, write, lseek, chmod, close; the limits are this profile).
-use Rattle.std.specs.Prelude.{ℕ, ℤ, pos, negsuc, ◌+◌, ◌-◌, ◌==◌, not, List, [], ◌++◌, Option, Some, None, Result, Ok, drop, length, nat_le, nat_lt, replicate, slice_set, take, if◌then◌else◌}
+-- What the RAM manager does to files (C Library Reference: open, read, write, lseek, unlink, close; the limits are this profile).
+use Rattle.std.specs.Prelude.{ℕ, ℤ, pos, negsuc, ◌+◌, ◌-◌, ◌==◌, ◌&&◌, List, [], ◌++◌, Option, Some, None, Result, Ok, drop, is_some, length, nat_le, nat_lt, replicate, slice_set, take, if◌then◌else◌}
 use Rattle.std.specs.FinMap.{empty}
 use Rattle.std.specs.List.{sum_by}
 use Rattle.qx_types.specs.declared.errno.Errno.{Errno}
-use Rattle.qx_types.specs.declared.errno.Errno.TheVariants.{EBADF, EFBIG, EINVAL, EISDIR, ENOSPC, EPERM}
+use Rattle.qx_types.specs.declared.errno.Errno.TheVariants.{EBADF, EFBIG, EINVAL, EISDIR, ENOSPC}
 use Rattle.qx_types.specs.declared.fields.Whence.{Whence}
 use Rattle.qx_types.specs.declared.fields.Whence.TheVariants.{Set, Current, End}
-use Rattle.qx_types.specs.declared.flags.TheConstants.OFlags.{APPEND}
+use Rattle.qx_types.specs.declared.flags.OFlags.{OFlags}
+use Rattle.qx_types.specs.declared.flags.TheConstants.OFlags.{APPEND, TRUNC}
 use Rattle.qx_types.specs.declared.limits.TheConstants.Limits.{FILE, FILES, INODES, OFFSET}
 use Rattle.qx_machine.specs.declared.rows.Attribute.{Attribute}
+use Rattle.qx_machine.specs.declared.rows.Kind.TheVariants.{File}
 use Rattle.qx_machine.specs.declared.rows.Ocb.{Ocb}
-use Rattle.qx_machine.specs.Attributes.{top_inode}
 use Rattle.qx_machine.specs.Inodes.{Inodes, close_block, free_inode, has, is_unused, reads, with_attribute, with_offset, writes}
 use Rattle.qx_machine.specs.Judgements.{◌>>=◌, found, need}
 use Rattle.qx_machine.specs.Names.{Names}
-use Rattle.qx_machine.specs.Rows.{row_at}
+use Rattle.qx_machine.specs.Opening.{Opening, make_directory, open_path, remove_name}
+use Rattle.qx_machine.specs.Rows.{row_at, with_row}
 
 -- the bytes of a user's files, under the numbers of their inodes, and the names in the RAM manager's mounts
 pub record Files : Type 0 where
@@ -64,13 +66,33 @@ abbrev pub resized : ℕ → ℕ → Attribute → Attribute
 resized size moment attribute = record attribute { size = size; mtime = moment; ctime = moment }
 
 -- a file is made empty (C Library Reference: open, O_TRUNC)
-abbrev pub truncated : Inodes → Files → ℕ → Attribute → ℕ → Given
-truncated inodes files inode attribute moment = record {
-  status = 0;
-  bytes = [];
-  inodes = with_attribute inodes inode (resized 0 moment attribute);
-  files = with_contents files inode (Some []);
+abbrev pub truncated : Given → ℕ → ℕ → Given
+truncated given inode moment = record given {
+  inodes = record given.inodes { attributes = with_row given.inodes.attributes inode (resized 0 moment) };
+  files = with_contents given.files inode (Some []);
 }
+
+-- ---- opening
+
+-- an open for writing with TRUNC makes a file empty, and nothing else
+abbrev pub emptied : OFlags → ℕ → ℕ → Given → Given
+emptied flags inode moment given =
+    if has flags TRUNC && writes flags && is_some (row_at given.files.contents inode) then truncated given inode moment else given
+
+-- what an open leaves; the status is the number of the open control block
+abbrev pub after_opening : Files → Opening → Given
+after_opening files opening = record { status = opening.number; bytes = []; inodes = opening.inodes; files = record files { names = opening.names } }
+
+-- a new file has no bytes
+abbrev pub opened_file : Files → OFlags → ℕ → Opening → Given
+opened_file files flags moment opening =
+    if opening.is_new then after_opening (with_new_file files opening.inode) opening
+    else emptied flags opening.inode moment (after_opening files opening)
+
+abbrev pub open_file : Inodes → Files → ℕ → ℕ → List (List ℕ) → OFlags → ℕ → ℕ → Result Given Errno
+open_file inodes files user root rest flags mode moment = do
+  opening ← open_path inodes files.names user root rest flags File mode moment
+  Ok (opened_file files flags moment opening)
 
 -- ---- reading and writing
 
@@ -139,20 +161,7 @@ seek_file inodes files number whence by = do
   small ← need (nat_le offset OFFSET) EINVAL
   Ok (record { status = offset; bytes = []; inodes = with_offset inodes number offset; files = files })
 
--- ---- mode, and the last close
-
--- another mode; the mode of a user's top is fixed (this profile)
-abbrev pub chmod_file : Inodes → Files → ℕ → ℕ → ℕ → Result Given Errno
-chmod_file inodes files number moment mode = do
-  block ← found (row_at inodes.blocks number) EBADF
-  other ← need (not (block.inode == top_inode)) EPERM
-  attribute ← found (row_at inodes.attributes block.inode) EBADF
-  Ok (record {
-    status = 0;
-    bytes = [];
-    inodes = with_attribute inodes block.inode (record attribute { mode = mode; ctime = moment });
-    files = files;
-  })
+-- ---- the last name, and the last close
 
 -- an inode that nothing names and nothing has open goes, with its bytes
 abbrev pub without_unused : Inodes → Files → ℕ → Given
@@ -162,6 +171,18 @@ without_unused inodes files inode = record {
   inodes = free_inode inodes inode;
   files = if is_unused inodes inode (row_at inodes.attributes inode) then with_contents files inode None else files;
 }
+
+-- a directory is made
+abbrev pub make_file_directory : Inodes → Files → ℕ → ℕ → List (List ℕ) → ℕ → ℕ → Result Given Errno
+make_file_directory inodes files user root rest mode moment = do
+  made ← make_directory inodes files.names user root rest mode moment
+  Ok (record { status = 0; bytes = []; inodes = made.inodes; files = record files { names = made.names } })
+
+-- a name goes, and what it named, unless that is open
+abbrev pub unlink_file : Inodes → Files → ℕ → ℕ → List (List ℕ) → ℕ → Result Given Errno
+unlink_file inodes files user root rest moment = do
+  removed ← remove_name inodes files.names user root rest moment
+  Ok (without_unused removed.inodes (record files { names = removed.names }) removed.inode)
 
 -- an open control block goes, and what was open with it, if that was all that kept it
 abbrev pub release_file : Inodes → Files → ℕ → Result Given Errno

@@ -23,6 +23,9 @@ pub record Deed (S : Type 0) : Type 0 where
   pub state : S
   pub effect : Effect
 
+abbrev pub replied : {S : Type 0} → ℕ → List ℕ → Effect → S → Deed S
+replied status bytes effect state = record { status = status; bytes = bytes; state = state; effect = effect }
+
 -- the functions for messages to a path, each with the moment last; a stat and those after it are given the root of the mount
 pub record ConnectFunctions (S : Type 0) : Type 0 where
   pub «open» : Option (S → NewOpen → OFlags → ℕ → List (List ℕ) → ℕ → Result (Deed S) Errno)

@@ -10,6 +10,7 @@ pub mod Laws
 pub mod Lines
 pub mod Listings
 pub mod Machine
+pub mod Managers
 pub mod Mounting
 pub mod Names
 pub mod Opening

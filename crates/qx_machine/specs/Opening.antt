@@ -1,19 +1,19 @@
--- What the RAM manager does to what a path leads to (C Library Reference: open, mkdir, unlink, stat), and how a directory is listed
--- (readdir). That a name is taken from an empty directory by unlink, and how a listing is cut, is this profile.
-use Rattle.std.specs.Prelude.{ℕ, Bool, ◌&&◌, ◌||◌, not, List, [], Option, Some, None, Result, Ok, is_some, length, if◌then◌else◌}
+-- What either manager does to what a path leads to, and to what is open, as far as inodes and names go (C Library Reference: open, mkdir,
+-- unlink, stat, fstat, readdir, chmod). That a name is taken from an empty directory by unlink, and how a listing is cut, is this profile.
+use Rattle.std.specs.Prelude.{ℕ, Bool, ◌&&◌, ◌||◌, ◌==◌, not, true, false, List, [], Option, Some, None, Result, Ok, is_some, if◌then◌else◌}
 use Rattle.std.specs.FinMap.{insert, remove}
 use Rattle.qx_types.specs.declared.errno.Errno.{Errno}
-use Rattle.qx_types.specs.declared.errno.Errno.TheVariants.{EACCES, EBADF, EBUSY, EEXIST, EISDIR, ENOENT, ENOTDIR, ENOTEMPTY}
+use Rattle.qx_types.specs.declared.errno.Errno.TheVariants.{EACCES, EBADF, EBUSY, EEXIST, EISDIR, ENOENT, ENOTDIR, ENOTEMPTY, EPERM}
 use Rattle.qx_types.specs.declared.flags.OFlags.{OFlags}
-use Rattle.qx_types.specs.declared.flags.TheConstants.OFlags.{CREAT, EXCL, TRUNC}
+use Rattle.qx_types.specs.declared.flags.TheConstants.OFlags.{CREAT, EXCL}
 use Rattle.qx_machine.specs.declared.rows.Access.TheVariants.{Read, Write}
 use Rattle.qx_machine.specs.declared.rows.Attribute.{Attribute}
-use Rattle.qx_machine.specs.declared.rows.Kind.TheVariants.{File, Directory}
-use Rattle.qx_machine.specs.Attributes.{stat_bytes}
-use Rattle.qx_machine.specs.Files.{Files, Given, truncated, with_new_file, without_unused}
+use Rattle.qx_machine.specs.declared.rows.Kind.{Kind}
+use Rattle.qx_machine.specs.declared.rows.Kind.TheVariants.{Directory}
+use Rattle.qx_machine.specs.Attributes.{stat_bytes, top_inode}
 use Rattle.qx_machine.specs.Inodes.{Inodes, block_number, has, may, new_attribute, new_inode, open_block, reads, with_attribute, writes}
 use Rattle.qx_machine.specs.Judgements.{◌>>=◌, found, need}
-use Rattle.qx_machine.specs.Names.{Key, Spot, inode_at, is_directory, is_empty, listed, listing, names_in, spot}
+use Rattle.qx_machine.specs.Names.{Names, Spot, inode_at, is_directory, is_empty, listed, names_in, spot}
 use Rattle.qx_machine.specs.Rows.{row_at}
 
 -- ---- entries of a directory
@@ -29,119 +29,123 @@ writable inodes user directory = do
   allowed ← need (may attribute user Write) EACCES
   Ok attribute
 
--- a name for an inode is made in a directory
-abbrev pub with_name : Files → Key → ℕ → Files
-with_name files key inode = record files { names = insert files.names key inode }
-
 -- ---- open
+
+-- what an open gives: the number of the open control block, the inode, whether that was made, and what there is then
+pub record Opening : Type 0 where
+  pub number : ℕ
+  pub inode : ℕ
+  pub is_new : Bool
+  pub inodes : Inodes
+  pub names : Names
 
 -- whether an inode may be opened so
 abbrev pub allows : Attribute → ℕ → OFlags → Bool
 allows attribute user flags = (not (reads flags) || may attribute user Read) && (not (writes flags) || may attribute user Write)
 
--- a file that is opened for writing with TRUNC is made empty (C Library Reference: O_TRUNC)
-abbrev pub emptied : Inodes → Files → ℕ → Option (List ℕ) → Attribute → ℕ → Given
-emptied inodes files inode None attribute moment = record { status = 0; bytes = []; inodes = inodes; files = files }
-emptied inodes files inode (Some bytes) attribute moment = truncated inodes files inode attribute moment
-
-abbrev pub after_opening : Inodes → Files → ℕ → OFlags → Attribute → ℕ → Given
-after_opening inodes files inode flags attribute moment =
-    if has flags TRUNC && writes flags then emptied inodes files inode (row_at files.contents inode) attribute moment
-    else record { status = 0; bytes = []; inodes = inodes; files = files }
-
--- what is there is opened; the status is the number of the open control block
-abbrev pub open_existing : Inodes → Files → ℕ → ℕ → OFlags → ℕ → Result Given Errno
-open_existing inodes files user inode flags moment = do
+-- what is there is opened
+abbrev pub open_existing : Inodes → Names → ℕ → ℕ → OFlags → Result Opening Errno
+open_existing inodes names user inode flags = do
   attribute ← found (row_at inodes.attributes inode) ENOENT
   shared ← need (not (has flags CREAT && has flags EXCL)) EEXIST
   fitting ← need (not (is_directory attribute.kind && writes flags)) EISDIR
   allowed ← need (allows attribute user flags) EACCES
   opened ← open_block inodes inode flags
-  Ok (record (after_opening opened.inodes files inode flags attribute moment) { status = opened.number })
+  Ok (record { number = opened.number; inode = inode; is_new = false; inodes = opened.inodes; names = names })
 
--- what is missing is made, a file of this mode, and opened whatever its mode
-abbrev pub open_missing : Inodes → Files → ℕ → Spot → OFlags → ℕ → ℕ → Result Given Errno
-open_missing inodes files user at flags mode moment = do
+-- what is missing is made, of this kind and mode, and opened whatever its mode
+abbrev pub open_missing : Inodes → Names → ℕ → Spot → OFlags → Kind → ℕ → ℕ → Result Opening Errno
+open_missing inodes names user at flags kind mode moment = do
   making ← need (has flags CREAT) ENOENT
   parent ← writable inodes user at.parent
   free ← block_number inodes
-  made ← new_inode inodes (new_attribute File mode user moment)
+  made ← new_inode inodes (new_attribute kind mode user moment)
   opened ← open_block made.inodes made.number flags
   Ok (record {
-    status = opened.number;
-    bytes = [];
+    number = opened.number;
+    inode = made.number;
+    is_new = true;
     inodes = with_attribute opened.inodes at.parent (changed moment parent);
-    files = with_name (with_new_file files made.number) at.key made.number;
+    names = insert names at.key made.number;
   })
 
-abbrev pub open_at : Inodes → Files → ℕ → Spot → Option ℕ → OFlags → ℕ → ℕ → Result Given Errno
-open_at inodes files user at (Some inode) flags mode moment = open_existing inodes files user inode flags moment
-open_at inodes files user at None flags mode moment = open_missing inodes files user at flags mode moment
+abbrev pub open_at : Inodes → Names → ℕ → Spot → Option ℕ → OFlags → Kind → ℕ → ℕ → Result Opening Errno
+open_at inodes names user at (Some inode) flags kind mode moment = open_existing inodes names user inode flags
+open_at inodes names user at None flags kind mode moment = open_missing inodes names user at flags kind mode moment
 
-abbrev pub open_file : Inodes → Files → ℕ → ℕ → List (List ℕ) → OFlags → ℕ → ℕ → Result Given Errno
-open_file inodes files user root [] flags mode moment = open_existing inodes files user root flags moment
-open_file inodes files user root rest flags mode moment = do
-  at ← spot inodes files.names user root rest ENOENT
-  open_at inodes files user at at.inode flags mode moment
+abbrev pub open_path : Inodes → Names → ℕ → ℕ → List (List ℕ) → OFlags → Kind → ℕ → ℕ → Result Opening Errno
+open_path inodes names user root [] flags kind mode moment = open_existing inodes names user root flags
+open_path inodes names user root rest flags kind mode moment = do
+  at ← spot inodes names user root rest ENOENT
+  open_at inodes names user at at.inode flags kind mode moment
 
 -- ---- other messages to a path
 
 -- a stat tells the status of what a path leads to, and needs the walk alone
-abbrev pub stat_file : Inodes → Files → ℕ → ℕ → List (List ℕ) → Result Given Errno
-stat_file inodes files user root rest = do
-  inode ← inode_at inodes files.names user root rest
+abbrev pub stat_path : Inodes → Names → ℕ → ℕ → List (List ℕ) → Result (List ℕ) Errno
+stat_path inodes names user root rest = do
+  inode ← inode_at inodes names user root rest
   attribute ← found (row_at inodes.attributes inode) ENOENT
-  Ok (record { status = 0; bytes = stat_bytes inode attribute; inodes = inodes; files = files })
+  Ok (stat_bytes inode attribute)
+
+-- inodes and names once a name was made or taken away, of this inode
+pub record Naming : Type 0 where
+  pub inode : ℕ
+  pub inodes : Inodes
+  pub names : Names
 
 -- a directory of this mode is made
-abbrev pub make_directory : Inodes → Files → ℕ → ℕ → List (List ℕ) → ℕ → ℕ → Result Given Errno
-make_directory inodes files user root rest mode moment = do
-  at ← spot inodes files.names user root rest EEXIST
+abbrev pub make_directory : Inodes → Names → ℕ → ℕ → List (List ℕ) → ℕ → ℕ → Result Naming Errno
+make_directory inodes names user root rest mode moment = do
+  at ← spot inodes names user root rest EEXIST
   missing ← need (not (is_some at.inode)) EEXIST
   parent ← writable inodes user at.parent
   made ← new_inode inodes (new_attribute Directory mode user moment)
   Ok (record {
-    status = 0;
-    bytes = [];
+    inode = made.number;
     inodes = with_attribute made.inodes at.parent (changed moment parent);
-    files = with_name files at.key made.number;
+    names = insert names at.key made.number;
   })
 
 -- an inode's attribute once it has no name
 abbrev pub unnamed : ℕ → Attribute → Attribute
 unnamed moment attribute = record attribute { links = 0; ctime = moment }
 
--- a name goes, of a file or of a directory that is empty; and what it named, unless that is open
-abbrev pub unlink_file : Inodes → Files → ℕ → ℕ → List (List ℕ) → ℕ → Result Given Errno
-unlink_file inodes files user root rest moment = do
-  at ← spot inodes files.names user root rest EBUSY
+-- a name goes, of what is no directory or of a directory that is empty
+abbrev pub remove_name : Inodes → Names → ℕ → ℕ → List (List ℕ) → ℕ → Result Naming Errno
+remove_name inodes names user root rest moment = do
+  at ← spot inodes names user root rest EBUSY
   inode ← found at.inode ENOENT
   parent ← writable inodes user at.parent
-  empty ← need (is_empty (names_in files.names inode)) ENOTEMPTY
+  empty ← need (is_empty (names_in names inode)) ENOTEMPTY
   attribute ← found (row_at inodes.attributes inode) ENOENT
-  Ok (without_unused
-      (with_attribute (with_attribute inodes at.parent (changed moment parent)) inode (unnamed moment attribute))
-      (record files { names = remove files.names at.key })
-      inode)
+  Ok (record {
+    inode = inode;
+    inodes = with_attribute (with_attribute inodes at.parent (changed moment parent)) inode (unnamed moment attribute);
+    names = remove names at.key;
+  })
 
 -- ---- messages over what is open
 
 -- an fstat tells the status of what is open
-abbrev pub fstat_file : Inodes → Files → ℕ → Result Given Errno
-fstat_file inodes files number = do
+abbrev pub stat_block : Inodes → ℕ → Result (List ℕ) Errno
+stat_block inodes number = do
   block ← found (row_at inodes.blocks number) EBADF
   attribute ← found (row_at inodes.attributes block.inode) EBADF
-  Ok (record { status = 0; bytes = stat_bytes block.inode attribute; inodes = inodes; files = files })
+  Ok (stat_bytes block.inode attribute)
 
--- a listing gives the names in a directory behind one, as many as fit; their number is the status
-abbrev pub list_file : Inodes → Files → ℕ → List ℕ → Result Given Errno
-list_file inodes files number after = do
+-- a listing gives the names in a directory behind one, as many as fit
+abbrev pub list_block : Inodes → Names → ℕ → List ℕ → Result (List (List ℕ)) Errno
+list_block inodes names number after = do
   block ← found (row_at inodes.blocks number) EBADF
   attribute ← found (row_at inodes.attributes block.inode) EBADF
   directory ← need (is_directory attribute.kind) ENOTDIR
-  Ok (record {
-    status = length (listed files.names block.inode after);
-    bytes = listing (listed files.names block.inode after);
-    inodes = inodes;
-    files = files;
-  })
+  Ok (listed names block.inode after)
+
+-- another mode; the mode of a user's top is fixed (this profile)
+abbrev pub chmod_block : Inodes → ℕ → ℕ → ℕ → Result Inodes Errno
+chmod_block inodes number moment mode = do
+  block ← found (row_at inodes.blocks number) EBADF
+  other ← need (not (block.inode == top_inode)) EPERM
+  attribute ← found (row_at inodes.attributes block.inode) EBADF
+  Ok (with_attribute inodes block.inode (record attribute { mode = mode; ctime = moment }))
