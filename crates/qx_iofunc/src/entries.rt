@@ -1,0 +1,154 @@
+//! What may be opened and made, and how attributes change with the entries of a directory.
+
+ghost use Rattle.std.specs.Prelude.{◌≡◌, ◌<◌, ◌-◌, Ok, IsOk, IsSome};
+ghost use Rattle.qx_attr.specs.Counts.{numbered};
+ghost use Rattle.qx_iofunc.specs.Makes.{may_make, may_make_directory, may_open};
+ghost use Rattle.qx_machine.specs.Inodes as of_inodes;
+ghost use Rattle.qx_machine.specs.Opening as machine;
+ghost use Rattle.qx_machine.specs.Rows.{row_at};
+
+use bitflags::Flags;
+use qx_attr::{Inodes, check_access};
+use qx_machine::{Access, Attribute, Kind};
+use qx_names::Spot;
+use qx_types::{Errno, OFlags, User};
+
+/// What is to be made: the number of its inode, and the attribute of its directory.
+#[derive(Clone, Copy)]
+pub struct New {
+    pub inode: u32,
+    pub parent: Attribute,
+}
+
+/// Whether what is there may be opened so.
+pub fn may_open(inodes: &Inodes, user: User, inode: u32, flags: OFlags) -> Result<(), Errno>
+    ensures may { result ≡ may_open inodes.now.inodes user.0 inode flags }
+{
+    let Some(attr) = inodes.attr(inode) else {
+        return Err(Errno::ENOENT);
+    };
+    let attribute = attr.attribute;
+    if flags.contains(OFlags::CREAT) && flags.contains(OFlags::EXCL) {
+        return Err(Errno::EEXIST);
+    }
+    if attribute.kind == Kind::Directory && flags.contains(OFlags::WRITE) {
+        return Err(Errno::EISDIR);
+    }
+    if flags.contains(OFlags::READ) {
+        check_access(&attribute, user, Access::Read)?;
+    }
+    if flags.contains(OFlags::WRITE) {
+        check_access(&attribute, user, Access::Write)?;
+    }
+    inodes.block_number()?;
+    Ok(())
+}
+
+/// What is to be made, where that may be made and opened so in a directory.
+pub fn may_make(
+    inodes: &Inodes,
+    user: User,
+    directory: u32,
+    flags: OFlags,
+) -> Result<New, Errno>
+    ensures may { result ≡ may_make inodes.now.inodes user.0 directory flags }
+{
+    if !flags.contains(OFlags::CREAT) {
+        return Err(Errno::ENOENT);
+    }
+    let parent = writable(inodes, user, directory)?;
+    inodes.block_number()?;
+    Ok(New {
+        inode: inodes.inode_number()?,
+        parent,
+    })
+}
+
+/// What a directory will be, where one may be made.
+pub fn may_make_directory(inodes: &Inodes, user: User, at: &Spot<'_>) -> Result<New, Errno>
+    ensures may { result ≡ may_make_directory inodes.now.inodes user.0 at.now.parent at.now.inode }
+{
+    if at.inode.is_some() {
+        return Err(Errno::EEXIST);
+    }
+    let parent = writable(inodes, user, at.parent)?;
+    Ok(New {
+        inode: inodes.inode_number()?,
+        parent,
+    })
+}
+
+/// The attribute of a directory in which the user may make and remove names, else EACCES.
+pub fn writable(inodes: &Inodes, user: User, directory: u32) -> Result<Attribute, Errno>
+    ensures writable { result ≡ machine.writable inodes.now.inodes user.0 directory }
+{
+    let Some(attr) = inodes.attr(directory) else {
+        return Err(Errno::ENOENT);
+    };
+    check_access(&attr.attribute, user, Access::Write)?;
+    Ok(attr.attribute)
+}
+
+/// A directory's attribute once an entry was made or removed.
+pub fn changed(moment: u64, attribute: Attribute) -> Attribute
+    ensures { result ≡ machine.changed moment attribute }
+{
+    Attribute {
+        mtime: moment,
+        ctime: moment,
+        ..attribute
+    }
+}
+
+/// An inode's attribute once it has no name.
+pub fn unnamed(moment: u64, attribute: Attribute) -> Attribute
+    ensures { result ≡ machine.unnamed moment attribute }
+{
+    Attribute {
+        links: 0,
+        ctime: moment,
+        ..attribute
+    }
+}
+
+/// An inode as it is made, named once.
+pub fn new_attribute(kind: Kind, mode: u16, user: User, moment: u64) -> Attribute
+    ensures { result ≡ of_inodes.new_attribute kind mode user.0 moment }
+{
+    Attribute {
+        kind,
+        mode,
+        links: 1,
+        owner: user.0 as u32,
+        size: 0,
+        mtime: moment,
+        ctime: moment,
+    }
+}
+
+/// Makes an inode, for which there is a number and room.
+pub fn made(inodes: &mut Inodes, attribute: Attribute)
+    requires room { 0 < inodes.old.room }
+    requires number { IsOk (of_inodes.inode_number inodes.old.inodes) }
+    ensures made { numbered inodes.new.inodes (of_inodes.inode_number inodes.old.inodes) ≡ of_inodes.new_inode inodes.old.inodes attribute }
+    ensures room { inodes.new.room ≡ inodes.old.room - 1 }
+{
+    match inodes.new_inode(attribute) {
+        Ok(Ok(_)) => {}
+        _ => unreachable!(),
+    }
+}
+
+/// Opens an inode, for which there is a number and room.
+pub fn opened(inodes: &mut Inodes, inode: u32, flags: OFlags) -> u16
+    requires there { IsSome (row_at inodes.old.inodes.attributes inode) }
+    requires room { 0 < inodes.old.room }
+    requires number { IsOk (of_inodes.block_number inodes.old.inodes) }
+    ensures opened { numbered inodes.new.inodes (Ok result) ≡ of_inodes.open_block inodes.old.inodes inode flags }
+    ensures room { inodes.new.room ≡ inodes.old.room - 1 }
+{
+    match inodes.open_block(inode, flags) {
+        Ok(Ok(number)) => number,
+        _ => unreachable!(),
+    }
+}
