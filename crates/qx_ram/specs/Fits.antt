@@ -1,19 +1,13 @@
 -- How names, inodes and the bytes of files stand together.
 use Rattle.std.specs.Prelude.{ℕ, ◌≡◌, ◌<◌, Bool, true, false, Option, Some, None, length, option_map, if◌then◌else◌}
-use Rattle.std.specs.FinMap.{get}
 use Rattle.qx_types.specs.declared.limits.TheConstants.Limits.{INODES}
+use Rattle.qx_iofunc.specs.Fits as iofunc
 use Rattle.qx_machine.specs.declared.rows.Attribute.{Attribute}
 use Rattle.qx_machine.specs.declared.rows.Kind.{Kind}
 use Rattle.qx_machine.specs.declared.rows.Kind.TheVariants.{File}
 use Rattle.qx_machine.specs.Files.{Files}
-use Rattle.qx_machine.specs.Inodes.{Inodes, is_unused}
-use Rattle.qx_machine.specs.Names.{Key}
+use Rattle.qx_machine.specs.Inodes.{Inodes}
 use Rattle.qx_machine.specs.Rows.{row_at}
-
--- an inode that is there, and has a link
-abbrev pub IsLinked : Option Attribute → Type 0
-IsLinked None = ⊥
-IsLinked (Some attribute) = 0 < attribute.links
 
 abbrev pub is_file : Kind → Bool
 is_file File = true
@@ -25,13 +19,9 @@ file_size None = None
 file_size (Some attribute) = if is_file attribute.kind then Some attribute.size else None
 
 pub record Fits (inodes : Inodes) (files : Files) : Type 0 where
-  -- each path leads to an inode that is there and linked
-  pub linked : (key : Key) (inode : ℕ) → get files.names key ≡ Some inode → IsLinked (row_at inodes.attributes inode)
-  -- each inode that is there is linked or open
-  pub used : (inode : ℕ) → is_unused inodes inode (row_at inodes.attributes inode) ≡ false
+  -- names and inodes stand together
+  pub named : iofunc.Fits inodes files.names
   -- a file has as many bytes as its size says; what is no file, and where there is no inode, has none
   pub sized : (inode : ℕ) → option_map (λ bytes. length bytes) (row_at files.contents inode) ≡ file_size (row_at inodes.attributes inode)
-  -- inodes are numbered from 1
-  pub places : 0 < length inodes.attributes
   -- there is a place for the bytes of each inode
   pub room : INODES < length files.contents

@@ -1,6 +1,5 @@
 -- What a function of the RAM manager gave, with what it left.
 use Rattle.std.specs.Prelude.{ℕ, ℤ, ◌+◌, ◌-◌, List, [], Result, Ok, Err, Option, Some, None, length, max, nat_le, if◌then◌else◌}
-use Rattle.arrayvec.specs.ArrayVec.{ArrayVec}
 use Rattle.qx_types.specs.declared.errno.Errno.{Errno}
 use Rattle.qx_types.specs.declared.errno.Errno.TheVariants.{EBADF, EFBIG, EINVAL, ENOSPC}
 use Rattle.qx_types.specs.declared.flags.OFlags.{OFlags}
@@ -22,16 +21,6 @@ given_bytes inodes files (Err error) = Err error
 abbrev pub given : Inodes → Files → Result ℕ Errno → Result Given Errno
 given inodes files (Ok status) = Ok (record { status = status; bytes = []; inodes = inodes; files = files })
 given inodes files (Err error) = Err error
-
--- a status with these bytes
-abbrev pub given_with : Inodes → Files → List ℕ → Result ℕ Errno → Result Given Errno
-given_with inodes files bytes (Ok status) = Ok (record { status = status; bytes = bytes; inodes = inodes; files = files })
-given_with inodes files bytes (Err error) = Err error
-
--- the bytes of an inode's status
-abbrev pub given_status : Inodes → Files → Result (ArrayVec ℕ) Errno → Result Given Errno
-given_status inodes files (Ok status) = given_with inodes files status.items (Ok 0)
-given_status inodes files (Err error) = Err error
 
 -- an open control block that was opened with a flag
 abbrev pub block_for : Inodes → ℕ → OFlags → Result Ocb Errno

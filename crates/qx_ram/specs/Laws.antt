@@ -1,10 +1,8 @@
 -- What holds of files by their definitions alone.
-use Rattle.std.specs.Prelude.{ℕ, ◌≡◌, ◌+◌, ◌-◌, List, [], ◌++◌, Ok, drop, length, replicate, take, unwrap_or}
+use Rattle.std.specs.Prelude.{ℕ, ◌≡◌, ◌+◌, ◌-◌, List, ◌++◌, drop, length, replicate, take, unwrap_or}
 use Rattle.std.specs.List.{sum_by}
-use Rattle.qx_machine.specs.Files.{Files, Given, get, put, total_size}
+use Rattle.qx_machine.specs.Files.{Files, get, put, total_size}
 use Rattle.qx_machine.specs.Inodes.{Inodes}
-use Rattle.qx_machine.specs.Names.{inode_at, names_in}
-use Rattle.qx_machine.specs.Opening.{unlink_file}
 use Rattle.qx_ram.specs.Fits.{Fits, file_size}
 
 -- what was written is read back at its place
@@ -22,8 +20,3 @@ KeptBehind = (bytes : List ℕ) (offset : ℕ) (new : List ℕ) → drop (offset
 -- the sum of the sizes of a user's files is that of the sizes that their inodes have
 abbrev pub TotalOfSizes : Type 0
 TotalOfSizes = (inodes : Inodes) (files : Files) → Fits inodes files → total_size files ≡ sum_by (λ row. unwrap_or (file_size row) 0) inodes.attributes
-
--- what is removed had no names in it
-abbrev pub RemovedEmpty : Type 0
-RemovedEmpty = (inodes : Inodes) (files : Files) (user root : ℕ) (rest : List (List ℕ)) (moment inode : ℕ) (given : Given) →
-    unlink_file inodes files user root rest moment ≡ Ok given → inode_at inodes files.names user root rest ≡ Ok inode → names_in files.names inode ≡ []

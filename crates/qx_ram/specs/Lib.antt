@@ -2,4 +2,3 @@ pub mod Fits
 pub mod Lends
 pub mod Given
 pub mod Laws
-pub mod Makes

@@ -19,9 +19,6 @@ use qx_types::{Errno, Limits, OFlags, Whence};
 use std::alloc::{AllocError, Global};
 use std::marker::Model;
 
-/// The number of the root of a user's top.
-const TOP_INODE: u32 = 1;
-
 /// The files of one user: their bytes, and the names in the RAM manager's mounts (Writing a Resource Manager: connect and
 /// I/O functions).
 #[derive(Drop)]
@@ -92,19 +89,20 @@ impl Files {
     }
 
     /// Makes a file empty and sets its times (C Library Reference: `open`, `O_TRUNC`).
-    pub fn truncate(&mut self, inodes: &mut Inodes, inode: u32, attribute: &Attribute, moment: u64)
-        requires fits { Fits inodes.old.inodes self.old }
-        requires there { row_at inodes.old.inodes.attributes inode ≡ Some attribute.now }
+    pub(crate) fn truncate(&mut self, inodes: &mut Inodes, inode: u32, moment: u64)
         requires file { IsSome (row_at self.old.contents inode) }
-        ensures empty { given inodes.new.inodes self.new (Ok 0) ≡ Ok (machine.truncated inodes.old.inodes self.old inode attribute.now moment) }
-        ensures fits { Fits inodes.new.inodes self.new }
+        ensures times { inodes.new.inodes ≡ record inodes.old.inodes { attributes = with_row inodes.old.inodes.attributes inode (machine.resized 0 moment) } }
+        ensures empty { self.new ≡ machine.with_contents self.old inode (Some []) }
     {
         self.clear(inode);
+        let Some(attr) = inodes.attr(inode) else {
+            return;
+        };
         let attribute = Attribute {
             size: 0,
             mtime: moment,
             ctime: moment,
-            ..*attribute
+            ..attr.attribute
         };
         inodes.set_attribute(inode, attribute);
     }
@@ -207,38 +205,6 @@ impl Files {
         let offset = moved_by(base, by)?;
         inodes.set_offset(number, offset);
         Ok(offset)
-    }
-
-    /// Sets the mode of what is open (C Library Reference: `fchmod`); EPERM where that is the user's top.
-    pub fn chmod(
-        &self,
-        inodes: &mut Inodes,
-        number: u16,
-        moment: u64,
-        mode: u16,
-    ) -> Result<u64, Errno>
-        requires fits { Fits inodes.old.inodes self.now }
-        ensures given { given inodes.new.inodes self.now result ≡ machine.chmod_file inodes.old.inodes self.now number moment mode }
-        ensures kept { OnErr result (inodes.new ≡ inodes.old) }
-        ensures fits { Fits inodes.new.inodes self.now }
-    {
-        let Some(block) = inodes.block(number) else {
-            return Err(Errno::EBADF);
-        };
-        let inode = block.inode;
-        if inode == TOP_INODE {
-            return Err(Errno::EPERM);
-        }
-        let Some(attr) = inodes.attr(inode) else {
-            return Err(Errno::EBADF);
-        };
-        let attribute = Attribute {
-            mode,
-            ctime: moment,
-            ..attr.attribute
-        };
-        inodes.set_attribute(inode, attribute);
-        Ok(0)
     }
 
     /// Takes an open control block away (C Library Reference: `close`), and what was open with it, with its bytes, where

@@ -1,5 +1,5 @@
 //! What holds of files by their definitions alone.
-ghost use Rattle.qx_ram.specs.Laws.{KeptBefore, KeptBehind, ReadBack, RemovedEmpty, TotalOfSizes};
+ghost use Rattle.qx_ram.specs.Laws.{KeptBefore, KeptBehind, ReadBack, TotalOfSizes};
 
 /// What was written is read back at its place.
 pub fn read_back()
@@ -19,9 +19,4 @@ pub fn kept_behind()
 /// The sum of the sizes of a user's files is that of the sizes that their inodes have.
 pub fn total_of_sizes()
     ensures total_of_sizes { TotalOfSizes }
-{}
-
-/// A file or directory that is removed had no names in it.
-pub fn removed_empty()
-    ensures removed_empty { RemovedEmpty }
 {}

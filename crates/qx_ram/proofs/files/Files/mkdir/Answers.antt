@@ -1,59 +1,27 @@
-use Rattle.std.proofs.Common.{◌≡◌, None, Some, ap, sym, subst, ◌∙◌}
-use Rattle.std.specs.FinMap.{insert}
-use Rattle.qx_attr.specs.Counts.{Reserved}
-use Rattle.qx_types.specs.declared.errno.Errno.TheVariants.{EEXIST}
+use Rattle.std.proofs.Common.{◌≡◌, ℕ, List, Result, Ok, Err, OnErr, refl, subst, sym}
+use Rattle.qx_iofunc.proofs.OtherLemmas.{directory_made}
+use Rattle.qx_iofunc.specs.Fits as of_names
+use Rattle.qx_iofunc.specs.Given.{naming}
+use Rattle.qx_machine.specs.declared.rows.Kind.TheVariants.{Directory}
 use Rattle.qx_machine.specs.Files.{Files}
-use Rattle.qx_machine.specs.declared.rows.Attribute.{Attribute}
-use Rattle.qx_machine.specs.Inodes.{with_attribute}
-use Rattle.qx_machine.specs.Names as names
-use Rattle.qx_machine.specs.Opening as machine
-use Rattle.qx_names.specs.Paths.{path_of}
-use Rattle.qx_names.specs.Spots.{spot_of}
-use Rattle.qx_ram.specs.Fits.{Fits, file_size}
-use Rattle.qx_ram.proofs.FitLemmas.{unnamed_free}
-use Rattle.qx_ram.proofs.MakeLemmas.{directory_fits, directory_makes, directory_missing, made_from, number_free, parent_there, refused}
-use Rattle.qx_ram.proofs.SpotLemmas.{at_spot}
+use Rattle.qx_machine.specs.Inodes.{Inodes, new_attribute}
+use Rattle.qx_machine.specs.Names.{Names}
+use Rattle.qx_machine.specs.Opening.{make_directory}
+use Rattle.qx_ram.proofs.FitLemmas.{made_fits}
+use Rattle.qx_ram.specs.Fits.{Fits}
+use Rattle.qx_types.specs.declared.errno.Errno.{Errno}
 use Rattle.qx_ram.proofs.files.Files.mkdir.Goals as goal
 
-pub returns-in-Err-may_make_directory-clause-given : goal.returns-in-Err-may_make_directory-clause-given
-returns-in-Err-may_make_directory-clause-given c =
-    let files : Files = record { contents = c.self.inside.contents; names = c.self.inside.names } in
-    let at : names.Spot = spot_of c.self.inside.names c.in-Ok.at in
-    refused c.args.inodes.now.inodes files c.args.user.0 c.args.root c.args.rest.now c.args.mode c.args.moment at c.in-Err-may_make_directory.error c.in-Ok.ensures.spot c.in-Err-may_make_directory.ensures.may
-    ∙ ap (λ (files : Files). machine.make_directory c.args.inodes.now.inodes files c.args.user.0 c.args.root c.args.rest.now c.args.mode c.args.moment) c.self.view_is
-
-pub insert-requires-clause-free : goal.insert-requires-clause-free
-insert-requires-clause-free c =
-    let at : names.Spot = spot_of c.self.inside.names c.in-Ok.at in
-    sym (at_spot c.args.inodes.now.inodes c.self.inside.names c.args.user.0 c.args.root c.args.rest.now EEXIST at c.in-Ok.ensures.spot)
-    ∙ directory_missing c.args.inodes.now.inodes c.args.user.0 c.in-Ok.at.parent c.in-Ok-may_make_directory.new c.in-Ok.at.inode c.in-Ok-may_make_directory.ensures.may
-
-pub insert-requires-clause-new : goal.insert-requires-clause-new
-insert-requires-clause-new c =
-    let files : Files = record { contents = c.self.inside.contents; names = c.self.inside.names } in
-    let fits : Fits c.args.inodes.now.inodes files = subst (Fits c.args.inodes.now.inodes) (sym c.self.view_is) c.requires.fits in
-    let it = directory_makes c.args.inodes.now.inodes c.args.user.0 c.in-Ok.at.parent c.in-Ok-may_make_directory.new c.in-Ok.at.inode c.in-Ok-may_make_directory.ensures.may in
-    unnamed_free c.args.inodes.now.inodes files fits c.in-Ok-may_make_directory.new.inode (number_free c.args.inodes.now.inodes c.in-Ok-may_make_directory.new.inode it.number_is)
-
-pub set_attribute-requires : goal.set_attribute-requires
-set_attribute-requires c =
-    let it = directory_makes c.args.inodes.now.inodes c.args.user.0 c.in-Ok.at.parent c.in-Ok-may_make_directory.new c.in-Ok.at.inode c.in-Ok-may_make_directory.ensures.may in
-    let reserved : c.reserve.new.self.inodes ≡ c.args.inodes.now.inodes = ap (λ (r : Reserved). r.inodes) c.in_ok-reserve.ensures.ok in
-    let now = made_from c.args.inodes.now.inodes c.in-Ok.at.parent c.in-Ok-may_make_directory.new it c.new_attribute.result c.reserve.new.self.inodes c.made.new.inodes.inodes reserved c.made.ensures.made in
-    record { there = parent_there c.args.inodes.now.inodes c.in-Ok.at.parent c.in-Ok-may_make_directory.new it c.new_attribute.result c.made.new.inodes.inodes now }
+by_made : (inodes now : Inodes) (files : Files) (names : Names) (user root : ℕ) (rest : List (List ℕ)) (mode moment : ℕ) (made : Result ℕ Errno) → naming now names made ≡ make_directory inodes files.names user root rest mode moment
+    → OnErr made ((now ≡ inodes) × (names ≡ files.names)) → of_names.Fits now names → Fits inodes files → Fits now (record files { names = names })
+by_made inodes now files names user root rest mode moment (Ok inode) made kept named fits =
+    made_fits inodes now files names inode (new_attribute Directory mode user moment) refl
+    (directory_made inodes files.names user mode moment fits.named.places (record { inode = inode; inodes = now; names = names }) root rest (sym made)) named fits
+by_made inodes now files names user root rest mode moment (Err error) made kept named fits = rw (kept.0, kept.1) fits
 
 pub returns-clause-fits : goal.returns-clause-fits
 returns-clause-fits c =
     let files : Files = record { contents = c.self.inside.contents; names = c.self.inside.names } in
     let fits : Fits c.args.inodes.now.inodes files = subst (Fits c.args.inodes.now.inodes) (sym c.self.view_is) c.requires.fits in
-    let new = c.in-Ok-may_make_directory.new in
-    let parent = c.in-Ok.at.parent in
-    let key = names.under (path_of c.self.inside.names c.in-Ok.at.parent) c.in-Ok.at.name.now in
-    let it = directory_makes c.args.inodes.now.inodes c.args.user.0 parent new c.in-Ok.at.inode c.in-Ok-may_make_directory.ensures.may in
-    let reserved : c.reserve.new.self.inodes ≡ c.args.inodes.now.inodes = ap (λ (r : Reserved). r.inodes) c.in_ok-reserve.ensures.ok in
-    let now = made_from c.args.inodes.now.inodes parent new it c.new_attribute.result c.reserve.new.self.inodes c.made.new.inodes.inodes reserved c.made.ensures.made in
-    let set : c.set_attribute.new.self.inodes ≡ with_attribute c.made.new.inodes.inodes parent c.changed.result = ap (λ (r : Reserved). r.inodes) c.set_attribute.ensures.set in
-    let named : c.insert.new.self ≡ insert c.self.inside.names key new.inode = c.in_ok-insert.ensures.ok in
-    let one : c.new_attribute.result.links ≡ 1 = ap (λ (a : Attribute). a.links) c.new_attribute.ensures in
-    let none : file_size (Some c.new_attribute.result) ≡ None = ap (λ (a : Attribute). file_size (Some a)) c.new_attribute.ensures in
-    rw (set, now, c.changed.ensures, named) (directory_fits c.args.inodes.now.inodes parent new it c.new_attribute.result files key c.args.moment one none fits)
+    by_made c.args.inodes.now.inodes c.mkdir.new.inodes.inodes files c.mkdir.new.names c.args.user.0 c.args.root c.args.rest.now c.args.mode c.args.moment c.in_ok-mkdir.field-0
+    c.in_ok-mkdir.ensures.made c.in_ok-mkdir.ensures.kept c.in_ok-mkdir.ensures.fits fits

@@ -9,5 +9,5 @@ returns-clause-fits c =
     let inodes = c.args.inodes.now.inodes in
     let files = c.args.self.now in
     let block = c.in-Some.block.now in
-    given_fits c.free.new.inodes.inodes c.free.new.self (machine.without_unused (close_block inodes c.args.number) files block.inode)
+    given_fits c.free.new.inodes.inodes c.free.new.self 0 (machine.without_unused (close_block inodes c.args.number) files block.inode)
     (rw c.close_block.ensures.closed at c.free.ensures.freed) (closed_fits inodes files c.args.number block (sym c.in-Some.ensures.block) c.requires.fits)
