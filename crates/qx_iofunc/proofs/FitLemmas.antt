@@ -1,5 +1,5 @@
 -- What each change of names and inodes leaves of how they stand together.
-use Rattle.std.proofs.Common.{◌≡◌, ◌≢◌, ℕ, zero, suc, ◌+◌, ◌<◌, ◌≤◌, ◌==◌, ◌&&◌, Bool, true, false, List, length, refl, sym, ap, ◌∙◌, subst, inl, inr, arith, cond, slice_set, Option, Some, None, count_by}
+use Rattle.std.proofs.Common.{◌≡◌, ◌≢◌, ℕ, zero, suc, ◌≤◌, ◌==◌, ◌&&◌, Bool, true, false, length, refl, sym, ap, ◌∙◌, subst, inl, inr, arith, cond, slice_set, Option, Some, None, count_by}
 use Rattle.std.specs.Prelude.{if◌then◌else◌}
 use Rattle.std.specs.FinMap.{empty, get, get-empty, get-insert, get-remove, insert, remove}
 use Rattle.std.specs.Ordering.{eq_by_cmp}
@@ -8,7 +8,7 @@ use Rattle.std.proofs.lemmas.Bool.Decides.{nat_tests}
 use Rattle.qx_attr.proofs.CountLemmas.{count-free, count-put, count-same, counts_other, row-set_same}
 use Rattle.qx_attr.specs.Counts.{one}
 use Rattle.qx_iofunc.specs.Fits.{Fits, FitsBut, IsLinked}
-use Rattle.qx_iofunc.proofs.PlaceLemmas.{Differ, put_at, put_differ, row-freed, same_differ, set_at, set_differ}
+use Rattle.qx_iofunc.proofs.PlaceLemmas.{Differ, put_at, put_differ, row-freed, same_differ, set_differ}
 use Rattle.qx_machine.specs.declared.rows.Attribute.{Attribute}
 use Rattle.qx_machine.specs.declared.rows.Ocb.{Ocb}
 use Rattle.qx_machine.specs.Inodes.{Inodes, blocks_of, close_block, free_inode, is_open, is_unused, moved_to, no_inodes, with_attribute, with_offset}

@@ -1,5 +1,5 @@
 -- What an open of what is there comes to, once it is known that it may be opened.
-use Rattle.std.proofs.Common.{◌≡◌, ℕ, ◌&&◌, Bool, true, false, not, refl, sym, ap, ◌∙◌, subst, Option, Some, None, Result, Ok, Err, IsOk, IsSome}
+use Rattle.std.proofs.Common.{◌≡◌, ℕ, ◌&&◌, Bool, true, false, not, refl, sym, ap, ◌∙◌, subst, Option, Some, None, Result, Ok, Err, IsOk}
 use Rattle.std.specs.Prelude.{nat_le, if◌then◌else◌}
 use Rattle.qx_attr.specs.Counts.{numbered}
 use Rattle.qx_iofunc.proofs.FitLemmas.{block_fits}

@@ -1,5 +1,5 @@
 -- What a name that goes comes to.
-use Rattle.std.proofs.Common.{◌≡◌, ℕ, Bool, true, false, List, [], ◌∷◌, length, refl, ap, ◌∙◌, subst, arith, Option, Some, None, Result, Ok, Err}
+use Rattle.std.proofs.Common.{◌≡◌, ℕ, Bool, true, false, List, [], ◌∷◌, length, refl, subst, arith, Option, Some, None, Result, Ok, Err}
 use Rattle.std.specs.FinMap.{get, remove}
 use Rattle.std.proofs.lemmas.Bool.{eqb-true}
 use Rattle.qx_iofunc.proofs.FitLemmas.{attribute_fits, unnamed_but}

@@ -45,12 +45,7 @@ pub fn may_open(inodes: &Inodes, user: User, inode: u32, flags: OFlags) -> Resul
 }
 
 /// What is to be made, where that may be made and opened so in a directory.
-pub fn may_make(
-    inodes: &Inodes,
-    user: User,
-    directory: u32,
-    flags: OFlags,
-) -> Result<New, Errno>
+pub fn may_make(inodes: &Inodes, user: User, directory: u32, flags: OFlags) -> Result<New, Errno>
     ensures may { result ≡ may_make inodes.now.inodes user.0 directory flags }
 {
     if !flags.contains(OFlags::CREAT) {

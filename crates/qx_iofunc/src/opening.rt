@@ -49,12 +49,7 @@ pub fn lookup<'a>(
 }
 
 /// What is there, where it may be opened so.
-fn found<'a>(
-    inodes: &Inodes,
-    user: User,
-    inode: u32,
-    flags: OFlags,
-) -> Result<Lookup<'a>, Errno>
+fn found<'a>(inodes: &Inodes, user: User, inode: u32, flags: OFlags) -> Result<Lookup<'a>, Errno>
     ensures opens { (names : of_names.Names) (kind : AnyKind) (mode moment : ℕ) → machine.open_existing inodes.now.inodes names user.0 inode flags ≡ looked_up inodes.now.inodes names user.0 result flags kind mode moment }
     ensures allowed { (names : of_names.Names) → IfOk result (IsAllowed inodes.now.inodes names user.0 flags) }
 {

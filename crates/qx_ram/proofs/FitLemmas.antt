@@ -1,5 +1,5 @@
 -- What each change of names, inodes and files leaves of how they stand together.
-use Rattle.std.proofs.Common.{◌≡◌, ◌≢◌, ℕ, zero, suc, ◌+◌, ◌<◌, ◌≤◌, ◌&&◌, Bool, true, false, List, [], length, refl, sym, ap, ◌∙◌, subst, inl, inr, arith, slice_set, Option, Some, None, Result, Ok, Err, IsSome, option_map, replicate}
+use Rattle.std.proofs.Common.{◌≡◌, ℕ, zero, suc, ◌+◌, ◌<◌, ◌≤◌, ◌&&◌, Bool, true, false, List, [], length, refl, sym, ap, ◌∙◌, subst, inl, inr, arith, slice_set, Option, Some, None, Ok, IsSome, option_map, replicate}
 use Rattle.std.specs.FinMap.{insert}
 use Rattle.std.specs.Prelude.{if◌then◌else◌, is_some}
 use Rattle.std.proofs.Math.ListN.{length-set}
@@ -9,17 +9,16 @@ use Rattle.qx_attr.proofs.CountLemmas.{row-set_same}
 use Rattle.qx_iofunc.proofs.FitLemmas as iofunc
 use Rattle.qx_iofunc.proofs.MakeLemmas as makes
 use Rattle.qx_iofunc.proofs.OtherLemmas.{Alike, IsMade, Leaves, modeless, unlinked, untimed}
-use Rattle.qx_iofunc.proofs.PlaceLemmas.{Differ, put_at, put_differ, row-freed, set_at, set_differ}
+use Rattle.qx_iofunc.proofs.PlaceLemmas.{put_at, put_differ, row-freed, set_at, set_differ}
 use Rattle.qx_iofunc.specs.Fits as of_names
 use Rattle.qx_machine.specs.declared.rows.Attribute.{Attribute}
-use Rattle.qx_machine.specs.declared.rows.Kind.TheVariants.{Directory, File}
+use Rattle.qx_machine.specs.declared.rows.Kind.TheVariants.{File}
 use Rattle.qx_machine.specs.declared.rows.Ocb.{Ocb}
 use Rattle.qx_machine.specs.Files.{Files, Given, after_opening, emptied, no_files, opened_file, resized, truncated, with_contents, with_new_file, without_unused}
-use Rattle.qx_machine.specs.Inodes.{Inodes, close_block, free_inode, has, inode_number, is_unused, new_attribute, no_inodes, with_attribute, with_offset, writes}
+use Rattle.qx_machine.specs.Inodes.{Inodes, close_block, has, inode_number, is_unused, new_attribute, no_inodes, with_attribute, with_offset, writes}
 use Rattle.qx_machine.specs.Names.{Key, Names}
 use Rattle.qx_machine.specs.Opening.{Opening}
-use Rattle.qx_machine.specs.Rows.{put_row, row_at, with_row}
-use Rattle.qx_process.proofs.RowLemmas.{with_row-none}
+use Rattle.qx_machine.specs.Rows.{put_row, row_at}
 use Rattle.qx_ram.specs.Fits.{Fits, file_size, is_file}
 use Rattle.qx_ram.specs.Given.{given}
 use Rattle.qx_types.specs.declared.flags.OFlags.{OFlags}

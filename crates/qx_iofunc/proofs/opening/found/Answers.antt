@@ -1,4 +1,4 @@
-use Rattle.std.proofs.Common.{sym, ◌∙◌}
+use Rattle.std.proofs.Common.{sym}
 use Rattle.std.proofs.lemmas.Result.{err_from_is_err_and}
 use Rattle.qx_iofunc.proofs.OpenLemmas.{existing_refused}
 use Rattle.qx_iofunc.proofs.opening.found.Goals as goal
