@@ -9,7 +9,7 @@ use Rattle.qx_attr.specs.Counts.{numbered}
 use Rattle.qx_iofunc.proofs.FitLemmas.{attribute_fits, inode_fits, name_fits}
 use Rattle.qx_iofunc.proofs.OpenLemmas.{opened_attributes, opened_fits}
 use Rattle.qx_iofunc.proofs.PlaceLemmas.{lowest_within, put_at}
-use Rattle.qx_iofunc.specs.declared.entries.New.{New}
+use Rattle.qx_iofunc.specs.declared.found.New.{New}
 use Rattle.qx_iofunc.specs.Fits.{Fits, IsLinked}
 use Rattle.qx_iofunc.specs.Makes.{may_make, may_make_directory}
 use Rattle.qx_machine.proofs.Places.{lowest_from_free}

@@ -7,7 +7,7 @@ use Rattle.qx_attr.proofs.CountLemmas.{row-set_same, within_table}
 use Rattle.qx_iofunc.proofs.MakeLemmas.{missing_is, missing_makes, number_free, number_is, number_within, opened_with, writable_row}
 use Rattle.qx_iofunc.proofs.OpenLemmas.{existing_is, given, made}
 use Rattle.qx_iofunc.proofs.PlaceLemmas.{put_at, put_differ, set_at}
-use Rattle.qx_iofunc.specs.declared.entries.New.{New}
+use Rattle.qx_iofunc.specs.declared.found.New.{New}
 use Rattle.qx_iofunc.specs.declared.found.Lookup.{Lookup}
 use Rattle.qx_iofunc.specs.declared.found.Lookup.TheVariants.{Found, Missing}
 use Rattle.qx_iofunc.specs.Lookups.{open_found}
@@ -118,7 +118,7 @@ module _ (inodes : Inodes) (names : Names) (user : ℕ) (flags : OFlags) (kind :
 
   pub open_leaves : (lookup : Lookup) → open_found inodes names user lookup flags kind mode moment ≡ Ok opening → Leaves opening.is_new inodes opening.inodes opening.inode (new_attribute kind mode user moment)
   open_leaves (Found inode) is = existing_leaves inode is
-  open_leaves (Missing at) is = missing_leaves (spot_of names at) is
+  open_leaves (Missing at new) is = missing_leaves (spot_of names at) is
 
 -- ---- a directory is made
 

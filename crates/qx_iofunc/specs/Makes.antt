@@ -4,7 +4,7 @@ use Rattle.qx_types.specs.declared.errno.Errno.{Errno}
 use Rattle.qx_types.specs.declared.errno.Errno.TheVariants.{EACCES, EEXIST, EISDIR, ENOENT}
 use Rattle.qx_types.specs.declared.flags.OFlags.{OFlags}
 use Rattle.qx_types.specs.declared.flags.TheConstants.OFlags.{CREAT, EXCL}
-use Rattle.qx_iofunc.specs.declared.entries.New.{New}
+use Rattle.qx_iofunc.specs.declared.found.New.{New}
 use Rattle.qx_machine.specs.Inodes.{Inodes, block_number, has, inode_number, writes}
 use Rattle.qx_machine.specs.Judgements.{◌>>=◌, found, need}
 use Rattle.qx_machine.specs.Names.{is_directory}

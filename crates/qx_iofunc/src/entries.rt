@@ -8,17 +8,11 @@ ghost use Rattle.qx_machine.specs.Opening as machine;
 ghost use Rattle.qx_machine.specs.Rows.{row_at};
 
 use bitflags::Flags;
+use crate::found::New;
 use qx_attr::{Inodes, check_access};
 use qx_machine::{Access, Attribute, Kind};
 use qx_names::Spot;
 use qx_types::{Errno, OFlags, User};
-
-/// What is to be made: the number of its inode, and the attribute of its directory.
-#[derive(Clone, Copy)]
-pub struct New {
-    pub inode: u32,
-    pub parent: Attribute,
-}
 
 /// Whether what is there may be opened so.
 pub fn may_open(inodes: &Inodes, user: User, inode: u32, flags: OFlags) -> Result<(), Errno>

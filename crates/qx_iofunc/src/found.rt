@@ -1,10 +1,18 @@
+use qx_machine::Attribute;
 use qx_names::Spot;
 
 /// What an open of a path opens: an inode that is there, or one that is to be made at a spot.
 #[derive(Clone, Copy)]
 pub enum Lookup<'a> {
     Found(u32),
-    Missing(Spot<'a>),
+    Missing { at: Spot<'a>, new: New },
+}
+
+/// What is to be made: the number of its inode, and the attribute of its directory.
+#[derive(Clone, Copy)]
+pub struct New {
+    pub inode: u32,
+    pub parent: Attribute,
 }
 
 /// What an open gives: the number of the open control block, the inode, and whether that was made.

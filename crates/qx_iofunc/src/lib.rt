@@ -9,6 +9,6 @@ pub mod opening;
 pub mod paths;
 
 pub use blocks::{chmod, fstat, list};
-pub use found::{Lookup, Opening};
+pub use found::{Lookup, New, Opening};
 pub use opening::{lookup, open};
 pub use paths::{mkdir, stat, unlink};

@@ -5,6 +5,7 @@ ghost use Rattle.std.specs.FinMap.{get};
 ghost use Rattle.qx_iofunc.specs.Fits.{Fits};
 ghost use Rattle.qx_iofunc.specs.Given.{opening};
 ghost use Rattle.qx_iofunc.specs.Lookups.{IsAllowed, looked_up, open_found};
+ghost use Rattle.qx_iofunc.specs.Makes.{may_make};
 ghost use Rattle.qx_machine.specs.Names as of_names;
 ghost use Rattle.qx_machine.specs.Names.{under};
 ghost use Rattle.qx_machine.specs.Opening as machine;
@@ -13,7 +14,7 @@ ghost use Rattle.qx_names.specs.Paths.{IsNamed, path_of};
 ghost use Rattle.qx_names.specs.Spots.{spot_of};
 
 use crate::entries::{changed, made, may_make, may_open, new_attribute, opened};
-use crate::found::{Lookup, Opening};
+use crate::found::{Lookup, New, Opening};
 use qx_attr::Inodes;
 use qx_machine::Kind;
 use qx_names::{Names, Spot};
@@ -42,8 +43,8 @@ pub fn lookup<'a>(
     match at.inode {
         Some(inode) => found(inodes, user, inode, flags),
         None => {
-            may_make(inodes, user, at.parent, flags)?;
-            Ok(Lookup::Missing(at))
+            let new = may_make(inodes, user, at.parent, flags)?;
+            Ok(Lookup::Missing { at, new })
         }
     }
 }
@@ -77,7 +78,9 @@ pub fn open(
 {
     match lookup {
         Lookup::Found(inode) => open_existing(inodes, names, user, inode, flags),
-        Lookup::Missing(at) => open_missing(inodes, names, user, at, flags, kind, mode, moment),
+        Lookup::Missing { at, new } => {
+            open_missing(inodes, names, user, at, new, flags, kind, mode, moment)
+        }
     }
 }
 
@@ -109,6 +112,7 @@ fn open_missing(
     names: &mut Names,
     user: User,
     at: Spot<'_>,
+    new: New,
     flags: OFlags,
     kind: Kind,
     mode: u16,
@@ -117,14 +121,11 @@ fn open_missing(
     requires fits { Fits inodes.old.inodes names.old }
     requires parent { IsNamed names.old at.parent }
     requires missing { get names.old (under (path_of names.old at.parent) at.name.now) ≡ None }
-    requires allowed { IsOk (machine.open_missing inodes.old.inodes names.old user.0 (spot_of names.old at) flags kind mode moment) }
+    requires judged { may_make inodes.old.inodes user.0 at.parent flags ≡ Ok new }
     ensures opened { IfOk result (λ o. Ok (opening inodes.new.inodes names.new o) ≡ machine.open_missing inodes.old.inodes names.old user.0 (spot_of names.old at.entry) flags kind mode moment) }
     ensures err { OnErr result ((inodes.new.inodes ≡ inodes.old.inodes) × (names.new ≡ names.old)) }
     ensures fits { Fits inodes.new.inodes names.new }
 {
-    let Ok(new) = may_make(inodes, user, at.parent, flags) else {
-        unreachable!()
-    };
     inodes.reserve(2)?;
     names.insert(at.parent, at.name, new.inode)?;
     made(inodes, new_attribute(kind, mode, user, moment));

@@ -8,7 +8,7 @@ open_existing-requires-clause-allowed c =
     let allowed = subst (λ (lookup : Lookup). IsAllowed c.args.inodes.now.inodes c.args.names.now c.args.user.0 c.args.flags lookup) c.in-Found.is c.requires.allowed in
     allowed.opens c.args.kind c.args.mode c.args.moment
 
-pub open_missing-requires-clause-allowed : goal.open_missing-requires-clause-allowed
-open_missing-requires-clause-allowed c =
+pub open_missing-requires-clause-judged : goal.open_missing-requires-clause-judged
+open_missing-requires-clause-judged c =
     let allowed = subst (λ (lookup : Lookup). IsAllowed c.args.inodes.now.inodes c.args.names.now c.args.user.0 c.args.flags lookup) c.in-Missing.is c.requires.allowed in
-    allowed.opens c.args.kind c.args.mode c.args.moment
+    allowed.judged
