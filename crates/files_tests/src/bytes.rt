@@ -82,7 +82,7 @@ fn seeks_within_its_range(home: &mut Home) -> Result<bool, AllocError> {
             && home.seek(4, Whence::Set, 0) == Err(Errno::EINVAL)
             && home.reads(4, 1, Err(Errno::EISDIR))
             && home.chmod(4, 0o644) == Err(Errno::EPERM)
-            && home.chmod(3, 0o644) == Ok(0),
+            && home.chmod(3, 0o644) == Ok(()),
     )
 }
 

@@ -130,7 +130,7 @@ impl Home {
 
     /// The status of what is open.
     pub fn fstat(&self, number: u16) -> Result<Status, Errno> {
-        self.files.fstat(&self.inodes, number)
+        qx_iofunc::fstat(&self.inodes, number)
     }
 
     /// Writes at a moment.
@@ -168,7 +168,7 @@ impl Home {
     }
 
     /// Sets the mode of what is open.
-    pub fn chmod(&mut self, number: u16, mode: u16) -> Result<u64, Errno> {
+    pub fn chmod(&mut self, number: u16, mode: u16) -> Result<(), Errno> {
         self.files.chmod(&mut self.inodes, number, 9, mode)
     }
 

@@ -8,11 +8,10 @@ use Rattle.qx_machine.specs.Inodes.{Inodes, inode_number}
 use Rattle.qx_machine.specs.Mounting.{with_manager_root}
 use Rattle.qx_machine.specs.Names.{root_key}
 use Rattle.qx_machine.specs.Rows.{put_row}
-use Rattle.qx_ram.proofs.FitLemmas.{inode_fits}
-use Rattle.qx_ram.proofs.MakeLemmas.{named_fits, number_free, number_within}
+use Rattle.qx_ram.proofs.FitLemmas.{inode_fits, named_fits}
 use Rattle.qx_ram.specs.Fits.{Fits}
 
 pub mount_fits : (manager : Manager) (inodes : Inodes) (files : Files) (user root : ℕ) → Fits inodes files → inode_number inodes ≡ Ok root
     → Fits (record inodes { attributes = put_row inodes.attributes root (root_attribute user) }) (with_manager_root manager root files)
-mount_fits Ram inodes files user root fits is = named_fits inodes files (root_key root) root (root_attribute user) is refl fits refl
-mount_fits Pipe inodes files user root fits is = inode_fits inodes files root (root_attribute user) (number_within inodes root fits.places is) refl fits (number_free inodes root is) refl
+mount_fits Ram inodes files user root fits is = named_fits inodes files (root_key root) root (root_attribute user) is refl refl fits
+mount_fits Pipe inodes files user root fits is = inode_fits inodes files root (root_attribute user) is refl refl fits

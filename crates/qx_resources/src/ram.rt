@@ -1,5 +1,5 @@
 ghost use Rattle.std.specs.Prelude.{true};
-ghost use Rattle.qx_machine.specs.Performing.{ram_connect, ram_io};
+ghost use Rattle.qx_machine.specs.Managers.{ram_connect, ram_io};
 
 use crate::resources::Resources;
 use qx_attr::Reply;
@@ -153,7 +153,7 @@ impl Io<Resources> for Ram {
         _moment: u64,
         reply: &mut Reply,
     ) -> Result<Done, Errno> {
-        let status = state.files.fstat(&state.inodes, opened?.number)?;
+        let status = qx_iofunc::fstat(&state.inodes, opened?.number)?;
         reply.push(status.as_slice());
         Ok(Done::keeps(0))
     }
@@ -177,9 +177,9 @@ impl Io<Resources> for Ram {
         mode: u16,
         moment: u64,
     ) -> Result<Done, Errno> {
-        let status = state
+        state
             .files
             .chmod(&mut state.inodes, opened?.number, moment, mode)?;
-        Ok(Done::keeps(status))
+        Ok(Done::keeps(0))
     }
 }

@@ -6,8 +6,9 @@ use Rattle.qx_machine.specs.Inodes.{Inodes, new_inode, no_inodes}
 use Rattle.qx_machine.specs.Names.{root_key, with_root}
 use Rattle.qx_machine.specs.Rows.{put_row}
 use Rattle.qx_names.specs.Paths.{IsUnnamed}
-use Rattle.qx_ram.proofs.FitLemmas.{none_fit, none_named}
-use Rattle.qx_ram.proofs.MakeLemmas.{made_is, named_fits}
+use Rattle.qx_iofunc.proofs.FitLemmas.{none_named}
+use Rattle.qx_iofunc.proofs.MakeLemmas.{made_is}
+use Rattle.qx_ram.proofs.FitLemmas.{named_fits, none_fit}
 use Rattle.qx_ram.specs.Fits.{Fits, file_size}
 use Rattle.qx_types.specs.declared.errno.Errno.{Errno}
 use Rattle.files_tests.proofs.user.Home.new.Goals as goal
@@ -20,7 +21,7 @@ home_fits inodes before files new given attribute no_inode no_file named links s
     made_is no_inodes new attribute given 1 refl (subst (λ (from : Reserved). numbered new given ≡ new_inode from.inodes attribute) no_inode made) in
     let root : files ≡ record no_files { names = with_root no_files.names 1 } = named ∙ ap (λ (from : Files). record from { names = with_root from.names 1 }) no_file in
     let fits : Fits (record no_inodes { attributes = put_row no_inodes.attributes 1 attribute }) (record no_files { names = with_root no_files.names 1 }) =
-    named_fits no_inodes no_files (root_key 1) 1 attribute refl links none_fit size in
+    named_fits no_inodes no_files (root_key 1) 1 attribute refl links size none_fit in
     subst (λ (to : Inodes). Fits to files) (sym first) (subst (λ (to : Files). Fits (record no_inodes { attributes = put_row no_inodes.attributes 1 attribute }) to) (sym root) fits)
 
 pub add_root-requires : goal.add_root-requires

@@ -6,8 +6,9 @@ use Rattle.qx_machine.specs.Files.{Files, no_files}
 use Rattle.qx_machine.specs.Inodes.{Inodes, inode_number, new_inode, no_inodes}
 use Rattle.qx_machine.specs.Mounting.{with_manager_root}
 use Rattle.qx_machine.specs.Rows.{put_row}
-use Rattle.qx_ram.proofs.FitLemmas.{none_fit, none_named}
-use Rattle.qx_ram.proofs.MakeLemmas.{made_is}
+use Rattle.qx_iofunc.proofs.FitLemmas.{none_named}
+use Rattle.qx_iofunc.proofs.MakeLemmas.{made_is}
+use Rattle.qx_ram.proofs.FitLemmas.{none_fit}
 use Rattle.qx_resources.proofs.MountLemmas.{mount_fits}
 use Rattle.qx_resources.proofs.resources.Resources.boot.Goals as goal
 

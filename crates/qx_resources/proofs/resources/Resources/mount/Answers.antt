@@ -6,8 +6,8 @@ use Rattle.qx_machine.specs.Inodes.{Inodes, inode_number, new_inode}
 use Rattle.qx_machine.specs.Mounting.{with_manager_root}
 use Rattle.qx_machine.specs.Parts as parts
 use Rattle.qx_machine.specs.Rows.{put_row}
-use Rattle.qx_ram.proofs.FitLemmas.{unnamed_free}
-use Rattle.qx_ram.proofs.MakeLemmas.{made_is, number_free}
+use Rattle.qx_iofunc.proofs.FitLemmas.{unnamed_free}
+use Rattle.qx_iofunc.proofs.MakeLemmas.{made_is, number_free}
 use Rattle.qx_resources.proofs.MountLemmas.{mount_fits}
 use Rattle.qx_resources.proofs.resources.Resources.mount.Goals as goal
 
@@ -15,7 +15,7 @@ pub name_root-requires : goal.name_root-requires
 name_root-requires c =
     let next : inode_number c.self.inside.inodes.inodes ≡ Ok c.mount.inside.root =
     ap (λ (all : parts.Resources). inode_number all.inodes) c.self.view_is ∙ (c.requires.can.next ∙ ap (λ (mount : MountPoint). Ok mount.root) (sym c.mount.view_is)) in
-    record { new = unnamed_free c.self.inside.inodes.inodes c.self.inside.files c.self.invariant c.mount.inside.root (number_free c.self.inside.inodes.inodes c.mount.inside.root next) }
+    record { new = unnamed_free c.self.inside.inodes.inodes c.self.inside.files.names c.self.invariant.named c.mount.inside.root (number_free c.self.inside.inodes.inodes c.mount.inside.root next) }
 
 pub invariant_of-self-2 : goal.invariant_of-self-2
 invariant_of-self-2 c =
