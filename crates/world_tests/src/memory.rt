@@ -42,11 +42,11 @@ pub(crate) fn through<'a>(steps: &'a [Step], lines: &str, line: &str) -> Option<
     steps.get(..=place)
 }
 
-/// Takes a step. Where it is refused, the step that came back.
-fn refused(traced: &mut Traced, step: Step) -> Option<Step> {
-    match traced.step(step) {
+/// Takes a copy of a step. Where it is refused, whether it comes back as it was.
+fn came_back(traced: &mut Traced, step: &Step, copy: Step) -> Option<bool> {
+    match traced.step(copy) {
         Ok(_) => None,
-        Err(unstored) => Some(unstored.step),
+        Err(unstored) => Some(unstored.step == *step),
     }
 }
 
@@ -70,12 +70,12 @@ fn take_at_last(
     before: &[Step],
     step: &Step,
 ) -> Result<(), NoMemory> {
-    let Some(returned) = refused(traced, step.clone()?) else {
+    let Some(same) = came_back(traced, step, step.clone()?) else {
         return Ok(());
     };
-    assert!(rt; returned == *step);
+    assert!(rt; same);
     assert_untroubled(rt, alloc, traced, before)?;
-    store(traced, returned)
+    store(traced, step.clone()?)
 }
 
 /// Takes steps, the last of them at last. Then all is as in a run without trouble.
@@ -292,12 +292,9 @@ pub(crate) fn comes_back_without_memory(
 ) -> Result<bool, AllocError> {
     let copy = step.clone()?;
     let pieces = take_all_memory(alloc)?;
-    let returned = refused(traced, copy);
+    let came_back = came_back(traced, step, copy);
     drop(pieces);
-    Ok(match returned {
-        Some(returned) => returned == *step,
-        None => false,
-    })
+    Ok(came_back == Some(true))
 }
 
 /// A spawn comes back, with all memory taken.
