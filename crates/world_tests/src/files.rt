@@ -1,11 +1,12 @@
 //! Refused memory where files and directories are made and grow, and none where they are used.
 
 use crate::memory::{
-    assert_untroubled, comes_back_without_memory, is_one_taken_at_last, store_sure_steps, through,
+    assert_untroubled, comes_back_without_memory, filled_before, is_one_taken_at_last,
+    store_sure_steps, through,
 };
-use crate::script::{filled, ran, run, steps, store};
+use crate::script::{ran, run, steps, store};
 use qx_machine::Entry;
-use qx_types::{NoMemory, Outcome};
+use qx_types::{NoMemory, Outcome, Step};
 use qx_world::Traced;
 use std::alloc::Global;
 use std::process::Abort;
@@ -47,22 +48,36 @@ fn ram_is_mounted_at_last(rt: HostRuntime) -> Result<(), NoMemory> {
     is_one_taken_at_last(&rt, rt.alloc(), GROWTHS, "mount ann.1.1 /ann/m ram")
 }
 
-/// The step of one of the growths comes back while all memory is taken, though there is room for it in the trace. Nothing
-/// has changed, and it is taken again.
-fn comes_back(rt: &impl Abort, alloc: Global, line: &str) -> Result<(), NoMemory> {
-    let steps = steps(rt, alloc, GROWTHS)?;
-    let Some(through) = through(&steps, GROWTHS, line) else {
-        panic!(rt; "no such line");
-    };
-    let Some((step, before)) = through.split_last() else {
+/// The last of steps comes back while all memory is taken, though there is room for it in the trace. Nothing has changed,
+/// and it is taken again.
+fn comes_back_first(
+    rt: &impl Abort,
+    alloc: Global,
+    traced: &mut Traced,
+    steps: &[Step],
+) -> Result<(), NoMemory> {
+    let Some((step, before)) = steps.split_last() else {
         panic!(rt; "no step");
     };
-    let mut traced = filled(rt, alloc, before)?;
     traced.reserve(1)?;
-    assert!(rt; comes_back_without_memory(alloc, &mut traced, step)?);
-    assert_untroubled(rt, alloc, &traced, before)?;
-    store(&mut traced, step.clone()?)?;
-    assert_untroubled(rt, alloc, &traced, through)
+    assert!(rt; comes_back_without_memory(alloc, traced, step)?);
+    assert_untroubled(rt, alloc, traced, before)?;
+    store(traced, step.clone()?)?;
+    assert_untroubled(rt, alloc, traced, steps)
+}
+
+fn last_comes_back(rt: &impl Abort, alloc: Global, steps: &[Step]) -> Result<(), NoMemory> {
+    let mut traced = filled_before(rt, alloc, steps)?;
+    comes_back_first(rt, alloc, &mut traced, steps)
+}
+
+/// The step of one of the growths comes back.
+fn comes_back(rt: &impl Abort, alloc: Global, line: &str) -> Result<(), NoMemory> {
+    let steps = steps(rt, alloc, GROWTHS)?;
+    match through(&steps, GROWTHS, line) {
+        Some(steps) => last_comes_back(rt, alloc, steps),
+        None => panic!(rt; "no such line"),
+    }
 }
 
 #[test]
@@ -167,25 +182,55 @@ const MISTAKES_SERVED: &str = "\
     perform 1 8\n\
     reply ann.2.2\n";
 
-/// A trace in which these calls wait, with room for the steps that serve them.
-fn waiting(rt: &impl Abort, alloc: Global, calls: &str) -> Result<Traced, NoMemory> {
-    let mut traced = ran(rt, alloc, OPENED)?;
-    run(rt, alloc, &mut traced, calls)?;
+/// These calls wait, with room for the steps that serve them.
+fn send(
+    rt: &impl Abort,
+    alloc: Global,
+    traced: &mut Traced,
+    calls: &str,
+) -> Result<(), NoMemory> {
+    run(rt, alloc, traced, calls)?;
     traced.reserve(24)?;
-    Ok(traced)
+    Ok(())
 }
 
-/// Calls are served with all memory taken. Then all is as in a run without trouble.
-fn served_without_memory(
+/// Calls are sent, and served with all memory taken. Then all is as in a run without trouble, and so many of the steps came
+/// to a failure.
+fn serve_without_memory(
+    rt: &impl Abort,
+    alloc: Global,
+    traced: &mut Traced,
+    untroubled: &mut Traced,
+    calls: &str,
+    lines: &str,
+    failed: u64,
+) -> Result<(), NoMemory> {
+    send(rt, alloc, traced, calls)?;
+    send(rt, alloc, untroubled, calls)?;
+    store_sure_steps(rt, alloc, traced, untroubled, lines)?;
+    assert!(rt; failures(traced.entries()) == failed);
+    Ok(())
+}
+
+/// Calls are served with all memory taken, once the files are open.
+fn are_served_without_memory(
     rt: &impl Abort,
     alloc: Global,
     calls: &str,
     lines: &str,
-) -> Result<Traced, NoMemory> {
-    let mut traced = waiting(rt, alloc, calls)?;
-    let mut untroubled = waiting(rt, alloc, calls)?;
-    store_sure_steps(rt, alloc, &mut traced, &mut untroubled, lines)?;
-    Ok(traced)
+    failed: u64,
+) -> Result<(), NoMemory> {
+    let mut traced = ran(rt, alloc, OPENED)?;
+    let mut untroubled = ran(rt, alloc, OPENED)?;
+    serve_without_memory(
+        rt,
+        alloc,
+        &mut traced,
+        &mut untroubled,
+        calls,
+        lines,
+        failed,
+    )
 }
 
 /// How many of the steps came to an error, or to nothing at all.
@@ -207,14 +252,10 @@ fn failures(entries: &[Entry]) -> u64 {
 
 #[test]
 fn files_are_used_while_all_memory_is_refused(rt: HostRuntime) -> Result<(), NoMemory> {
-    let traced = served_without_memory(&rt, rt.alloc(), USES, USES_SERVED)?;
-    assert!(rt; failures(traced.entries()) == 0);
-    Ok(())
+    are_served_without_memory(&rt, rt.alloc(), USES, USES_SERVED, 0)
 }
 
 #[test]
 fn errors_are_answered_while_all_memory_is_refused(rt: HostRuntime) -> Result<(), NoMemory> {
-    let traced = served_without_memory(&rt, rt.alloc(), MISTAKES, MISTAKES_SERVED)?;
-    assert!(rt; failures(traced.entries()) == 4);
-    Ok(())
+    are_served_without_memory(&rt, rt.alloc(), MISTAKES, MISTAKES_SERVED, 4)
 }

@@ -62,30 +62,41 @@ pub(crate) fn assert_untroubled(
     Ok(())
 }
 
-/// Takes a step after those before it. Where it is refused it comes back, nothing has changed, and it is taken again.
+/// Takes the last of steps after those before it. Where it is refused it comes back, nothing has changed, and it is taken
+/// again. Then all is as in a run without trouble.
 fn take_at_last(
     rt: &impl Abort,
     alloc: Global,
     traced: &mut Traced,
-    before: &[Step],
-    step: &Step,
+    steps: &[Step],
 ) -> Result<(), NoMemory> {
-    let Some(same) = came_back(traced, step, step.clone()?) else {
-        return Ok(());
-    };
-    assert!(rt; same);
-    assert_untroubled(rt, alloc, traced, before)?;
-    store(traced, step.clone()?)
-}
-
-/// Takes steps, the last of them at last. Then all is as in a run without trouble.
-fn take_last_at_last(rt: &impl Abort, alloc: Global, steps: &[Step]) -> Result<(), NoMemory> {
     let Some((step, before)) = steps.split_last() else {
         panic!(rt; "no step");
     };
-    let mut traced = filled(rt, alloc, before)?;
-    take_at_last(rt, alloc, &mut traced, before, step)?;
-    assert_untroubled(rt, alloc, &traced, steps)
+    if let Some(same) = came_back(traced, step, step.clone()?) {
+        assert!(rt; same);
+        assert_untroubled(rt, alloc, traced, before)?;
+        store(traced, step.clone()?)?;
+    }
+    assert_untroubled(rt, alloc, traced, steps)
+}
+
+/// A trace that took all of these steps but the last.
+pub(crate) fn filled_before(
+    rt: &impl Abort,
+    alloc: Global,
+    steps: &[Step],
+) -> Result<Traced, NoMemory> {
+    match steps.split_last() {
+        Some((_, before)) => filled(rt, alloc, before),
+        None => panic!(rt; "no step"),
+    }
+}
+
+/// Takes steps, the last of them at last.
+fn take_last_at_last(rt: &impl Abort, alloc: Global, steps: &[Step]) -> Result<(), NoMemory> {
+    let mut traced = filled_before(rt, alloc, steps)?;
+    take_at_last(rt, alloc, &mut traced, steps)
 }
 
 /// The step of one of these lines is taken at last.
@@ -265,8 +276,17 @@ pub(crate) fn store_sure_steps(
 /// Lines are taken with all memory taken.
 fn are_sure(rt: &impl Abort, alloc: Global, lines: &str) -> Result<(), NoMemory> {
     let mut traced = before_sure_steps(rt, alloc)?;
+    are_sure_after(rt, alloc, &mut traced, lines)
+}
+
+fn are_sure_after(
+    rt: &impl Abort,
+    alloc: Global,
+    traced: &mut Traced,
+    lines: &str,
+) -> Result<(), NoMemory> {
     let mut untroubled = before_sure_steps(rt, alloc)?;
-    store_sure_steps(rt, alloc, &mut traced, &mut untroubled, lines)
+    store_sure_steps(rt, alloc, traced, &mut untroubled, lines)
 }
 
 #[test]
@@ -297,13 +317,13 @@ pub(crate) fn comes_back_without_memory(
     Ok(came_back == Some(true))
 }
 
-/// A spawn comes back, with all memory taken.
-fn spawn_without_memory(
+/// The first of steps comes back, with all memory taken.
+fn first_comes_back(
     rt: &impl Abort,
     alloc: Global,
     traced: &mut Traced,
+    steps: &[Step],
 ) -> Result<(), NoMemory> {
-    let steps = steps(rt, alloc, "spawn bob 1 10\n")?;
     match steps.first() {
         Some(step) => assert!(rt; comes_back_without_memory(alloc, traced, step)?),
         None => panic!(rt; "no step"),
@@ -311,11 +331,18 @@ fn spawn_without_memory(
     Ok(())
 }
 
+/// A spawn comes back, with all memory taken. Nothing has changed.
+fn spawn_without_memory(
+    rt: &impl Abort,
+    alloc: Global,
+    traced: &mut Traced,
+) -> Result<(), NoMemory> {
+    first_comes_back(rt, alloc, traced, &steps(rt, alloc, "spawn bob 1 10\n")?)?;
+    assert_untroubled(rt, alloc, traced, &steps(rt, alloc, BEFORE_SURE_LINES)?)
+}
+
 #[test]
 fn a_spawn_comes_back_while_all_memory_is_refused(rt: HostRuntime) -> Result<(), NoMemory> {
     let mut traced = before_sure_steps(&rt, rt.alloc())?;
-    spawn_without_memory(&rt, rt.alloc(), &mut traced)?;
-    let untroubled = before_sure_steps(&rt, rt.alloc())?;
-    assert!(rt; is_same(&traced, &untroubled)?);
-    Ok(())
+    spawn_without_memory(&rt, rt.alloc(), &mut traced)
 }

@@ -227,12 +227,17 @@ fn rest_alone(rt: &impl Abort, world: &mut World) {
     );
 }
 
+/// Each step of a world alone.
+fn run_alone(rt: &impl Abort, alloc: Global, world: &mut World) -> Result<(), NoMemory> {
+    call_alone(rt, alloc, world)?;
+    serve_alone(rt, world)?;
+    mount_alone(rt, alloc, world)?;
+    rest_alone(rt, world);
+    Ok(())
+}
+
 #[test]
 fn runs_a_world_alone(rt: HostRuntime) -> Result<(), NoMemory> {
     let mut world = World::new(rt.alloc(), config(&rt, rt.alloc())?)?;
-    call_alone(&rt, rt.alloc(), &mut world)?;
-    serve_alone(&rt, &mut world)?;
-    mount_alone(&rt, rt.alloc(), &mut world)?;
-    rest_alone(&rt, &mut world);
-    Ok(())
+    run_alone(&rt, rt.alloc(), &mut world)
 }

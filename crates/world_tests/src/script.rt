@@ -70,9 +70,13 @@ pub(crate) fn run(
 /// A trace that took steps, with no room for one more where they are four or more.
 pub(crate) fn filled(rt: &impl Abort, alloc: Global, steps: &[Step]) -> Result<Traced, NoMemory> {
     let mut traced = booted(rt, alloc)?;
-    traced.reserve(steps.len())?;
-    store_all(&mut traced, steps)?;
+    fill(&mut traced, steps)?;
     Ok(traced)
+}
+
+fn fill(traced: &mut Traced, steps: &[Step]) -> Result<(), NoMemory> {
+    traced.reserve(steps.len())?;
+    store_all(traced, steps)
 }
 
 /// Takes a copy of each step. That of one with no path wants no memory.
