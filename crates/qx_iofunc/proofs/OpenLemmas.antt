@@ -1,5 +1,5 @@
 -- What an open of what is there comes to, once it is known that it may be opened.
-use Rattle.std.proofs.Common.{◌≡◌, ℕ, ◌&&◌, Bool, true, false, not, refl, sym, ap, ◌∙◌, subst, Option, Some, None, Result, Ok, Err, IsOk}
+use Rattle.std.proofs.Common.{◌≡◌, ℕ, ◌&&◌, Bool, true, false, not, refl, sym, ap, ◌∙◌, subst, Option, Some, None, Result, Ok, Err}
 use Rattle.std.specs.Prelude.{nat_le, if◌then◌else◌}
 use Rattle.qx_attr.specs.Counts.{numbered}
 use Rattle.qx_iofunc.proofs.FitLemmas.{block_fits}
@@ -51,23 +51,6 @@ module _ (inodes : Inodes) (names : Names) (user inode : ℕ) (flags : OFlags) w
 
   pub existing_refused : (error : Errno) → may_open inodes user inode flags ≡ Err error → open_existing inodes names user inode flags ≡ Err error
   existing_refused error refused = existing_is ∙ ap (λ r. r >>= (λ _. open_block inodes inode flags >>= (λ opened. Ok (given opened)))) refused
-
-  pub existing_allowed : may_open inodes user inode flags ≡ Ok done → IsOk (open_existing inodes names user inode flags)
-  existing_allowed may = by_row (row_at inodes.attributes inode) may
-    where
-      by_tests : (shared fits may : Bool) (number : Result ℕ Errno) → (need shared EEXIST >>= (λ _. need fits EISDIR >>= (λ _. need may EACCES >>= (λ _. number >>= (λ _. Ok done))))) ≡ Ok done
-          → IsOk (need shared EEXIST >>= (λ _. need fits EISDIR >>= (λ _. need may EACCES >>= (λ _. (number >>= (λ n. Ok (made n))) >>= (λ opened. Ok (given opened))))))
-      by_tests false fits may number is = absurd (cc)
-      by_tests true false may number is = absurd (cc)
-      by_tests true true false number is = absurd (cc)
-      by_tests true true true (Ok n) is = refl
-      by_tests true true true (Err error) is = absurd (cc)
-
-      by_row : (row : Option Attribute)
-          → (found row ENOENT >>= (λ a. need (not (has flags CREAT && has flags EXCL)) EEXIST >>= (λ _. need (not (is_directory a.kind && writes flags)) EISDIR >>= (λ _. need (allows a user flags) EACCES >>= (λ _. block_number inodes >>= (λ _. Ok done)))))) ≡ Ok done
-          → IsOk (found row ENOENT >>= (λ a. need (not (has flags CREAT && has flags EXCL)) EEXIST >>= (λ _. need (not (is_directory a.kind && writes flags)) EISDIR >>= (λ _. need (allows a user flags) EACCES >>= (λ _. open_block inodes inode flags >>= (λ opened. Ok (given opened)))))))
-      by_row None is = absurd (cc)
-      by_row (Some a) is = by_tests (not (has flags CREAT && has flags EXCL)) (not (is_directory a.kind && writes flags)) (allows a user flags) (block_number inodes) is
 
 -- ---- once it is open
 
