@@ -31,7 +31,6 @@ use std::alloc::{AllocError, Global};
 use std::marker::Model;
 
 /// The rows of all users, the managers' lines and what each worker holds.
-#[derive(Drop)]
 pub struct World {
     alloc: Global,
     config: Config,
@@ -40,6 +39,20 @@ pub struct World {
     hands: Vec<Option<Held>>,
     /// The bytes of the reply to the message that is being done.
     reply: Reply,
+}
+
+/// As it would be derived; but what drops a world at an exit is proved with one call there.
+impl Drop for World {
+    fn drop(self) {
+        let World {
+            alloc: _,
+            config: _,
+            channel: _,
+            resources: _,
+            hands: _,
+            reply: _,
+        } = self;
+    }
 }
 
 impl Model for World {

@@ -28,13 +28,24 @@ pub struct Unstored {
 }
 
 /// A world with the steps that it took from boot, each with its outcome.
-#[derive(Drop)]
 pub struct Traced {
     alloc: Global,
     world: World,
     entries: Vec<Entry>,
     /// By or for whom each step was taken.
     owners: Vec<Option<User>>,
+}
+
+/// As it would be derived; but what drops a trace at an exit is proved with one call there.
+impl Drop for Traced {
+    fn drop(self) {
+        let Traced {
+            alloc: _,
+            world: _,
+            entries: _,
+            owners: _,
+        } = self;
+    }
 }
 
 impl Model for Traced {
