@@ -7,8 +7,8 @@ ghost use Rattle.qx_machine.specs.Inodes as of_inodes;
 ghost use Rattle.qx_machine.specs.Opening as machine;
 ghost use Rattle.qx_machine.specs.Rows.{row_at};
 
-use bitflags::Flags;
 use crate::found::New;
+use bitflags::Flags;
 use qx_attr::{Inodes, check_access};
 use qx_machine::{Access, Attribute, Kind};
 use qx_names::Spot;

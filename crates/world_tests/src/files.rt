@@ -183,12 +183,7 @@ const MISTAKES_SERVED: &str = "\
     reply ann.2.2\n";
 
 /// These calls wait, with room for the steps that serve them.
-fn send(
-    rt: &impl Abort,
-    alloc: Global,
-    traced: &mut Traced,
-    calls: &str,
-) -> Result<(), NoMemory> {
+fn send(rt: &impl Abort, alloc: Global, traced: &mut Traced, calls: &str) -> Result<(), NoMemory> {
     run(rt, alloc, traced, calls)?;
     traced.reserve(24)?;
     Ok(())
