@@ -96,7 +96,7 @@ fn is_full_until_a_name_goes(home: &mut Home) -> Result<bool, AllocError> {
             && home.mkdir(b"one-more", 0o700)? == Err(Errno::ENOSPC)
             && home.stat(b"one-more") == Err(Errno::ENOENT)
             && home.unlink(&name(5)) == Ok(0)
-            && home.mkdir(b"one-more", 0o700)? == Ok(0)
+            && home.mkdir(b"one-more", 0o700)? == Ok(1019)
             && home.mkdir(b"another", 0o700)? == Err(Errno::ENOSPC),
     )
 }

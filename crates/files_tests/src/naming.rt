@@ -8,7 +8,7 @@ use std::test::Fail;
 /// Missing names and files in a path's middle, and names that are there.
 fn walks(home: &mut Home) -> Result<bool, AllocError> {
     Ok(
-        home.mkdir(b"d", 0o700)? == Ok(0)
+        home.mkdir(b"d", 0o700)? == Ok(2)
             && home.mkdir(b"d", 0o700)? == Err(Errno::EEXIST)
             && home.mkdir(b"", 0o700)? == Err(Errno::EEXIST)
             && home.mkdir(b"e/f", 0o700)? == Err(Errno::ENOENT)
@@ -44,9 +44,9 @@ fn names_come_and_go(rt: HostRuntime) -> Result<(), Fail> {
 /// Directories without search and without write.
 fn is_judged_by_modes(home: &mut Home) -> Result<bool, AllocError> {
     Ok(
-        home.mkdir(b"closed", 0o600)? == Ok(0)
+        home.mkdir(b"closed", 0o600)? == Ok(2)
             && home.stat(b"closed/a") == Err(Errno::EACCES)
-            && home.mkdir(b"fixed", 0o500)? == Ok(0)
+            && home.mkdir(b"fixed", 0o500)? == Ok(3)
             && home.open(b"fixed/a", NEW)? == Err(Errno::EACCES)
             && home.open(b"fixed/a", BOTH)? == Err(Errno::ENOENT)
             && home.mkdir(b"fixed/a", 0o700)? == Err(Errno::EACCES)

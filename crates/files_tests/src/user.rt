@@ -1,4 +1,4 @@
-//! A user's inodes and files, as the tests use them.
+//! A user's inodes, names and files, as the tests use them.
 
 ghost use Rattle.std.specs.Prelude.{◌≡◌, ◌≤◌, None, Some, length};
 ghost use Rattle.qx_ram.specs.Fits.{file_size};
@@ -6,6 +6,7 @@ ghost use Rattle.qx_types.specs.declared.limits.TheConstants.Limits.{TRANSFER};
 
 use qx_attr::{Inodes, Reply, Status};
 use qx_machine::{Attribute, Kind};
+use qx_names::Names;
 use qx_ram::Files;
 use qx_types::{Errno, OFlags, User, Whence};
 use qx_wire::Rest;
@@ -62,9 +63,10 @@ pub fn open(
     }
 }
 
-/// A user's inodes and files, with a mount whose root is the inode 1.
+/// A user's inodes, names and files, with a mount whose root is the inode 1.
 pub struct Home {
     inodes: Inodes,
+    names: Names,
     files: Files,
 }
 
@@ -73,6 +75,7 @@ impl Drop for Home {
     fn drop(self) {
         let Home {
             inodes: _,
+            names: _,
             files: _,
         } = self;
     }
@@ -86,17 +89,22 @@ impl Model for Home {
 
     ghost view = { λ h. tt };
 
-    ghost invariant = { λ h. Fits h.inodes.inodes h.files };
+    ghost invariant = { λ h. Fits h.inodes.inodes h.names h.files };
 }
 
 impl Home {
     /// No names yet.
     pub fn new(alloc: Global) -> Result<Self, AllocError> {
         let mut inodes = Inodes::new(alloc)?;
-        let mut files = Files::new(alloc)?;
-        files.add_root(1)?;
+        let mut names = Names::new(alloc);
+        names.add_root(1)?;
+        let files = Files::new(alloc)?;
         match inodes.new_inode(root())? {
-            Ok(_) => Ok(Home { inodes, files }),
+            Ok(_) => Ok(Home {
+                inodes,
+                names,
+                files,
+            }),
             Err(_) => Err(AllocError),
         }
     }
@@ -114,27 +122,35 @@ impl Home {
         flags: OFlags,
     ) -> Result<Result<u16, Errno>, AllocError> {
         let rest = Rest::new(path);
-        self.files
-            .connect(&mut self.inodes, User(user), 1, &rest, flags, 0o600, 9)
+        self.files.connect(
+            &mut self.inodes,
+            &mut self.names,
+            User(user),
+            1,
+            &rest,
+            flags,
+            0o600,
+            9,
+        )
     }
 
-    /// Makes a directory of a mode as user 1.
-    pub fn mkdir(&mut self, path: &[u8], mode: u16) -> Result<Result<u64, Errno>, AllocError> {
+    /// Makes a directory of a mode as user 1, and gives its inode.
+    pub fn mkdir(&mut self, path: &[u8], mode: u16) -> Result<Result<u32, Errno>, AllocError> {
         let rest = Rest::new(path);
-        self.files
-            .mkdir(&mut self.inodes, User(1), 1, &rest, mode, 9)
+        qx_iofunc::mkdir(&mut self.inodes, &mut self.names, User(1), 1, &rest, mode, 9)
     }
 
     /// Takes a name away as user 1.
     pub fn unlink(&mut self, path: &[u8]) -> Result<u64, Errno> {
         let rest = Rest::new(path);
-        self.files.unlink(&mut self.inodes, User(1), 1, &rest, 9)
+        self.files
+            .unlink(&mut self.inodes, &mut self.names, User(1), 1, &rest, 9)
     }
 
     /// The status of a path as user 1.
     pub fn stat(&self, path: &[u8]) -> Result<Status, Errno> {
         let rest = Rest::new(path);
-        self.files.stat(&self.inodes, User(1), 1, &rest)
+        qx_iofunc::stat(&self.inodes, &self.names, User(1), 1, &rest)
     }
 
     /// The status of what is open.
@@ -178,7 +194,7 @@ impl Home {
 
     /// Sets the mode of what is open.
     pub fn chmod(&mut self, number: u16, mode: u16) -> Result<(), Errno> {
-        self.files.chmod(&mut self.inodes, number, 9, mode)
+        qx_iofunc::chmod(&mut self.inodes, number, 9, mode)
     }
 
     /// Closes an open control block.
@@ -189,7 +205,7 @@ impl Home {
     /// Lists the names behind one.
     pub fn list(&self, number: u16, after: &[u8], reply: &mut Reply) -> Result<u64, Errno> {
         reply.clear();
-        self.files.list(&self.inodes, number, after, reply)
+        qx_iofunc::list(&self.inodes, &self.names, number, after, reply)
     }
 
     /// How many bytes a file has.

@@ -3,8 +3,9 @@
 use all_memory::take_all_memory;
 use null_manager::{Blocks, Null};
 use qx_attr::Reply;
-use qx_machine::{Effect, Opened, Over, Target};
-use qx_resmgr::serve;
+use qx_machine::{Caller, Effect, Opened, Over, Target};
+use qx_process::Room;
+use qx_resmgr::{Done, serve};
 use qx_types::{Coid, Errno, Manager, NoMemory, OFlags, Prio};
 use qx_wire::{BorrowedBytes, Message, Rest, in_ranges};
 use std::alloc::{AllocError, Global};
@@ -13,11 +14,20 @@ use std::test::Fail;
 
 const THREE: Coid = Coid(3);
 
-/// The manager at work: what is open, and the bytes of its reply.
+/// Whose messages these are.
+const CALLER: Caller = Caller {
+    process: 0,
+    thread: 0,
+    call: 1,
+    is_asked: false,
+};
+
+/// The manager at work: what is open, the bytes of its reply, and the memory for a later one.
 #[derive(Drop)]
 struct Bench {
     blocks: Blocks,
     reply: Reply,
+    room: Option<Room>,
 }
 
 impl Bench {
@@ -25,22 +35,31 @@ impl Bench {
         Ok(Bench {
             blocks: Blocks::new(alloc)?,
             reply: Reply::new(alloc)?,
+            room: Some(Room::new(alloc)?),
         })
     }
 
-    /// The status, the number of bytes and the effect that a message comes to, or its error.
+    /// What a message comes to, with the number of its reply's bytes, or its error.
     fn served(
         &mut self,
         rt: &impl Abort,
         over: Over,
         opened: Result<Opened, Errno>,
         message: Message<'_>,
-    ) -> Result<Result<(u64, usize, Effect), Errno>, AllocError> {
-        assert!(rt; in_ranges(&message));
+    ) -> Result<Result<(Done, usize), Errno>, AllocError> {
+        assert!(rt; in_ranges(&message) && self.room.is_some());
         self.reply.clear();
-        let (blocks, reply) = (&mut self.blocks, &mut self.reply);
-        let given = serve::<Null, Blocks>(blocks, target(over), opened, message, 7, reply)?;
-        Ok(given.map(|done| (done.status, self.reply.as_slice().len(), done.effect)))
+        let given = serve::<Null, Blocks, (), Blocks>(
+            &mut self.blocks,
+            &mut (),
+            target(over),
+            opened,
+            message,
+            7,
+            &mut self.reply,
+            &mut self.room,
+        )?;
+        Ok(given.map(|done| (done, self.reply.as_slice().len())))
     }
 }
 
@@ -52,6 +71,11 @@ fn target(over: Over) -> Target {
         over,
         prio: Prio(10),
     }
+}
+
+/// A reply without bytes.
+fn replied(status: u64, effect: Effect) -> Result<(Done, usize), Errno> {
+    Ok((Done::Reply { status, effect }, 0))
 }
 
 /// An open of what a mount has behind its root.
@@ -72,17 +96,17 @@ fn what_is_written_is_gone(rt: HostRuntime) -> Result<(), Fail> {
         block: 1,
     };
     let given = bench.served(&rt, Over::New(THREE), nothing, open_message(b""))?;
-    assert!(rt; given == Ok((3, 0, opens)));
-    let open = bench.blocks.opened(THREE, 1);
+    assert!(rt; given == replied(3, opens));
+    let open = bench.blocks.opened(CALLER, THREE, 1);
     let over = Over::Existing(THREE);
     let bytes = BorrowedBytes::new(b"abc");
     let given = bench.served(&rt, over, open, Message::Write { bytes })?;
-    assert!(rt; given == Ok((3, 0, Effect::Keeps)));
+    assert!(rt; given == replied(3, Effect::Keeps));
     let given = bench.served(&rt, over, open, Message::Read { count: 3 })?;
-    assert!(rt; given == Ok((0, 0, Effect::Keeps)));
+    assert!(rt; given == replied(0, Effect::Keeps));
     let given = bench.served(&rt, over, open, Message::Close)?;
-    assert!(rt; given == Ok((0, 0, Effect::Closes(THREE))));
-    assert!(rt; bench.blocks.opened(THREE, 1) == Err(Errno::EBADF));
+    assert!(rt; given == replied(0, Effect::Closes(THREE)));
+    assert!(rt; bench.blocks.opened(CALLER, THREE, 1) == Err(Errno::EBADF));
     Ok(())
 }
 
@@ -114,7 +138,7 @@ fn without_memory_nothing_changes(rt: HostRuntime) -> Result<(), Fail> {
     drop(taken);
     assert!(rt; refused);
     assert!(rt; judged? == Err(Errno::ENOENT));
-    assert!(rt; bench.blocks.opened(THREE, 1) == Err(Errno::EBADF));
+    assert!(rt; bench.blocks.opened(CALLER, THREE, 1) == Err(Errno::EBADF));
     let given = bench.served(&rt, Over::New(THREE), nothing, open_message(b""))?;
     assert!(rt; given.is_ok());
     Ok(())

@@ -5,27 +5,28 @@ use Rattle.qx_types.specs.declared.errno.Errno.TheVariants.{EBADF, ENFILE, ENOEN
 use Rattle.qx_types.specs.declared.limits.TheConstants.Limits.{BLOCKS}
 use Rattle.qx_types.specs.declared.flags.OFlags.{OFlags}
 use Rattle.qx_types.specs.declared.names.Coid.{Coid}
+use Rattle.qx_machine.specs.declared.rows.Caller.{Caller}
 use Rattle.qx_machine.specs.declared.rows.Effect.{Effect}
 use Rattle.qx_machine.specs.declared.rows.Effect.TheVariants.{Keeps, Opens, Closes}
 use Rattle.qx_machine.specs.declared.rows.NewOpen.{NewOpen}
 use Rattle.qx_machine.specs.declared.rows.Ocb.{Ocb}
 use Rattle.qx_machine.specs.declared.rows.Opened.{Opened}
-use Rattle.qx_machine.specs.Functions.{ConnectFunctions, Deed, IoFunctions, no_connect, no_io}
+use Rattle.qx_machine.specs.Functions.{ConnectFunctions, Deed, IoFunctions, no_connect, no_io, reply_alone}
 use Rattle.qx_machine.specs.Judgements.{◌>>=◌, found, need}
 use Rattle.qx_machine.specs.Rows.{row_at, lowest_from, put_row}
 
 abbrev pub Blocks : Type 0
 Blocks = List (Option Ocb)
 
--- what a connection has open
-abbrev pub opened_at : Blocks → Coid → ℕ → Result Opened Errno
-opened_at blocks coid number = do
+-- what a caller's connection has open
+abbrev pub opened_at : Blocks → Caller → Coid → ℕ → Result Opened Errno
+opened_at blocks caller coid number = do
   block ← found (row_at blocks number) EBADF
-  Ok (record { coid = coid; number = number })
+  Ok (record { caller = caller; coid = coid; number = number })
 
 -- a reply without bytes
 abbrev pub replied : ℕ → Blocks → Effect → Result (Deed Blocks) Errno
-replied status blocks effect = Ok (record { status = status; bytes = []; state = blocks; effect = effect })
+replied status blocks effect = Ok (reply_alone status [] effect blocks)
 
 -- the mount's root alone is there (C Library Reference: open, ENOENT and ENFILE)
 abbrev pub open_deed : Blocks → NewOpen → OFlags → List (List ℕ) → Result (Deed Blocks) Errno

@@ -1,9 +1,10 @@
-//! The rules of RAM files once more, over plain vectors: a row for each path that leads somewhere, one for each inode
-//! and one for each open block, of all users.
+//! The rules of files, directories and pipes once more, over plain vectors: a row for each path that leads somewhere,
+//! one for each inode and one for each open block, of all users.
 #![tactic(auto)]
 
 mod fault;
 mod opened;
+mod pipes;
 mod rows;
 mod walk;
 

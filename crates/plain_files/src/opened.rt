@@ -1,8 +1,9 @@
-//! What is asked of open blocks: read, write, seek, list, chmod, fstat and close.
+//! What is asked of open blocks: read and write of files, seek, list, chmod, fstat and close.
 
 use crate::fault::Fault;
-use crate::rows::{Block, Files, Inode};
+use crate::rows::{Block, Content, Files, Inode};
 use crate::walk::name_in;
+use plain_pipes::Answers;
 use qx_types::{Errno, OFlags, User};
 use std::alloc::AllocError;
 
@@ -21,11 +22,11 @@ impl Files {
         if !opened.has(OFlags::READ) {
             return Err(Fault::Refused(Errno::EBADF));
         }
-        if inode.is_directory {
+        let Content::File(bytes) = &inode.content else {
             return Err(Fault::Refused(Errno::EISDIR));
-        }
+        };
         let offset = usize::try_from(opened.offset).unwrap_or(usize::MAX);
-        let bytes = inode.bytes.get(offset..).unwrap_or(&[]);
+        let bytes = bytes.get(offset..).unwrap_or(&[]);
         let bytes = Vec::from_slice(alloc, bytes.get(..count).unwrap_or(bytes))?;
         self.move_to(
             user,
@@ -50,8 +51,9 @@ impl Files {
         if bytes.is_empty() {
             return Ok(0);
         }
+        let size = inode.size();
         let offset = if opened.has(OFlags::APPEND) {
-            inode.bytes.len()
+            size
         } else {
             usize::try_from(opened.offset).unwrap_or(usize::MAX)
         };
@@ -59,12 +61,13 @@ impl Files {
         if end > FILE {
             return Err(Fault::Refused(Errno::EFBIG));
         }
-        let growth = end.saturating_sub(inode.bytes.len());
-        if self.total(user).saturating_add(growth) > FILES {
+        if self.total(user).saturating_add(end.saturating_sub(size)) > FILES {
             return Err(Fault::Refused(Errno::ENOSPC));
         }
-        if let Some(inode) = self.inode_mut(user, opened.inode) {
-            put(&mut inode.bytes, offset, bytes)?;
+        if let Some(inode) = self.inode_mut(user, opened.inode)
+            && let Content::File(old) = &mut inode.content
+        {
+            put(old, offset, bytes)?;
             inode.touch(moment);
         }
         self.move_to(user, block, end as u64);
@@ -74,13 +77,17 @@ impl Files {
     /// Moves the offset, from the beginning (0), from where it is (1) or from the end.
     pub fn seek(&mut self, user: User, block: u16, whence: u16, by: i64) -> Result<u64, Errno> {
         let (opened, inode) = self.opened(user, block)?;
-        if inode.is_directory {
-            return Err(Errno::EINVAL);
-        }
+        let Content::File(bytes) = &inode.content else {
+            return Err(if inode.is_directory() {
+                Errno::EINVAL
+            } else {
+                Errno::ESPIPE
+            });
+        };
         let from = match whence {
             0 => 0,
             1 => opened.offset,
-            _ => inode.bytes.len() as u64,
+            _ => bytes.len() as u64,
         };
         match from.checked_add_signed(by) {
             Some(offset) if offset <= 9_223_372_036_854_775_807 => {
@@ -94,7 +101,7 @@ impl Files {
     /// How many names of a directory behind this one are told at once, and the names, each with a zero byte behind it.
     pub fn list(&self, user: User, block: u16, after: &[u8]) -> Result<(u64, Vec<u8>), Fault> {
         let (opened, inode) = self.opened(user, block)?;
-        if !inode.is_directory {
+        if !inode.is_directory() {
             return Err(Fault::Refused(Errno::ENOTDIR));
         }
         let mut names = self.names_of(user, opened.inode)?;
@@ -155,18 +162,21 @@ impl Files {
         Ok(inode.status())
     }
 
-    /// A block goes.
-    pub fn close(&mut self, user: User, block: u16) {
-        if let Some(row) = self.block(user, block) {
-            let inode = row.inode;
-            self.blocks
-                .retain(|row| row.user != user || row.number != block);
-            self.let_go(user, inode);
-        }
+    /// A block goes. Those are answered who waited in a pipe.
+    pub fn close(&mut self, user: User, block: u16, moment: u64) -> Result<Answers, AllocError> {
+        let Some(row) = self.block(user, block) else {
+            return Ok(Vec::new(self.alloc));
+        };
+        let inode = row.inode;
+        self.blocks
+            .retain(|row| row.user != user || row.number != block);
+        let answers = self.release(user, inode, block, moment)?;
+        self.let_go(user, inode);
+        Ok(answers)
     }
 
     /// A block and what it has open.
-    fn opened(&self, user: User, block: u16) -> Result<(Block, &Inode), Errno> {
+    pub fn opened(&self, user: User, block: u16) -> Result<(Block, &Inode), Errno> {
         let Some(block) = self.block(user, block) else {
             return Err(Errno::EBADF);
         };

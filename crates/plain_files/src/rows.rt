@@ -1,27 +1,36 @@
 //! The rows, and how they are found.
 
-use qx_types::{Bytes, Errno, OFlags, User};
+use plain_pipes::Pipe;
+use qx_types::{Bytes, Errno, Manager, OFlags, User};
 use std::alloc::{AllocError, Global};
 
-/// Where a message to a path leads: the user, the inode of the mount's root, and the rest of the path; and the moment at
-/// which it is performed.
+/// Where a message to a path leads: the user, the manager and the inode of the mount's root, and the rest of the path;
+/// and the moment at which it is performed.
 #[derive(Clone, Copy)]
 pub struct Place<'a> {
     pub user: User,
+    pub manager: Manager,
     pub root: u16,
     pub path: &'a [u8],
     pub moment: u64,
 }
 
-/// A file or a directory of a user.
+/// What an inode is, with the bytes of a file.
+#[derive(Drop)]
+pub enum Content {
+    File(Vec<u8>),
+    Directory,
+    Pipe(Pipe),
+}
+
+/// A file, a directory or a pipe of a user.
 #[derive(Drop)]
 pub struct Inode {
     pub user: User,
     pub number: u16,
-    pub is_directory: bool,
+    pub content: Content,
     pub mode: u16,
     pub is_named: bool,
-    pub bytes: Vec<u8>,
     pub written: u64,
     pub changed: u64,
 }
@@ -52,7 +61,7 @@ impl Block {
     }
 }
 
-/// All files and directories, paths to them, and open blocks.
+/// All files, directories and pipes, paths to them, and open blocks.
 #[derive(Drop)]
 pub struct Files {
     pub alloc: Global,
@@ -62,7 +71,7 @@ pub struct Files {
 }
 
 impl Files {
-    /// No file, directory or block.
+    /// No file, directory, pipe or block.
     pub fn new(alloc: Global) -> Files {
         Files {
             alloc,
@@ -74,25 +83,24 @@ impl Files {
 
     /// Makes the root of a mount, at moment 0, under the number of a free inode.
     pub fn add_root(&mut self, user: User, number: u16) -> Result<(), AllocError> {
-        self.add_inode(user, number, true, 0o700, 0)
+        self.add_inode(user, number, Content::Directory, 0o700, 0)
     }
 
-    /// Makes a file or a directory without a path.
+    /// Makes a file, a directory or a pipe without a path.
     pub fn add_inode(
         &mut self,
         user: User,
         number: u16,
-        is_directory: bool,
+        content: Content,
         mode: u16,
         moment: u64,
     ) -> Result<(), AllocError> {
         self.inodes.push(Inode {
             user,
             number,
-            is_directory,
+            content,
             mode,
             is_named: true,
-            bytes: Vec::new(self.alloc),
             written: moment,
             changed: moment,
         })?;
@@ -175,7 +183,7 @@ impl Files {
             .find(|block| block.user == user && block.number == number)
     }
 
-    /// An inode goes, with its bytes, if no path leads to it and no block is open.
+    /// An inode goes, with what it holds, if no path leads to it and no block is open.
     pub fn let_go(&mut self, user: User, number: u16) {
         let is_open = self
             .blocks
@@ -192,8 +200,10 @@ impl Files {
     pub fn total(&self, user: User) -> usize {
         let mut total: usize = 0;
         for inode in self.inodes.iter() {
-            if inode.user == user {
-                total = total.saturating_add(inode.bytes.len());
+            if inode.user == user
+                && let Content::File(bytes) = &inode.content
+            {
+                total = total.saturating_add(bytes.len());
             }
         }
         total
@@ -201,6 +211,28 @@ impl Files {
 }
 
 impl Inode {
+    pub fn is_directory(&self) -> bool {
+        matches!(&self.content, Content::Directory)
+    }
+
+    /// How many bytes it holds: a directory none.
+    pub fn size(&self) -> usize {
+        match &self.content {
+            Content::File(bytes) => bytes.len(),
+            Content::Directory => 0,
+            Content::Pipe(pipe) => pipe.len(),
+        }
+    }
+
+    /// The number of its kind in a status.
+    fn kind(&self) -> u8 {
+        match &self.content {
+            Content::File(_) => 1,
+            Content::Directory => 2,
+            Content::Pipe(_) => 3,
+        }
+    }
+
     /// Whether its owner may do what needs this bit. All that is a user's is asked for by that user alone.
     pub fn allows(&self, bit: u16) -> bool {
         self.mode & bit != 0
@@ -210,14 +242,22 @@ impl Inode {
     pub fn status(&self) -> [u8; 40] {
         let mut bytes = [0; 40];
         bytes[0..2].copy_from_slice(&self.number.to_le_bytes());
-        bytes[4] = if self.is_directory { 2 } else { 1 };
+        bytes[4] = self.kind();
         bytes[6..8].copy_from_slice(&self.mode.to_le_bytes());
         bytes[8] = u8::from(self.is_named);
         bytes[12] = self.user.0;
-        bytes[16..24].copy_from_slice(&(self.bytes.len() as u64).to_le_bytes());
+        bytes[16..24].copy_from_slice(&(self.size() as u64).to_le_bytes());
         bytes[24..32].copy_from_slice(&self.written.to_le_bytes());
         bytes[32..40].copy_from_slice(&self.changed.to_le_bytes());
         bytes
+    }
+
+    /// A file loses its bytes.
+    pub fn empty(&mut self, moment: u64) {
+        if let Content::File(bytes) = &mut self.content {
+            bytes.clear();
+            self.touch(moment);
+        }
     }
 
     /// What it holds, or what is in it, is another from this moment on.

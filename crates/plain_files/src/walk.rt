@@ -1,8 +1,9 @@
 //! What is asked of paths: open, stat, unlink and mkdir.
 
 use crate::fault::Fault;
-use crate::rows::{Files, Name, Place, has};
-use qx_types::{Bytes, Errno, OFlags, User};
+use crate::rows::{Content, Files, Name, Place, has};
+use plain_pipes::Pipe;
+use qx_types::{Bytes, Errno, Manager, OFlags, User};
 use std::alloc::AllocError;
 
 /// Bits of the owner: to read, to write or make and remove names, and to look names up.
@@ -20,7 +21,7 @@ struct End {
 }
 
 impl Files {
-    /// Opens what a path leads to, or makes a file. Answers the number of the block.
+    /// Opens what a path leads to, or makes a file or a pipe. Answers the number of the block.
     pub fn open(&mut self, place: &Place<'_>, flags: OFlags, mode: u16) -> Result<u16, Fault> {
         if place.path.is_empty() {
             return self.open_inode(place, place.root, flags);
@@ -40,8 +41,7 @@ impl Files {
             && has(flags, OFlags::WRITE)
             && let Some(inode) = self.inode_mut(user, number)
         {
-            inode.bytes.clear();
-            inode.touch(place.moment);
+            inode.empty(place.moment);
         }
         self.add_block(user, block, number, flags)?;
         Ok(block)
@@ -55,7 +55,7 @@ impl Files {
         let Some(inode) = self.inode(user, number) else {
             return Err(Errno::ENOENT);
         };
-        if inode.is_directory && has(flags, OFlags::WRITE) {
+        if inode.is_directory() && has(flags, OFlags::WRITE) {
             return Err(Errno::EISDIR);
         }
         if has(flags, OFlags::READ) && !inode.allows(READ) {
@@ -67,7 +67,7 @@ impl Files {
         Ok(())
     }
 
-    /// Makes a file where none is, and opens it whatever its mode.
+    /// Makes a file or a pipe where none is, and opens it whatever its mode.
     fn open_new(
         &mut self,
         place: &Place<'_>,
@@ -81,7 +81,11 @@ impl Files {
         self.judge_parent(place.user, parent)?;
         let block = self.free_block(place.user)?;
         let number = self.free_inode(place.user)?;
-        self.add_inode(place.user, number, false, mode, place.moment)?;
+        let content = match place.manager {
+            Manager::Ram => Content::File(Vec::new(self.alloc)),
+            Manager::Pipe => Content::Pipe(Pipe::new(self.alloc)),
+        };
+        self.add_inode(place.user, number, content, mode, place.moment)?;
         self.add_name(place, parent, number)?;
         self.add_block(place.user, block, number, flags)?;
         Ok(block)
@@ -98,12 +102,12 @@ impl Files {
         }
         self.judge_parent(place.user, end.parent)?;
         let number = self.free_inode(place.user)?;
-        self.add_inode(place.user, number, true, mode, place.moment)?;
+        self.add_inode(place.user, number, Content::Directory, mode, place.moment)?;
         self.add_name(place, end.parent, number)?;
         Ok(())
     }
 
-    /// Removes the name of a file or of an empty directory.
+    /// Removes the name of a file, of an empty directory or of a pipe.
     pub fn unlink(&mut self, place: &Place<'_>) -> Result<(), Errno> {
         if place.path.is_empty() {
             return Err(Errno::EBUSY);
@@ -167,7 +171,7 @@ impl Files {
         path: &[u8],
     ) -> Result<Option<u16>, Errno> {
         match self.inode(place.user, directory) {
-            Some(inode) if !inode.is_directory => Err(Errno::ENOTDIR),
+            Some(inode) if !inode.is_directory() => Err(Errno::ENOTDIR),
             Some(inode) if !inode.allows(SEARCH) => Err(Errno::EACCES),
             _ => Ok(
                 self.names

@@ -7,6 +7,7 @@ mod serving;
 use plain_files::Files;
 use plain_messages::{Reading, read, write};
 use plain_paths::{Mount, Mounts, judge_form, text_of};
+use plain_pipes::Answers;
 use qx_types::{
     Answer, Bytes, Coid, Config, Errno, Item, Manager, Outcome, Prio, Proc, Request, Step, Thread,
     User, Worker,
@@ -290,27 +291,41 @@ impl Plain {
             State::Queued(sent) => {
                 let (manager, over) = (sent.manager, sent.over);
                 self.drop_post(manager, Post::Message(thread));
-                self.end_call(thread, over, Answer::Failed(Errno::EINTR));
+                self.end_call(thread, manager, over, Answer::Failed(Errno::EINTR));
             }
-            State::Taken(sent) => {
-                if !sent.is_asked {
-                    let post = Post::Unblock(thread, row.calls);
-                    let (manager, prio) = (sent.manager, sent.prio);
-                    line_up(self.line_mut(manager), Queued { post, prio })?;
-                    self.mark_asked(thread);
-                }
+            State::Taken(sent) if !sent.is_asked => {
+                let (manager, prio) = (sent.manager, sent.prio);
+                self.ask_unblock(thread, manager, prio)?;
             }
-            State::Ready | State::Answered(_) => {}
+            State::Waiting {
+                prio,
+                is_asked: false,
+            } => {
+                let prio = *prio;
+                self.ask_unblock(thread, Manager::Pipe, prio)?;
+            }
+            State::Ready | State::Taken(_) | State::Waiting { .. } | State::Answered(_) => {}
         }
         Ok(Outcome::Done)
     }
 
-    fn mark_asked(&mut self, thread: Thread) {
-        if let Some(row) = self.row_mut(thread)
-            && let State::Taken(sent) = &mut row.state
-        {
-            sent.is_asked = true;
+    /// Asks a manager to unblock a thread from its call.
+    fn ask_unblock(
+        &mut self,
+        thread: Thread,
+        manager: Manager,
+        prio: Prio,
+    ) -> Result<(), AllocError> {
+        if let Some(row) = self.row_mut(thread) {
+            let post = Post::Unblock(thread, row.calls);
+            match &mut row.state {
+                State::Taken(sent) => sent.is_asked = true,
+                State::Waiting { is_asked, .. } => *is_asked = true,
+                State::Ready | State::Queued(_) | State::Answered(_) => {}
+            }
+            line_up(self.line_mut(manager), Queued { post, prio })?;
         }
+        Ok(())
     }
 
     fn receive(&mut self, worker: Worker, manager: Manager) -> Result<Outcome, AllocError> {
@@ -335,7 +350,6 @@ impl Plain {
         }
     }
 
-    /// A pulse to unblock a thread changes nothing: no call waits at a manager.
     fn perform(&mut self, worker: Worker, moment: u64) -> Result<Outcome, AllocError> {
         if !self.is_worker(worker) {
             return Ok(Outcome::WrongState);
@@ -344,29 +358,55 @@ impl Plain {
             return Ok(Outcome::Nothing);
         };
         self.hands.retain(|(holder, _)| *holder != worker);
-        if let Post::Message(thread) = post {
-            self.serve(thread, moment)?;
+        match post {
+            Post::Message(thread) => self.serve(thread, moment)?,
+            Post::Unblock(thread, call) => {
+                let answers = self.files.unblock(thread, call, moment)?;
+                self.answer_all(answers);
+            }
         }
         Ok(Outcome::Handled)
     }
 
-    /// Answers the message of a thread. A pulse that would unblock the thread from it is not needed any more.
+    /// Serves the message of a thread, which waits until it is answered.
     fn serve(&mut self, thread: Thread, moment: u64) -> Result<(), AllocError> {
-        let calls = self.row(thread).map_or(0, |row| row.calls);
         if let Some(sent) = self.withdraw(thread) {
-            let answer = self.answer(thread.proc, &sent, moment)?;
-            self.drop_post(sent.manager, Post::Unblock(thread, calls));
-            self.end_call(thread, sent.over, answer);
+            self.set_state(
+                thread,
+                State::Waiting {
+                    prio: sent.prio,
+                    is_asked: sent.is_asked,
+                },
+            );
+            if let Some(answer) = self.answer(thread, &sent, moment)? {
+                self.end_call(thread, sent.manager, sent.over, answer);
+            }
         }
         Ok(())
     }
 
-    /// Gives a thread its answer. With an error goes the connection that the call made.
-    fn end_call(&mut self, thread: Thread, over: Over, answer: Answer) {
+    /// Answers a thread. With an error goes the connection that the call made.
+    fn end_call(&mut self, thread: Thread, manager: Manager, over: Over, answer: Answer) {
         if let (Over::New(coid), Answer::Failed(_)) = (over, &answer) {
             self.detach(thread.proc, coid);
         }
-        self.set_state(thread, State::Answered(answer));
+        self.give(thread, manager, answer);
+    }
+
+    /// Answers those whose calls were in a pipe.
+    fn answer_all(&mut self, answers: Answers) {
+        for (thread, answer) in answers {
+            self.give(thread, Manager::Pipe, answer);
+        }
+    }
+
+    /// Gives a thread its answer. A pulse that would unblock it from its call is not needed any more.
+    fn give(&mut self, thread: Thread, manager: Manager, answer: Answer) {
+        if let Some(row) = self.row_mut(thread) {
+            row.state = State::Answered(answer);
+            let post = Post::Unblock(thread, row.calls);
+            self.drop_post(manager, post);
+        }
     }
 
     /// The threads that were started.
@@ -396,11 +436,27 @@ impl Plain {
             .map(|row| row.coid)
     }
 
-    /// One of the connections of a process that have a block for writing, by its place among them, and the offset.
+    /// One of the connections of a process that have a block in a pipe mount, by its place among them.
+    pub fn pipe_connection(&self, proc: Proc, place: usize) -> Option<Coid> {
+        self.connections
+            .iter()
+            .filter(|row| row.proc == proc && row.manager == Manager::Pipe && row.block.is_some())
+            .nth(place)
+            .map(|row| row.coid)
+    }
+
+    /// The path of one of a user's mounts of the pipe manager, by its place among them.
+    pub fn pipe_mount(&self, user: User, place: usize) -> Option<&Bytes> {
+        self.mounts
+            .of_manager(user, Manager::Pipe, place)
+            .map(|mount| &mount.text)
+    }
+
+    /// One of the connections of a process that have a block for writing a file, by its place among them, and the offset.
     pub fn writable(&self, proc: Proc, place: usize) -> Option<(Coid, u64)> {
         self.connections
             .iter()
-            .filter(|row| row.proc == proc)
+            .filter(|row| row.proc == proc && row.manager == Manager::Ram)
             .filter_map(|row| Some((row.coid, self.files.write_offset(proc.user, row.block?)?)))
             .nth(place)
     }
@@ -415,7 +471,8 @@ impl Plain {
         match self.hand(worker)? {
             Post::Message(thread) => match &self.row(thread)?.state {
                 State::Taken(sent) => Some(Held::Message(&sent.bytes)),
-                State::Ready | State::Queued(_) | State::Answered(_) => None,
+                State::Ready | State::Queued(_) | State::Waiting { .. } | State::Answered(_) =>
+                    None,
             },
             Post::Unblock(..) => Some(Held::Pulse),
         }

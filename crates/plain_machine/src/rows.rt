@@ -23,12 +23,13 @@ pub struct Sent {
     pub bytes: Bytes,
 }
 
-/// What a thread is doing.
+/// What a thread is doing. One that waits in a pipe has no message any more.
 #[derive(Debug, Drop)]
 pub enum State {
     Ready,
     Queued(Sent),
     Taken(Sent),
+    Waiting { prio: Prio, is_asked: bool },
     Answered(Answer),
 }
 

@@ -4,7 +4,8 @@ use crate::Plain;
 use crate::rows::{Over, Sent};
 use plain_files::{Fault, Place};
 use plain_messages::{Kind, Reading, from_place, number_at, read};
-use qx_types::{Answer, Coid, Errno, Manager, MessageBytes, OFlags, Proc};
+use plain_pipes::Caller;
+use qx_types::{Answer, Coid, Errno, Manager, MessageBytes, OFlags, Proc, Thread};
 use std::alloc::AllocError;
 
 /// Status and bytes of a reply.
@@ -16,26 +17,78 @@ const BODY: usize = 8;
 const REST: usize = 12;
 
 impl Plain {
-    /// The answer to a message.
-    pub fn answer(&mut self, proc: Proc, sent: &Sent, moment: u64) -> Result<Answer, AllocError> {
-        match self.served(proc, sent, moment) {
-            Ok((status, bytes)) => Ok(Answer::Reply(status, MessageBytes::from_vec(bytes))),
-            Err(Fault::Refused(error)) => Ok(Answer::Failed(error)),
+    /// The answer to a message of a thread, unless its call was answered in a pipe or waits there.
+    pub fn answer(
+        &mut self,
+        thread: Thread,
+        sent: &Sent,
+        moment: u64,
+    ) -> Result<Option<Answer>, AllocError> {
+        match self.served(thread, sent, moment) {
+            Ok(Some((status, bytes))) => {
+                Ok(Some(Answer::Reply(status, MessageBytes::from_vec(bytes))))
+            }
+            Ok(None) => Ok(None),
+            Err(Fault::Refused(error)) => Ok(Some(Answer::Failed(error))),
             Err(Fault::Memory(error)) => Err(error),
         }
     }
 
-    /// The RAM manager has functions for all messages but dup and notify, and the pipe manager none.
-    fn served(&mut self, proc: Proc, sent: &Sent, moment: u64) -> Result<Reply, Fault> {
-        match (sent.manager, read(sent.bytes.as_slice())) {
+    /// Both managers have functions for all messages but dup and notify, and the pipe manager none for mknod.
+    fn served(&mut self, thread: Thread, sent: &Sent, moment: u64) -> Result<Option<Reply>, Fault> {
+        let reading = read(sent.bytes.as_slice());
+        match (sent.manager, reading) {
             (_, Reading::Malformed) => Err(Fault::Refused(Errno::EINVAL)),
-            (Manager::Pipe, _) | (_, Reading::Unknown | Reading::Known(Kind::Dup | Kind::Notify)) =>
-                Err(Fault::Refused(Errno::ENOSYS)),
-            (Manager::Ram, Reading::Known(Kind::Open)) => self.open(proc, sent, moment),
-            (Manager::Ram, Reading::Known(kind @ (Kind::Stat | Kind::Unlink | Kind::Mknod))) =>
-                self.at_path(proc, sent, moment, kind),
-            (Manager::Ram, Reading::Known(kind)) => self.over_block(proc, sent, moment, kind),
+            (_, Reading::Unknown | Reading::Known(Kind::Dup | Kind::Notify))
+            | (Manager::Pipe, Reading::Known(Kind::Mknod)) => Err(Fault::Refused(Errno::ENOSYS)),
+            (Manager::Pipe, Reading::Known(kind @ (Kind::Read | Kind::Write))) => {
+                self.in_pipe(thread, sent, moment, kind)?;
+                Ok(None)
+            }
+            (_, Reading::Known(kind)) => Ok(Some(self.replied(thread.proc, sent, moment, kind)?)),
         }
+    }
+
+    /// The reply to a message for which no call waits.
+    fn replied(
+        &mut self,
+        proc: Proc,
+        sent: &Sent,
+        moment: u64,
+        kind: Kind,
+    ) -> Result<Reply, Fault> {
+        match kind {
+            Kind::Open => self.open(proc, sent, moment),
+            Kind::Stat | Kind::Unlink | Kind::Mknod => self.at_path(proc, sent, moment, kind),
+            _ => self.over_block(proc, sent, moment, kind),
+        }
+    }
+
+    /// A read from a pipe or a write to one: who is answered by it may be others, and the call may wait.
+    fn in_pipe(
+        &mut self,
+        thread: Thread,
+        sent: &Sent,
+        moment: u64,
+        kind: Kind,
+    ) -> Result<(), Fault> {
+        let (_, block) = self.opened(thread.proc, sent)?;
+        let caller = Caller {
+            thread,
+            call: self.row(thread).map_or(0, |row| row.calls),
+            block,
+            is_asked: sent.is_asked,
+        };
+        let bytes = sent.bytes.as_slice();
+        let answers = if kind == Kind::Read {
+            let count = usize::from(number_at(bytes, BODY));
+            self.files.read_pipe(caller, count, moment)?
+        } else {
+            self.files
+                .write_pipe(caller, from_place(bytes, BODY), moment)?
+        };
+        self.answer_all(answers);
+        Ok(())
     }
 
     fn open(&mut self, proc: Proc, sent: &Sent, moment: u64) -> Result<Reply, Fault> {
@@ -45,6 +98,7 @@ impl Plain {
         let bytes = sent.bytes.as_slice();
         let place = Place {
             user: proc.user,
+            manager: sent.manager,
             root,
             path: from_place(bytes, REST),
             moment,
@@ -69,6 +123,7 @@ impl Plain {
         let rest = if kind == Kind::Mknod { REST } else { BODY };
         let place = Place {
             user: proc.user,
+            manager: sent.manager,
             root,
             path: from_place(bytes, rest),
             moment,
@@ -118,7 +173,8 @@ impl Plain {
                 Ok((0, Vec::from_slice(self.alloc, &status)?))
             }
             _ => {
-                self.files.close(user, block);
+                let answers = self.files.close(user, block, moment)?;
+                self.answer_all(answers);
                 self.detach(proc, coid);
                 Ok((0, none))
             }

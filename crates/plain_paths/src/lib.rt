@@ -76,6 +76,14 @@ impl Mounts {
         Ok(())
     }
 
+    /// One of a user's mounts of a manager, by its place among them.
+    pub fn of_manager(&self, user: User, manager: Manager, place: usize) -> Option<&Mount> {
+        self.rows
+            .iter()
+            .filter(|mount| mount.user == user && mount.manager == manager)
+            .nth(place)
+    }
+
     /// Whether a user may attach a manager at the path of a text.
     pub fn judge_new(&self, config: &Config, user: User, text: &[u8]) -> Result<(), Errno> {
         if judge_top(config, user, text).is_err() {

@@ -2,10 +2,14 @@
 
 use crate::dice::Dice;
 use crate::paths::next_mount_path;
+use crate::pipes::next_piping;
 use crate::requests::next_request;
 use plain_machine::{Plain, Post, State};
 use qx_types::{Manager, Prio, Proc, Step, Thread, User, Worker};
 use std::alloc::{AllocError, Global};
+
+/// While there are fewer threads, more processes are started.
+const FEW: usize = 150;
 
 /// The kinds of steps.
 enum Kind {
@@ -26,6 +30,9 @@ pub fn next_step(
     plain: &Plain,
     busy: bool,
 ) -> Result<Step, AllocError> {
+    if plain.threads().len() < FEW && dice.one_in(8) {
+        return Ok(next_spawn(dice));
+    }
     match next_kind(dice, busy) {
         Kind::Spawn => Ok(next_spawn(dice)),
         Kind::Call => next_call(alloc, dice, plain),
@@ -46,9 +53,14 @@ fn next_spawn(dice: &mut Dice) -> Step {
     }
 }
 
+/// A thread of which a worker holds a pulse most often calls a pipe, where it may wait while the pulse is done.
 fn next_call(alloc: Global, dice: &mut Dice, plain: &Plain) -> Result<Step, AllocError> {
     let thread = ready_thread(dice, plain);
-    let request = next_request(alloc, dice, plain, thread.proc)?;
+    let request = if has_held_pulse(plain, thread) && !dice.one_in(4) {
+        next_piping(alloc, dice, plain, thread.proc)?
+    } else {
+        next_request(alloc, dice, plain, thread.proc)?
+    };
     Ok(Step::Call { thread, request })
 }
 
@@ -65,13 +77,19 @@ fn next_set_prio(dice: &mut Dice) -> Step {
     }
 }
 
-/// Most often a thread whose message a worker holds.
+/// Most often a thread whose message a worker holds, or one that waits in a pipe.
 fn next_interrupt(dice: &mut Dice, plain: &Plain) -> Step {
-    let thread = match plain.hand(any_worker(dice)) {
-        Some(Post::Message(thread)) if !dice.one_in(4) => thread,
-        _ => next_thread(dice),
+    let found = match plain.hand(any_worker(dice)) {
+        Some(Post::Message(thread)) if !dice.one_in(4) => Some(thread),
+        _ if dice.one_in(6) => waiting_thread(dice, plain),
+        _ => None,
     };
-    Step::Interrupt { thread }
+    Step::Interrupt {
+        thread: match found {
+            Some(thread) => thread,
+            None => next_thread(dice),
+        },
+    }
 }
 
 fn next_mount(alloc: Global, dice: &mut Dice, plain: &Plain) -> Result<Step, AllocError> {
@@ -102,9 +120,9 @@ fn next_kind(dice: &mut Dice, busy: bool) -> Kind {
     if busy {
         match number {
             0 => Kind::Spawn,
-            1..=22 => Kind::Call,
-            23 => Kind::SetPrio,
-            24..=26 => Kind::TakeReply,
+            1..=18 => Kind::Call,
+            19 => Kind::SetPrio,
+            20..=26 => Kind::TakeReply,
             27 => Kind::Mount,
             28 | 29 => Kind::Interrupt,
             30 => Kind::Receive,
@@ -113,10 +131,10 @@ fn next_kind(dice: &mut Dice, busy: bool) -> Kind {
     } else {
         match number {
             0 => Kind::SetPrio,
-            1 | 2 => Kind::Call,
-            3..=8 => Kind::TakeReply,
-            9 | 10 => Kind::Interrupt,
-            11..=20 => Kind::Receive,
+            1..=6 => Kind::Call,
+            7..=11 => Kind::TakeReply,
+            12 | 13 => Kind::Interrupt,
+            14..=22 => Kind::Receive,
             _ => Kind::Perform,
         }
     }
@@ -128,8 +146,8 @@ fn next_user(dice: &mut Dice) -> User {
         return User(dice.below(5));
     }
     match dice.below(8) {
-        0 | 1 => User(2),
-        2 => User(3),
+        0 => User(2),
+        1 | 2 => User(3),
         _ => User(1),
     }
 }
@@ -199,19 +217,49 @@ fn answered_thread(dice: &mut Dice, plain: &Plain) -> Thread {
     next_thread(dice)
 }
 
-/// Now and then the thread of a pulse that a worker holds, so that it goes on while the pulse is held.
+/// One of the first threads that wait in a pipe, if there are so many.
+fn waiting_thread(dice: &mut Dice, plain: &Plain) -> Option<Thread> {
+    let place = usize::from(dice.below(8));
+    plain
+        .threads()
+        .iter()
+        .filter(|row| matches!(&row.state, State::Waiting { .. }))
+        .nth(place)
+        .map(|row| row.thread)
+}
+
+/// Now and then the thread of a pulse that a worker holds, so that it goes on while the pulse is held, or one beside a
+/// thread that waits in a pipe, so that blocks are closed on which calls wait.
 fn watched_thread(dice: &mut Dice, plain: &Plain) -> Thread {
     if dice.one_in(2)
         && let Some(Post::Unblock(thread, _)) = plain.hand(any_worker(dice))
     {
         return thread;
     }
+    if dice.one_in(8)
+        && let Some(Thread { proc, .. }) = waiting_thread(dice, plain)
+    {
+        let tid = 1 + dice.below(4);
+        return Thread { proc, tid };
+    }
     next_thread(dice)
+}
+
+/// Whether a worker holds a pulse of a thread.
+fn has_held_pulse(plain: &Plain, thread: Thread) -> bool {
+    for number in 1..5 {
+        if let Some(Post::Unblock(held, _)) = plain.hand(Worker(number))
+            && held == thread
+        {
+            return true;
+        }
+    }
+    false
 }
 
 /// A worker that holds nothing, where a few tries find one.
 fn empty_worker(dice: &mut Dice, plain: &Plain) -> Worker {
-    for _ in 0..dice.below(8) {
+    for _ in 0..dice.below(32) {
         let worker = any_worker(dice);
         if plain.hand(worker).is_none() {
             return worker;
@@ -220,25 +268,27 @@ fn empty_worker(dice: &mut Dice, plain: &Plain) -> Worker {
     any_worker(dice)
 }
 
-/// A worker that is to go on with what it holds, where a few tries find one, and less often another.
+/// A worker that is to go on with what it holds, where some tries find one, and less often another.
 fn holding_worker(dice: &mut Dice, plain: &Plain) -> Worker {
-    for _ in 0..dice.below(16) {
+    for _ in 0..dice.below(64) {
         let worker = any_worker(dice);
-        if !is_late(plain, worker) || dice.one_in(8) {
+        if let Some(post) = plain.hand(worker)
+            && (!is_late(plain, post) || dice.one_in(16))
+        {
             return worker;
         }
     }
     any_worker(dice)
 }
 
-/// Whether a worker holds nothing, or what is to be late: a pulse, or a message that was asked to unblock its thread.
-fn is_late(plain: &Plain, worker: Worker) -> bool {
-    match plain.hand(worker) {
-        Some(Post::Message(thread)) => match plain.row(thread) {
+/// Whether it is to be late: a pulse, or a message that was asked to unblock its thread.
+fn is_late(plain: &Plain, post: Post) -> bool {
+    match post {
+        Post::Message(thread) => match plain.row(thread) {
             Some(row) => matches!(&row.state, State::Taken(sent) if sent.is_asked),
             None => true,
         },
-        Some(Post::Unblock(..)) | None => true,
+        Post::Unblock(..) => true,
     }
 }
 
@@ -262,7 +312,7 @@ fn waited_for(dice: &mut Dice, plain: &Plain) -> Manager {
 }
 
 fn next_manager(dice: &mut Dice) -> Manager {
-    if dice.one_in(4) {
+    if dice.one_in(2) {
         Manager::Pipe
     } else {
         Manager::Ram

@@ -4,6 +4,7 @@
 mod choice;
 mod dice;
 mod paths;
+mod pipes;
 mod raws;
 mod requests;
 mod texts;

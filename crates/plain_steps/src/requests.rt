@@ -2,6 +2,7 @@
 
 use crate::dice::Dice;
 use crate::paths::{next_directory_path, next_path, user_word};
+use crate::pipes::{has_waiting, next_piping};
 use crate::raws::next_raw;
 use crate::texts::{filled, next_after};
 use plain_machine::Plain;
@@ -22,6 +23,9 @@ pub fn next_request(
     }
     if dice.one_in(12) || proc.user == User(2) && dice.one_in(4) {
         return open_top(alloc, proc.user);
+    }
+    if dice.one_in(2) || has_waiting(plain, proc) && dice.one_in(2) {
+        return next_piping(alloc, dice, plain, proc);
     }
     match dice.below(32) {
         0..=2 => Ok(Request::Raw {
@@ -67,16 +71,16 @@ fn next_filling(
 /// A request with a message, of any kind.
 pub fn next_spoken(alloc: Global, dice: &mut Dice) -> Result<Request, AllocError> {
     let coid = next_connection(dice);
-    match dice.below(8) {
+    match dice.below(16) {
         0 => next_open(alloc, dice, User(1)),
         1 | 2 => next_looking(alloc, dice, User(1)),
-        3 => Ok(next_small(dice)),
-        4 => Ok(Request::Fstat { coid }),
-        5 => Ok(Request::Chmod {
+        3 | 4 => Ok(next_small(dice)),
+        5 => Ok(Request::Fstat { coid }),
+        6 => Ok(Request::Chmod {
             coid,
             mode: next_mode(dice),
         }),
-        6 => Ok(next_notify(dice, coid)),
+        7 => Ok(next_notify(dice, coid)),
         _ => next_using(alloc, dice, coid),
     }
 }
@@ -133,7 +137,7 @@ fn next_small(dice: &mut Dice) -> Request {
 }
 
 /// A request of a connection and more.
-fn next_using(alloc: Global, dice: &mut Dice, coid: Coid) -> Result<Request, AllocError> {
+pub fn next_using(alloc: Global, dice: &mut Dice, coid: Coid) -> Result<Request, AllocError> {
     match dice.below(14) {
         0 | 1 => Ok(Request::Read {
             coid,
@@ -227,7 +231,7 @@ fn next_value(dice: &mut Dice) -> u32 {
 }
 
 /// A number of bytes, now and then the greatest one or the one after it.
-fn next_count(dice: &mut Dice) -> u32 {
+pub fn next_count(dice: &mut Dice) -> u32 {
     if dice.one_in(4) {
         4_096 + u32::from(dice.below(2))
     } else {
@@ -236,7 +240,7 @@ fn next_count(dice: &mut Dice) -> u32 {
 }
 
 /// A few bytes, or the most, and now and then one more.
-fn next_bytes(alloc: Global, dice: &mut Dice) -> Result<Bytes, AllocError> {
+pub fn next_bytes(alloc: Global, dice: &mut Dice) -> Result<Bytes, AllocError> {
     let length = match dice.below(8) {
         0..=2 => dice.below(4) as usize,
         3 => 4_097,
@@ -295,7 +299,7 @@ fn next_flags(dice: &mut Dice) -> OFlags {
 }
 
 /// A mode, of the owner's bits most often all, and now and then the greatest one or the one after it.
-fn next_mode(dice: &mut Dice) -> u16 {
+pub fn next_mode(dice: &mut Dice) -> u16 {
     match dice.below(32) {
         0 => 0o777 + u16::from(dice.below(2)),
         1 => 0o077,
@@ -309,7 +313,7 @@ fn next_mode(dice: &mut Dice) -> u16 {
 }
 
 /// A mode with all bits of the owner, or without one of them.
-fn next_directory_mode(dice: &mut Dice) -> u16 {
+pub fn next_directory_mode(dice: &mut Dice) -> u16 {
     match dice.below(6) {
         0 | 1 => 0o600,
         2 => 0o500,

@@ -68,13 +68,10 @@ fn interrupt_word(row: &Row) -> &'static str {
     match &row.state {
         State::Ready | State::Answered(_) => "nothing waits",
         State::Queued(_) => "in a line",
-        State::Taken(sent) => {
-            if sent.is_asked {
-                "asked already"
-            } else {
-                "received"
-            }
-        }
+        State::Taken(sent) if sent.is_asked => "asked already",
+        State::Taken(_) => "received",
+        State::Waiting { is_asked: true, .. } => "in a pipe, asked already",
+        State::Waiting { .. } => "in a pipe",
     }
 }
 
@@ -90,41 +87,96 @@ fn item_deed(plain: &Plain, worker: Worker) -> Option<Deed> {
     match plain.hand(worker)? {
         Post::Message(thread) => match &plain.row(thread)?.state {
             State::Taken(sent) => place_deed(sent),
-            State::Ready | State::Queued(_) | State::Answered(_) => None,
+            State::Ready | State::Queued(_) | State::Waiting { .. } | State::Answered(_) => None,
         },
         Post::Unblock(thread, call) => Some(("pulse", found_word(plain, thread, call)?)),
     }
 }
 
-/// The message of the RAM manager that a step is about to perform: whose it is, and its kind.
-pub fn performed(plain: &Plain, step: &Step) -> Option<(Thread, Kind)> {
+/// A message that a step is about to perform: whose it is, at which manager, and its kind.
+#[derive(Clone, Copy)]
+pub struct Served {
+    pub thread: Thread,
+    pub manager: Manager,
+    pub kind: Kind,
+}
+
+/// The message that a step is about to perform.
+pub fn performed(plain: &Plain, step: &Step) -> Option<Served> {
     let Step::Perform { worker, .. } = step else {
         return None;
     };
     let Some(Post::Message(thread)) = plain.hand(*worker) else {
         return None;
     };
-    match &plain.row(thread)?.state {
-        State::Taken(sent) if sent.manager == Manager::Ram => match read(sent.bytes.as_slice()) {
-            Reading::Known(kind) => Some((thread, kind)),
-            Reading::Malformed | Reading::Unknown => None,
-        },
-        _ => None,
+    let State::Taken(sent) = &plain.row(thread)?.state else {
+        return None;
+    };
+    match read(sent.bytes.as_slice()) {
+        Reading::Known(kind) => Some(Served {
+            thread,
+            manager: sent.manager,
+            kind,
+        }),
+        Reading::Malformed | Reading::Unknown => None,
     }
 }
 
-/// How a thread's message of that kind was answered. That there is no function for it is not told, and that its
-/// connection has no block is told for all kinds in one, but for a read and a write, where EBADF has another cause too.
-pub fn answer_deed(plain: &Plain, thread: Thread, kind: Kind) -> Option<Deed> {
+/// How a message was answered, or that it waits. That there is no function for it is not told, and that its connection
+/// has no block is told for all kinds in one, but for a read and a write, where EBADF has another cause too.
+pub fn answer_deed(plain: &Plain, served: Served) -> Option<Deed> {
+    let Served {
+        thread,
+        manager,
+        kind,
+    } = served;
+    let word = match manager {
+        Manager::Ram => kind_word(kind),
+        Manager::Pipe => pipe_word(kind),
+    };
     match &plain.row(thread)?.state {
         State::Answered(Answer::Reply(status, bytes)) => {
-            Some((kind_word(kind), reply_word(kind, *status, bytes.as_slice())))
+            Some((word, reply_word(kind, *status, bytes.as_slice())))
         }
         State::Answered(Answer::Failed(Errno::ENOSYS)) => None,
         State::Answered(Answer::Failed(Errno::EBADF))
             if !matches!(kind, Kind::Read | Kind::Write) => { Some(("no block", "EBADF")) }
-        State::Answered(Answer::Failed(error)) => Some((kind_word(kind), error.name())),
+        State::Answered(Answer::Failed(error)) => Some((word, error.name())),
+        State::Waiting { .. } => Some((word, "waits")),
         State::Ready | State::Queued(_) | State::Taken(_) => None,
+    }
+}
+
+/// The kind of a message of the pipe manager.
+fn pipe_word(kind: Kind) -> &'static str {
+    match kind {
+        Kind::Open => "pipe open",
+        Kind::Stat => "pipe stat",
+        Kind::Unlink => "pipe unlink",
+        Kind::Read => "pipe read",
+        Kind::Write => "pipe write",
+        Kind::Close => "pipe close",
+        Kind::Lseek => "pipe lseek",
+        Kind::Fstat => "pipe fstat",
+        Kind::List => "pipe list",
+        Kind::Chmod => "pipe chmod",
+        Kind::Mknod | Kind::Dup | Kind::Notify => "no function",
+    }
+}
+
+/// How a thread was answered that waited in a pipe, if it was.
+pub fn waited_deed(plain: &Plain, thread: Thread) -> Option<Deed> {
+    match &plain.row(thread)?.state {
+        State::Answered(Answer::Reply(status, bytes)) => {
+            let word = match (*status, bytes.as_slice().is_empty()) {
+                (0, _) => "read the end",
+                (_, false) => "read something",
+                (_, true) => "wrote something",
+            };
+            Some(("waited", word))
+        }
+        State::Answered(Answer::Failed(error)) => Some(("waited", error.name())),
+        State::Ready | State::Queued(_) | State::Taken(_) | State::Waiting { .. } => None,
     }
 }
 
@@ -143,7 +195,8 @@ fn status_word(bytes: &[u8]) -> &'static str {
     match (bytes.get(4), bytes.get(8)) {
         (_, Some(0)) => "of no name",
         (Some(1), _) => "of a file",
-        _ => "of a directory",
+        (Some(2), _) => "of a directory",
+        _ => "of a pipe",
     }
 }
 
@@ -171,9 +224,12 @@ fn has_rest(sent: &Sent) -> bool {
 
 fn found_word(plain: &Plain, thread: Thread, call: u64) -> Option<&'static str> {
     let row = plain.row(thread)?;
+    let is_later = row.calls != call;
     match &row.state {
-        State::Taken(_) if row.calls == call => Some("its call waits"),
-        State::Taken(_) => Some("a later call received"),
+        State::Taken(_) if is_later => Some("a later call received"),
+        State::Taken(_) => Some("its call received"),
+        State::Waiting { .. } if is_later => Some("a later call in a pipe"),
+        State::Waiting { .. } => Some("its call in a pipe"),
         State::Queued(_) => Some("a later call in a line"),
         State::Ready | State::Answered(_) => Some("answered"),
     }

@@ -5,7 +5,7 @@ mod deeds;
 mod tally;
 
 use anyhow::bail;
-use deeds::{answer_deed, deed, performed};
+use deeds::{answer_deed, deed, performed, waited_deed};
 use plain_machine::{Held, Plain, State};
 use plain_steps::{Dice, next_step};
 use qx_types::{
@@ -18,9 +18,12 @@ use std::env;
 use tally::Tally;
 
 /// Steps from one busy time to the next, and how many of them are busy.
-const ROUND: u32 = 192;
+const ROUND: u32 = 2_400;
 
-const BUSY: u32 = 92;
+const BUSY: u32 = 800;
+
+/// With this seed the steps come to all that has to come.
+const SEED: u64 = 226;
 
 /// So many items have to stand in the line at some time.
 const LONG: usize = 100;
@@ -65,23 +68,48 @@ fn take_steps(
     tally: &mut Tally,
     count: u32,
 ) -> anyhow::Result<()> {
-    let mut dice = Dice::new(1);
+    let mut dice = Dice::new(SEED);
     for number in 0..count {
         let step = next_step(alloc, &mut dice, plain, number % ROUND < BUSY)?;
         let (done, message) = (deed(plain, &step), performed(plain, &step));
+        let waiting = waiting_threads(alloc, plain)?;
         let outcome = take_both(alloc, world, plain, &step)?;
         if !tally.mark(&outcome, done, plain.waiting(Manager::Ram)) {
             bail!("{step:?}: {outcome:?}");
         }
-        if let Some((thread, kind)) = message
-            && let Some(answer) = answer_deed(plain, thread, kind)
+        if let Some(served) = message
+            && let Some(answer) = answer_deed(plain, served)
+            && !tally.mark_answer(answer)
+        {
+            bail!("{step:?}: {answer:?}");
+        }
+        mark_woken(plain, tally, waiting.as_slice())?;
+    }
+    if !no_others(world, plain) {
+        bail!("a thread is there that was not started");
+    }
+    Ok(())
+}
+
+/// The threads that wait in pipes.
+fn waiting_threads(alloc: Global, plain: &Plain) -> Result<Vec<Thread>, AllocError> {
+    let mut waiting = Vec::new(alloc);
+    for row in plain.threads() {
+        if let State::Waiting { .. } = &row.state {
+            waiting.push(row.thread)?;
+        }
+    }
+    Ok(waiting)
+}
+
+/// Marks how those were answered who waited before a step and don't any more.
+fn mark_woken(plain: &Plain, tally: &mut Tally, waited: &[Thread]) -> anyhow::Result<()> {
+    for thread in waited {
+        if let Some(answer) = waited_deed(plain, *thread)
             && !tally.mark_answer(answer)
         {
             bail!("{thread:?}: {answer:?}");
         }
-    }
-    if !no_others(world, plain) {
-        bail!("a thread is there that was not started");
     }
     Ok(())
 }
@@ -268,13 +296,13 @@ fn no_others(world: &World, plain: &Plain) -> bool {
 fn is_answered(state: &State) -> bool {
     match state {
         State::Answered(_) => true,
-        State::Ready | State::Queued(_) | State::Taken(_) => false,
+        State::Ready | State::Queued(_) | State::Taken(_) | State::Waiting { .. } => false,
     }
 }
 
 fn is_blocked(state: &State) -> bool {
     match state {
-        State::Queued(_) | State::Taken(_) => true,
+        State::Queued(_) | State::Taken(_) | State::Waiting { .. } => true,
         State::Ready | State::Answered(_) => false,
     }
 }

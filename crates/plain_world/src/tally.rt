@@ -4,7 +4,7 @@ use crate::deeds::Deed;
 use qx_types::{Item, Outcome};
 
 /// Each outcome that the steps have to come to, and its error. None other may come.
-const OUTCOMES: [(&str, &str); 36] = [
+const OUTCOMES: [(&str, &str); 39] = [
     ("spawned", ""),
     ("refused", "EINVAL"),
     ("refused", "ENAMETOOLONG"),
@@ -34,6 +34,9 @@ const OUTCOMES: [(&str, &str); 36] = [
     ("error", "ENOTEMPTY"),
     ("error", "EPERM"),
     ("error", "EINTR"),
+    ("error", "EAGAIN"),
+    ("error", "EPIPE"),
+    ("error", "ESPIPE"),
     ("wrongstate", ""),
     ("took a message", ""),
     ("took an unblock", ""),
@@ -44,7 +47,7 @@ const OUTCOMES: [(&str, &str); 36] = [
 ];
 
 /// Each deed that has to be done. None other may be.
-const DEEDS: [(&str, &str); 44] = [
+const DEEDS: [(&str, &str); 48] = [
     ("call", "open"),
     ("call", "stat"),
     ("call", "unlink"),
@@ -85,14 +88,18 @@ const DEEDS: [(&str, &str); 44] = [
     ("interrupt", "in a line"),
     ("interrupt", "received"),
     ("interrupt", "asked already"),
-    ("pulse", "its call waits"),
+    ("interrupt", "in a pipe"),
+    ("interrupt", "in a pipe, asked already"),
+    ("pulse", "its call received"),
+    ("pulse", "its call in a pipe"),
     ("pulse", "answered"),
     ("pulse", "a later call in a line"),
     ("pulse", "a later call received"),
+    ("pulse", "a later call in a pipe"),
 ];
 
-/// Each answer of the RAM manager that has to come, by the kind of its message. None other may.
-const ANSWERS: [(&str, &str); 48] = [
+/// Each answer that has to come, by the manager and the kind of its message, and to those who waited. None other may.
+const ANSWERS: [(&str, &str); 98] = [
     ("no block", "EBADF"),
     ("open", "done"),
     ("open", "EINVAL"),
@@ -141,23 +148,73 @@ const ANSWERS: [(&str, &str); 48] = [
     ("list", "ENOTDIR"),
     ("chmod", "done"),
     ("chmod", "EPERM"),
+    ("pipe open", "done"),
+    ("pipe open", "EINVAL"),
+    ("pipe open", "ENOENT"),
+    ("pipe open", "ENOTDIR"),
+    ("pipe open", "EACCES"),
+    ("pipe open", "EEXIST"),
+    ("pipe open", "EISDIR"),
+    ("pipe open", "ENFILE"),
+    ("pipe stat", "of a pipe"),
+    ("pipe stat", "of a directory"),
+    ("pipe stat", "EINVAL"),
+    ("pipe stat", "ENOTDIR"),
+    ("pipe stat", "EACCES"),
+    ("pipe stat", "ENOENT"),
+    ("pipe unlink", "done"),
+    ("pipe unlink", "EINVAL"),
+    ("pipe unlink", "EBUSY"),
+    ("pipe unlink", "ENOENT"),
+    ("pipe unlink", "ENOTDIR"),
+    ("pipe unlink", "EACCES"),
+    ("pipe read", "something"),
+    ("pipe read", "nothing"),
+    ("pipe read", "waits"),
+    ("pipe read", "EBADF"),
+    ("pipe read", "EISDIR"),
+    ("pipe read", "EAGAIN"),
+    ("pipe read", "EINTR"),
+    ("pipe write", "something"),
+    ("pipe write", "nothing"),
+    ("pipe write", "waits"),
+    ("pipe write", "EBADF"),
+    ("pipe write", "EPIPE"),
+    ("pipe write", "EAGAIN"),
+    ("pipe write", "EINTR"),
+    ("pipe close", "done"),
+    ("pipe lseek", "ESPIPE"),
+    ("pipe lseek", "EINVAL"),
+    ("pipe fstat", "of a pipe"),
+    ("pipe fstat", "of a directory"),
+    ("pipe fstat", "of no name"),
+    ("pipe list", "something"),
+    ("pipe list", "nothing"),
+    ("pipe list", "ENOTDIR"),
+    ("pipe chmod", "done"),
+    ("waited", "read something"),
+    ("waited", "read the end"),
+    ("waited", "wrote something"),
+    ("waited", "EBADF"),
+    ("waited", "EPIPE"),
+    ("waited", "EINTR"),
 ];
 
 /// Which of the outcomes, deeds and answers came, and how long the line was.
 #[derive(Drop)]
 pub struct Tally {
-    outcomes: [bool; 36],
-    deeds: [bool; 44],
-    answers: [bool; 48],
+    outcomes: [bool; 39],
+    deeds: [bool; 48],
+    answers: [bool; 98],
     longest: usize,
 }
 
 impl Tally {
     pub fn new() -> Tally {
         Tally {
-            outcomes: [false; 36],
-            deeds: [false; 44],
-            answers: [false; 48],
+            outcomes: [false; 39],
+            deeds: [false; 48],
+            answers: [false; 98],
             longest: 0,
         }
     }

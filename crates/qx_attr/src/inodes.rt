@@ -1,15 +1,18 @@
 ghost use Rattle.std.specs.Prelude.{◌≡◌, ◌+◌, ◌-◌, ◌<◌, ◌≤◌, Bool, None, Some, IfOk, IfSome, OnOk, OnErr, IsOk, IsSome, max, option_map, slice_set};
 ghost use Rattle.std.specs.Option.{option_copied};
 ghost use Rattle.qx_attr.specs.Counts.{numbered};
+ghost use Rattle.qx_attr.specs.Flags.{block_for};
 ghost use Rattle.qx_machine.specs.Attributes.{stat_bytes};
 ghost use Rattle.qx_machine.specs.Inodes as machine;
+ghost use Rattle.qx_machine.specs.PipeManager.{sides_of};
 ghost use Rattle.qx_machine.specs.Rows.{lowest_from, put_row, row_at};
 ghost use Rattle.qx_types.specs.declared.limits.TheConstants.Limits.{BLOCKS};
 
 use crate::attr::Attr;
 use crate::blocks::Blocks;
 use crate::status::{Status, stat_bytes};
-use qx_machine::{Attribute, Ocb};
+use bitflags::Flags;
+use qx_machine::{Attribute, Ocb, Sides};
 use qx_process::places;
 use qx_types::{Errno, Limits, OFlags};
 use std::alloc::{AllocError, Global};
@@ -68,11 +71,37 @@ impl Inodes {
         places::row(self.attrs.as_slice(), inode as usize)
     }
 
+    /// For which sides an inode has open control blocks; none where there is no inode.
+    pub fn sides(&self, inode: u32) -> Sides
+        ensures { result ≡ sides_of self.now.inodes inode }
+    {
+        match places::row(self.attrs.as_slice(), inode as usize) {
+            Some(attr) => Sides {
+                for_reading: attr.readers != 0,
+                for_writing: attr.writers != 0,
+            },
+            None => Sides {
+                for_reading: false,
+                for_writing: false,
+            },
+        }
+    }
+
     /// An open control block.
     pub fn block(&self, number: u16) -> Option<&Ocb>
         ensures block { option_copied result ≡ row_at self.now.inodes.blocks number }
     {
         self.blocks.get(number as usize)
+    }
+
+    /// An open control block that was opened with a flag, else EBADF.
+    pub fn block_for(&self, number: u16, flag: OFlags) -> Result<Ocb, Errno>
+        ensures { result ≡ block_for self.now.inodes number flag }
+    {
+        match self.block(number) {
+            Some(block) if block.flags.contains(flag) => Ok(*block),
+            _ => Err(Errno::EBADF),
+        }
     }
 
     /// Makes room for `count` more inodes and as many more open control blocks.

@@ -9,6 +9,7 @@ use Rattle.qx_types.specs.declared.names.Thread.{Thread}
 use Rattle.qx_types.specs.declared.outcome.Answer.{Answer}
 use Rattle.qx_types.specs.declared.outcome.Answer.TheVariants.{Reply, Failed}
 use Rattle.qx_machine.specs.declared.rows.Effect.{Effect}
+use Rattle.qx_machine.specs.declared.rows.Effect.TheVariants.{Keeps, Opens, Closes}
 use Rattle.qx_machine.specs.declared.rows.Over.{Over}
 use Rattle.qx_machine.specs.declared.rows.OwnItem.TheVariants as item
 use Rattle.qx_machine.specs.declared.rows.Queued.{Queued}
@@ -16,21 +17,23 @@ use Rattle.qx_machine.specs.declared.rows.ThreadRow.{ThreadRow}
 use Rattle.qx_machine.specs.Lines.{line_at}
 use Rattle.qx_machine.specs.Machine.{line_without}
 use Rattle.qx_machine.specs.Performing.{taken_in}
-use Rattle.qx_machine.specs.Processes.{Process, after_effect, answered_thread, with_thread}
+use Rattle.qx_machine.specs.Processes.{Process, after_effect, after_error, after_reply, answered_thread, served_thread, with_thread}
 use Rattle.qx_machine.specs.Rows.{with_row}
 use Rattle.qx_queues.specs.Queues.{Queues, stands, unblock_call, with_queues_line}
 use Rattle.qx_queues.proofs.LineLemmas.{call-replied_other, call-withdrawn, replied-none, stands-replied, stands-withdrawn_other}
 use Rattle.qx_chan.specs.Calls.{queued_call, taken_call}
 use Rattle.qx_chan.specs.Channel.{failed, replied}
-use Rattle.qx_chan.specs.Kept.{Kept, asked_at, attached_at, settled, stands_at}
-use Rattle.qx_chan.specs.Users.{Users, process_of, thread_row, with_process_of}
+use Rattle.qx_chan.specs.Kept.{Kept, asked_at, attached_at, settled, stands_at, waits_for}
+use Rattle.qx_chan.specs.Users.{Users, process_of, thread_row, with_process_of, with_thread_row}
 use Rattle.qx_chan.specs.declared.call.Call.{Call}
 use Rattle.qx_chan.proofs.AttachedLemmas.{fewer-done, fewer-given_back, fewer-let_go, threads-done, threads-given_back, threads-let_go}
 use Rattle.qx_chan.proofs.CallLemmas.{queued-at_target, taken_is, waits}
-use Rattle.qx_chan.proofs.ReceiveLemmas.{queued-unasked, stands_once}
-use Rattle.qx_chan.proofs.RowReads.{option_cases}
+use Rattle.qx_chan.proofs.ReceiveLemmas.{queued-unasked, queued-unwaiting, stands_once}
+use Rattle.qx_chan.proofs.ProcessLemmas.{with_process-alike, with_process-twice}
+use Rattle.qx_chan.proofs.RowReads.{option_cases, with_row-twice}
 use Rattle.qx_chan.proofs.SettleLemmas.{Kept-settled}
-use Rattle.qx_chan.proofs.ThreadLemmas.{OneThread, Own, OwnLine, Unsettled-changed, one_thread}
+use Rattle.qx_chan.proofs.ThreadLemmas.{OneThread, Own, OwnLine, Unsettled-changed, one_thread, waits-told}
+use Rattle.qx_chan.proofs.WaitLemmas.{no-wait}
 
 -- a change of a process that answers one of its threads, and attaches nothing
 pub record IsAnswer (thread : ℕ) (answer : Answer) (f : Process → Process) : Type 0 where
@@ -49,8 +52,32 @@ fails thread error over = record {
   fewer = λ x number is. fewer-given_back thread over (with_thread thread (answered_thread (Failed error)) x) number is;
 }
 
+-- a message that is served before its thread gets a reply is replied to all the same
+done-served : (effect : Effect) (thread : ℕ) (x : Process) → after_effect effect (with_thread thread served_thread x) ≡ with_thread thread served_thread (after_effect effect x)
+done-served Keeps thread x = refl
+done-served (Opens coid block) thread x = refl
+done-served (Closes coid) thread x = refl
+
+replied-served : (thread : ℕ) (effect : Effect) (status : ℕ) (bytes : List ℕ) (over : Over) (x : Process) → replied thread effect status bytes over (with_thread thread served_thread x) ≡ replied thread effect status bytes over x
+replied-served thread effect status bytes over x =
+    ap (λ y. after_reply thread over (with_thread thread (answered_thread (Reply status bytes)) y)) (done-served effect thread x)
+    ∙ ap (λ threads. after_reply thread over (record (after_effect effect x) { threads = threads })) (with_row-twice (after_effect effect x).threads thread served_thread (answered_thread (Reply status bytes)))
+
+pub reply_served : (users : Users) (thread : Thread) (effect : Effect) (status : ℕ) (bytes : List ℕ) (over : Over)
+    → with_process_of (with_thread_row users thread served_thread) thread.proc (replied thread.tid effect status bytes over) ≡ with_process_of users thread.proc (replied thread.tid effect status bytes over)
+reply_served users thread effect status bytes over =
+    with_process-twice users thread.proc (with_thread thread.tid served_thread) (replied thread.tid effect status bytes over)
+    ∙ with_process-alike users thread.proc _ _ (replied-served thread.tid effect status bytes over)
+
+-- and one that gets an error is answered so all the same
+pub fail_served : (users : Users) (thread : Thread) (error : Errno) (over : Over)
+    → with_process_of (with_thread_row users thread served_thread) thread.proc (failed thread.tid error over) ≡ with_process_of users thread.proc (failed thread.tid error over)
+fail_served users thread error over =
+    with_process-twice users thread.proc (with_thread thread.tid served_thread) (failed thread.tid error over)
+    ∙ with_process-alike users thread.proc _ _ (λ x. ap (λ threads. after_error thread.tid over (record x { threads = threads })) (with_row-twice x.threads thread.tid served_thread (answered_thread (Failed error))))
+
 -- an answered thread stands nowhere and has no pulse
-answered_row : (answer : Answer) (row : Option ThreadRow) (number : ℕ) → stands_at number (option_map (answered_thread answer) row) ≡ false
+pub answered_row : (answer : Answer) (row : Option ThreadRow) (number : ℕ) → stands_at number (option_map (answered_thread answer) row) ≡ false
 answered_row answer None number = refl
 answered_row answer (Some row) number = refl
 
@@ -75,6 +102,7 @@ module _ (users : Users) (queues : Queues) (thread : Thread) (f : Process → Pr
     pub stand_other : (at : ℕ) → at ≢ number → stands_at at (thread_row users thread) ≡ false
     pub calls : unblock_call (change line) thread ≡ None
     pub calls_other : (at call : ℕ) → at ≢ number → unblock_call (line_at queues.lines at) thread ≡ Some call → ⊥
+    pub unwaiting : (call : ℕ) → waits_for call (thread_row users thread) ≡ false
 
   module _ (left : Left) where
     own : Own users new queues thread f (answered_thread answer) one kept manager change
@@ -84,12 +112,13 @@ module _ (users : Users) (queues : Queues) (thread : Thread) (f : Process → Pr
       stand_other = λ at differs. kept.lines thread at ∙ left.stand_other at differs ∙ sym (rw one.own (answered_row answer (thread_row users thread) at));
       calls = λ call is. let clash : None ≡ Some call = sym left.calls ∙ is in absurd (cc);
       calls_other = λ at call differs is. absurd (left.calls_other at call differs is);
+      waits = waits-told users new queues thread f (answered_thread answer) one kept (no-wait (thread_row users thread) (option_map (answered_thread answer) (thread_row users thread)) left.unwaiting);
     }
 
     pub Kept-left : Kept new (settled thread.proc (process_of new thread.proc) managers (with_queues_line queues number change))
     Kept-left = Kept-settled new (with_queues_line queues number change) thread.proc
         (Unsettled-changed users new queues thread f (answered_thread answer) one kept manager change own
-        (with_queues_line queues number change) refl refl (λ t. refl) (λ other at differs. refl)
+        (with_queues_line queues number change) refl refl refl refl (λ t. refl) (λ other at differs. refl)
         (λ m is. kept.servers thread.proc m ∙ as_before (manager_number m) (process_of users thread.proc) is))
       where
         as_before : (at : ℕ) (o : Option Process) → attached_at at (option_map f o) ≡ true → attached_at at o ≡ true
@@ -121,6 +150,7 @@ module _ (users : Users) (queues : Queues) (thread : Thread) (call : Call) (is :
         stand_other = λ at differs. stands_once (thread_row users thread) its_line at differs at_target;
         calls = call-withdrawn (line_at queues.lines its_line) thread thread ∙ no_pulse its_line;
         calls_other = λ at other differs its. queued-unasked (thread_row users thread) its_line at_target at other (kept.pulses thread at other its);
+        unwaiting = queued-unwaiting (thread_row users thread) its_line at_target;
       })
     where
       no_pulse : (at : ℕ) → unblock_call (line_at queues.lines at) thread ≡ None
@@ -131,12 +161,12 @@ module _ (users : Users) (queues : Queues) (thread : Thread) (call : Call) (is :
 
 -- ---- a received message is answered
 
-and_last : (a b c : Bool) → (a && b && c) ≡ true → c ≡ true
+pub and_last : (a b c : Bool) → (a && b && c) ≡ true → c ≡ true
 and_last true true c is = is
 and_last true false c is = cc
 and_last false b c is = cc
 
-and_middle : (a b c : Bool) → (a && b && c) ≡ true → b ≡ true
+pub and_middle : (a b c : Bool) → (a && b && c) ≡ true → b ≡ true
 and_middle true true c is = refl
 and_middle true false c is = cc
 and_middle false b c is = cc
@@ -148,8 +178,13 @@ pulse_of_call number call row its is asked =
     let both : (it.sent.is_asked && (manager_number it.sent.target.manager == number) && (it.row.calls == call)) ≡ true = rw (it.there, taken_is it.row.state it.sent it.is) at asked in
     (ap (λ target. manager_number target.manager) it.target ∙ eqb-true (manager_number it.sent.target.manager) number (and_middle it.sent.is_asked _ _ both), it.number ∙ eqb-true it.row.calls call (and_last it.sent.is_asked _ _ both))
 
-taken-stands : (number : ℕ) (row : Option ThreadRow) (call : Call) → Some call ≡ taken_call row → stands_at number row ≡ false
+pub taken-stands : (number : ℕ) (row : Option ThreadRow) (call : Call) → Some call ≡ taken_call row → stands_at number row ≡ false
 taken-stands number row call is =
+    let it = waits taken_in row call is in
+    rw (it.there, taken_is it.row.state it.sent it.is) refl
+
+pub taken-unwaiting : (row : Option ThreadRow) (call : Call) → Some call ≡ taken_call row → (other : ℕ) → waits_for other row ≡ false
+taken-unwaiting row call is other =
     let it = waits taken_in row call is in
     rw (it.there, taken_is it.row.state it.sent it.is) refl
 
@@ -174,6 +209,7 @@ module _ (users : Users) (queues : Queues) (thread : Thread) (call : Call) (is :
         stand_other = λ at differs. taken-stands at (thread_row users thread) call is;
         calls = no_call;
         calls_other = λ at other differs its. differs (sym (pulse_of_call at other (thread_row users thread) call is (kept.pulses thread at other its)).0);
+        unwaiting = taken-unwaiting (thread_row users thread) call is;
       })
     where
       no_call : unblock_call (drop_pulse (line_at queues.lines call_line)) thread ≡ None

@@ -1,17 +1,16 @@
 -- The call that a thread waits for, and what its row and the lines then say.
-use Rattle.std.proofs.Common.{◌≡◌, inl, inr, eq-eqb, true, false, Option, Some, None, refl, sym, ◌∙◌, ap}
-use Rattle.std.specs.Prelude.{Bool, if◌then◌else◌}
+use Rattle.std.proofs.Common.{◌≡◌, ◌⊎◌, inl, inr, eq-eqb, true, false, Option, Some, None, refl, sym, ◌∙◌, ap}
+use Rattle.std.specs.Prelude.{Bool, IsSome, if◌then◌else◌}
 use Rattle.qx_types.specs.Managers.{manager_number}
 use Rattle.qx_types.specs.declared.names.Thread.{Thread}
 use Rattle.qx_machine.specs.declared.rows.Sent.{Sent}
 use Rattle.qx_machine.specs.declared.rows.State.{State}
-use Rattle.qx_machine.specs.declared.rows.State.TheVariants.{Ready, Queued, Taken, Answered}
+use Rattle.qx_machine.specs.declared.rows.State.TheVariants.{Answered, Queued, Ready, Taken, Waiting}
 use Rattle.qx_machine.specs.declared.rows.ThreadRow.{ThreadRow}
 use Rattle.qx_machine.specs.Lines.{line_at}
 use Rattle.qx_machine.specs.Performing.{taken_in}
-use Rattle.qx_process.specs.Reads.{is_thread_blocked}
 use Rattle.qx_queues.specs.Queues.{Queues, stands}
-use Rattle.qx_chan.specs.Calls.{call_of, queued_call, queued_in, taken_call, unasked_in}
+use Rattle.qx_chan.specs.Calls.{call_of, queued_call, queued_in, taken_bytes, taken_call, unasked_in}
 use Rattle.qx_chan.specs.Kept.{Kept, stands_at}
 use Rattle.qx_chan.specs.Users.{Users, thread_row}
 use Rattle.qx_chan.specs.declared.call.Call.{Call}
@@ -25,49 +24,48 @@ pub record Waits (message : State → Option Sent) (place : Option ThreadRow) (c
   pub is : message row.state ≡ Some sent
   pub target : call.target ≡ sent.target
   pub number : call.number ≡ row.calls
+  pub asked : call.is_asked ≡ sent.is_asked
 
 pub waits : (message : State → Option Sent) (place : Option ThreadRow) (call : Call) → Some call ≡ call_of message place → Waits message place call
 waits message None call is = let clash : None ≡ Some call = sym is in absurd (cc)
 waits message (Some row) call is = elim (option_cases (message row.state)) [
   | inl none ↦ let clash : Some call ≡ None = rw none at is in absurd (cc)
   | inr sent ↦
-      let same : Some call ≡ Some (record { target = sent.0.target; number = row.calls }) = rw sent.1 at is in
-      let its : call ≡ record { target = sent.0.target; number = row.calls } = cc in
-      record { row = row; there = refl; sent = sent.0; is = sent.1; target = ap (λ c. c.target) its; number = ap (λ c. c.number) its }
+      let same : Some call ≡ Some (record { target = sent.0.target; number = row.calls; is_asked = sent.0.is_asked }) = rw sent.1 at is in
+      let its : call ≡ record { target = sent.0.target; number = row.calls; is_asked = sent.0.is_asked } = cc in
+      record { row = row; there = refl; sent = sent.0; is = sent.1; target = ap (λ c. c.target) its; number = ap (λ c. c.number) its; asked = ap (λ c. c.is_asked) its }
 ]
 
 pub queued_is : (s : State) (sent : Sent) → queued_in s ≡ Some sent → s ≡ Queued sent
 queued_is Ready sent is = cc
 queued_is (Queued other) sent is = let same : other ≡ sent = cc in rw same refl
 queued_is (Taken other) sent is = cc
+queued_is (Waiting other) sent is = cc
 queued_is (Answered answer) sent is = cc
 
 pub taken_is : (s : State) (sent : Sent) → taken_in s ≡ Some sent → s ≡ Taken sent
 taken_is Ready sent is = cc
 taken_is (Queued other) sent is = cc
 taken_is (Taken other) sent is = let same : other ≡ sent = cc in rw same refl
+taken_is (Waiting other) sent is = cc
 taken_is (Answered answer) sent is = cc
 
-pub unasked_is : (s : State) (sent : Sent) → unasked_in s ≡ Some sent → (s ≡ Taken sent) × (sent.is_asked ≡ false)
+unless_asked : (asked : Bool) (other sent : Sent) → other.is_asked ≡ asked → (if asked then None else Some other) ≡ Some sent → (other ≡ sent) × (sent.is_asked ≡ false)
+unless_asked true other sent asked given = cc
+unless_asked false other sent unasked given = let same : other ≡ sent = cc in (same, ap (λ s. s.is_asked) (sym same) ∙ unasked)
+
+pub unasked_is : (s : State) (sent : Sent) → unasked_in s ≡ Some sent → ((s ≡ Taken sent) ⊎ (s ≡ Waiting sent)) × (sent.is_asked ≡ false)
 unasked_is Ready sent is = cc
 unasked_is (Queued other) sent is = cc
 unasked_is (Answered answer) sent is = cc
-unasked_is (Taken other) sent is = by_asked other.is_asked refl is
-  where
-    by_asked : (asked : Bool) → other.is_asked ≡ asked → (if asked then None else Some other) ≡ Some sent → (Taken other ≡ Taken sent) × (sent.is_asked ≡ false)
-    by_asked true asked given = cc
-    by_asked false unasked given = let same : other ≡ sent = cc in (ap Taken same, ap (λ s. s.is_asked) (sym same) ∙ unasked)
+unasked_is (Taken other) sent is = let its = unless_asked other.is_asked other sent refl is in (inl (ap Taken its.0), its.1)
+unasked_is (Waiting other) sent is = let its = unless_asked other.is_asked other sent refl is in (inr (ap Waiting its.0), its.1)
 
--- a thread that waits is blocked
-pub taken-blocked : (place : Option ThreadRow) (call : Call) → Some call ≡ taken_call place → is_thread_blocked place ≡ true
-taken-blocked place call is =
+-- a message that was received and is not served has its bytes
+pub taken-bytes : (place : Option ThreadRow) (call : Call) → Some call ≡ taken_call place → IsSome (taken_bytes place)
+taken-bytes place call is =
     let it = waits taken_in place call is in
     rw (it.there, taken_is it.row.state it.sent it.is) refl
-
-pub queued-blocked : (place : Option ThreadRow) (call : Call) → Some call ≡ queued_call place → is_thread_blocked place ≡ true
-queued-blocked place call is =
-    let it = waits queued_in place call is in
-    rw (it.there, queued_is it.row.state it.sent it.is) refl
 
 -- its message stands in the line that it went to
 at_target : (place : Option ThreadRow) (row : ThreadRow) (sent : Sent) → place ≡ Some row → row.state ≡ Queued sent → stands_at (manager_number sent.target.manager) place ≡ true

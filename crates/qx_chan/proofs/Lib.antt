@@ -2,12 +2,20 @@
 mod AttachedLemmas
 -- a thread is answered
 mod AnswerLemmas
+-- the answers to calls that waited, and what the machine makes of them
+pub mod GivenLemmas
 -- a thread is asked to unblock
 mod AskLemmas
 -- the call that a thread waits for
 mod CallLemmas
 -- a thread takes its answer, or gets another priority
 mod PrioLemmas
+-- an unblock pulse is performed
+mod PulseLemmas
+-- a received message is performed
+mod MessageLemmas
+-- what bytes mean has its values in their ranges
+mod MeaningLemmas
 -- one process among all users'
 pub mod ProcessLemmas
 -- a message is received
@@ -16,9 +24,17 @@ mod ReceiveLemmas
 pub mod RowReads
 -- a message goes out
 mod SendLemmas
+-- what a received message that was done comes to
+mod OutcomeLemmas
+-- what a user's resources leave of the queues
+mod ServeLemmas
+-- a message is served, as in the machine
+mod ServedLemmas
 -- disconnect nodes are settled
 mod SettleLemmas
 -- a process starts, and no process is there
 mod StartLemmas
 -- one thread's row changes, and one line
 mod ThreadLemmas
+-- the calls that wait
+mod WaitLemmas

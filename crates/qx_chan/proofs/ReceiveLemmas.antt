@@ -16,11 +16,12 @@ use Rattle.qx_machine.specs.Processes.{taken_state, taken_thread, with_thread}
 use Rattle.qx_queues.specs.Queues.{Queues, IsGone, sender, sender_of, stands, unblock_call, with_queues_line}
 use Rattle.qx_chan.specs.Channel.{with_taken}
 use Rattle.qx_chan.specs.Users.{Users, thread_row, with_thread_row}
-use Rattle.qx_chan.specs.Kept.{Kept, asked_at, is_asked_at, is_queued_at, stands_at}
+use Rattle.qx_chan.specs.Kept.{Kept, asked_at, is_asked_at, is_queued_at, is_waiting_for, stands_at, waits_for}
 use Rattle.qx_queues.proofs.EntryLemmas.{is_same_thread-self}
 use Rattle.qx_queues.proofs.LineLemmas.{call-received, call-received_other, stands-received, stands-received_other}
 use Rattle.qx_chan.proofs.AttachedLemmas.{eqb-differs}
-use Rattle.qx_chan.proofs.ThreadLemmas.{Kept-changed, OneThread, Own, no_thread, one_thread}
+use Rattle.qx_chan.proofs.ThreadLemmas.{Kept-changed, OneThread, Own, no_thread, one_thread, waits-told}
+use Rattle.qx_chan.proofs.WaitLemmas.{no-wait}
 
 pub first_of-line : (line : List Queued) (first : Queued) → Some first ≡ slice_get line 0 → line ≡ first ∷ drop 1 line
 first_of-line [] first is = cc
@@ -45,6 +46,7 @@ gone_from (Some row) number at is = by_state row.state is
     by_state state.Ready is = refl
     by_state (state.Queued sent) is = refl
     by_state (state.Taken sent) is = refl
+    by_state (state.Waiting sent) is = refl
     by_state (state.Answered answer) is = refl
 
 pub stands_once : (row : Option ThreadRow) (number at : ℕ) → at ≢ number → stands_at number row ≡ true → stands_at at row ≡ false
@@ -55,6 +57,7 @@ stands_once (Some row) number at differs is = by_state row.state is
     by_state state.Ready is = refl
     by_state (state.Queued sent) is = eqb-differs (manager_number sent.target.manager) at (λ same. differs (sym same ∙ eqb-true (manager_number sent.target.manager) number is))
     by_state (state.Taken sent) is = refl
+    by_state (state.Waiting sent) is = refl
     by_state (state.Answered answer) is = refl
 
 -- a thread whose message stands in a line has no unblock pulse
@@ -66,7 +69,20 @@ queued-unasked (Some row) number is at call asked = by_state row.state is asked
     by_state state.Ready is asked = cc
     by_state (state.Queued sent) is asked = cc
     by_state (state.Taken sent) is asked = cc
+    by_state (state.Waiting sent) is asked = cc
     by_state (state.Answered answer) is asked = cc
+
+-- and waits for no answer
+pub queued-unwaiting : (row : Option ThreadRow) (number : ℕ) → stands_at number row ≡ true → (call : ℕ) → waits_for call row ≡ false
+queued-unwaiting None number is call = refl
+queued-unwaiting (Some row) number is call = by_state row.state is
+  where
+    by_state : (s : State) → is_queued_at number s ≡ true → is_waiting_for call row.calls s ≡ false
+    by_state state.Ready is = refl
+    by_state (state.Queued sent) is = refl
+    by_state (state.Taken sent) is = refl
+    by_state (state.Waiting sent) is = let clash : false ≡ true = is in absurd (cc)
+    by_state (state.Answered answer) is = refl
 
 module _ (users : Users) (queues : Queues) (manager : Manager) (user : ℕ) (prio : ℕ) (rest : List Queued) (kept : Kept users queues) where
   abbrev number : ℕ
@@ -99,6 +115,7 @@ module _ (users : Users) (queues : Queues) (manager : Manager) (user : ℕ) (pri
       stand_other = λ at differs. kept.lines thread at ∙ stands_once (thread_row users thread) number at differs stood ∙ sym (rw one.own (gone_from (thread_row users thread) number at stood));
       calls = λ call is. absurd (none number call (rw line (call-received first rest thread refl ∙ rw line at is)));
       calls_other = λ at call differs is. absurd (none at call is);
+      waits = waits-told users (with_thread_row users thread taken_thread) queues thread (with_thread tid taken_thread) taken_thread one kept (no-wait (thread_row users thread) (option_map taken_thread (thread_row users thread)) (queued-unwaiting (thread_row users thread) number stood));
     }
       where
         none : (at call : ℕ) → unblock_call (line_at queues.lines at) thread ≡ Some call → ⊥
@@ -125,6 +142,7 @@ module _ (users : Users) (queues : Queues) (manager : Manager) (user : ℕ) (pri
       stand_other = λ at differs. kept.lines asked at;
       calls = λ its is. let clash : None ≡ Some its = sym gone ∙ rw line at is in absurd (cc);
       calls_other = λ at its differs is. kept.pulses asked at its is;
+      waits = kept.waits;
     }
 
     pulse-taken : Kept users (with_queues_line queues number (drop 1))

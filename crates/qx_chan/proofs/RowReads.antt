@@ -3,7 +3,7 @@ use Rattle.std.proofs.Common.{◌≡◌, ◌≢◌, inl, inr, ℕ, ◌-◌, ◌<
 use Rattle.std.proofs.lemmas.Bool.{cases_lt}
 use Rattle.std.proofs.lemmas.Bool.Decides.{nat_tests}
 use Rattle.std.proofs.lemmas.Grind.{common_steps}
-use Rattle.std.proofs.lemmas.List.{get_or-set_same, get_or-set_other, length-set}
+use Rattle.std.proofs.lemmas.List.{get_or-set_same, get_or-set_other, length-set, set-set}
 use Rattle.std.proofs.Math.ListN.{get_or-append}
 use Rattle.std.proofs.Math.Seq.{get_or-append_seam, get_or-append_right}
 use Rattle.qx_machine.specs.Rows.{row_at, lowest_from, put_row, taken_places, with_row}
@@ -46,6 +46,24 @@ row_at-with_same xs n f = elim (cases_lt n (length xs)) [
 
 pub row_at-with_other : {A : Type 0} (xs : List (Option A)) (n m : ℕ) (f : A → A) → m ≢ n → row_at (with_row xs n f) m ≡ row_at xs m
 row_at-with_other xs n m f differs = row_at-set_other xs n m (option_map f (row_at xs n)) differs
+
+-- two changes of a row are one
+pub with_row-twice : {A : Type 0} (xs : List (Option A)) (n : ℕ) (f g : A → A) → with_row (with_row xs n f) n g ≡ with_row xs n (λ x. g (f x))
+with_row-twice {A = A} xs n f g =
+    ap (λ row. slice_set (with_row xs n f) n (option_map g row)) (row_at-with_same xs n f)
+    ∙ set-set xs n (option_map f (row_at xs n)) (option_map g (option_map f (row_at xs n)))
+    ∙ ap (slice_set xs n) (both (row_at xs n))
+  where
+    both : (o : Option A) → option_map g (option_map f o) ≡ option_map (λ x. g (f x)) o
+    both None = refl
+    both (Some x) = refl
+
+pub with_row-alike : {A : Type 0} (xs : List (Option A)) (n : ℕ) (f g : A → A) → ((x : A) → f x ≡ g x) → with_row xs n f ≡ with_row xs n g
+with_row-alike {A = A} xs n f g same = ap (slice_set xs n) (each (row_at xs n))
+  where
+    each : (o : Option A) → option_map f o ≡ option_map g o
+    each None = refl
+    each (Some x) = ap Some (same x)
 
 -- a row that comes
 

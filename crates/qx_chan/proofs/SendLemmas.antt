@@ -14,15 +14,16 @@ use Rattle.qx_machine.specs.Lines.{into, line_at}
 use Rattle.qx_machine.specs.Machine.{rank}
 use Rattle.qx_machine.specs.Processes.{Process, queued_thread, with_queued, with_thread}
 use Rattle.qx_machine.specs.Servers.{is_numbered}
-use Rattle.qx_queues.specs.Queues.{Queues, has_server, has_thread, message_of, stands, unblock_call, with_queues_line, with_server}
+use Rattle.qx_queues.specs.Queues.{HasNoCall, Queues, caller, has_server, has_thread, is_answered, message_of, stands, unblock_call, waiting_in, with_queues_line, with_server}
 use Rattle.qx_chan.specs.Users.{IsReady, Users, process_of, thread_row, with_process_of}
-use Rattle.qx_chan.specs.Kept.{Kept, asked_at, attached_at, attaches, is_queued_at, stands_at, with_attached, with_room}
+use Rattle.qx_chan.specs.Kept.{Kept, asked_at, attached_at, attaches, is_queued_at, stands_at, waits_for, with_attached, with_room}
 use Rattle.qx_queues.proofs.EntryLemmas.{is_same_thread-differs, is_same_thread-self, or_false, or_true}
 use Rattle.qx_queues.proofs.LineLemmas.{call-sent, stands-sent}
 use Rattle.qx_queues.proofs.SetLemmas.{has-server, is_same_server-differs}
 use Rattle.qx_chan.proofs.AttachedLemmas.{attached-connected, attached-existing, eqb-differs, same_server-self, threads-connected}
 use Rattle.qx_chan.proofs.SettleLemmas.{Kept-settled}
-use Rattle.qx_chan.proofs.ThreadLemmas.{Kept-changed, OneThread, Own, Unsettled-changed, one_thread}
+use Rattle.qx_chan.proofs.ThreadLemmas.{Kept-changed, OneThread, Own, Unsettled-changed, one_thread, waits-told}
+use Rattle.qx_chan.proofs.WaitLemmas.{no-call, no-wait}
 
 -- a thread that waits for nothing
 
@@ -38,6 +39,10 @@ ready-there : (row : Option ThreadRow) → IsReady row → is_some row ≡ true
 ready-there None ready = absurd ready
 ready-there (Some row) ready = refl
 
+ready-unwaiting : (row : Option ThreadRow) → IsReady row → (call : ℕ) → waits_for call row ≡ false
+ready-unwaiting None ready call = absurd ready
+ready-unwaiting (Some row) ready call = rw ready refl
+
 -- its process has a thread with nodes
 pub has-sender : (users : Users) (queues : Queues) (thread : Thread) → IsReady (thread_row users thread) → Kept users queues → has_thread queues thread ≡ true
 has-sender users queues thread ready kept = kept.threads thread ∙ ready-there (thread_row users thread) ready
@@ -46,9 +51,16 @@ has-sender users queues thread ready kept = kept.threads thread ∙ ready-there 
 pub waits-nowhere : (users : Users) (queues : Queues) (thread : Thread) → IsReady (thread_row users thread) → Kept users queues → (number : ℕ) → stands (line_at queues.lines number) thread ≡ false
 waits-nowhere users queues thread ready kept number = kept.lines thread number ∙ ready-waits (thread_row users thread) ready number
 
+-- and waits in no pipe
+pub calls-nowhere : (users : Users) (queues : Queues) (thread : Thread) → IsReady (thread_row users thread) → Kept users queues → HasNoCall queues thread
+calls-nowhere users queues thread ready kept = record {
+  waiting = λ list. no-call caller (λ own. own.call.call) users thread (ready-unwaiting (thread_row users thread) ready) (waiting_in queues list) (kept.waits list);
+  answered = ap (λ answers. is_answered answers thread) kept.answered;
+}
+
 -- room changes nothing else
 pub Kept-room : (users : Users) (queues : Queues) (room : ℕ) → Kept users queues → Kept users (record queues { room = room })
-Kept-room users queues room kept = record { users = kept.users; managers = kept.managers; threads = kept.threads; lines = kept.lines; pulses = kept.pulses; servers = kept.servers }
+Kept-room users queues room kept = record { users = kept.users; managers = kept.managers; threads = kept.threads; lines = kept.lines; pulses = kept.pulses; servers = kept.servers; waits = kept.waits; answered = kept.answered }
 
 pub Kept-with_room : (users : Users) (queues : Queues) (over : Over) → Kept users queues → Kept users (with_room over queues)
 Kept-with_room users queues over kept = cond_both {A = Queues} (attaches over) _ _ (λ q. Kept users q) (λ does. Kept-room users queues _ kept) (λ not. kept)
@@ -108,6 +120,7 @@ module _ (users : Users) (queues : Queues) (thread : Thread) (sent : Sent) (read
     stand_other = λ at differs. waits-nowhere users queues thread ready kept at ∙ sym (rw one.own (queued_at (thread_row users thread) ready at ∙ eqb-differs number at (λ equal. differs (sym equal))));
     calls = λ call is. absurd (none number call (sym (call-sent rank line thread sent.target.prio.0 thread) ∙ is));
     calls_other = λ at call differs is. absurd (none at call is);
+    waits = waits-told users new queues thread f (queued_thread sent) one kept (no-wait (thread_row users thread) (option_map (queued_thread sent) (thread_row users thread)) (ready-unwaiting (thread_row users thread) ready));
   }
     where
       none : (at call : ℕ) → unblock_call (line_at queues.lines at) thread ≡ Some call → ⊥
@@ -129,7 +142,7 @@ module _ (users : Users) (queues : Queues) (thread : Thread) (sent : Sent) (read
     | inr not ↦ rw not (Kept-changed users new queues thread f (queued_thread sent) one kept sent.target.manager change own
         (λ x at. attached-existing thread.tid sent.target.manager sent.target.over (with_thread thread.tid (queued_thread sent) x) at not))
     | inl does ↦ rw does (Kept-settled new (with_server queues_sent thread.proc number) thread.proc
-        (Unsettled-changed users new queues thread f (queued_thread sent) one kept sent.target.manager change own (with_server queues_sent thread.proc number) refl refl
+        (Unsettled-changed users new queues thread f (queued_thread sent) one kept sent.target.manager change own (with_server queues_sent thread.proc number) refl refl refl refl
         (λ t. refl)
         (has-with_server-other queues_sent thread.proc sent.target.manager)
         (λ m is. has-with_server-self queues_sent thread.proc sent.target.manager (manager_number m) ∙ attached_new m (process_of users thread.proc) (kept.servers thread.proc m) is)))

@@ -1,7 +1,9 @@
 -- Disconnect nodes are settled by what is attached: rows, lines and nodes stand together once they are.
-use Rattle.std.proofs.Common.{◌≡◌, ◌≢◌, inl, inr, ◌+◌, add-one, ℕ, zero, suc, ◌∷◌, [], ◌||◌, ◌&&◌, not, take, Bool, true, false, List, Option, Some, slice_get, length, is_some, refl, sym, ◌∙◌, ap}
+use Rattle.std.proofs.Common.{◌≡◌, ◌≢◌, subst, inl, inr, ◌+◌, add-one, ℕ, zero, suc, ◌∷◌, [], ◌||◌, ◌&&◌, not, take, Bool, true, false, List, Option, Some, slice_get, length, is_some, refl, sym, ◌∙◌, ap}
 use Rattle.std.specs.FinSet as set
-use Rattle.std.specs.List.{list_any}
+use Rattle.std.specs.FinMap as maps
+use Rattle.std.specs.List.{AllByRecursion, list_any}
+use Rattle.std.specs.Prelude.{unwrap_or}
 use Rattle.std.proofs.lemmas.Bool.{cases_Bool, cond_both, eqb-true}
 use Rattle.qx_types.specs.Managers.{manager_number, managers}
 use Rattle.qx_types.specs.declared.names.Manager.{Manager}
@@ -11,9 +13,9 @@ use Rattle.qx_types.specs.declared.names.Thread.{Thread}
 use Rattle.qx_machine.specs.Lines.{line_at}
 use Rattle.qx_machine.specs.Processes.{Process}
 use Rattle.qx_machine.specs.Servers.{is_numbered}
-use Rattle.qx_queues.specs.Queues.{Queues, has_server, has_thread, stands, unblock_call, without_server}
+use Rattle.qx_queues.specs.Queues.{Queues, has_server, has_thread, stands, unblock_call, waiting_in, without_server}
 use Rattle.qx_chan.specs.Users.{Users, process_of, thread_row}
-use Rattle.qx_chan.specs.Kept.{Kept, asked_at, attached_at, settled, settled_at, settled_number, stands_at}
+use Rattle.qx_chan.specs.Kept.{IsWaiting, Kept, asked_at, attached_at, settled, settled_at, settled_number, stands_at}
 use Rattle.qx_queues.proofs.EntryLemmas.{or_true}
 use Rattle.qx_queues.proofs.NodesLemmas.{same_proc}
 use Rattle.qx_queues.proofs.SetLemmas.{has-removed, is_same_server-differs}
@@ -29,7 +31,7 @@ module _ (proc : Proc) (process : Option Process) where
   settled_at-fields : {A : Type 0} (read : Queues → A) (manager : Manager) (c : Queues) → read (without_server c proc (manager_number manager)) ≡ read c → read (settled_at proc process manager c) ≡ read c
   settled_at-fields read manager c same = cond_both {A = Queues} (attached_at (manager_number manager) process) _ _ (λ d. read d ≡ read c) (λ attached. refl) (λ gone. same)
 
-  settled-fields : {A : Type 0} (read : Queues → A) → ((c : Queues) (number : ℕ) → read (without_server c proc number) ≡ read c) → (ms : List Manager) (c : Queues) → read (settled proc process ms c) ≡ read c
+  pub settled-fields : {A : Type 0} (read : Queues → A) → ((c : Queues) (number : ℕ) → read (without_server c proc number) ≡ read c) → (ms : List Manager) (c : Queues) → read (settled proc process ms c) ≡ read c
   settled-fields read same [] c = refl
   settled-fields read same (m ∷ ms) c = settled-fields read same ms (settled_at proc process m c) ∙ settled_at-fields read m c (same c (manager_number m))
 
@@ -74,6 +76,8 @@ pub record Unsettled (processes : Users) (queues : Queues) (proc : Proc) : Type 
   pub pulses : (thread : Thread) (number call : ℕ) → unblock_call (line_at queues.lines number) thread ≡ Some call → asked_at number call (thread_row processes thread) ≡ true
   pub others : (other : Proc) (manager : Manager) → other ≢ proc → has_server queues other (manager_number manager) ≡ attached_at (manager_number manager) (process_of processes other)
   pub attached : (manager : Manager) → attached_at (manager_number manager) (process_of processes proc) ≡ true → has_server queues proc (manager_number manager) ≡ true
+  pub waits : (list : ℕ) → AllByRecursion (IsWaiting processes) (waiting_in queues list)
+  pub answered : queues.answered ≡ []
 
 module _ (users : Users) (queues : Queues) (proc : Proc) (unsettled : Unsettled users queues proc) where
   kept_if : (had has : Bool) → (has ≡ true → had ≡ true) → (had && (has || false)) ≡ has
@@ -97,6 +101,8 @@ module _ (users : Users) (queues : Queues) (proc : Proc) (unsettled : Unsettled 
       | inl same ↦ rw same (has-settled-self proc (process_of users proc) managers queues (manager_number m)
           ∙ rw (is_listed m) (kept_if (has_server queues proc (manager_number m)) (attached_at (manager_number m) (process_of users proc)) (unsettled.attached m)))
     ];
+    waits = λ list. subst (λ p. AllByRecursion (IsWaiting users) (unwrap_or (maps.get p list) [])) (sym (settled-fields proc (process_of users proc) (λ c. c.pipes) (λ c number. refl) managers queues)) (unsettled.waits list);
+    answered = settled-fields proc (process_of users proc) (λ c. c.answered) (λ c number. refl) managers queues ∙ unsettled.answered;
   }
 
 -- one manager more

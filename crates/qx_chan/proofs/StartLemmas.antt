@@ -1,6 +1,10 @@
 -- Rows, lines and nodes stand together still as a process starts, and at boot.
-use Rattle.std.proofs.Common.{eq-eqb, ◌≡◌, ◌≢◌, inl, inr, ℕ, zero, suc, ◌<◌, ◌≤◌, ◌∷◌, [], ◌&&◌, add-one, nat_le, Bool, true, false, List, Option, Some, None, Ok, Err, replicate, length, is_some, refl, sym, ◌∙◌, ap, arith}
+use Rattle.std.proofs.Common.{eq-eqb, subst, ◌≡◌, ◌≢◌, inl, inr, ℕ, zero, suc, ◌<◌, ◌≤◌, ◌∷◌, [], ◌&&◌, add-one, nat_le, Bool, true, false, List, Option, Some, None, Ok, Err, replicate, length, is_some, refl, sym, ◌∙◌, ap, arith}
+use Rattle.std.specs.FinMap as maps
 use Rattle.std.specs.FinSet as set
+use Rattle.std.specs.List.{AllByRecursion}
+use Rattle.std.specs.Ordering.{nat_cmp}
+use Rattle.std.specs.Prelude.{unwrap_or}
 use Rattle.std.proofs.lemmas.Bool.{cases_Bool, cases_lt}
 use Rattle.std.proofs.lemmas.Bool.Decides.{eqb_tells, nat_tests}
 use Rattle.std.proofs.lemmas.List.{get_or-replicate, length-replicate}
@@ -21,15 +25,16 @@ use Rattle.qx_machine.specs.Processes.{Process, new_process, new_thread}
 use Rattle.qx_machine.specs.Rows.{row_at, lowest_from, put_row, with_row}
 use Rattle.qx_machine.proofs.Places.{lowest_from_free}
 use Rattle.qx_procs.specs.Calls.{spawned}
-use Rattle.qx_queues.specs.Queues.{Queues, has_thread, is_thread_of, no_queues, stands, unblock_call, thread_cmp, server_cmp, with_process}
+use Rattle.qx_queues.specs.Queues.{Queues, has_thread, is_thread_of, no_queues, stands, unblock_call, waiting_in, thread_cmp, server_cmp, with_process}
 use Rattle.qx_queues.proofs.PresenceLemmas.{has-process, lines-process, servers-process, users-process}
 use Rattle.qx_chan.specs.Channel.{Channel, after_spawn}
 use Rattle.qx_chan.specs.Users.{HasPlace, Users, no_processes, process_in, process_of, spawn_number_in, thread_row}
 use Rattle.qx_process.proofs.RowLemmas.{row_at-get_or, set-row, with_row-none}
-use Rattle.qx_chan.specs.Kept.{Kept, asked_at, attached_at, stands_at}
+use Rattle.qx_chan.specs.Kept.{IsWaiting, Kept, asked_at, attached_at, stands_at, waits_for}
 use Rattle.qx_queues.proofs.EntryLemmas.{or_false}
 use Rattle.qx_queues.proofs.NodesLemmas.{same_proc}
 use Rattle.qx_chan.proofs.ProcessLemmas.{process_of-other}
+use Rattle.qx_chan.proofs.WaitLemmas.{waits-all}
 use Rattle.qx_chan.proofs.RowReads.{length-with_row, lowest-within, option_cases, put_row-other, put_row-same, row_at-past, row_at-with_same, row_within}
 
 -- a number that a new process is to have
@@ -96,6 +101,16 @@ new_is threads (suc k) x = elim (cases_lt k threads) [
   | inl within ↦ rw (row_at-get_or (replicate threads (Some x)) k, get_or-replicate threads k (Some x) None within) (grind (arith, nat_tests, within))
   | inr beyond ↦ rw (row_at-past (replicate threads (Some x)) k (omega (arith, beyond, length-replicate threads (Some x)))) (grind (arith, nat_tests, beyond))
 ]
+
+-- what waits and is answered stays as a process gets its nodes
+
+pub pipes-process : (c : Queues) (proc : Proc) (threads : ℕ) → (with_process c proc threads).pipes ≡ c.pipes
+pipes-process c proc zero = refl
+pipes-process c proc (suc threads) = pipes-process c proc threads
+
+answered-process : (c : Queues) (proc : Proc) (threads : ℕ) → (with_process c proc threads).answered ≡ c.answered
+answered-process c proc zero = refl
+answered-process c proc (suc threads) = answered-process c proc threads
 
 new_waits : (threads tid prio number : ℕ) → stands_at number (row_at (None ∷ replicate threads (Some (new_thread prio))) tid) ≡ false
 new_waits threads zero prio number = refl
@@ -166,6 +181,8 @@ module _ (users : Users) (proc : Proc) (threads prio : ℕ) (begun : Starts user
         | inr differs ↦ ap (attached_at (manager_number manager)) (sym (elsewhere other differs))
         | inl same ↦ rw (same, old_none, here) (sym (new_attached threads prio manager))
       ];
+      waits = λ list. subst (λ p. AllByRecursion (IsWaiting new) (unwrap_or (maps.get p list) [])) (sym (pipes-process queues proc threads)) (waits-all users new still (waiting_in queues list) (kept.waits list));
+      answered = answered-process queues proc threads ∙ kept.answered;
     }
       where
         not_of : (other : Thread) → other.proc ≢ proc → is_thread_of proc threads other ≡ false
@@ -175,6 +192,12 @@ module _ (users : Users) (proc : Proc) (threads prio : ℕ) (begun : Starts user
             | inr apart ↦ rw (user.0, apart.0) refl
             | inl num ↦ absurd (differs (λ i. record { user = record { 0 = sym user.1 i }; num = sym num.1 i }))
           ]
+        ]
+
+        still : (other : Thread) (call : ℕ) → waits_for call (thread_row users other) ≡ true → waits_for call (thread_row new other) ≡ true
+        still other call is = elim (same_proc other.proc proc) [
+          | inr differs ↦ ap (λ o. waits_for call (thread_of other.tid o)) (elsewhere other.proc differs) ∙ is
+          | inl same ↦ let clash : false ≡ true = rw (same, old_none) at is in absurd (cc)
         ]
 
         own_of : (other : Thread) → other.proc ≡ proc → is_thread_of proc threads (record { proc = proc; tid = other.tid }) ≡ (nat_le 1 other.tid && nat_le other.tid threads)
@@ -218,4 +241,6 @@ Kept-empty users = record {
   lines = λ thread number. no_line COUNT number thread ∙ sym (ap (λ o. stands_at number (thread_of thread.tid o)) (none_at_boot users thread.proc));
   pulses = λ thread number call is. let clash : None ≡ Some call = sym (no_pulse COUNT number thread) ∙ is in absurd (cc);
   servers = λ proc manager. set.contains-empty server_cmp (proc, manager_number manager) ∙ sym (ap (attached_at (manager_number manager)) (none_at_boot users proc));
+  waits = λ list. subst (λ o. AllByRecursion (IsWaiting (no_processes users)) (unwrap_or o [])) (sym (maps.get-empty nat_cmp list)) tt;
+  answered = refl;
 }

@@ -1,6 +1,8 @@
 -- One thread's row changes, and its process with it, and one line: when rows, lines and nodes stand together still.
-use Rattle.std.proofs.Common.{◌≡◌, ◌≢◌, inl, inr, ℕ, ◌<◌, List, true, Option, Some, None, length, is_some, refl, sym, ◌∙◌, ap}
-use Rattle.std.specs.Prelude.{option_map}
+use Rattle.std.proofs.Common.{◌≡◌, ◌≢◌, subst, inl, inr, ℕ, ◌<◌, List, [], true, Option, Some, None, length, is_some, refl, sym, ◌∙◌, ap}
+use Rattle.std.specs.FinMap as maps
+use Rattle.std.specs.List.{AllByRecursion}
+use Rattle.std.specs.Prelude.{option_map, unwrap_or}
 use Rattle.std.proofs.lemmas.Bool.{cases_eq}
 use Rattle.std.proofs.lemmas.List.{length-set}
 use Rattle.qx_types.specs.Managers.{manager_number}
@@ -13,15 +15,16 @@ use Rattle.qx_machine.specs.Lines.{line_at, with_line}
 use Rattle.qx_machine.specs.Parts.{thread_of}
 use Rattle.qx_machine.specs.Processes.{Process, with_thread}
 use Rattle.qx_machine.specs.Rows.{with_row}
-use Rattle.qx_queues.specs.Queues.{Queues, has_server, has_thread, stands, unblock_call}
+use Rattle.qx_queues.specs.Queues.{Queues, has_server, has_thread, stands, unblock_call, waiting_in}
 use Rattle.qx_chan.specs.Users.{Users, process_of, thread_row, with_process_of, with_thread_row}
-use Rattle.qx_chan.specs.Kept.{Kept, asked_at, attached_at, stands_at}
+use Rattle.qx_chan.specs.Kept.{IsWaiting, Kept, asked_at, attached_at, stands_at, waits_for}
 use Rattle.qx_queues.proofs.EntryLemmas.{line_at-other, line_at-same}
 use Rattle.qx_queues.proofs.NodesLemmas.{same_or_not, same_proc}
 use Rattle.qx_chan.proofs.AttachedLemmas.{number-below}
 use Rattle.qx_chan.proofs.ProcessLemmas.{process_of-other, process_of-same}
 use Rattle.qx_chan.proofs.RowReads.{length-with_row, row_at-with_other, row_at-with_same}
 use Rattle.qx_chan.proofs.SettleLemmas.{Unsettled}
+use Rattle.qx_chan.proofs.WaitLemmas.{waits-all}
 
 there_with : {A : Type 0} (f : A → A) (o : Option A) → is_some (option_map f o) ≡ is_some o
 there_with f None = refl
@@ -78,10 +81,25 @@ no_thread users thread = record {
   others = λ other differs. refl;
 }
 
+-- a call that waits does so still, where the thread whose row changes does
+module _ (users new : Users) (queues : Queues) (thread : Thread) (f : Process → Process) (g : ThreadRow → ThreadRow) (one : OneThread new users thread f g) (kept : Kept users queues)
+    (wait : (call : ℕ) → waits_for call (thread_row users thread) ≡ true → waits_for call (option_map g (thread_row users thread)) ≡ true) where
+  waits-one : (other : Thread) (call : ℕ) → waits_for call (thread_row users other) ≡ true → waits_for call (thread_row new other) ≡ true
+  waits-one other call is = elim (same_or_not other thread) [
+    | inr differs ↦ ap (waits_for call) (one.others other differs) ∙ is
+    | inl equal ↦
+        ap (λ t. waits_for call (thread_row new t)) equal ∙ ap (waits_for call) one.own
+        ∙ wait call (ap (λ t. waits_for call (thread_row users t)) (sym equal) ∙ is)
+  ]
+
+  pub waits-told : (list : ℕ) → AllByRecursion (IsWaiting new) (waiting_in queues list)
+  waits-told list = waits-all users new waits-one (waiting_in queues list) (kept.waits list)
+
 -- a thread whose message stands where it stood, and is asked as it was
 module _ (users : Users) (queues : Queues) (thread : Thread) (g : ThreadRow → ThreadRow) (kept : Kept users queues)
     (stand : (at : ℕ) → stands_at at (option_map g (thread_row users thread)) ≡ stands_at at (thread_row users thread))
-    (pulse : (at call : ℕ) → asked_at at call (option_map g (thread_row users thread)) ≡ asked_at at call (thread_row users thread)) where
+    (pulse : (at call : ℕ) → asked_at at call (option_map g (thread_row users thread)) ≡ asked_at at call (thread_row users thread))
+    (wait : (call : ℕ) → waits_for call (thread_row users thread) ≡ true → waits_for call (option_map g (thread_row users thread)) ≡ true) where
   one : OneThread (with_thread_row users thread g) users thread (with_thread thread.tid g) g
   one = one_thread users thread (with_thread thread.tid g) g (λ x. refl)
 
@@ -106,6 +124,8 @@ module _ (users : Users) (queues : Queues) (thread : Thread) (g : ThreadRow → 
       | inr differs ↦ ap (attached_at (manager_number m)) (sym (one.elsewhere other differs))
       | inl equal ↦ rw (equal, one.here) (sym (still_attached (manager_number m) (process_of users thread.proc)))
     ];
+    waits = waits-told users (with_thread_row users thread g) queues thread (with_thread thread.tid g) g one kept wait;
+    answered = kept.answered;
   }
 
 -- a line, of which only one thread's items change
@@ -137,6 +157,7 @@ module _ (users new : Users) (queues : Queues) (thread : Thread) (f : Process �
     pub stand_other : (at : ℕ) → at ≢ number → stands (line_at queues.lines at) thread ≡ stands_at at (thread_row new thread)
     pub calls : (call : ℕ) → unblock_call (change (line_at queues.lines number)) thread ≡ Some call → asked_at number call (thread_row new thread) ≡ true
     pub calls_other : (at call : ℕ) → at ≢ number → unblock_call (line_at queues.lines at) thread ≡ Some call → asked_at at call (thread_row new thread) ≡ true
+    pub waits : (list : ℕ) → AllByRecursion (IsWaiting new) (waiting_in queues list)
 
   module _ (own : Own) where
     -- a read of one thread in the line of a number
@@ -187,6 +208,8 @@ module _ (users new : Users) (queues : Queues) (thread : Thread) (f : Process �
         | inr differs ↦ ap (attached_at (manager_number m)) (sym (one.elsewhere other differs))
         | inl equal ↦ rw (equal, one.here) (sym (as_before (manager_number m) (process_of users thread.proc)))
       ];
+      waits = own.waits;
+      answered = kept.answered;
     }
       where
         as_before : (at : ℕ) (o : Option Process) → attached_at at (option_map f o) ≡ attached_at at o
@@ -194,11 +217,11 @@ module _ (users new : Users) (queues : Queues) (thread : Thread) (f : Process �
         as_before at (Some x) = same x at
 
     -- where the process has the disconnect nodes of all that is attached, and others what they had
-    pub Unsettled-changed : (after : Queues) → after.lines ≡ lines_after → after.users ≡ queues.users → ((t : Thread) → has_thread after t ≡ has_thread queues t)
+    pub Unsettled-changed : (after : Queues) → after.lines ≡ lines_after → after.users ≡ queues.users → after.pipes ≡ queues.pipes → after.answered ≡ queues.answered → ((t : Thread) → has_thread after t ≡ has_thread queues t)
         → ((other : Proc) (at : ℕ) → other ≢ thread.proc → has_server after other at ≡ has_server queues other at)
         → ((m : Manager) → attached_at (manager_number m) (option_map f (process_of users thread.proc)) ≡ true → has_server after thread.proc (manager_number m) ≡ true)
         → Unsettled new after thread.proc
-    Unsettled-changed after lines users threads others attached = record {
+    Unsettled-changed after lines users pipes answered threads others attached = record {
       users = users ∙ kept.users ∙ sym one.users;
       managers = ap length lines ∙ length-set _ number _ ∙ kept.managers;
       threads = λ t. threads t ∙ there_told t;
@@ -206,4 +229,6 @@ module _ (users new : Users) (queues : Queues) (thread : Thread) (f : Process �
       pulses = λ t at call is. pulses_told t at call (ap (λ l. unblock_call (line_at l at) t) (sym lines) ∙ is);
       others = λ other m differs. others other (manager_number m) differs ∙ kept.servers other m ∙ ap (attached_at (manager_number m)) (sym (one.elsewhere other differs));
       attached = λ m is. attached m (ap (attached_at (manager_number m)) (sym one.here) ∙ is);
+      waits = λ list. subst (λ p. AllByRecursion (IsWaiting new) (unwrap_or (maps.get p list) [])) (sym pipes) (own.waits list);
+      answered = answered ∙ kept.answered;
     }

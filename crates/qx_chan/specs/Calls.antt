@@ -1,9 +1,9 @@
 -- The call that a thread waits for, by its row.
-use Rattle.std.specs.Prelude.{Option, Some, None, option_map, if◌then◌else◌}
+use Rattle.std.specs.Prelude.{ℕ, List, Option, Some, None, option_map, if◌then◌else◌}
 use Rattle.qx_types.specs.declared.outcome.Answer.{Answer}
 use Rattle.qx_machine.specs.declared.rows.Sent.{Sent}
 use Rattle.qx_machine.specs.declared.rows.State.{State}
-use Rattle.qx_machine.specs.declared.rows.State.TheVariants.{Queued, Taken}
+use Rattle.qx_machine.specs.declared.rows.State.TheVariants.{Queued, Taken, Waiting}
 use Rattle.qx_machine.specs.declared.rows.ThreadRow.{ThreadRow}
 use Rattle.qx_machine.specs.Clients.{answer_in}
 use Rattle.qx_machine.specs.Performing.{taken_in}
@@ -14,13 +14,14 @@ abbrev pub queued_in : State → Option Sent
 queued_in (Queued sent) = Some sent
 queued_in _ = None
 
--- the message that was received and is not asked to unblock its thread
+-- the message that was received, is not answered and is not asked to unblock its thread
 abbrev pub unasked_in : State → Option Sent
 unasked_in (Taken sent) = if sent.is_asked then None else Some sent
+unasked_in (Waiting sent) = if sent.is_asked then None else Some sent
 unasked_in _ = None
 
 abbrev pub call_by : (State → Option Sent) → ThreadRow → Option Call
-call_by message row = option_map (λ sent. record { target = sent.target; number = row.calls }) (message row.state)
+call_by message row = option_map (λ sent. record { target = sent.target; number = row.calls; is_asked = sent.is_asked }) (message row.state)
 
 abbrev pub call_of : (State → Option Sent) → Option ThreadRow → Option Call
 call_of message None = None
@@ -30,13 +31,23 @@ call_of message (Some row) = call_by message row
 abbrev pub queued_call : Option ThreadRow → Option Call
 queued_call row = call_of queued_in row
 
--- of one whose message was received and is not answered
+-- of one whose message was received and is not served
 abbrev pub taken_call : Option ThreadRow → Option Call
 taken_call row = call_of taken_in row
 
--- of one whose message was received and is not asked to unblock it
+-- of one whose message was received, is not answered and is not asked to unblock it
 abbrev pub unasked_call : Option ThreadRow → Option Call
 unasked_call row = call_of unasked_in row
+
+-- the bytes of a thread's message that was received and is not served
+abbrev pub taken_bytes : Option ThreadRow → Option (List ℕ)
+taken_bytes None = None
+taken_bytes (Some row) = option_map (λ sent. sent.bytes) (taken_in row.state)
+
+-- a thread's message that was received and is not served
+abbrev pub taken_of : Option ThreadRow → Option Sent
+taken_of None = None
+taken_of (Some row) = taken_in row.state
 
 -- the answer that a thread has and has not taken
 abbrev pub answer_of : Option ThreadRow → Option Answer

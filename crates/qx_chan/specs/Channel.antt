@@ -1,5 +1,8 @@
 -- What contracts see of a channel, and what its calls make of it.
 use Rattle.std.specs.Prelude.{ℕ, [], List, Option, Some, None, drop, replicate, slice_get}
+use Rattle.std.specs.Coded.{Coded, coded_ℕ, coded_list}
+use Rattle.std.specs.FinMap as maps
+use Rattle.std.specs.Ordering.{nat_cmp}
 use Rattle.qx_types.specs.Managers.{manager_number}
 use Rattle.qx_types.specs.declared.errno.Errno.{Errno}
 use Rattle.qx_types.specs.declared.errno.Errno.TheVariants.{EINTR}
@@ -20,19 +23,28 @@ use Rattle.qx_machine.specs.Machine.{line_without, rank}
 use Rattle.qx_machine.specs.Processes.{Process, after_effect, after_error, after_reply, answered_thread, asked_thread, ready_thread, taken_thread, with_queued, with_thread}
 use Rattle.qx_machine.specs.Rows.{with_row}
 use Rattle.qx_procs.specs.Calls.{after_or, spawned, with_prio}
-use Rattle.qx_queues.specs.Queues.{message_of, sender, unblock_of}
-use Rattle.qx_chan.specs.Calls.{answer_of, queued_call, taken_call, unasked_call}
+use Rattle.qx_queues.specs.Queues.{Queues, UsersCall, call_code, message_of, no_queues, sender, unblock_of}
+use Rattle.qx_chan.specs.Calls.{answer_of, queued_call, unasked_call}
 use Rattle.qx_chan.specs.declared.call.Call.{Call}
 use Rattle.qx_chan.specs.Users.{Users, no_processes, thread_row, with_process_of, with_thread_row}
 
--- the processes of all users, both numbered from 1, and the lines under their managers' numbers
+-- the processes of all users, both numbered from 1, the lines under their managers' numbers, and who waits in each list of a pipe, in order
 pub record Channel : Type 0 where
   pub users : Users
   pub lines : List (List Queued)
+  pub pipes : maps.FinMap nat_cmp (List UsersCall)
 
--- users from 1 to this many with no process, and empty lines
+-- how the lists of pipes are stored
+abbrev pub lists_code : Coded (maps.FinMap nat_cmp (List UsersCall))
+lists_code = maps.code coded_ℕ (coded_list call_code)
+
+-- queues with the channel's lists of pipes, and nothing else
+abbrev pub lists : Channel → Queues
+lists c = record (no_queues 0) { pipes = c.pipes }
+
+-- users from 1 to this many with no process, empty lines, and no pipe
 abbrev pub empty_channel : ℕ → Channel
-empty_channel users = record { users = no_processes users; lines = replicate COUNT [] }
+empty_channel users = record { users = no_processes users; lines = replicate COUNT []; pipes = maps.empty }
 
 -- a manager's line
 abbrev pub channel_line : Channel → Manager → List Queued
@@ -40,7 +52,7 @@ channel_line c manager = line_at c.lines (manager_number manager)
 
 -- one process and one line change
 abbrev pub with_process_and_line : Channel → Thread → (Process → Process) → Manager → (List Queued → List Queued) → Channel
-with_process_and_line c thread process manager line = record {
+with_process_and_line c thread process manager line = record c {
   users = with_process_of c.users thread.proc process;
   lines = with_line c.lines (manager_number manager) line;
 }
@@ -65,16 +77,10 @@ with_first_taken users (Some first) = with_taken users (sender first) first.item
 
 -- once the first item of a line is received
 abbrev pub after_receive : Channel → Manager → Channel
-after_receive c manager = record {
+after_receive c manager = record c {
   users = with_first_taken c.users (slice_get (channel_line c manager) 0);
   lines = with_line c.lines (manager_number manager) (drop 1);
 }
-
--- once a thread's call is answered: an unblock pulse of it stands in the line no more
-abbrev pub answered : Channel → Thread → (Over → Process → Process) → Option Call → Channel
-answered c thread change None = c
-answered c thread change (Some call) =
-    with_process_and_line c thread (change call.target.over) call.target.manager (line_without thread.proc.user.0 (item.Unblock thread.proc.num thread.tid call.number))
 
 -- a thread of a process gets a reply
 abbrev pub replied : ℕ → Effect → ℕ → List ℕ → Over → Process → Process
@@ -83,14 +89,6 @@ replied thread effect status bytes over process = after_reply thread over (with_
 -- a thread of a process gets an error
 abbrev pub failed : ℕ → Errno → Over → Process → Process
 failed thread error over process = after_error thread over (with_thread thread (answered_thread (Failed error)) process)
-
--- once the message of a thread that was received is replied to
-abbrev pub after_replying : Channel → Thread → Effect → ℕ → List ℕ → Channel
-after_replying c thread effect status bytes = answered c thread (replied thread.tid effect status bytes) (taken_call (thread_row c.users thread))
-
--- once it is answered with an error
-abbrev pub after_failing : Channel → Thread → Errno → Channel
-after_failing c thread error = answered c thread (failed thread.tid error) (taken_call (thread_row c.users thread))
 
 abbrev pub asked : Channel → Thread → Option Call → Channel
 asked c thread None = c

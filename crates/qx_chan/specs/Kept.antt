@@ -1,20 +1,22 @@
 -- How the rows of threads and processes, the lines and the nodes stand together. No public clause of the channel cites this module.
 use Rattle.std.specs.Prelude.{◌≡◌, ℕ, ◌==◌, ◌&&◌, if◌then◌else◌, Bool, true, false, List, [], ◌∷◌, Option, Some, None, length, is_some, max}
+use Rattle.std.specs.List.{AllByRecursion}
 use Rattle.qx_types.specs.Managers.{manager_number, managers}
 use Rattle.qx_types.specs.declared.names.Manager.{Manager}
+use Rattle.qx_types.specs.declared.names.Manager.TheVariants.{Pipe}
 use Rattle.qx_types.specs.declared.names.TheConstants.Manager.{COUNT}
 use Rattle.qx_types.specs.declared.names.Proc.{Proc}
 use Rattle.qx_types.specs.declared.names.Thread.{Thread}
 use Rattle.qx_machine.specs.declared.rows.Over.{Over}
 use Rattle.qx_machine.specs.declared.rows.Over.TheVariants.{Existing}
 use Rattle.qx_machine.specs.declared.rows.State.{State}
-use Rattle.qx_machine.specs.declared.rows.State.TheVariants.{Queued, Taken}
+use Rattle.qx_machine.specs.declared.rows.State.TheVariants.{Queued, Taken, Waiting}
 use Rattle.qx_machine.specs.declared.rows.Target.{Target}
 use Rattle.qx_machine.specs.declared.rows.ThreadRow.{ThreadRow}
 use Rattle.qx_machine.specs.Lines.{line_at}
 use Rattle.qx_machine.specs.Processes.{Process}
 use Rattle.qx_machine.specs.Servers.{is_attached}
-use Rattle.qx_queues.specs.Queues.{Queues, has_server, has_thread, stands, unblock_call, with_server, without_server}
+use Rattle.qx_queues.specs.Queues.{Queues, UsersAnswer, UsersCall, caller, has_server, has_thread, stands, unblock_call, waiting_in, with_server, without_server}
 use Rattle.qx_chan.specs.Users.{Users, process_of, thread_row}
 
 -- the message of a thread in this state stands in the line of that number
@@ -29,20 +31,38 @@ stands_at number (Some row) = is_queued_at number row.state
 -- an unblock pulse for that call of a thread in this state may stand in the line of that number
 abbrev pub is_asked_at : ℕ → ℕ → ℕ → State → Bool
 is_asked_at number call calls (Taken sent) = sent.is_asked && (manager_number sent.target.manager == number) && (calls == call)
+is_asked_at number call calls (Waiting sent) = sent.is_asked && (manager_number sent.target.manager == number) && (calls == call)
 is_asked_at number call calls _ = false
 
 abbrev pub asked_at : ℕ → ℕ → Option ThreadRow → Bool
 asked_at number call None = false
 asked_at number call (Some row) = is_asked_at number call row.calls row.state
 
+-- a thread in this state waits for the answer to that call at the pipe manager, which was served and could not be answered yet
+abbrev pub is_waiting_for : ℕ → ℕ → State → Bool
+is_waiting_for call calls (Waiting sent) = (manager_number sent.target.manager == manager_number Pipe) && (calls == call)
+is_waiting_for call calls _ = false
+
+abbrev pub waits_for : ℕ → Option ThreadRow → Bool
+waits_for call None = false
+waits_for call (Some row) = is_waiting_for call row.calls row.state
+
+-- the thread whose call it is waits for the answer to it
+abbrev pub IsWaiting : Users → UsersCall → Type 0
+IsWaiting processes own = waits_for own.call.call (thread_row processes (caller own)) ≡ true
+
+-- and the thread to which it goes for an answer
+abbrev pub IsAwaited : Users → UsersAnswer → Type 0
+IsAwaited processes given = waits_for given.call (thread_row processes given.thread) ≡ true
+
 -- something of the process is attached to the manager of that number
 abbrev pub attached_at : ℕ → Option Process → Bool
 attached_at number None = false
 attached_at number (Some process) = is_attached number process.connections process.sides
 
--- a thread has nodes exactly if it is there, its message stands in a line exactly if its row says so, and an unblock pulse only while
--- its call is asked for; and a process has the disconnect node of its server connection at a manager exactly while something of it is
--- attached there
+-- a thread has nodes exactly if it is there, its message stands in a line exactly if its row says so, an unblock pulse only while its
+-- call is asked for, and its call in a pipe only while it waits for the answer; no answer is on its way; and a process has the disconnect
+-- node of its server connection at a manager exactly while something of it is attached there
 pub record Kept (processes : Users) (queues : Queues) : Type 0 where
   pub users : queues.users ≡ length processes
   pub managers : length queues.lines ≡ COUNT
@@ -50,6 +70,13 @@ pub record Kept (processes : Users) (queues : Queues) : Type 0 where
   pub lines : (thread : Thread) (number : ℕ) → stands (line_at queues.lines number) thread ≡ stands_at number (thread_row processes thread)
   pub pulses : (thread : Thread) (number call : ℕ) → unblock_call (line_at queues.lines number) thread ≡ Some call → asked_at number call (thread_row processes thread) ≡ true
   pub servers : (proc : Proc) (manager : Manager) → has_server queues proc (manager_number manager) ≡ attached_at (manager_number manager) (process_of processes proc)
+  pub waits : (list : ℕ) → AllByRecursion (IsWaiting processes) (waiting_in queues list)
+  pub answered : queues.answered ≡ []
+
+-- all of that, but that answers are on their way: each is to a call whose thread waits for it
+pub record Answering (processes : Users) (queues : Queues) : Type 0 where
+  pub kept : Kept processes (record queues { answered = [] })
+  pub answered : AllByRecursion (IsAwaited processes) queues.answered
 
 -- a call attaches what its message goes over
 abbrev pub attaches : Over → Bool

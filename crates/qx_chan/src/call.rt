@@ -8,11 +8,12 @@ ghost use Rattle.qx_chan.specs.Calls.{call_by, queued_in, unasked_in};
 
 use qx_machine::{State, Target, ThreadRow};
 
-/// A call of a thread: where its message went, and the call's number.
+/// A call of a thread: where its message went, the call's number, and whether it was asked to unblock its thread.
 #[derive(Clone, Copy, Debug, PartialEq, Eq)]
 pub struct Call {
     pub target: Target,
     pub number: u64,
+    pub is_asked: bool,
 }
 
 /// The call whose message stands in a line.
@@ -23,12 +24,13 @@ pub fn queued(row: &ThreadRow) -> Option<Call>
         State::Queued(sent) => Some(Call {
             target: sent.target,
             number: row.calls,
+            is_asked: sent.is_asked,
         }),
         _ => None,
     }
 }
 
-/// The call whose message was received and is not answered.
+/// The call whose message was received and is not served.
 pub fn taken(row: &ThreadRow) -> Option<Call>
     ensures call { result ≡ call_by taken_in row.now }
 {
@@ -36,21 +38,23 @@ pub fn taken(row: &ThreadRow) -> Option<Call>
         State::Taken(sent) => Some(Call {
             target: sent.target,
             number: row.calls,
+            is_asked: sent.is_asked,
         }),
         _ => None,
     }
 }
 
-/// The call whose message was received and is not asked to unblock its thread.
+/// The call whose message was received, is not answered and is not asked to unblock its thread.
 pub fn unasked(row: &ThreadRow) -> Option<Call>
     requires priorities { IsRanked row.now }
     ensures call { result ≡ call_by unasked_in row.now }
     ensures priority { IfSome result (λ call. IsPriority call.target.prio.0) }
 {
     match &row.state {
-        State::Taken(sent) if !sent.is_asked => Some(Call {
+        State::Taken(sent) | State::Waiting(sent) if !sent.is_asked => Some(Call {
             target: sent.target,
             number: row.calls,
+            is_asked: sent.is_asked,
         }),
         _ => None,
     }

@@ -1,20 +1,19 @@
 //! The processes of all users, and the managers' lines in which their messages wait. Each call is that of message passing:
 //! what stands beside a thread's message, the room for its reply, and its place in a line change together.
 
-ghost use Rattle.std.specs.Prelude.{◌≡◌, ◌<◌, ◌≤◌, Ok, length, slice_get, IfOk, IfSome, IsErr, IsOk, OnOk, OnErr};
+ghost use Rattle.std.specs.Prelude.{◌≡◌, ◌<◌, Ok, length, slice_get, IfOk, IfSome, IsErr, IsOk, OnOk, OnErr};
 ghost use Rattle.std.specs.Option.{option_copied};
-ghost use Rattle.qx_types.specs.declared.limits.TheConstants.Limits.{BODY};
 ghost use Rattle.qx_machine.specs.Rows.{row_at};
 ghost use Rattle.qx_process.specs.Reads.{CanCall, CanGo, IsPriority, IsRanked};
 ghost use Rattle.qx_procs.specs.Calls.{spawn_outcome};
 ghost use Rattle.qx_chan.specs.Calls.{answer_of, queued_call, taken_call, unasked_call};
-ghost use Rattle.qx_chan.specs.Channel.{after_asking, after_failing, after_ranking, after_receive, after_replying, after_send, after_spawn, after_taking, after_withdrawing, channel_line, empty_channel};
+ghost use Rattle.qx_chan.specs.Channel.{after_asking, after_ranking, after_receive, after_send, after_spawn, after_taking, after_withdrawing, channel_line, empty_channel};
 ghost use Rattle.qx_chan.specs.Users.{IsReady, prio_outcome_in, process_of, spawn_number_in, thread_row};
 
 use crate::call::{self, Call};
 use crate::servers;
 use crate::users::Users;
-use qx_machine::{Effect, OwnItem, Queued, Sent, ThreadRow};
+use qx_machine::{OwnItem, Queued, Sent, ThreadRow};
 use qx_process::Process;
 use qx_procs::Processes;
 use qx_queues::Queues;
@@ -26,17 +25,21 @@ use std::marker::Model;
 /// messages wait.
 #[derive(Drop)]
 pub struct Channel {
-    users: Users,
-    queues: Queues,
+    pub(crate) users: Users,
+    pub(crate) queues: Queues,
 }
 
 impl Model for Channel {
+    ghost use Rattle.std.specs.Coded.{codes};
     ghost use Rattle.qx_chan.specs.Channel as words;
+    ghost use Rattle.qx_chan.specs.Channel.{lists_code};
     ghost use Rattle.qx_chan.specs.Kept.{Kept};
 
     ghost Value = { words.Channel };
 
-    ghost view = { λ c. record { users = c.users; lines = c.queues.lines } };
+    ghost coded = { Prim.hlevel (codes, lists_code) };
+
+    ghost view = { λ c. record { users = c.users; lines = c.queues.lines; pipes = c.queues.pipes } };
 
     ghost invariant = { λ c. Kept c.users c.queues };
 }
@@ -165,37 +168,7 @@ impl Channel {
         Some(first)
     }
 
-    /// Answers a thread whose message was received (C Library Reference: `MsgReply`): the message does what it does to the
-    /// connection that it came over, a side connection goes, and an unblock pulse of the call is in the line no more.
-    /// Nothing happens where no message of the thread was received.
-    pub fn reply(&mut self, thread: Thread, effect: Effect, status: u64, bytes: &[u8])
-        requires fits { length bytes.now ≤ BODY }
-        ensures replied { self.new ≡ after_replying self.old thread effect status bytes.now }
-    {
-        let Some(call) = self.taken(thread) else {
-            return;
-        };
-        self.users
-            .reply(thread, call.target.over, effect, status, bytes);
-        self.queues.reply(call.target.manager, thread, call.number);
-        servers::settle(&mut self.queues, &self.users, thread.proc);
-    }
-
-    /// Answers a thread whose message was received with an error (C Library Reference: `MsgError`): a new connection or a
-    /// side connection goes, and an unblock pulse of the call is in the line no more. Nothing happens where no message of
-    /// the thread was received.
-    pub fn fail(&mut self, thread: Thread, error: Errno)
-        ensures failed { self.new ≡ after_failing self.old thread error }
-    {
-        let Some(call) = self.taken(thread) else {
-            return;
-        };
-        self.users.fail(thread, call.target.over, error);
-        self.queues.reply(call.target.manager, thread, call.number);
-        servers::settle(&mut self.queues, &self.users, thread.proc);
-    }
-
-    /// Asks to unblock a thread whose message was received, once a call: the message is marked, and a pulse goes into its
+    /// Asks to unblock a thread whose message was received or whose call waits, once a call: the message is marked, and a pulse goes into its
     /// line with its priority (C Library Reference: `ChannelCreate`, `_NTO_CHF_UNBLOCK`). Nothing happens to any other
     /// thread.
     pub fn ask_unblock(&mut self, thread: Thread)
@@ -219,7 +192,8 @@ impl Channel {
             return;
         };
         self.queues.withdraw(call.target.manager, thread);
-        self.users.fail(thread, call.target.over, Errno::EINTR);
+        self.users
+            .fail(thread, call.target.over, Errno::EINTR, None);
         servers::settle(&mut self.queues, &self.users, thread.proc);
     }
 
@@ -254,14 +228,14 @@ impl Channel {
         call::queued(self.users.thread(thread)?)
     }
 
-    /// The call of a thread whose message was received and is not answered.
-    fn taken(&self, thread: Thread) -> Option<Call>
+    /// The call of a thread whose message was received and is not served.
+    pub(crate) fn taken(&self, thread: Thread) -> Option<Call>
         ensures call { result ≡ taken_call (thread_row self.now.users thread) }
     {
         call::taken(self.users.thread(thread)?)
     }
 
-    /// The call of a thread whose message was received and is not asked to unblock it.
+    /// The call of a thread whose message was received, is not answered and is not asked to unblock it.
     fn unasked(&self, thread: Thread) -> Option<Call>
         ensures call { result ≡ unasked_call (thread_row self.now.users thread) }
         ensures priority { IfSome result (λ call. IsPriority call.target.prio.0) }

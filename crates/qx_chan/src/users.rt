@@ -1,21 +1,21 @@
 //! The processes of all users, from 1: a place for each number.
 
-ghost use Rattle.std.specs.Prelude.{◌≡◌, ◌≤◌, length, IsTrue, IfOk, IfSome, OnOk, OnErr};
+ghost use Rattle.std.specs.Prelude.{◌≡◌, IfOk, IfSome, IsSome, OnOk, OnErr, Some};
 ghost use Rattle.std.specs.Option.{option_copied, option_copied_mut};
 ghost use Rattle.std.specs.Borrow.{sem};
-ghost use Rattle.qx_types.specs.declared.limits.TheConstants.Limits.{BODY};
 ghost use Rattle.qx_machine.specs.Clients.{spawn_number};
-ghost use Rattle.qx_machine.specs.Processes.{after_effect, asked_thread, taken_thread, with_queued};
+ghost use Rattle.qx_machine.specs.Processes.{after_effect, answered_thread, asked_thread, served_thread, taken_thread, with_queued};
 ghost use Rattle.qx_machine.specs.Rows.{row_at, with_row};
-ghost use Rattle.qx_process.specs.Reads.{is_thread_blocked, CanCall, CanGo, IsRanked};
+ghost use Rattle.qx_process.specs.Reads.{unserved_thread, CanCall, CanGo, IsRanked};
 ghost use Rattle.qx_procs.specs.Calls.{spawned};
+ghost use Rattle.qx_chan.specs.Calls.{taken_bytes};
 ghost use Rattle.qx_chan.specs.Channel.{failed, replied};
 ghost use Rattle.qx_chan.specs.Users.{HasPlace, no_processes, process_of, thread_row, with_process_of, with_thread_row};
 
 use qx_machine::{Effect, Over, Sent, ThreadRow};
-use qx_process::{Process, ThreadCell, places};
+use qx_process::{Process, Room, ThreadCell, places};
 use qx_procs::Processes;
-use qx_types::{Errno, Prio, Proc, Thread, User};
+use qx_types::{Answer, Errno, MessageBytes, Prio, Proc, Thread, User};
 use std::alloc::{AllocError, Global};
 use std::marker::Model;
 
@@ -142,25 +142,65 @@ impl Users {
         }
     }
 
-    /// A blocked thread gets a reply, once its message has done what it does to the connection that it came over.
-    pub fn reply(&mut self, thread: Thread, over: Over, effect: Effect, status: u64, bytes: &[u8])
-        requires blocked { IsTrue (is_thread_blocked (thread_row self.old thread)) }
-        requires fits { length bytes.now ≤ BODY }
-        ensures replied { self.new ≡ with_process_of self.old thread.proc (replied thread.tid effect status bytes.now over) }
+    /// A thread's message, which was received, is served: its bytes and the room for the reply go with that.
+    pub fn hand_over(&mut self, thread: Thread) -> (MessageBytes, Room)
+        requires received { IsSome (taken_bytes (thread_row self.old thread)) }
+        ensures bytes { Some result.0 ≡ taken_bytes (thread_row self.old thread) }
+        ensures served { self.new ≡ with_thread_row self.old thread served_thread }
     {
-        if let Some(process) = self.process_mut(thread.proc) {
-            apply(process, effect);
-            process.reply(thread.tid, over, status, bytes);
+        match self.thread_mut(thread) {
+            Some(cell) => cell.hand_over(),
+            None => unreachable!(),
         }
     }
 
-    /// A blocked thread gets an error, which gives back what its call attached.
-    pub fn fail(&mut self, thread: Thread, over: Over, error: Errno)
-        requires blocked { IsTrue (is_thread_blocked (thread_row self.old thread)) }
+    /// A thread's message, which was handed over, is received as before, and not served.
+    #[tactic(auto, using(crate::proofs::ProcessLemmas::lends))]
+    pub fn hand_back(&mut self, thread: Thread, bytes: MessageBytes, room: Room)
+        ensures received { self.new ≡ with_thread_row self.old thread (unserved_thread bytes) }
+    {
+        if let Some(cell) = self.thread_mut(thread) {
+            cell.hand_back(bytes, room);
+        }
+    }
+
+    /// A thread whose call waited gets the answer, with the room for its replies, unless the answer took that along.
+    #[tactic(auto, using(crate::proofs::ProcessLemmas::lends))]
+    pub fn answer(&mut self, thread: Thread, answer: Answer, room: Option<Room>)
+        ensures answered { self.new ≡ with_thread_row self.old thread (answered_thread answer) }
+    {
+        if let Some(cell) = self.thread_mut(thread) {
+            cell.answer(answer, room);
+        }
+    }
+
+    /// A thread gets a reply, once its message has done what it does to the connection that it came over, with the room for
+    /// its replies, unless the reply took that along.
+    #[tactic(auto, using(crate::proofs::ProcessLemmas::lends))]
+    pub fn reply(
+        &mut self,
+        thread: Thread,
+        over: Over,
+        effect: Effect,
+        status: u64,
+        bytes: MessageBytes,
+        room: Option<Room>,
+    )
+        ensures replied { self.new ≡ with_process_of self.old thread.proc (replied thread.tid effect status bytes over) }
+    {
+        if let Some(process) = self.process_mut(thread.proc) {
+            apply(process, effect);
+            process.reply(thread.tid, over, status, bytes, room);
+        }
+    }
+
+    /// A thread gets an error, which gives back what its call attached, with the room for its replies where that had gone.
+    #[tactic(auto, using(crate::proofs::ProcessLemmas::lends))]
+    pub fn fail(&mut self, thread: Thread, over: Over, error: Errno, room: Option<Room>)
         ensures failed { self.new ≡ with_process_of self.old thread.proc (failed thread.tid error over) }
     {
         if let Some(process) = self.process_mut(thread.proc) {
-            process.fail(thread.tid, over, error);
+            process.fail(thread.tid, over, error, room);
         }
     }
 }

@@ -1,5 +1,5 @@
 -- What each call leaves of the inodes that it doesn't make.
-use Rattle.std.proofs.Common.{◌≡◌, ◌≢◌, inl, inr, ℕ, ◌<◌, ◌≤◌, ◌==◌, Bool, true, false, List, length, lt-length-set, refl, sym, ap, ◌∙◌, subst, Option, Some, None, Result, Ok, Err, option_map, slice_set}
+use Rattle.std.proofs.Common.{◌≡◌, ◌≢◌, inl, inr, ℕ, ◌<◌, ◌≤◌, ◌==◌, Bool, true, false, List, [], ◌∷◌, length, lt-length-set, refl, sym, ap, ◌∙◌, subst, Option, Some, None, Result, Ok, Err, option_map, slice_set}
 use Rattle.std.specs.FinMap.{insert, remove}
 use Rattle.std.specs.Prelude.{is_some, not}
 use Rattle.std.proofs.lemmas.Bool.{cases_eq}
@@ -21,7 +21,7 @@ use Rattle.qx_machine.specs.declared.rows.Ocb.{Ocb}
 use Rattle.qx_machine.specs.Inodes.{Inodes, Numbered, block_number, inode_number, new_attribute, with_attribute}
 use Rattle.qx_machine.specs.Judgements.{◌>>=◌, found, need}
 use Rattle.qx_machine.specs.Names.{Names, Spot, is_empty, names_in, spot}
-use Rattle.qx_machine.specs.Opening.{Naming, Opening, changed, chmod_block, make_directory, open_existing, open_missing, remove_name, unnamed, writable}
+use Rattle.qx_machine.specs.Opening.{Naming, Opening, changed, chmod_block, is_own, make_directory, open_at, open_existing, open_missing, open_path, own_block, remove_name, unnamed, writable}
 use Rattle.qx_machine.specs.Rows.{put_row, row_at}
 use Rattle.qx_names.specs.Spots.{spot_of}
 use Rattle.qx_types.specs.declared.errno.Errno.{Errno}
@@ -51,6 +51,35 @@ set_alike but rows n was now is same other = elim (cases_eq other n) [
   | inl here ↦ subst (Alike but rows (slice_set rows n (Some now))) (sym here) (ap (option_map but) (row-set_same rows n was now is) ∙ (ap Some same ∙ ap (option_map but) (sym is)))
   | inr apart ↦ ap (option_map but) (row_at-set_other rows n other (Some now) apart)
 ]
+
+-- ---- an inode is the manager's own
+
+pub record IsOwn (inodes : Inodes) (own : Kind) (inode : ℕ) : Type 0 where
+  pub attribute : Attribute
+  pub there : row_at inodes.attributes inode ≡ Some attribute
+  pub mine : is_own own attribute.kind ≡ true
+
+-- so is that of a block
+pub own_is : (inodes : Inodes) (number : ℕ) (own : Kind) (block : Ocb) → own_block inodes number own ≡ Ok block → (row_at inodes.blocks number ≡ Some block) × IsOwn inodes own block.inode
+own_is inodes number own block is = by_block (row_at inodes.blocks number) refl is
+  where
+    by_kind : (there : Ocb) (attribute : Attribute) (mine : Bool) → row_at inodes.blocks number ≡ Some there → row_at inodes.attributes there.inode ≡ Some attribute → is_own own attribute.kind ≡ mine
+        → (need mine EBADF >>= (λ _. Ok there)) ≡ Ok block → (row_at inodes.blocks number ≡ Some block) × IsOwn inodes own block.inode
+    by_kind there attribute false b a m e = absurd (cc)
+    by_kind there attribute true b a m e =
+        let same : there ≡ block = cc in
+        subst (λ (it : Ocb). (row_at inodes.blocks number ≡ Some it) × IsOwn inodes own it.inode) same (b, record { attribute = attribute; there = a; mine = m })
+
+    by_row : (there : Ocb) (row : Option Attribute) → row_at inodes.blocks number ≡ Some there → row_at inodes.attributes there.inode ≡ row
+        → (found row EBADF >>= (λ attribute. need (is_own own attribute.kind) EBADF >>= (λ _. Ok there))) ≡ Ok block → (row_at inodes.blocks number ≡ Some block) × IsOwn inodes own block.inode
+    by_row there None b a e = absurd (cc)
+    by_row there (Some attribute) b a e = by_kind there attribute (is_own own attribute.kind) b a refl e
+
+    by_block : (there : Option Ocb) → row_at inodes.blocks number ≡ there
+        → (found there EBADF >>= (λ there. found (row_at inodes.attributes there.inode) EBADF >>= (λ attribute. need (is_own own attribute.kind) EBADF >>= (λ _. Ok there)))) ≡ Ok block
+        → (row_at inodes.blocks number ≡ Some block) × IsOwn inodes own block.inode
+    by_block None b e = absurd (cc)
+    by_block (Some there) b e = by_row there (row_at inodes.attributes there.inode) b refl e
 
 -- ---- an inode is made
 
@@ -120,6 +149,18 @@ module _ (inodes : Inodes) (names : Names) (user : ℕ) (flags : OFlags) (kind :
   open_leaves (Found inode) is = existing_leaves inode is
   open_leaves (Missing at new) is = missing_leaves (spot_of names at) is
 
+  pub path_leaves : (root : ℕ) (rest : List (List ℕ)) → open_path inodes names user root rest flags kind mode moment ≡ Ok opening → Leaves opening.is_new inodes opening.inodes opening.inode (new_attribute kind mode user moment)
+  path_leaves root [] is = existing_leaves root is
+  path_leaves root (name ∷ rest) is = by_spot (spot inodes names user root (name ∷ rest) ENOENT) is
+    where
+      by_inode : (at : Spot) (there : Option ℕ) → open_at inodes names user at there flags kind mode moment ≡ Ok opening → LeavesIt opening
+      by_inode at (Some inode) e = existing_leaves inode e
+      by_inode at None e = missing_leaves at e
+
+      by_spot : (at : Result Spot Errno) → (at >>= (λ at. open_at inodes names user at at.inode flags kind mode moment)) ≡ Ok opening → LeavesIt opening
+      by_spot (Err error) e = absurd (cc)
+      by_spot (Ok at) e = by_inode at at.inode e
+
 -- ---- a directory is made
 
 module _ (inodes : Inodes) (names : Names) (user : ℕ) (mode moment : ℕ) (some : 0 < length inodes.attributes) (naming : Naming) where
@@ -159,9 +200,10 @@ module _ (inodes : Inodes) (names : Names) (user : ℕ) (mode moment : ℕ) (som
 
 -- ---- a name goes
 
-module _ (inodes : Inodes) (names : Names) (user moment : ℕ) (naming : Naming) where
-  abbrev AllAlike : Naming → Type 0
-  AllAlike n = (other : ℕ) → Alike unlinked inodes.attributes n.inodes.attributes other
+module _ (inodes : Inodes) (names : Names) (user : ℕ) (own : Kind) (moment : ℕ) (naming : Naming) where
+  -- of an inode that is the manager's own, and others stay
+  abbrev IsRemoval : Naming → Type 0
+  IsRemoval n = IsOwn inodes own n.inode × ((other : ℕ) → Alike unlinked inodes.attributes n.inodes.attributes other)
 
   alike_at : (at : Spot) (inode : ℕ) (was attribute : Attribute) → row_at inodes.attributes at.parent ≡ Some was → row_at inodes.attributes inode ≡ Some attribute → (other : ℕ)
       → Alike unlinked inodes.attributes (with_attribute (with_attribute inodes at.parent (changed moment was)) inode (unnamed moment attribute)).attributes other
@@ -180,33 +222,44 @@ module _ (inodes : Inodes) (names : Names) (user moment : ℕ) (naming : Naming)
     names = remove names at.key;
   }
 
-  gone_at : (at : Spot) (there : Option ℕ) → (found there ENOENT >>= (λ inode. writable inodes user at.parent >>= (λ parent. need (is_empty (names_in names inode)) ENOTEMPTY >>= (λ _. found (row_at inodes.attributes inode) ENOENT >>= (λ attribute. Ok (the Naming (record {
+  gone_at : (at : Spot) (there : Option ℕ) → (found there ENOENT >>= (λ inode. writable inodes user at.parent >>= (λ parent. need (is_empty (names_in names inode)) ENOTEMPTY >>= (λ _. found (row_at inodes.attributes inode) ENOENT >>= (λ attribute. need (is_own own attribute.kind) ENOENT >>= (λ _. Ok (the Naming (record {
     inode = inode;
     inodes = with_attribute (with_attribute inodes at.parent (changed moment parent)) inode (unnamed moment attribute);
     names = remove names at.key;
-  }))))))) ≡ Ok naming → AllAlike naming
+  })))))))) ≡ Ok naming → IsRemoval naming
   gone_at at None e = absurd (cc)
   gone_at at (Some inode) e = by_parts (writable inodes user at.parent) (need (is_empty (names_in names inode)) ENOTEMPTY) (row_at inodes.attributes inode) refl refl e
     where
+      by_kind : (parent attribute : Attribute) (mine : Bool) → writable inodes user at.parent ≡ Ok parent → row_at inodes.attributes inode ≡ Some attribute → is_own own attribute.kind ≡ mine
+          → (need mine ENOENT >>= (λ _. Ok (left at inode parent attribute))) ≡ Ok naming → IsRemoval naming
+      by_kind parent attribute false w is m e = absurd (cc)
+      by_kind parent attribute true w is m e =
+          let same : left at inode parent attribute ≡ naming = cc in
+          subst IsRemoval same (record { attribute = attribute; there = is; mine = m }, alike_at at inode parent attribute (writable_row inodes user at.parent parent w) is)
+
       by_parts : (parent : Result Attribute Errno) (empty : Result Bool Errno) (row : Option Attribute) → writable inodes user at.parent ≡ parent → row_at inodes.attributes inode ≡ row
-          → (parent >>= (λ parent. empty >>= (λ _. found row ENOENT >>= (λ attribute. Ok (left at inode parent attribute))))) ≡ Ok naming → AllAlike naming
+          → (parent >>= (λ parent. empty >>= (λ _. found row ENOENT >>= (λ attribute. need (is_own own attribute.kind) ENOENT >>= (λ _. Ok (left at inode parent attribute)))))) ≡ Ok naming → IsRemoval naming
       by_parts (Err error) empty row w is e = absurd (cc)
       by_parts (Ok parent) (Err error) row w is e = absurd (cc)
       by_parts (Ok parent) (Ok empty) None w is e = absurd (cc)
-      by_parts (Ok parent) (Ok empty) (Some attribute) w is e =
-          let same : left at inode parent attribute ≡ naming = cc in
-          subst AllAlike same (alike_at at inode parent attribute (writable_row inodes user at.parent parent w) is)
+      by_parts (Ok parent) (Ok empty) (Some attribute) w is e = by_kind parent attribute (is_own own attribute.kind) w is refl e
 
-  pub removed_alike : (root : ℕ) (rest : List (List ℕ)) → remove_name inodes names user root rest moment ≡ Ok naming → (other : ℕ) → Alike unlinked inodes.attributes naming.inodes.attributes other
-  removed_alike root rest is = by_spot (spot inodes names user root rest EBUSY) is
+  removal : (root : ℕ) (rest : List (List ℕ)) → remove_name inodes names user root rest own moment ≡ Ok naming → IsRemoval naming
+  removal root rest is = by_spot (spot inodes names user root rest EBUSY) is
     where
-      by_spot : (at : Result Spot Errno) → (at >>= (λ at. found at.inode ENOENT >>= (λ inode. writable inodes user at.parent >>= (λ parent. need (is_empty (names_in names inode)) ENOTEMPTY >>= (λ _. found (row_at inodes.attributes inode) ENOENT >>= (λ attribute. Ok (the Naming (record {
+      by_spot : (at : Result Spot Errno) → (at >>= (λ at. found at.inode ENOENT >>= (λ inode. writable inodes user at.parent >>= (λ parent. need (is_empty (names_in names inode)) ENOTEMPTY >>= (λ _. found (row_at inodes.attributes inode) ENOENT >>= (λ attribute. need (is_own own attribute.kind) ENOENT >>= (λ _. Ok (the Naming (record {
         inode = inode;
         inodes = with_attribute (with_attribute inodes at.parent (changed moment parent)) inode (unnamed moment attribute);
         names = remove names at.key;
-      })))))))) ≡ Ok naming → AllAlike naming
+      }))))))))) ≡ Ok naming → IsRemoval naming
       by_spot (Err error) e = absurd (cc)
       by_spot (Ok at) e = gone_at at at.inode e
+
+  pub removed_own : (root : ℕ) (rest : List (List ℕ)) → remove_name inodes names user root rest own moment ≡ Ok naming → IsOwn inodes own naming.inode
+  removed_own root rest is = (removal root rest is).0
+
+  pub removed_alike : (root : ℕ) (rest : List (List ℕ)) → remove_name inodes names user root rest own moment ≡ Ok naming → (other : ℕ) → Alike unlinked inodes.attributes naming.inodes.attributes other
+  removed_alike root rest is = (removal root rest is).1
 
 -- ---- another mode
 

@@ -10,7 +10,7 @@ use Rattle.qx_machine.specs.declared.rows.Attribute.{Attribute}
 use Rattle.qx_machine.specs.Inodes.{Inodes, with_attribute}
 use Rattle.qx_machine.specs.Judgements.{◌>>=◌, found, need}
 use Rattle.qx_machine.specs.Names.{Key, Names, Spot, is_empty, names_in, root_key, start, walk}
-use Rattle.qx_machine.specs.Opening.{Naming, changed, unnamed, writable}
+use Rattle.qx_machine.specs.Opening.{Naming, changed, is_own, unnamed, writable}
 use Rattle.qx_machine.specs.Rows.{row_at}
 use Rattle.qx_types.specs.declared.errno.Errno.{Errno}
 use Rattle.qx_types.specs.declared.errno.Errno.TheVariants.{ENOENT, ENOTEMPTY}
@@ -49,11 +49,11 @@ module _ (names : Names) (inode : ℕ) (given : Naming) (may : Spot → Result A
   by_start (Ok first) next done is = by_walk (next first) done is
 
 pub removed_empty : RemovedEmpty
-removed_empty inodes names user root [] moment inode given done is = absurd (cc)
-removed_empty inodes names user root (name ∷ rest) moment inode given done is =
-    by_start names inode given (λ at. writable inodes user at.parent) (λ at inode parent. found (row_at inodes.attributes inode) ENOENT >>= (λ attribute. Ok (record {
+removed_empty inodes names user root [] own moment inode given done is = absurd (cc)
+removed_empty inodes names user root (name ∷ rest) own moment inode given done is =
+    by_start names inode given (λ at. writable inodes user at.parent) (λ at inode parent. found (row_at inodes.attributes inode) ENOENT >>= (λ attribute. need (is_own own attribute.kind) ENOENT >>= (λ _. Ok (record {
       inode = inode;
       inodes = with_attribute (with_attribute inodes at.parent (changed moment parent)) inode (unnamed moment attribute);
       names = remove names at.key;
-    })))
+    }))))
     (start names root) (λ first. walk inodes names user first (root_key root) name rest) done is

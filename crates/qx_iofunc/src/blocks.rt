@@ -6,13 +6,28 @@ ghost use Rattle.qx_iofunc.specs.Given.{changed_to, replied, status_of, told};
 ghost use Rattle.qx_machine.specs.Names as of_names;
 ghost use Rattle.qx_machine.specs.Opening as machine;
 
-use qx_attr::{Inodes, Reply, Status};
+use crate::entries::is_own;
+use qx_attr::{Inodes, Ocb, Reply, Status};
 use qx_machine::{Attribute, Kind};
 use qx_names::Names;
 use qx_types::Errno;
 
 /// The number of the root of a user's top.
 const TOP_INODE: u32 = 1;
+
+/// An open control block of a directory or of an inode of the manager's own kind (Writing a Resource Manager:
+/// `iofunc_ocb_t`). EBADF without one.
+pub fn own_block(inodes: &Inodes, number: u16, own: Kind) -> Result<Ocb, Errno>
+    ensures block { result ≡ machine.own_block inodes.now.inodes number own }
+{
+    let Some(block) = inodes.block(number) else {
+        return Err(Errno::EBADF);
+    };
+    match inodes.attr(block.inode) {
+        Some(attr) if is_own(own, attr.attribute.kind) => Ok(*block),
+        _ => Err(Errno::EBADF),
+    }
+}
 
 /// The status of what is open (C Library Reference: `fstat`). EBADF without a block.
 pub fn fstat(inodes: &Inodes, number: u16) -> Result<Status, Errno>

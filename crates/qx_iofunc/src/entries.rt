@@ -14,6 +14,13 @@ use qx_machine::{Access, Attribute, Kind};
 use qx_names::Spot;
 use qx_types::{Errno, OFlags, User};
 
+/// Whether an inode of that kind is one of a manager with directories and inodes of its own kind.
+pub fn is_own(own: Kind, kind: Kind) -> bool
+    ensures { result ≡ machine.is_own own kind }
+{
+    kind == Kind::Directory || kind == own
+}
+
 /// Whether what is there may be opened so.
 pub fn may_open(inodes: &Inodes, user: User, inode: u32, flags: OFlags) -> Result<(), Errno>
     ensures may { result ≡ may_open inodes.now.inodes user.0 inode flags }

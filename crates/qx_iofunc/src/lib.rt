@@ -8,7 +8,7 @@ pub mod laws;
 pub mod opening;
 pub mod paths;
 
-pub use blocks::{chmod, fstat, list};
+pub use blocks::{chmod, fstat, list, own_block};
 pub use found::{Lookup, New, Opening};
 pub use opening::{lookup, open};
 pub use paths::{mkdir, stat, unlink};

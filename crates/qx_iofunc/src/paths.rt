@@ -5,7 +5,7 @@ ghost use Rattle.qx_iofunc.specs.Fits.{Fits, FitsBut};
 ghost use Rattle.qx_iofunc.specs.Given.{naming, status_of};
 ghost use Rattle.qx_machine.specs.Opening as machine;
 
-use crate::entries::{changed, made, may_make_directory, new_attribute, unnamed, writable};
+use crate::entries::{changed, is_own, made, may_make_directory, new_attribute, unnamed, writable};
 use qx_attr::{Inodes, Status};
 use qx_machine::Kind;
 use qx_names::Names;
@@ -62,19 +62,21 @@ pub fn mkdir(
     Ok(Ok(new.inode))
 }
 
-/// Takes the name of an empty directory or of what is none, and gives the inode that it named, which is the caller's to
-/// free (C Library Reference: `unlink`; that it takes an empty directory is this profile). EBUSY for a mount's root; then
-/// the errors of a walk; ENOENT where nothing is there; EACCES by its directory's mode; ENOTEMPTY.
+/// Takes the name of an empty directory or of an inode of the manager's own kind, and gives the inode that it named, which
+/// is the caller's to free (C Library Reference: `unlink`; that it takes an empty directory is this profile). EBUSY for a
+/// mount's root; then the errors of a walk; ENOENT where nothing is there; EACCES by its directory's mode; ENOTEMPTY;
+/// ENOENT for another kind.
 pub fn unlink(
     inodes: &mut Inodes,
     names: &mut Names,
     user: User,
     root: u32,
     rest: &Rest<'_>,
+    own: Kind,
     moment: u64,
 ) -> Result<u32, Errno>
     requires fits { Fits inodes.old.inodes names.old }
-    ensures removed { naming inodes.new.inodes names.new result ≡ machine.remove_name inodes.old.inodes names.old user.0 root rest.now moment }
+    ensures removed { naming inodes.new.inodes names.new result ≡ machine.remove_name inodes.old.inodes names.old user.0 root rest.now own moment }
     ensures kept { OnErr result ((inodes.new.inodes ≡ inodes.old.inodes) × (names.new ≡ names.old)) }
     ensures fits { IfOk result (FitsBut inodes.new.inodes names.new) }
 {
@@ -89,6 +91,9 @@ pub fn unlink(
     let Some(attr) = inodes.attr(inode) else {
         return Err(Errno::ENOENT);
     };
+    if !is_own(own, attr.attribute.kind) {
+        return Err(Errno::ENOENT);
+    }
     let unnamed = unnamed(moment, attr.attribute);
     inodes.set_attribute(at.parent, changed(moment, parent));
     inodes.set_attribute(inode, unnamed);

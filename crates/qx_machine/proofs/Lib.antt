@@ -20,3 +20,5 @@ pub mod Runs
 pub mod Steps
 -- the end of a step, and a client's step, in a view
 pub mod Views
+-- who waits in pipes, and who is answered
+pub mod Waiters

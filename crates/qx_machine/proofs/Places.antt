@@ -1,5 +1,5 @@
 -- Rows under numbers: what a write to one place does to the others.
-use Rattle.std.proofs.Common.{◌≡◌, ◌≢◌, ℕ, zero, suc, ◌+◌, ◌-◌, ◌<◌, ◌≤◌, add-one, List, [], ◌∷◌, drop, length, refl, sym, ap, ◌∙◌, arith}
+use Rattle.std.proofs.Common.{◌≡◌, ◌≢◌, ◌⊎◌, inl, inr, ℕ, zero, suc, ◌+◌, ◌-◌, ◌<◌, ◌≤◌, add-one, List, [], ◌∷◌, drop, length, refl, sym, ap, ◌∙◌, arith}
 use Rattle.std.specs.Prelude.{Option, Some, None, slice_get, slice_set, map, unwrap_or}
 use Rattle.std.proofs.lemmas.List.{set-get_or, get_or-set_other, get_or-drop}
 use Rattle.std.proofs.lemmas.Option.{unwrap_or-slice_get}
@@ -9,6 +9,14 @@ module _ {A : Type 0} where
   pub row_at-set_other : (places : List (Option A)) (i j : ℕ) (row : Option A) → j ≢ i → row_at (slice_set places i row) j ≡ row_at places j
   row_at-set_other places i j row differ =
       unwrap_or-slice_get (slice_set places i row) j None ∙ (get_or-set_other places i j row None differ ∙ sym (unwrap_or-slice_get places j None))
+
+  -- a row that is there was there, or is the one that was put
+  pub row_at-set_cases : (places : List (Option A)) (i j : ℕ) (row : Option A) (there : A) → row_at (slice_set places i row) j ≡ Some there → (row_at places j ≡ Some there) ⊎ (row ≡ Some there)
+  row_at-set_cases [] i j row there is = inl is
+  row_at-set_cases (x ∷ places) zero zero row there is = inr is
+  row_at-set_cases (x ∷ places) zero (suc j) row there is = inl is
+  row_at-set_cases (x ∷ places) (suc i) zero row there is = inl is
+  row_at-set_cases (x ∷ places) (suc i) (suc j) row there is = row_at-set_cases places i j row there is
 
   pub set-row_at : (places : List (Option A)) (i : ℕ) → slice_set places i (row_at places i) ≡ places
   set-row_at places i = ap (slice_set places i) (unwrap_or-slice_get places i None) ∙ set-get_or places i None

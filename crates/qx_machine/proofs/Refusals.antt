@@ -15,7 +15,7 @@ use Rattle.qx_types.specs.declared.step.Step.TheVariants.{Spawn, Call, TakeReply
 use Rattle.qx_machine.specs.declared.rows.Held.{Held}
 use Rattle.qx_machine.specs.declared.rows.OwnItem.{OwnItem}
 use Rattle.qx_machine.specs.declared.rows.State.{State}
-use Rattle.qx_machine.specs.declared.rows.State.TheVariants.{Queued as queued, Taken}
+use Rattle.qx_machine.specs.declared.rows.State.TheVariants.{Queued as queued, Taken, Waiting}
 use Rattle.qx_machine.specs.declared.rows.Queued.{Queued}
 use Rattle.qx_machine.specs.Judgements.{◌>>=◌}
 use Rattle.qx_machine.specs.Laws.{is_refusal}
@@ -49,6 +49,7 @@ answer_goes (answer.Failed error) = refl
 interrupt_goes : (part : Part) (thread : Thread) (call : ℕ) (state : State) → Goes (Ok (interrupt_in part thread call state))
 interrupt_goes part thread call (queued sent) = record { goes = refl }
 interrupt_goes part thread call (Taken sent) = cond_both {A = ClientStep} sent.is_asked _ _ (λ given. Goes (Ok given)) (λ asked. record { goes = refl }) (λ unasked. record { goes = refl })
+interrupt_goes part thread call (Waiting sent) = cond_both {A = ClientStep} sent.is_asked _ _ (λ given. Goes (Ok given)) (λ asked. record { goes = refl }) (λ unasked. record { goes = refl })
 interrupt_goes part thread call _ = record { goes = refl }
 
 given_goes : (config : Configuration) (user : ℕ) (held : List OwnItem) (part : Part) (e : Step) → Goes (client_given config user held part e)

@@ -19,7 +19,7 @@ use Rattle.qx_machine.specs.declared.rows.OwnItem.{OwnItem}
 use Rattle.qx_machine.specs.declared.rows.OwnItem.TheVariants as item
 use Rattle.qx_machine.specs.declared.rows.Sent.{Sent}
 use Rattle.qx_machine.specs.declared.rows.State.{State}
-use Rattle.qx_machine.specs.declared.rows.State.TheVariants.{Queued, Taken, Answered}
+use Rattle.qx_machine.specs.declared.rows.State.TheVariants.{Answered, Queued, Taken, Waiting}
 use Rattle.qx_machine.specs.Calls.{address, bytes_of, content_of, is_ready, may_call, target_at}
 use Rattle.qx_machine.specs.Judgements.{◌>>=◌, found, need, or_refused}
 use Rattle.qx_machine.specs.Mounting.{new_mount, with_mount}
@@ -115,6 +115,7 @@ leave part = record { outcome = Done; part = part; changes = [] }
 abbrev pub interrupt_in : Part → Thread → ℕ → State → ClientStep
 interrupt_in part thread call (Queued sent) = dismiss part thread sent
 interrupt_in part thread call (Taken sent) = if sent.is_asked then leave part else ask_unblock part thread call sent
+interrupt_in part thread call (Waiting sent) = if sent.is_asked then leave part else ask_unblock part thread call sent
 interrupt_in part thread call _ = leave part
 
 abbrev pub interrupt : Part → Thread → Result ClientStep Outcome

@@ -1,6 +1,5 @@
 -- What the RAM manager does to files (C Library Reference: open, read, write, lseek, unlink, close; the limits are this profile).
 use Rattle.std.specs.Prelude.{ℕ, ℤ, pos, negsuc, ◌+◌, ◌-◌, ◌==◌, ◌&&◌, List, [], ◌++◌, Option, Some, None, Result, Ok, drop, is_some, length, nat_le, nat_lt, replicate, slice_set, take, if◌then◌else◌}
-use Rattle.std.specs.FinMap.{empty}
 use Rattle.std.specs.List.{sum_by}
 use Rattle.qx_types.specs.declared.errno.Errno.{Errno}
 use Rattle.qx_types.specs.declared.errno.Errno.TheVariants.{EBADF, EFBIG, EINVAL, EISDIR, ENOSPC}
@@ -15,17 +14,16 @@ use Rattle.qx_machine.specs.declared.rows.Ocb.{Ocb}
 use Rattle.qx_machine.specs.Inodes.{Inodes, close_block, free_inode, has, is_unused, reads, with_attribute, with_offset, writes}
 use Rattle.qx_machine.specs.Judgements.{◌>>=◌, found, need}
 use Rattle.qx_machine.specs.Names.{Names}
-use Rattle.qx_machine.specs.Opening.{Opening, make_directory, open_path, remove_name}
+use Rattle.qx_machine.specs.Opening.{Opening, open_path, own_block, remove_name}
 use Rattle.qx_machine.specs.Rows.{row_at, with_row}
 
--- the bytes of a user's files, under the numbers of their inodes, and the names in the RAM manager's mounts
-pub record Files : Type 0 where
-  pub contents : List (Option (List ℕ))
-  pub names : Names
+-- the bytes of a user's files, under the numbers of their inodes
+abbrev pub Files : Type 0
+Files = List (Option (List ℕ))
 
 -- no file, and a place for the bytes of each inode
 abbrev pub no_files : Files
-no_files = record { contents = replicate (INODES + 1) None; names = empty }
+no_files = replicate (INODES + 1) None
 
 -- what a function gives: status and bytes of its reply, and what there is then
 pub record Given : Type 0 where
@@ -50,10 +48,10 @@ size_of (Some bytes) = length bytes
 
 -- the sum of the sizes of a user's files
 abbrev pub total_size : Files → ℕ
-total_size files = sum_by size_of files.contents
+total_size files = sum_by size_of files
 
 abbrev pub with_contents : Files → ℕ → Option (List ℕ) → Files
-with_contents files inode bytes = record files { contents = slice_set files.contents inode bytes }
+with_contents files inode bytes = slice_set files inode bytes
 
 -- ---- files as they come, and without their bytes
 
@@ -77,11 +75,11 @@ truncated given inode moment = record given {
 -- an open for writing with TRUNC makes a file empty, and nothing else
 abbrev pub emptied : OFlags → ℕ → ℕ → Given → Given
 emptied flags inode moment given =
-    if has flags TRUNC && writes flags && is_some (row_at given.files.contents inode) then truncated given inode moment else given
+    if has flags TRUNC && writes flags && is_some (row_at given.files inode) then truncated given inode moment else given
 
 -- what an open leaves; the status is the number of the open control block
 abbrev pub after_opening : Files → Opening → Given
-after_opening files opening = record { status = opening.number; bytes = []; inodes = opening.inodes; files = record files { names = opening.names } }
+after_opening files opening = record { status = opening.number; bytes = []; inodes = opening.inodes; files = files }
 
 -- a new file has no bytes
 abbrev pub opened_file : Files → OFlags → ℕ → Opening → Given
@@ -89,10 +87,11 @@ opened_file files flags moment opening =
     if opening.is_new then after_opening (with_new_file files opening.inode) opening
     else emptied flags opening.inode moment (after_opening files opening)
 
-abbrev pub open_file : Inodes → Files → ℕ → ℕ → List (List ℕ) → OFlags → ℕ → ℕ → Result Given Errno
-open_file inodes files user root rest flags mode moment = do
-  opening ← open_path inodes files.names user root rest flags File mode moment
-  Ok (opened_file files flags moment opening)
+-- beside the names that there are then
+abbrev pub open_file : Inodes → Names → Files → ℕ → ℕ → List (List ℕ) → OFlags → ℕ → ℕ → Result (Names × Given) Errno
+open_file inodes names files user root rest flags mode moment = do
+  opening ← open_path inodes names user root rest flags File mode moment
+  Ok (opening.names, opened_file files flags moment opening)
 
 -- ---- reading and writing
 
@@ -101,7 +100,7 @@ abbrev pub read_file : Inodes → Files → ℕ → ℕ → Result Given Errno
 read_file inodes files number count = do
   block ← found (row_at inodes.blocks number) EBADF
   reading ← need (reads block.flags) EBADF
-  bytes ← found (row_at files.contents block.inode) EISDIR
+  bytes ← found (row_at files block.inode) EISDIR
   Ok (record {
     status = length (get bytes block.offset count);
     bytes = get bytes block.offset count;
@@ -136,7 +135,7 @@ write_file inodes files number moment new = do
   block ← found (row_at inodes.blocks number) EBADF
   writing ← need (writes block.flags) EBADF
   attribute ← found (row_at inodes.attributes block.inode) EBADF
-  bytes ← found (row_at files.contents block.inode) EBADF
+  bytes ← found (row_at files block.inode) EBADF
   write_some inodes files number block moment attribute bytes new
 
 -- ---- seeking
@@ -156,7 +155,7 @@ moved_by from (negsuc n) = if nat_lt n from then Some (from - (n + 1)) else None
 abbrev pub seek_file : Inodes → Files → ℕ → Whence → ℤ → Result Given Errno
 seek_file inodes files number whence by = do
   block ← found (row_at inodes.blocks number) EBADF
-  bytes ← found (row_at files.contents block.inode) EINVAL
+  bytes ← found (row_at files block.inode) EINVAL
   offset ← found (moved_by (base whence block bytes) by) EINVAL
   small ← need (nat_le offset OFFSET) EINVAL
   Ok (record { status = offset; bytes = []; inodes = with_offset inodes number offset; files = files })
@@ -172,20 +171,14 @@ without_unused inodes files inode = record {
   files = if is_unused inodes inode (row_at inodes.attributes inode) then with_contents files inode None else files;
 }
 
--- a directory is made
-abbrev pub make_file_directory : Inodes → Files → ℕ → ℕ → List (List ℕ) → ℕ → ℕ → Result Given Errno
-make_file_directory inodes files user root rest mode moment = do
-  made ← make_directory inodes files.names user root rest mode moment
-  Ok (record { status = 0; bytes = []; inodes = made.inodes; files = record files { names = made.names } })
-
 -- a name goes, and what it named, unless that is open
-abbrev pub unlink_file : Inodes → Files → ℕ → ℕ → List (List ℕ) → ℕ → Result Given Errno
-unlink_file inodes files user root rest moment = do
-  removed ← remove_name inodes files.names user root rest moment
-  Ok (without_unused removed.inodes (record files { names = removed.names }) removed.inode)
+abbrev pub unlink_file : Inodes → Names → Files → ℕ → ℕ → List (List ℕ) → ℕ → Result (Names × Given) Errno
+unlink_file inodes names files user root rest moment = do
+  removed ← remove_name inodes names user root rest File moment
+  Ok (removed.names, without_unused removed.inodes files removed.inode)
 
 -- an open control block goes, and what was open with it, if that was all that kept it
 abbrev pub release_file : Inodes → Files → ℕ → Result Given Errno
 release_file inodes files number = do
-  block ← found (row_at inodes.blocks number) EBADF
+  block ← own_block inodes number File
   Ok (without_unused (close_block inodes number) files block.inode)

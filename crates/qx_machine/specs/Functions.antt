@@ -1,11 +1,12 @@
 -- The two tables of functions of a manager, each function as what it means (Writing a Resource Manager: resmgr_connect_funcs_t,
 -- resmgr_io_funcs_t). S is what the manager's functions work on.
-use Rattle.std.specs.Prelude.{ℕ, ℤ, Bool, true, false, List, Option, Some, None, Result, Ok, Err}
+use Rattle.std.specs.Prelude.{ℕ, ℤ, Bool, true, false, List, [], Option, Some, None, Result, Ok, Err}
 use Rattle.qx_types.specs.declared.errno.Errno.{Errno}
 use Rattle.qx_types.specs.declared.errno.Errno.TheVariants.{EINVAL, ENOSYS}
 use Rattle.qx_types.specs.declared.fields.Whence.{Whence}
 use Rattle.qx_types.specs.declared.flags.OFlags.{OFlags}
 use Rattle.qx_types.specs.declared.names.Coid.{Coid}
+use Rattle.qx_types.specs.declared.outcome.Answer.{Answer}
 use Rattle.qx_wire.specs.declared.message.Message.{Message}
 use Rattle.qx_wire.specs.declared.message.Message.TheVariants as msg
 use Rattle.qx_machine.specs.declared.rows.Effect.{Effect}
@@ -14,17 +15,25 @@ use Rattle.qx_machine.specs.declared.rows.Opened.{Opened}
 use Rattle.qx_machine.specs.declared.rows.Over.{Over}
 use Rattle.qx_machine.specs.declared.rows.Over.TheVariants.{New, Existing, Side}
 use Rattle.qx_machine.specs.declared.rows.Target.{Target}
+use Rattle.qx_machine.specs.declared.rows.WaitingCall.{WaitingCall}
 use Rattle.qx_machine.specs.Judgements.{◌>>=◌, found, need}
 
--- what a message does: status and bytes of its reply, what the functions work on as it is after it, and what becomes of its connection
-pub record Deed (S : Type 0) : Type 0 where
+-- what a message is replied: status and bytes, and what becomes of its connection
+pub record Reply : Type 0 where
   pub status : ℕ
   pub bytes : List ℕ
-  pub state : S
   pub effect : Effect
 
-abbrev pub replied : {S : Type 0} → ℕ → List ℕ → Effect → S → Deed S
-replied status bytes effect state = record { status = status; bytes = bytes; state = state; effect = effect }
+-- what a message does: what it is replied, if the function leaves no other answer to it (Writing a Resource Manager: _RESMGR_NOREPLY); what
+-- the functions work on as it is after it; and which calls that waited, or would wait, are answered what, in order
+pub record Deed (S : Type 0) : Type 0 where
+  pub reply : Option Reply
+  pub state : S
+  pub answers : List (WaitingCall × Answer)
+
+-- a reply to the message, and no other answer
+abbrev pub reply_alone : {S : Type 0} → ℕ → List ℕ → Effect → S → Deed S
+reply_alone status bytes effect state = record { reply = Some (record { status = status; bytes = bytes; effect = effect }); state = state; answers = [] }
 
 -- the functions for messages to a path, each with the moment last; a stat and those after it are given the root of the mount
 pub record ConnectFunctions (S : Type 0) : Type 0 where

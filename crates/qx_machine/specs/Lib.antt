@@ -16,6 +16,7 @@ pub mod Names
 pub mod Opening
 pub mod Parts
 pub mod Performing
+pub mod PipeManager
 pub mod Pipes
 pub mod Processes
 pub mod Rows

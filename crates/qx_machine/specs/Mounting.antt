@@ -1,24 +1,20 @@
 -- What a user's mounts and their roots are at boot, and once a manager is attached.
 use Rattle.std.specs.Prelude.{ℕ, List, [], ◌∷◌, Some, None, Result, Ok}
+use Rattle.std.specs.FinMap.{empty}
 use Rattle.qx_types.specs.declared.errno.Errno.{Errno}
 use Rattle.qx_types.specs.declared.errno.Errno.TheVariants.{EACCES}
 use Rattle.qx_types.specs.declared.names.Manager.{Manager}
-use Rattle.qx_types.specs.declared.names.Manager.TheVariants.{Ram, Pipe}
 use Rattle.qx_paths.specs.Mounts.{boot_mounts, mount_fault, mounted}
 use Rattle.qx_paths.specs.Paths.{read_path, unless}
 use Rattle.qx_paths.specs.Prefixes.{MountPoint, is_under}
 use Rattle.qx_machine.specs.Attributes.{root_attribute, top_inode}
-use Rattle.qx_machine.specs.Files.{Files, no_files}
+use Rattle.qx_machine.specs.Files.{no_files}
 use Rattle.qx_machine.specs.Inodes.{inode_number}
 use Rattle.qx_machine.specs.Judgements.{◌>>=◌, need}
 use Rattle.qx_machine.specs.Names.{with_root}
 use Rattle.qx_machine.specs.Parts.{Resources}
+use Rattle.qx_machine.specs.PipeManager.{no_pipes}
 use Rattle.qx_machine.specs.Rows.{put_row}
-
--- a manager has a root, in which there is no name yet
-abbrev pub with_manager_root : Manager → ℕ → Files → Files
-with_manager_root Ram root files = record files { names = with_root files.names root }
-with_manager_root Pipe root files = files
 
 -- the top with its root, which is empty, and nothing open
 abbrev pub new_resources : ℕ → List ℕ → Resources
@@ -26,7 +22,9 @@ new_resources user name = record {
   user = user;
   mounts = boot_mounts name top_inode;
   inodes = record { attributes = None ∷ Some (root_attribute user) ∷ []; blocks = None ∷ [] };
-  files = with_manager_root Ram top_inode no_files;
+  names = with_root empty top_inode;
+  files = no_files;
+  pipes = no_pipes;
 }
 
 -- a manager's mount at a path of a user of that name: at the name or below it, where no mount is, with a root of its own (C Library
@@ -44,5 +42,5 @@ abbrev pub with_mount : MountPoint → Resources → Resources
 with_mount mount resources = record resources {
   mounts = mounted resources.mounts mount.prefix mount.manager mount.root;
   inodes = record resources.inodes { attributes = put_row resources.inodes.attributes mount.root (root_attribute resources.user) };
-  files = with_manager_root mount.manager mount.root resources.files;
+  names = with_root resources.names mount.root;
 }

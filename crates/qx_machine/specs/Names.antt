@@ -11,7 +11,7 @@ use Rattle.qx_types.specs.declared.errno.Errno.TheVariants.{EACCES, ENOENT, ENOT
 use Rattle.qx_types.specs.declared.limits.TheConstants.Limits.{TRANSFER}
 use Rattle.qx_machine.specs.declared.rows.Access.TheVariants.{Search}
 use Rattle.qx_machine.specs.declared.rows.Kind.{Kind}
-use Rattle.qx_machine.specs.declared.rows.Kind.TheVariants.{Directory}
+use Rattle.qx_machine.specs.declared.rows.Kind.TheVariants.{Directory, File, Pipe}
 use Rattle.qx_machine.specs.Inodes.{Inodes, may}
 use Rattle.qx_machine.specs.Judgements.{◌>>=◌, found, need}
 use Rattle.qx_machine.specs.Rows.{row_at}
@@ -45,6 +45,12 @@ with_root names root = insert names (root_key root) root
 abbrev pub is_directory : Kind → Bool
 is_directory Directory = true
 is_directory _ = false
+
+abbrev pub is_same_kind : Kind → Kind → Bool
+is_same_kind File File = true
+is_same_kind Directory Directory = true
+is_same_kind Pipe Pipe = true
+is_same_kind _ _ = false
 
 -- a name may be looked up in what a path leads to: in a directory, with search (C Library Reference: ENOTDIR, EACCES)
 abbrev pub search : Inodes → ℕ → ℕ → Result Bool Errno

@@ -10,11 +10,16 @@ use Rattle.qx_machine.specs.declared.rows.Access.TheVariants.{Read, Write}
 use Rattle.qx_machine.specs.declared.rows.Attribute.{Attribute}
 use Rattle.qx_machine.specs.declared.rows.Kind.{Kind}
 use Rattle.qx_machine.specs.declared.rows.Kind.TheVariants.{Directory}
+use Rattle.qx_machine.specs.declared.rows.Ocb.{Ocb}
 use Rattle.qx_machine.specs.Attributes.{stat_bytes, top_inode}
 use Rattle.qx_machine.specs.Inodes.{Inodes, block_number, has, may, new_attribute, new_inode, open_block, reads, with_attribute, writes}
 use Rattle.qx_machine.specs.Judgements.{◌>>=◌, found, need}
-use Rattle.qx_machine.specs.Names.{Names, Spot, inode_at, is_directory, is_empty, listed, names_in, spot}
+use Rattle.qx_machine.specs.Names.{Names, Spot, inode_at, is_directory, is_empty, is_same_kind, listed, names_in, spot}
 use Rattle.qx_machine.specs.Rows.{row_at}
+
+-- a manager has directories, and inodes of a kind of its own
+abbrev pub is_own : Kind → Kind → Bool
+is_own own kind = is_directory kind || is_same_kind own kind
 
 -- ---- entries of a directory
 
@@ -111,14 +116,15 @@ make_directory inodes names user root rest mode moment = do
 abbrev pub unnamed : ℕ → Attribute → Attribute
 unnamed moment attribute = record attribute { links = 0; ctime = moment }
 
--- a name goes, of what is no directory or of a directory that is empty
-abbrev pub remove_name : Inodes → Names → ℕ → ℕ → List (List ℕ) → ℕ → Result Naming Errno
-remove_name inodes names user root rest moment = do
+-- a name goes, of a manager's own kind of inode or of a directory that is empty
+abbrev pub remove_name : Inodes → Names → ℕ → ℕ → List (List ℕ) → Kind → ℕ → Result Naming Errno
+remove_name inodes names user root rest own moment = do
   at ← spot inodes names user root rest EBUSY
   inode ← found at.inode ENOENT
   parent ← writable inodes user at.parent
   empty ← need (is_empty (names_in names inode)) ENOTEMPTY
   attribute ← found (row_at inodes.attributes inode) ENOENT
+  mine ← need (is_own own attribute.kind) ENOENT
   Ok (record {
     inode = inode;
     inodes = with_attribute (with_attribute inodes at.parent (changed moment parent)) inode (unnamed moment attribute);
@@ -126,6 +132,14 @@ remove_name inodes names user root rest moment = do
   })
 
 -- ---- messages over what is open
+
+-- an open control block of an inode that is the manager's own
+abbrev pub own_block : Inodes → ℕ → Kind → Result Ocb Errno
+own_block inodes number own = do
+  block ← found (row_at inodes.blocks number) EBADF
+  attribute ← found (row_at inodes.attributes block.inode) EBADF
+  mine ← need (is_own own attribute.kind) EBADF
+  Ok block
 
 -- an fstat tells the status of what is open
 abbrev pub stat_block : Inodes → ℕ → Result (List ℕ) Errno

@@ -1,15 +1,20 @@
 -- What a message that a worker holds does to the rows of its user.
-use Rattle.std.specs.Prelude.{ℕ, List, [], ◌∷◌, Option, Some, None, Result, Ok, Err}
+use Rattle.std.specs.Prelude.{ℕ, List, [], ◌∷◌, ◌++◌, Option, Some, None, Result, Ok, Err, is_some, map, if◌then◌else◌}
 use Rattle.qx_types.specs.Managers.{manager_number}
 use Rattle.qx_types.specs.declared.errno.Errno.{Errno}
 use Rattle.qx_types.specs.declared.errno.Errno.TheVariants.{EBADF, EINVAL, ENOSYS}
-use Rattle.qx_types.specs.declared.outcome.Answer.TheVariants.{Reply, Failed}
+use Rattle.qx_types.specs.declared.names.Manager.{Manager}
+use Rattle.qx_types.specs.declared.names.Manager.TheVariants.{Pipe}
+use Rattle.qx_types.specs.declared.outcome.Answer.{Answer}
+use Rattle.qx_types.specs.declared.outcome.Answer.TheVariants as answer
+use Rattle.qx_types.specs.declared.outcome.Answer.TheVariants.{Failed}
 use Rattle.qx_types.specs.declared.outcome.Outcome.{Outcome}
 use Rattle.qx_types.specs.declared.outcome.Outcome.TheVariants.{WrongState}
 use Rattle.qx_wire.specs.declared.message.Meaning.{Meaning}
 use Rattle.qx_wire.specs.declared.message.Meaning.TheVariants.{Known, Unknown, Malformed}
 use Rattle.qx_wire.specs.declared.message.Message.{Message}
 use Rattle.qx_wire.specs.Reading.{meaning}
+use Rattle.qx_machine.specs.declared.rows.Caller.{Caller}
 use Rattle.qx_machine.specs.declared.rows.Opened.{Opened}
 use Rattle.qx_machine.specs.declared.rows.Over.{Over}
 use Rattle.qx_machine.specs.declared.rows.OwnItem.TheVariants as item
@@ -17,11 +22,14 @@ use Rattle.qx_machine.specs.declared.rows.Sent.{Sent}
 use Rattle.qx_machine.specs.declared.rows.State.{State}
 use Rattle.qx_machine.specs.declared.rows.State.TheVariants.{Taken}
 use Rattle.qx_machine.specs.declared.rows.Target.{Target}
-use Rattle.qx_machine.specs.Functions.{Deed, existing_coid}
+use Rattle.qx_machine.specs.declared.rows.ThreadRow.{ThreadRow}
+use Rattle.qx_machine.specs.declared.rows.WaitingCall.{WaitingCall}
+use Rattle.qx_machine.specs.Functions.{Deed, Reply, existing_coid}
 use Rattle.qx_machine.specs.Judgements.{◌>>=◌, found, need}
-use Rattle.qx_machine.specs.Managers.{manager_deed}
+use Rattle.qx_machine.specs.Managers.{manager_deed, with_pipes}
 use Rattle.qx_machine.specs.Parts.{Part, Change, Remove, Resources, with_process}
-use Rattle.qx_machine.specs.Processes.{Process, after_effect, after_error, after_reply, answered_thread, with_thread}
+use Rattle.qx_machine.specs.PipeManager.{cancel_call}
+use Rattle.qx_machine.specs.Processes.{Process, after_effect, after_error, after_reply, answered_thread, served_thread, with_thread}
 use Rattle.qx_machine.specs.Rows.{row_at}
 use Rattle.qx_machine.specs.Servers.{is_numbered}
 
@@ -31,13 +39,13 @@ pub record Served : Type 0 where
   pub changes : List Change
 
 -- what a message's connection has open: the connection is there still, at this manager, with a block (C Library Reference: EBADF)
-abbrev pub opened_by : Process → Target → Result Opened Errno
-opened_by process target = do
+abbrev pub opened_by : Process → Caller → Target → Result Opened Errno
+opened_by process caller target = do
   coid ← found (existing_coid target.over) EINVAL
   connection ← found (row_at process.connections coid.0) EBADF
   here ← need (is_numbered (manager_number target.manager) connection.manager) EBADF
   number ← found connection.block EBADF
-  Ok (record { coid = coid; number = number })
+  Ok (record { caller = caller; coid = coid; number = number })
 
 -- the message that a manager reads, or how it answers other bytes (Writing a Resource Manager: ENOSYS for an unknown message; that
 -- malformed ones are EINVAL is this profile)
@@ -47,32 +55,75 @@ read_message Unknown = Err ENOSYS
 read_message Malformed = Err EINVAL
 
 -- what bytes of a process that mean this come to
-abbrev pub deed_of : Resources → Process → Target → ℕ → Meaning → Result (Deed Resources) Errno
-deed_of resources process target moment given = do
+abbrev pub deed_of : Resources → Process → Caller → Target → ℕ → Meaning → Result (Deed Resources) Errno
+deed_of resources process caller target moment given = do
   message ← read_message given
-  manager_deed target.manager resources target (opened_by process target) moment message
+  manager_deed target.manager resources target (opened_by process caller target) moment message
 
--- the rows once the message is answered (C Library Reference: MsgReply, MsgError)
+-- ---- answers
+
+-- the row of a process once its message is replied to, or is left without a reply (C Library Reference: MsgReply)
+abbrev pub after_serving : ℕ → Over → Option Reply → Process → Process
+after_serving thread over None process = with_thread thread served_thread process
+after_serving thread over (Some reply) process = after_reply thread over (with_thread thread (answered_thread (answer.Reply reply.status reply.bytes)) (after_effect reply.effect process))
+
+-- a call that waited is answered; it came over a connection that is there, so nothing is given back
+abbrev pub with_answer : WaitingCall × Answer → Part → Part
+with_answer (call, given) part = with_process call.process (with_thread call.thread (answered_thread given)) part
+
+abbrev pub with_answers : List (WaitingCall × Answer) → Part → Part
+with_answers [] part = part
+with_answers (first ∷ rest) part = with_answers rest (with_answer first part)
+
+-- the rows once a message is served (C Library Reference: MsgReply, MsgError)
 abbrev pub after_answer : Part → ℕ → ℕ → Over → Result (Deed Resources) Errno → Part
 after_answer part process thread over (Ok deed) =
-    with_process process (λ row. after_reply thread over (with_thread thread (answered_thread (Reply deed.status deed.bytes)) (after_effect deed.effect row))) (record part { resources = deed.state })
+    with_answers deed.answers (with_process process (after_serving thread over deed.reply) (record part { resources = deed.state }))
 after_answer part process thread over (Err error) =
     with_process process (λ row. after_error thread over (with_thread thread (answered_thread (Failed error)) row)) part
+
+-- an answer takes an unblock pulse of its call out of the line, if one stands there
+abbrev pub answered_changes : Manager → List (WaitingCall × Answer) → List Change
+answered_changes manager answers = map (λ answer. Remove manager (item.Unblock answer.0.process answer.0.thread answer.0.call)) answers
+
+abbrev pub own_change : Manager → Caller → Change
+own_change manager caller = Remove manager (item.Unblock caller.process caller.thread caller.call)
+
+-- what changes in the line as a message is served
+abbrev pub served_changes : Manager → Caller → Result (Deed Resources) Errno → List Change
+served_changes manager caller (Ok deed) = (if is_some deed.reply then own_change manager caller ∷ [] else []) ++ answered_changes manager deed.answers
+served_changes manager caller (Err error) = own_change manager caller ∷ []
+
+-- ---- what a worker does
 
 abbrev pub taken_in : State → Option Sent
 taken_in (Taken sent) = Some sent
 taken_in _ = None
 
--- only a message that was received and not answered is performed; its answer takes an unblock pulse of its call out of the line, if one
--- stands there
+abbrev pub caller_of : ℕ → ℕ → ThreadRow → Sent → Caller
+caller_of process thread row sent = record { process = process; thread = thread; call = row.calls; is_asked = sent.is_asked }
+
+abbrev pub served_by : Part → Caller → Sent → Result (Deed Resources) Errno → Served
+served_by part caller sent given = record {
+  part = after_answer part caller.process caller.thread sent.target.over given;
+  changes = served_changes sent.target.manager caller given;
+}
+
+-- only a message that was received and not answered is performed
 abbrev pub serve_message : Part → ℕ → ℕ → ℕ → Result Served Outcome
 serve_message part number thread moment = do
   process ← found (row_at part.processes number) WrongState
   row ← found (row_at process.threads thread) WrongState
   sent ← found (taken_in row.state) WrongState
+  Ok (served_by part (caller_of number thread row sent) sent (deed_of part.resources process (caller_of number thread row sent) sent.target moment (meaning sent.bytes)))
+
+-- an unblock pulse is for a call that waits in a pipe, and for no other (Writing a Resource Manager: the unblock pulse)
+abbrev pub serve_pulse : Part → ℕ → ℕ → ℕ → ℕ → Result Served Outcome
+serve_pulse part process thread call moment = do
+  given ← cancel_call part.resources.inodes part.resources.pipes process thread call moment
   Ok (record {
-    part = after_answer part number thread sent.target.over (deed_of part.resources process sent.target moment (meaning sent.bytes));
-    changes = Remove sent.target.manager (item.Unblock number thread row.calls) ∷ [];
+    part = with_answers given.answers (record part { resources = with_pipes part.resources given });
+    changes = answered_changes Pipe given.answers;
   })
 
 -- else nothing is done

@@ -1,5 +1,5 @@
 -- Processes with their threads and connections, and how these change.
-use Rattle.std.specs.Prelude.{ℕ, true, ◌+◌, List, ◌∷◌, Option, Some, None, replicate, slice_set}
+use Rattle.std.specs.Prelude.{ℕ, true, ◌+◌, List, [], ◌∷◌, Option, Some, None, replicate, slice_set}
 use Rattle.qx_types.specs.declared.limits.TheConstants.Limits.{FIRST_CONNECTION, THREADS}
 use Rattle.qx_types.specs.declared.names.Manager.{Manager}
 use Rattle.qx_types.specs.declared.names.TheConstants.Manager.{COUNT}
@@ -12,7 +12,7 @@ use Rattle.qx_machine.specs.declared.rows.Over.TheVariants.{New, Existing, Side}
 use Rattle.qx_machine.specs.declared.rows.Sent.{Sent}
 use Rattle.qx_machine.specs.declared.rows.ServerConnection.{ServerConnection}
 use Rattle.qx_machine.specs.declared.rows.State.{State}
-use Rattle.qx_machine.specs.declared.rows.State.TheVariants.{Ready, Queued, Taken, Answered}
+use Rattle.qx_machine.specs.declared.rows.State.TheVariants.{Answered, Queued, Ready, Taken, Waiting}
 use Rattle.qx_machine.specs.declared.rows.ThreadRow.{ThreadRow}
 use Rattle.qx_machine.specs.Rows.{put_row, with_row}
 use Rattle.qx_machine.specs.Servers.{servers_from}
@@ -97,10 +97,19 @@ taken_thread row = record row { state = taken_state row.state }
 -- what becomes of a thread's state when its message, which was received, is asked to unblock it
 abbrev pub asked_state : State → State
 asked_state (Taken sent) = Taken (record sent { is_asked = true })
+asked_state (Waiting sent) = Waiting (record sent { is_asked = true })
 asked_state state = state
 
 abbrev pub asked_thread : ThreadRow → ThreadRow
 asked_thread row = record row { state = asked_state row.state }
+
+-- what becomes of a thread's state when its message is served and not answered by that: the message's bytes go
+abbrev pub served_state : State → State
+served_state (Taken sent) = Waiting (record sent { bytes = [] })
+served_state state = state
+
+abbrev pub served_thread : ThreadRow → ThreadRow
+served_thread row = record row { state = served_state row.state }
 
 -- a thread that has its answer
 abbrev pub answered_thread : Answer → ThreadRow → ThreadRow

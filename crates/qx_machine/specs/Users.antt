@@ -7,7 +7,7 @@ use Rattle.qx_machine.specs.declared.rows.OwnItem.TheVariants.{Message, Unblock}
 use Rattle.qx_machine.specs.Clients.{ClientStep, client_given, or_unchanged}
 use Rattle.qx_machine.specs.Mounting.{new_resources}
 use Rattle.qx_machine.specs.Parts.{Part, with_process}
-use Rattle.qx_machine.specs.Performing.{Served, or_kept, serve_message}
+use Rattle.qx_machine.specs.Performing.{Served, or_kept, serve_message, serve_pulse}
 use Rattle.qx_machine.specs.Processes.{taken_thread, with_thread}
 
 -- the rows of a user at boot
@@ -23,10 +23,10 @@ unfoldable pub take : Part → OwnItem → Part
 take part (Message process thread) = with_process process (with_thread thread taken_thread) part
 take part (Unblock process thread call) = part
 
--- what a worker does with an item that it holds, at a moment; an unblock pulse is for a call that waits, and none waits yet
+-- what a worker does with an item that it holds, at a moment
 unfoldable pub serve : Configuration → ℕ → List OwnItem → Part → OwnItem → ℕ → Served
 serve config user held part (Message process thread) moment = or_kept part (serve_message part process thread moment)
-serve config user held part (Unblock process thread call) moment = record { part = part; changes = [] }
+serve config user held part (Unblock process thread call) moment = or_kept part (serve_pulse part process thread call moment)
 
 -- what the end of each step of a user settles, from the rows before it; nothing is left to settle yet
 unfoldable pub settle : Part → List OwnItem → Part → Part

@@ -54,6 +54,8 @@ pub enum State {
     Queued(Sent),
     /// Its message was received and not yet answered.
     Taken(Sent),
+    /// Its message was served and not yet answered: the call waits, and the message's bytes are gone.
+    Waiting(Sent),
     /// Its message was answered, and the answer not yet taken.
     Answered(Answer),
 }
@@ -89,11 +91,36 @@ pub enum Effect {
     Closes(Coid),
 }
 
-/// What a message's connection has open: the connection, and the number of its open control block.
+/// Whose message a function is given: the thread that sent it, with which of its calls, and whether it was asked to unblock
+/// (Writing a Resource Manager: `resmgr_context_t`, the `rcvid`).
+#[derive(Clone, Copy, Debug, PartialEq, Eq)]
+pub struct Caller {
+    pub process: u8,
+    pub thread: u8,
+    pub call: u64,
+    pub is_asked: bool,
+}
+
+/// What a message over a connection works on: whose message it is, the connection, and the number of its open control
+/// block.
 #[derive(Clone, Copy, Debug, PartialEq, Eq)]
 pub struct Opened {
+    pub caller: Caller,
     pub coid: Coid,
     pub number: u16,
+}
+
+/// A call that waits in a pipe (Writing a Resource Manager: a client to whom no reply is made yet): of which thread, over
+/// which open control block, how many bytes it reads, and which it writes. Its message's bytes are here and not with the
+/// thread.
+#[derive(Debug, Drop, PartialEq, Eq)]
+pub struct WaitingCall {
+    pub process: u8,
+    pub thread: u8,
+    pub call: u64,
+    pub block: u16,
+    pub wanted: u32,
+    pub bytes: MessageBytes,
 }
 
 /// What an open is given: the connection that its call made, and the inode of the root of the mount that its path led to

@@ -1,20 +1,22 @@
 -- Nodes of a list that are answered and leave it, one after another.
-use Rattle.std.proofs.Common.{◌≡◌, ◌≢◌, ℕ, ◌==◌, Bool, true, false, List, [], ◌∷◌, ◌++◌, Contains, Some, None, unwrap_or, slice_get, inl, inr, refl, sym, ap, ◌∙◌, append-nil, append_assoc}
-use Rattle.std.specs.Prelude.{◌||◌, filter, if◌then◌else◌, not, map as mapped, nat_eq}
-use Rattle.std.specs.List.{IsDistinct}
+use Rattle.std.proofs.Common.{◌≡◌, ◌≢◌, ℕ, ◌==◌, Bool, true, false, List, [], ◌∷◌, ◌++◌, length, Contains, Some, None, unwrap_or, slice_get, inl, inr, refl, sym, ap, ◌∙◌, append-nil, append_assoc}
+use Rattle.std.specs.Prelude.{◌&&◌, ◌||◌, filter, if◌then◌else◌, not, map as mapped, nat_eq}
+use Rattle.std.specs.List.{IsDistinct, list_any}
 use Rattle.std.proofs.lemmas.List.{map-append}
+use Rattle.std.proofs.lemmas.List.Folds.{list_any-append}
 use Rattle.qx_types.specs.declared.errno.Errno.{Errno}
 use Rattle.qx_types.specs.declared.errno.Errno.TheVariants.{EPIPE}
 use Rattle.qx_types.specs.declared.outcome.Answer.{Answer}
 use Rattle.qx_types.specs.declared.outcome.Answer.TheVariants.{Reply, Failed}
 use Rattle.qx_lists.specs.Table.{Table, IsIn, nodes_of, without}
 use Rattle.qx_lists.proofs.ListLemmas.{absent_without, contains_without, none_first}
+use Rattle.qx_machine.specs.PipeManager.{is_written}
 use Rattle.qx_machine.specs.Pipes.{After, Pipe, all_answered, and_then, answered_first, dismissed, nobody_answered, readers_dismissed, readers_ended, staying, without_bytes, writers_dismissed, writers_ended}
-use Rattle.qx_pipe.specs.Pipe.{Became, IsPipeOf, Passed, PassedOne, PipeRow, at_node, leaves, pipe_in}
+use Rattle.qx_pipe.specs.Pipe.{Became, Done, IsPipeOf, Passed, PassedOne, PipeRow, at_node, leaves, pipe_in, went_in}
 use Rattle.qx_pipe.specs.declared.leaving.Leaving.{Leaving}
 use Rattle.qx_pipe.specs.declared.leaving.Leaving.TheVariants.{Gone, Node, Block, All}
 use Rattle.qx_machine.specs.declared.rows.Sides.{Sides}
-use Rattle.qx_pipe.proofs.PipeLemmas.{closed_side}
+use Rattle.qx_pipe.proofs.PipeLemmas.{closed_side, or_false}
 use Rattle.qx_pipe.proofs.TableLemmas.{answered-nobody, answered-passed, at_node-other, became-next, gave-nobody, gave-then, pipe-passed, waiting-same}
 use Rattle.qx_pipe.proofs.WalkLemmas.{IsFirst, all-stay, filter-same, filter-without, is_first}
 
@@ -153,3 +155,60 @@ module _ {T : Type 0} (replied : T → ℕ → List ℕ → T) (failed : T → E
 
     pub became-writers_ended : (q : PipeRow) (sides : Sides) → not sides.for_reading ≡ true → Became replied failed t new p q answered (writers_dismissed (λ who. true) (Failed EPIPE) (pipe_in t p)) → Became replied failed t new p q answered (writers_ended sides (pipe_in t p))
     became-writers_ended q sides is done = rw (closed_side sides.for_reading is) done
+
+-- answers that take no bytes
+abbrev pub AreQuiet : List (ℕ × Answer) → Type 0
+AreQuiet answers = (offered : ℕ → List ℕ) → list_any (λ a. is_written (offered a.0) a.1) answers ≡ false
+
+quiet-one : (answer : Answer) → ((bytes : List ℕ) → is_written bytes answer ≡ false) → (nodes : List ℕ) → AreQuiet (mapped (λ node. (node, answer)) nodes)
+quiet-one answer none [] offered = refl
+quiet-one answer none (x ∷ xs) offered = rw (none (offered x)) (quiet-one answer none xs offered)
+
+and_false : (b : Bool) → (b && false) ≡ false
+and_false true = refl
+and_false false = refl
+
+quiet-end : (bytes : List ℕ) → is_written bytes (Reply 0 []) ≡ false
+quiet-end bytes = and_false (not (length bytes == 0))
+
+quiet-dismissed : (test : ℕ → Bool) (error : Errno) (p : Pipe ℕ) → AreQuiet (dismissed test (Failed error) p).answers
+quiet-dismissed test error p offered =
+    list_any-append (λ a. is_written (offered a.0) a.1) (all_answered test (Failed error) p.readers) (all_answered test (Failed error) p.writers)
+    ∙ ap (λ b. b || list_any (λ a. is_written (offered a.0) a.1) (all_answered test (Failed error) p.writers)) (quiet-one (Failed error) (λ _. refl) (filter test p.readers) offered)
+    ∙ quiet-one (Failed error) (λ _. refl) (filter test p.writers) offered
+
+pub quiet-readers_ended : (sides : Sides) (p : Pipe ℕ) → AreQuiet (readers_ended sides p).answers
+quiet-readers_ended sides p = by_side sides.for_writing refl
+  where
+    by_side : (b : Bool) → sides.for_writing ≡ b → AreQuiet (readers_ended sides p).answers
+    by_side true is = rw is (λ _. refl)
+    by_side false is = rw is (quiet-one (Reply 0 []) quiet-end (filter (λ who. true) p.readers))
+
+pub quiet-writers_ended : (sides : Sides) (p : Pipe ℕ) → AreQuiet (writers_ended sides p).answers
+quiet-writers_ended sides p = by_side sides.for_reading refl
+  where
+    by_side : (b : Bool) → sides.for_reading ≡ b → AreQuiet (writers_ended sides p).answers
+    by_side true is = rw is (λ _. refl)
+    by_side false is = rw is (quiet-one (Failed EPIPE) (λ _. refl) (filter (λ who. true) p.writers))
+
+module _ {T : Type 0} (replied : T → ℕ → List ℕ → T) (failed : T → Errno → T) (bytes : T → List ℕ) (t mid new : Table T) (p q r : PipeRow) (answered : ℕ) (filled : Bool) (first : After ℕ) (done : Done replied failed bytes t mid p q answered filled first) where
+  -- no more bytes went in
+  done-quiet : (more : After ℕ) → Became replied failed t new p r answered (answered_first first.answers more) → AreQuiet more.answers → Done replied failed bytes t new p r answered filled (answered_first first.answers more)
+  done-quiet more became quiet = record {
+    became = became;
+    filled_is =
+        done.filled_is
+        ∙ sym (list_any-append (λ a. is_written (at_node bytes [] t a.0) a.1) first.answers more.answers
+        ∙ ap (λ b. went_in bytes t first.answers || b) (quiet (at_node bytes [] t))
+        ∙ or_false (went_in bytes t first.answers));
+  }
+
+  pub done-next : (here : Pipe ℕ → After ℕ) → ((p : Pipe ℕ) → AreQuiet (here p).answers) → Became replied failed mid new q r answered (here (pipe_in mid q)) → Done replied failed bytes t new p r answered filled (and_then first here)
+  done-next here quiet later = done-quiet (here first.pipe) (became-next replied failed t mid new p q r answered first here here done.became later refl) (quiet first.pipe)
+
+module _ {T : Type 0} (replied : T → ℕ → List ℕ → T) (failed : T → Errno → T) (bytes : T → List ℕ) (block : T → ℕ) (gone : T → Bool) (t mid new : Table T) (p q : PipeRow) (answered : ℕ) (filled : Bool) (first : After ℕ) (done : Done replied failed bytes t mid p q answered filled first) where
+  pub done-dismissed : (leaving : Leaving) (error : Errno) → ((one other node : ℕ) → IsIn mid one node → IsIn mid other node → one ≡ other) → Became replied failed mid new q q answered (dismissed (leaves block gone mid leaving) (Failed error) (pipe_in mid q)) → Done replied failed bytes t new p q answered filled (and_then first (dismissed (leaves block gone t leaving) (Failed error)))
+  done-dismissed leaving error apart later =
+      done-quiet replied failed bytes t mid new p q q answered filled first done (dismissed (leaves block gone t leaving) (Failed error) first.pipe)
+      (became-then_dismissed replied failed block gone t mid new p q answered leaving (Failed error) first done.became apart later)
+      (quiet-dismissed (leaves block gone t leaving) error first.pipe)

@@ -1,16 +1,17 @@
 -- How a pipe is settled: what it depends on, and what holds of it.
 use Rattle.std.proofs.Common.{◌≡◌, ◌⊎◌, inl, inr, ℕ, zero, suc, ◌+◌, ◌≤◌, ◌<◌, Bool, true, false, None, Some, is_some, not, slice_get, List, [], ◌∷◌, ◌++◌, length, take, drop, Contains, refl, ap, arith}
-use Rattle.std.specs.Prelude.{nat_le, if◌then◌else◌}
+use Rattle.std.specs.Prelude.{◌&&◌, ◌||◌, nat_le, if◌then◌else◌}
 use Rattle.std.proofs.lemmas.Bool.{le-leb, lt-leb}
 use Rattle.qx_lists.proofs.ListLemmas.{contains_cases, contains_first, contains_later}
 use Rattle.std.proofs.lemmas.Bool.Decides.{eqb_tells, leb_tells}
 use Rattle.std.specs.Prelude.{filter, map as mapped, nat_eq}
-use Rattle.qx_types.specs.declared.errno.Errno.TheVariants.{EAGAIN, EINTR}
+use Rattle.qx_types.specs.declared.errno.Errno.TheVariants.{EAGAIN, EINTR, EPIPE}
 use Rattle.qx_machine.specs.declared.rows.Manner.{Manner}
 use Rattle.qx_pipe.proofs.LawLemmas.{conserves}
+use Rattle.qx_types.specs.declared.outcome.Answer.{Answer}
 use Rattle.qx_types.specs.declared.outcome.Answer.TheVariants.{Reply, Failed}
 use Rattle.qx_types.specs.declared.limits.TheConstants.Limits.{PIPE}
-use Rattle.qx_machine.specs.Pipes.{one_answered, clean, removed, clean_read, waiting_unless, with_reader, clean_write, Pipe, first_answered, nobody_answered, pipe_of, portion, served, settle}
+use Rattle.qx_machine.specs.Pipes.{one_answered, clean, removed, clean_read, waiting_unless, with_reader, with_writer, clean_write, After, Pipe, fits, first_answered, nobody_answered, pipe_of, portion, served, settle}
 use Rattle.qx_pipe.specs.Laws.{NoneFits}
 
 -- settling asks only those who wait
@@ -51,6 +52,10 @@ module _ {W : Type 0} (wanted : W → ℕ) (offered : W → List ℕ) where
   served-nobody [] readers (next ∷ writers) none full = let test : nat_le (0 + length (offered next)) PIPE ≡ false = lt-leb _ _ full in rw test refl
   served-nobody (b ∷ bs) [] (next ∷ writers) none full = let test : nat_le (length (b ∷ bs) + length (offered next)) PIPE ≡ false = lt-leb _ _ full in rw test refl
   served-nobody (b ∷ bs) (r ∷ readers) (next ∷ writers) none full = elim none [ inl empty ↦ absurd (cc) | inr nobody ↦ absurd (cc) ]
+
+pub or_false : (b : Bool) → (b || false) ≡ b
+or_false true = refl
+or_false false = refl
 
 pub not_zero : (n : ℕ) → (n ≡ 0 → ⊥) → nat_eq n 0 ≡ false
 not_zero n differs = elim (eqb_tells n 0) [ inl same ↦ absurd (differs same.1) | inr other ↦ other.0 ]
@@ -119,6 +124,44 @@ module _ (wanted : ℕ → ℕ) (offered : ℕ → List ℕ) where
   ]
   served-among [] readers [] who at = absurd (omega (arith, at.1))
   served-among (b ∷ bs) [] [] who at = absurd (omega (arith, at.1))
+
+module _ (wanted : ℕ → ℕ) (offered : ℕ → List ℕ) where
+  pub settle-among : (p : Pipe ℕ) (who : ℕ) → Contains (mapped (λ a. a.0) (settle wanted offered p).answers) who → Contains p.readers who ⊎ Contains p.writers who
+  unfolding settle
+  settle-among p who at = served-among wanted offered p.bytes p.readers p.writers who at
+
+-- those who are answered are who reads or writes, and those who waited
+abbrev pub AreAmong : ℕ → Pipe ℕ → After ℕ → Type 0
+AreAmong who p after = (one : ℕ) → Contains (mapped (λ a. a.0) after.answers) one → (one ≡ who) ⊎ (Contains p.readers one ⊎ Contains p.writers one)
+
+module _ (who : ℕ) (p : Pipe ℕ) where
+  nobody-among : (q : Pipe ℕ) → AreAmong who p (nobody_answered q)
+  nobody-among q one at = absurd (omega (arith, at.1))
+
+  first-among : (answer : Answer) (after : After ℕ) → AreAmong who p after → AreAmong who p (first_answered who answer after)
+  first-among answer after rest one at = elim (contains_cases who one (mapped (λ a. a.0) after.answers) at) [ inl same ↦ inl same | inr later ↦ rest one later ]
+
+  alone-among : (answer : Answer) → AreAmong who p (one_answered who answer p)
+  alone-among answer = first-among answer (nobody_answered p) (nobody-among p)
+
+  either-among : (b : Bool) (one other : After ℕ) → AreAmong who p one → AreAmong who p other → AreAmong who p (if b then one else other)
+  either-among true one other first second = first
+  either-among false one other first second = second
+
+  waiting-among : (manner : Manner) (with_it : Pipe ℕ) → AreAmong who p (waiting_unless manner who p with_it)
+  waiting-among manner with_it = either-among manner.is_nonblock _ _ (alone-among (Failed EAGAIN)) (either-among manner.is_asked _ _ (alone-among (Failed EINTR)) (nobody-among with_it))
+
+  module _ (wanted : ℕ → ℕ) (offered : ℕ → List ℕ) (manner : Manner) where
+    pub read-among : AreAmong who p (clean_read wanted offered manner who p)
+    read-among = either-among (nat_eq (wanted who) 0) _ _ (alone-among (Reply 0 []))
+        (either-among (not (nat_eq (length p.bytes) 0)) _ _ (first-among (Reply (portion wanted who p.bytes) (take (portion wanted who p.bytes) p.bytes)) (settle wanted offered (record p { bytes = drop (portion wanted who p.bytes) p.bytes })) (λ one at. inr (settle-among wanted offered (record p { bytes = drop (portion wanted who p.bytes) p.bytes }) one at)))
+        (either-among (not manner.has_other_side) _ _ (alone-among (Reply 0 [])) (waiting-among manner (with_reader p who))))
+
+    pub write-among : AreAmong who p (clean_write wanted offered manner who p)
+    write-among = either-among (nat_eq (length (offered who)) 0) _ _ (alone-among (Reply 0 []))
+        (either-among (not manner.has_other_side) _ _ (alone-among (Failed EPIPE))
+        (either-among (nat_eq (length p.writers) 0 && fits offered p.bytes who) _ _ (first-among (Reply (length (offered who)) []) (settle wanted offered (record p { bytes = p.bytes ++ offered who })) (λ one at. inr (settle-among wanted offered (record p { bytes = p.bytes ++ offered who }) one at)))
+        (waiting-among manner (with_writer p who))))
 
 pub contains_left : (leaves : ℕ → Bool) (xs : List ℕ) (who : ℕ) → Contains (filter (λ x. not (leaves x)) xs) who → Contains xs who
 contains_left leaves [] who at = at

@@ -1,11 +1,12 @@
 -- A pipe's lists in a table, as answers are given.
 use Rattle.std.proofs.Common.{◌≡◌, ◌≢◌, ◌⊎◌, inl, inr, ℕ, ◌+◌, ◌≤◌, ◌<◌, ◌==◌, Bool, true, false, List, [], ◌∷◌, ◌++◌, length, take, drop, Contains, Option, None, Some, is_some, option_map, unwrap_or, slice_get, refl, sym, ap, ◌∙◌, subst, append-nil, append_assoc, length-drop, arith}
-use Rattle.std.specs.Prelude.{Result, Ok, Err, MatchResult, filter, not, map as mapped, min, nat_eq, if◌then◌else◌}
+use Rattle.std.specs.Prelude.{◌||◌, Result, Ok, Err, MatchResult, filter, not, map as mapped, min, nat_eq, if◌then◌else◌}
 use Rattle.std.specs.List.{IsDistinct}
 use Rattle.std.specs.Borrow.{Bor}
 use Rattle.std.specs.FinMap as map
 use Rattle.std.specs.Ordering.{nat_cmp}
 use Rattle.std.proofs.lemmas.List.{map-append}
+use Rattle.std.proofs.lemmas.List.Folds.{list_any-append}
 use Rattle.std.proofs.lemmas.List.Elements.{Contains-append_right, Contains-append_cases}
 use Rattle.std.proofs.lemmas.Bool.Decides.{eqb_tells}
 use Rattle.qx_types.specs.declared.errno.Errno.{Errno}
@@ -13,14 +14,15 @@ use Rattle.qx_lists.specs.Table.{Table, ContainsList, IsFree, IsIn, StandsNowher
 use Rattle.qx_lists.proofs.MapLemmas.{get-insert_same, get-insert_other, get-remove_same, get-remove_other, same_map}
 use Rattle.qx_lists.proofs.TableFacts.{nodes_of-with_nodes_same, kept_there}
 use Rattle.qx_lists.proofs.ListLemmas.{absent_without, contains_slice_first, contains_first, contains_later, nowhere_from, stands_nowhere, without-first}
-use Rattle.qx_pipe.proofs.PipeLemmas.{settle-same, clean-among, clean-readers, clean-writers, read-same, write-same, served-nobody, served-same, served-reader, served-writer}
+use Rattle.qx_pipe.proofs.PipeLemmas.{or_false, clean-among, clean-readers, clean-writers, read-among, read-same, settle-among, settle-same, write-among, write-same, served-nobody, served-same, served-reader, served-writer}
 use Rattle.qx_types.specs.declared.outcome.Answer.{Answer}
 use Rattle.qx_types.specs.declared.outcome.Answer.TheVariants.{Reply}
 use Rattle.qx_types.specs.declared.limits.TheConstants.Limits.{PIPE}
+use Rattle.qx_machine.specs.PipeManager.{is_written}
 use Rattle.qx_machine.specs.Pipes.{After, Pipe, one_answered, and_then, clean, clean_read, clean_write, answered_first, pipe_of, with_reader, with_writer, first_answered, nobody_answered, served, settle}
 use Rattle.qx_pipe.specs.Laws.{NoneFits}
 use Rattle.qx_machine.specs.declared.rows.Manner.{Manner}
-use Rattle.qx_pipe.specs.Pipe.{Answered, Became, Gave, HandedOver, IsPipeOf, MadeIn, PipeRow, Passed, PassedOne, Turned, at_node, given, handed, pipe_in, settled, told}
+use Rattle.qx_pipe.specs.Pipe.{Answered, Became, Done, Gave, HandedOver, IsPipeOf, MadeIn, PipeRow, Passed, PassedOne, Turned, at_node, given, handed, pipe_in, settled, told, went_in}
 
 module _ {T : Type 0} (replied : T → ℕ → List ℕ → T) (failed : T → Errno → T) where
   pub given-handed : (answer : Result (ℕ × Bor (List ℕ)) Errno) (value new : T) → MatchResult answer (λ reply. new ≡ replied value reply.0 reply.1.now) (λ error. new ≡ failed value error) → new ≡ given replied failed (handed answer) value
@@ -85,9 +87,9 @@ module _ {T : Type 0} (replied : T → ℕ → List ℕ → T) (failed : T → E
       elsewhere = λ one not_reader not_writer not_answered. passed.elsewhere one (λ is. elim own [ inl r ↦ not_reader (is ∙ r) | inr w ↦ not_writer (is ∙ w) ]) not_answered;
     }
 
-  pub turned-reader : (wanted : T → ℕ) (bytes : T → List ℕ) (t new : Table T) (p q : PipeRow) (answered reader count : ℕ) → count ≡ min (at_node wanted 0 t reader) (length p.bytes) → IsPipeOf t p answered → IsDistinct nat_eq (nodes_of t p.readers) → ((one two node : ℕ) → IsIn t one node → IsIn t two node → one ≡ two) → slice_get (nodes_of t p.readers) 0 ≡ Some reader → 0 < length p.bytes → PassedOne replied failed t new p.readers reader answered (Reply count (take count p.bytes)) → q ≡ record p { bytes = drop count p.bytes } → Turned wanted bytes replied failed t new p q answered
+  pub turned-reader : (wanted : T → ℕ) (bytes : T → List ℕ) (t new : Table T) (p q : PipeRow) (answered reader count : ℕ) (filled : Bool) → count ≡ min (at_node wanted 0 t reader) (length p.bytes) → IsPipeOf t p answered → IsDistinct nat_eq (nodes_of t p.readers) → ((one two node : ℕ) → IsIn t one node → IsIn t two node → one ≡ two) → slice_get (nodes_of t p.readers) 0 ≡ Some reader → 0 < length p.bytes → PassedOne replied failed t new p.readers reader answered (Reply count (take count p.bytes)) → q ≡ record p { bytes = drop count p.bytes } → filled ≡ is_written (at_node bytes [] t reader) (Reply count (take count p.bytes)) → Turned wanted bytes replied failed t new p q answered filled
   unfolding settle
-  turned-reader wanted bytes t new p q answered reader count counted pipe distinct apart first stand passed is =
+  turned-reader wanted bytes t new p q answered reader count filled counted pipe distinct apart first stand passed is filled_is =
       let answer : Answer = Reply count (take count p.bytes) in
       let here : Contains (nodes_of t p.readers) reader = contains_slice_first (nodes_of t p.readers) reader first in
       let readers : nodes_of new p.readers ≡ drop 1 (nodes_of t p.readers) = passed.from ∙ without-first (nodes_of t p.readers) reader distinct first in
@@ -98,7 +100,9 @@ module _ {T : Type 0} (replied : T → ℕ → List ℕ → T) (failed : T → E
       (λ who at. at_node-other bytes [] t new reader answer who passed.gave (λ same. pipe.two (apart p.readers p.writers reader here (rw same at at))))) in
       record {
         who = reader;
+        fresh = λ at. pipe.apart_readers (apart answered p.readers reader at here);
         answer = answer;
+        filled_is = filled_is;
         rest = served-reader (at_node wanted 0 t) (at_node bytes [] t) p.bytes (nodes_of t p.readers) (nodes_of t p.writers) reader stand first ∙ ap (λ n. first_answered reader (Reply n (take n p.bytes)) (served (at_node wanted 0 t) (at_node bytes [] t) (drop n p.bytes) (drop 1 (nodes_of t p.readers)) (nodes_of t p.writers))) (sym counted) ∙ ap (first_answered reader answer) (sym rest);
         gave = answered-passed t new p q answered p.readers _ _ pipe (ap (λ k. k.readers) is) (ap (λ k. k.writers) is) passed (inl refl);
         pipe = pipe-passed t new p q answered p.readers _ _ pipe (ap (λ k. k.readers) is) (ap (λ k. k.writers) is) passed;
@@ -107,9 +111,9 @@ module _ {T : Type 0} (replied : T → ℕ → List ℕ → T) (failed : T → E
         same_writers = ap (λ k. k.writers) is;
       }
 
-  pub turned-writer : (wanted : T → ℕ) (bytes : T → List ℕ) (t new : Table T) (p q : PipeRow) (answered writer : ℕ) (offered : List ℕ) → offered ≡ at_node bytes [] t writer → IsPipeOf t p answered → IsDistinct nat_eq (nodes_of t p.writers) → ((one two node : ℕ) → IsIn t one node → IsIn t two node → one ≡ two) → slice_get (nodes_of t p.writers) 0 ≡ Some writer → (p.bytes ≡ []) ⊎ (nodes_of t p.readers ≡ []) → length p.bytes + length (at_node bytes [] t writer) ≤ PIPE → PassedOne replied failed t new p.writers writer answered (Reply (length offered) []) → q ≡ record p { bytes = p.bytes ++ offered } → Turned wanted bytes replied failed t new p q answered
+  pub turned-writer : (wanted : T → ℕ) (bytes : T → List ℕ) (t new : Table T) (p q : PipeRow) (answered writer : ℕ) (filled : Bool) (offered : List ℕ) → offered ≡ at_node bytes [] t writer → IsPipeOf t p answered → IsDistinct nat_eq (nodes_of t p.writers) → ((one two node : ℕ) → IsIn t one node → IsIn t two node → one ≡ two) → slice_get (nodes_of t p.writers) 0 ≡ Some writer → (p.bytes ≡ []) ⊎ (nodes_of t p.readers ≡ []) → length p.bytes + length (at_node bytes [] t writer) ≤ PIPE → PassedOne replied failed t new p.writers writer answered (Reply (length offered) []) → q ≡ record p { bytes = p.bytes ++ offered } → filled ≡ is_written (at_node bytes [] t writer) (Reply (length offered) []) → Turned wanted bytes replied failed t new p q answered filled
   unfolding settle
-  turned-writer wanted bytes t new p q answered writer offered offered_is pipe distinct apart first none fits passed is =
+  turned-writer wanted bytes t new p q answered writer filled offered offered_is pipe distinct apart first none fits passed is filled_is =
       let answer : Answer = Reply (length offered) [] in
       let here : Contains (nodes_of t p.writers) writer = contains_slice_first (nodes_of t p.writers) writer first in
       let writers : nodes_of new p.writers ≡ drop 1 (nodes_of t p.writers) = passed.from ∙ without-first (nodes_of t p.writers) writer distinct first in
@@ -120,7 +124,9 @@ module _ {T : Type 0} (replied : T → ℕ → List ℕ → T) (failed : T → E
       (λ who at. at_node-other bytes [] t new writer answer who passed.gave (λ same. absent_without writer (nodes_of t p.writers) (rw (without-first (nodes_of t p.writers) writer distinct first) (rw same at at))))) in
       record {
         who = writer;
+        fresh = λ at. pipe.apart_writers (apart answered p.writers writer at here);
         answer = answer;
+        filled_is = filled_is;
         rest = served-writer (at_node wanted 0 t) (at_node bytes [] t) p.bytes (nodes_of t p.readers) (nodes_of t p.writers) writer none first fits ∙ ap (λ given. first_answered writer (Reply (length given) []) (served (at_node wanted 0 t) (at_node bytes [] t) (p.bytes ++ given) (nodes_of t p.readers) (drop 1 (nodes_of t p.writers)))) (sym offered_is) ∙ ap (first_answered writer answer) (sym rest);
         gave = answered-passed t new p q answered p.writers _ _ pipe (ap (λ k. k.readers) is) (ap (λ k. k.writers) is) passed (inr refl);
         pipe = pipe-passed t new p q answered p.writers _ _ pipe (ap (λ k. k.readers) is) (ap (λ k. k.writers) is) passed;
@@ -164,21 +170,54 @@ module _ {T : Type 0} (replied : T → ℕ → List ℕ → T) (failed : T → E
     elsewhere = λ list not_reader not_writer not_answered. second.elsewhere list (λ is. not_reader (is ∙ same_readers)) (λ is. not_writer (is ∙ same_writers)) not_answered ∙ first.elsewhere list not_reader not_writer not_answered;
   }
 
+  told-absent : (answers : List (ℕ × Answer)) (node : ℕ) (value : T) → (Contains (mapped (λ a. a.0) answers) node → ⊥) → told replied failed answers node value ≡ value
+  told-absent [] node value absent = refl
+  told-absent (x ∷ xs) node value absent = elim (eqb_tells x.0 node) [
+    | inl same ↦ absurd (absent (rw (sym same.1) (contains_first x.0 (mapped (λ a. a.0) xs))))
+    | inr differs ↦ rw differs.0 (told-absent xs node value (λ at. absent (contains_later x.0 node (mapped (λ a. a.0) xs) at)))
+  ]
+
+  told-nobody_else : (answers : List (ℕ × Answer)) (node : ℕ) (o : Option T) → (Contains (mapped (λ a. a.0) answers) node → ⊥) → option_map (told replied failed answers node) o ≡ o
+  told-nobody_else answers node None absent = refl
+  told-nobody_else answers node (Some value) absent = ap Some (told-absent answers node value absent)
+
+  pub at_node-absent : {A : Type 0} (read : T → A) (none : A) (t new : Table T) (answers : List (ℕ × Answer)) (node : ℕ) → Gave replied failed t new answers → (Contains (mapped (λ a. a.0) answers) node → ⊥) → at_node read none new node ≡ at_node read none t node
+  at_node-absent read none t new answers node gave absent = ap (λ o. unwrap_or (option_map read o) none) (gave.values node ∙ told-nobody_else answers node (map.get t.values node) absent)
+
+  -- bytes went in with what was answered first, or with what was answered then
+  either : (a b : Bool) (bytes : T → List ℕ) (t : Table T) (xs ys : List (ℕ × Answer)) → a ≡ went_in bytes t xs → b ≡ went_in bytes t ys → (a || b) ≡ went_in bytes t (xs ++ ys)
+  either a b bytes t xs ys first second = ap (λ a. a || b) first ∙ ap (λ b. went_in bytes t xs || b) second ∙ sym (list_any-append (λ a. is_written (at_node bytes [] t a.0) a.1) xs ys)
+
+  pub went_in-one : (bytes : T → List ℕ) (t : Table T) (node : ℕ) (answer : Answer) → is_written (at_node bytes [] t node) answer ≡ went_in bytes t ((node, answer) ∷ [])
+  went_in-one bytes t node answer = sym (or_false (is_written (at_node bytes [] t node) answer))
+
+  -- whether bytes went in is asked of the answered nodes alone
+  went_in-same : (bytes : T → List ℕ) (t u : Table T) (answers : List (ℕ × Answer)) → ((who : ℕ) → Contains (mapped (λ a. a.0) answers) who → at_node bytes [] u who ≡ at_node bytes [] t who) → went_in bytes u answers ≡ went_in bytes t answers
+  went_in-same bytes t u [] same = refl
+  went_in-same bytes t u (x ∷ xs) same =
+      rw (same x.0 (contains_first x.0 (mapped (λ a. a.0) xs)))
+      (ap (λ rest. is_written (at_node bytes [] t x.0) x.1 || rest) (went_in-same bytes t u xs (λ who at. same who (contains_later x.0 who (mapped (λ a. a.0) xs) at))))
+
   -- some of those who wait were answered, and what is left to settle is what there was, without those answers
-  pub record Settling (wanted : T → ℕ) (bytes : T → List ℕ) (old now : Table T) (p q : PipeRow) (answered : ℕ) : Type 0 where
+  pub record Settling (wanted : T → ℕ) (bytes : T → List ℕ) (old now : Table T) (p q : PipeRow) (answered : ℕ) (filled : Bool) : Type 0 where
     pub done : List (ℕ × Answer)
+    pub filled_is : filled ≡ went_in bytes old done
     pub rest : settled wanted bytes old p ≡ answered_first done (settled wanted bytes now q)
     pub gave : Answered replied failed old now p answered done
     pub pipe : IsPipeOf now q answered
     pub same_readers : q.readers ≡ p.readers
     pub same_writers : q.writers ≡ p.writers
 
-  pub settling-start : (wanted : T → ℕ) (bytes : T → List ℕ) (t : Table T) (p : PipeRow) (answered : ℕ) → IsPipeOf t p answered → Settling wanted bytes t t p p answered
-  settling-start wanted bytes t p answered pipe = record { done = []; rest = refl; gave = answered-nobody t p answered; pipe = pipe; same_readers = refl; same_writers = refl }
+  pub settling-start : (wanted : T → ℕ) (bytes : T → List ℕ) (t : Table T) (p : PipeRow) (answered : ℕ) → IsPipeOf t p answered → Settling wanted bytes t t p p answered false
+  settling-start wanted bytes t p answered pipe = record { done = []; filled_is = refl; rest = refl; gave = answered-nobody t p answered; pipe = pipe; same_readers = refl; same_writers = refl }
 
-  pub settling-turn : (wanted : T → ℕ) (bytes : T → List ℕ) (old now new : Table T) (p q r : PipeRow) (answered : ℕ) → Settling wanted bytes old now p q answered → Turned wanted bytes replied failed now new q r answered → Settling wanted bytes old new p r answered
-  settling-turn wanted bytes old now new p q r answered before turn = record {
+  pub settling-turn : (wanted : T → ℕ) (bytes : T → List ℕ) (old now new : Table T) (p q r : PipeRow) (answered : ℕ) (filled more : Bool) → Settling wanted bytes old now p q answered filled → Turned wanted bytes replied failed now new q r answered more → Settling wanted bytes old new p r answered (filled || more)
+  settling-turn wanted bytes old now new p q r answered filled more before turn = record {
     done = before.done ++ (turn.who, turn.answer) ∷ [];
+    filled_is =
+        let absent : Contains (mapped (λ a. a.0) before.done) turn.who → ⊥ = λ at. turn.fresh (rw before.gave.nodes (Contains-append_right (nodes_of old answered) (mapped (λ a. a.0) before.done) turn.who at)) in
+        either filled more bytes old before.done ((turn.who, turn.answer) ∷ []) before.filled_is
+        (turn.filled_is ∙ ap (λ own. is_written own turn.answer) (at_node-absent bytes [] old now before.done turn.who before.gave.gave absent) ∙ went_in-one bytes old turn.who turn.answer);
     rest = before.rest ∙ ap (answered_first before.done) turn.rest ∙ ap (λ answers. record { pipe = (settled wanted bytes new r).pipe; answers = answers }) (sym (append_assoc before.done ((turn.who, turn.answer) ∷ []) (settled wanted bytes new r).answers));
     gave = answered-then old now new p q answered before.done ((turn.who, turn.answer) ∷ []) before.same_readers before.same_writers before.gave turn.gave;
     pipe = turn.pipe;
@@ -186,15 +225,18 @@ module _ {T : Type 0} (replied : T → ℕ → List ℕ → T) (failed : T → E
     same_writers = turn.same_writers ∙ before.same_writers;
   }
 
-  pub settling-end : (wanted : T → ℕ) (bytes : T → List ℕ) (old now : Table T) (p q : PipeRow) (answered : ℕ) → Settling wanted bytes old now p q answered → settled wanted bytes now q ≡ nobody_answered (pipe_in now q) → Became replied failed old now p q answered (settled wanted bytes old p)
-  settling-end wanted bytes old now p q answered before rested =
+  pub settling-end : (wanted : T → ℕ) (bytes : T → List ℕ) (old now : Table T) (p q : PipeRow) (answered : ℕ) (filled : Bool) → Settling wanted bytes old now p q answered filled → settled wanted bytes now q ≡ nobody_answered (pipe_in now q) → Done replied failed bytes old now p q answered filled (settled wanted bytes old p)
+  settling-end wanted bytes old now p q answered filled before rested =
       let all : settled wanted bytes old p ≡ record { pipe = pipe_in now q; answers = before.done } = before.rest ∙ ap (answered_first before.done) rested ∙ ap (λ answers. record { pipe = pipe_in now q; answers = answers }) (append-nil before.done) in
       record {
-        pipe = ap (λ after. after.pipe) (sym all);
-        gave = rw all before.gave;
-        of = before.pipe;
-        same_readers = before.same_readers;
-        same_writers = before.same_writers;
+        became = record {
+          pipe = ap (λ after. after.pipe) (sym all);
+          gave = rw all before.gave;
+          of = before.pipe;
+          same_readers = before.same_readers;
+          same_writers = before.same_writers;
+        };
+        filled_is = before.filled_is ∙ ap (λ after. went_in bytes old after.answers) (sym all);
       }
 
   pub settled-nobody : (wanted : T → ℕ) (bytes : T → List ℕ) (t : Table T) (p : PipeRow) → (p.bytes ≡ []) ⊎ (nodes_of t p.readers ≡ []) → NoneFits (at_node bytes [] t) p.bytes (nodes_of t p.writers) → settled wanted bytes t p ≡ nobody_answered (pipe_in t p)
@@ -232,30 +274,39 @@ module _ {T : Type 0} (replied : T → ℕ → List ℕ → T) (failed : T → E
       elsewhere = λ list _ _ not_answered. ap (λ lists. map.get lists list) over.lists ∙ get-insert_other t.lists answered (nodes_of t answered ++ node ∷ []) list not_answered;
     }
 
-    pub became-alone : (answer : Answer) → HandedOver replied failed t new node answered answer → Became replied failed t new p p answered (one_answered node answer (pipe_in t p))
-    became-alone answer over = record {
-      pipe = rw (handed_over-readers answer over, handed_over-writers answer over) refl;
-      gave = handed_over-answered answer over;
-      of = handed_over-pipe answer p refl refl over;
-      same_readers = refl;
-      same_writers = refl;
+    pub done-alone : (bytes : T → List ℕ) (answer : Answer) (filled : Bool) → HandedOver replied failed t new node answered answer → filled ≡ is_written (at_node bytes [] t node) answer → Done replied failed bytes t new p p answered filled (one_answered node answer (pipe_in t p))
+    done-alone bytes answer filled over filled_is = record {
+      became = record {
+        pipe = rw (handed_over-readers answer over, handed_over-writers answer over) refl;
+        gave = handed_over-answered answer over;
+        of = handed_over-pipe answer p refl refl over;
+        same_readers = refl;
+        same_writers = refl;
+      };
+      filled_is = filled_is ∙ went_in-one bytes t node answer;
     }
 
     -- a message was answered at once, and then others were
-    pub became-handed : (wanted : T → ℕ) (bytes : T → List ℕ) (last : Table T) (q r : PipeRow) (answer : Answer) → q.readers ≡ p.readers → q.writers ≡ p.writers → StandsNowhere t.lists node → HandedOver replied failed t new node answered answer → Became replied failed new last q r answered (settled wanted bytes new q) → Became replied failed t last p r answered (first_answered node answer (settle (at_node wanted 0 t) (at_node bytes [] t) (pipe_of q.bytes (nodes_of t p.readers) (nodes_of t p.writers))))
+    pub done-handed : (wanted : T → ℕ) (bytes : T → List ℕ) (last : Table T) (q r : PipeRow) (answer : Answer) (own others : Bool) → q.readers ≡ p.readers → q.writers ≡ p.writers → StandsNowhere t.lists node → HandedOver replied failed t new node answered answer → own ≡ is_written (at_node bytes [] t node) answer → Done replied failed bytes new last q r answered others (settled wanted bytes new q) → Done replied failed bytes t last p r answered (own || others) (first_answered node answer (settle (at_node wanted 0 t) (at_node bytes [] t) (pipe_of q.bytes (nodes_of t p.readers) (nodes_of t p.writers))))
     unfolding settle
-    became-handed wanted bytes last q r answer same_readers same_writers nowhere over later =
+    done-handed wanted bytes last q r answer own others same_readers same_writers nowhere over own_is later =
+        let still : (list : ℕ) (who : ℕ) → IsIn t list who → at_node bytes [] new who ≡ at_node bytes [] t who = λ list who at. at_node-other bytes [] t new node answer who over.gave (λ is. stands_nowhere t.lists node nowhere list (rw is at at)) in
         let same : settled wanted bytes new q ≡ settle (at_node wanted 0 t) (at_node bytes [] t) (pipe_of q.bytes (nodes_of t p.readers) (nodes_of t p.writers)) =
         rw (same_readers, same_writers, handed_over-readers answer over, handed_over-writers answer over)
         (served-same (at_node wanted 0 t) (at_node wanted 0 new) (at_node bytes [] t) (at_node bytes [] new) q.bytes (nodes_of t p.readers) (nodes_of t p.writers)
         (λ who at. at_node-other wanted 0 t new node answer who over.gave (λ is. stands_nowhere t.lists node nowhere p.readers (rw is at at)))
-        (λ who at. at_node-other bytes [] t new node answer who over.gave (λ is. stands_nowhere t.lists node nowhere p.writers (rw is at at)))) in
+        (λ who at. still p.writers who at)) in
+        let among : (who : ℕ) → Contains (mapped (λ a. a.0) (settled wanted bytes new q).answers) who → at_node bytes [] new who ≡ at_node bytes [] t who =
+        λ who at. elim (settle-among (at_node wanted 0 t) (at_node bytes [] t) (pipe_of q.bytes (nodes_of t p.readers) (nodes_of t p.writers)) who (rw same at at)) [ inl r ↦ still p.readers who r | inr w ↦ still p.writers who w ] in
         rw (← same) (record {
-          pipe = later.pipe;
-          gave = answered-then t new last p q answered ((node, answer) ∷ []) (settled wanted bytes new q).answers same_readers same_writers (handed_over-answered answer over) later.gave;
-          of = later.of;
-          same_readers = later.same_readers ∙ same_readers;
-          same_writers = later.same_writers ∙ same_writers;
+          became = record {
+            pipe = later.became.pipe;
+            gave = answered-then t new last p q answered ((node, answer) ∷ []) (settled wanted bytes new q).answers same_readers same_writers (handed_over-answered answer over) later.became.gave;
+            of = later.became.of;
+            same_readers = later.became.same_readers ∙ same_readers;
+            same_writers = later.became.same_writers ∙ same_writers;
+          };
+          filled_is = either own others bytes t ((node, answer) ∷ []) (settled wanted bytes new q).answers (own_is ∙ went_in-one bytes t node answer) (later.filled_is ∙ went_in-same bytes t new (settled wanted bytes new q).answers among);
         })
 
     pub became-with_reader : new ≡ with_nodes t p.readers (nodes_of t p.readers ++ node ∷ []) → Became replied failed t new p p answered (nobody_answered (with_reader (pipe_in t p) node))
@@ -339,35 +390,25 @@ module _ {T : Type 0} (replied : T → ℕ → List ℕ → T) (failed : T → E
       apart_writers = pipe.apart_writers;
     })
 
-    pub became-clean : (new : Table T) (r : PipeRow) → Became replied failed two new p r answered (settled wanted bytes two p) → Became replied failed t new p r answered (clean (at_node wanted 0 t) (at_node bytes [] t) (at_node gone false t) (pipe_in t p))
-    became-clean new r later =
-        let after : Became replied failed cleared new p r answered (settled wanted bytes cleared p) = rw two_is at later in
+    pub done-clean : (new : Table T) (r : PipeRow) (filled : Bool) → Done replied failed bytes two new p r answered filled (settled wanted bytes two p) → Done replied failed bytes t new p r answered filled (clean (at_node wanted 0 t) (at_node bytes [] t) (at_node gone false t) (pipe_in t p))
+    done-clean new r filled later =
+        let whole : Done replied failed bytes cleared new p r answered filled (settled wanted bytes cleared p) = rw two_is at later in
+        let after = whole.became in
         let same : settled wanted bytes cleared p ≡ clean (at_node wanted 0 t) (at_node bytes [] t) (at_node gone false t) (pipe_in t p) = rw (cleared-readers, cleared-writers) refl in
         rw (← same) (record {
-          pipe = after.pipe;
-          gave = record {
-            gave = record { values = after.gave.gave.values; room = after.gave.gave.room };
-            nodes = after.gave.nodes ∙ ap (λ o. unwrap_or o [] ++ mapped (λ a. a.0) (settled wanted bytes cleared p).answers) (cleared-other answered pipe.apart_readers pipe.apart_writers);
-            elsewhere = λ list not_reader not_writer not_answered. after.gave.elsewhere list not_reader not_writer not_answered ∙ cleared-other list not_reader not_writer;
+          became = record {
+            pipe = after.pipe;
+            gave = record {
+              gave = record { values = after.gave.gave.values; room = after.gave.gave.room };
+              nodes = after.gave.nodes ∙ ap (λ o. unwrap_or o [] ++ mapped (λ a. a.0) (settled wanted bytes cleared p).answers) (cleared-other answered pipe.apart_readers pipe.apart_writers);
+              elsewhere = λ list not_reader not_writer not_answered. after.gave.elsewhere list not_reader not_writer not_answered ∙ cleared-other list not_reader not_writer;
+            };
+            of = after.of;
+            same_readers = after.same_readers;
+            same_writers = after.same_writers;
           };
-          of = after.of;
-          same_readers = after.same_readers;
-          same_writers = after.same_writers;
+          filled_is = whole.filled_is;
         })
-
-  told-absent : (answers : List (ℕ × Answer)) (node : ℕ) (value : T) → (Contains (mapped (λ a. a.0) answers) node → ⊥) → told replied failed answers node value ≡ value
-  told-absent [] node value absent = refl
-  told-absent (x ∷ xs) node value absent = elim (eqb_tells x.0 node) [
-    | inl same ↦ absurd (absent (rw (sym same.1) (contains_first x.0 (mapped (λ a. a.0) xs))))
-    | inr differs ↦ rw differs.0 (told-absent xs node value (λ at. absent (contains_later x.0 node (mapped (λ a. a.0) xs) at)))
-  ]
-
-  told-nobody_else : (answers : List (ℕ × Answer)) (node : ℕ) (o : Option T) → (Contains (mapped (λ a. a.0) answers) node → ⊥) → option_map (told replied failed answers node) o ≡ o
-  told-nobody_else answers node None absent = refl
-  told-nobody_else answers node (Some value) absent = ap Some (told-absent answers node value absent)
-
-  pub at_node-absent : {A : Type 0} (read : T → A) (none : A) (t new : Table T) (answers : List (ℕ × Answer)) (node : ℕ) → Gave replied failed t new answers → (Contains (mapped (λ a. a.0) answers) node → ⊥) → at_node read none new node ≡ at_node read none t node
-  at_node-absent read none t new answers node gave absent = ap (λ o. unwrap_or (option_map read o) none) (gave.values node ∙ told-nobody_else answers node (map.get t.values node) absent)
 
   pub became-then : (one two three : Table T) (p q r : PipeRow) (answered : ℕ) (first second : After ℕ) → Became replied failed one two p q answered first → Became replied failed two three q r answered second → Became replied failed one three p r answered (answered_first first.answers second)
   became-then one two three p q r answered first second a b = record {
@@ -376,6 +417,13 @@ module _ {T : Type 0} (replied : T → ℕ → List ℕ → T) (failed : T → E
     of = b.of;
     same_readers = b.same_readers ∙ a.same_readers;
     same_writers = b.same_writers ∙ a.same_writers;
+  }
+
+  -- the same, where those who were answered then had what they have at the start
+  done-then : (bytes : T → List ℕ) (one two three : Table T) (p q r : PipeRow) (answered : ℕ) (a b : Bool) (first second : After ℕ) → Done replied failed bytes one two p q answered a first → Done replied failed bytes two three q r answered b second → ((who : ℕ) → Contains (mapped (λ a. a.0) second.answers) who → at_node bytes [] two who ≡ at_node bytes [] one who) → Done replied failed bytes one three p r answered (a || b) (answered_first first.answers second)
+  done-then bytes one two three p q r answered a b first second done later same = record {
+    became = became-then one two three p q r answered first second done.became later.became;
+    filled_is = either a b bytes one first.answers second.answers done.filled_is (later.filled_is ∙ went_in-same bytes one two second.answers same);
   }
 
   -- a message that stood in no list as the pipe was cleaned
@@ -432,29 +480,46 @@ module _ {T : Type 0} (replied : T → ℕ → List ℕ → T) (failed : T → E
     pub same_writers_still : {A : Type 0} (read : T → A) (none : A) (who : ℕ) → Contains (nodes_of two q.writers) who → at_node read none two who ≡ at_node read none t who
     same_writers_still read none who at = at_node-absent read none t two after_clean.answers who cleaned.gave.gave (λ answer. cleaned.of.apart_writers (apart answered q.writers who (in_answered who answer) at))
 
-    pub became-read : (manner : Manner) (new : Table T) (r : PipeRow) → Became replied failed two new q r answered (clean_read (at_node wanted 0 two) (at_node bytes [] two) manner node (pipe_in two q)) → Became replied failed t new p r answered (and_then after_clean (clean_read (at_node wanted 0 t) (at_node bytes [] t) manner node))
-    became-read manner new r later =
-        let same : clean_read (at_node wanted 0 two) (at_node bytes [] two) manner node (pipe_in two q) ≡ clean_read (at_node wanted 0 t) (at_node bytes [] t) manner node after_clean.pipe =
-        read-same (at_node wanted 0 t) (at_node wanted 0 two) (at_node bytes [] t) (at_node bytes [] two) manner node (pipe_in two q) (same_readers_still wanted 0) (same_writers_still bytes []) (same_own wanted 0) ∙ ap (clean_read (at_node wanted 0 t) (at_node bytes [] t) manner node) cleaned.pipe in
-        became-then t two new p q r answered after_clean (clean_read (at_node wanted 0 t) (at_node bytes [] t) manner node after_clean.pipe) cleaned (rw same at later)
+    own_or_waiting : (who : ℕ) → (who ≡ node) ⊎ (Contains after_clean.pipe.readers who ⊎ Contains after_clean.pipe.writers who) → at_node bytes [] two who ≡ at_node bytes [] t who
+    own_or_waiting who at = elim at [
+      | inl own ↦ rw own (same_own bytes [])
+      | inr waits ↦ elim waits [
+        | inl r ↦ same_readers_still bytes [] who (rw (ap (λ x. x.readers) cleaned.pipe) r)
+        | inr w ↦ same_writers_still bytes [] who (rw (ap (λ x. x.writers) cleaned.pipe) w)
+      ]
+    ]
 
-    pub became-write : (manner : Manner) (new : Table T) (r : PipeRow) → Became replied failed two new q r answered (clean_write (at_node wanted 0 two) (at_node bytes [] two) manner node (pipe_in two q)) → Became replied failed t new p r answered (and_then after_clean (clean_write (at_node wanted 0 t) (at_node bytes [] t) manner node))
-    became-write manner new r later =
-        let same : clean_write (at_node wanted 0 two) (at_node bytes [] two) manner node (pipe_in two q) ≡ clean_write (at_node wanted 0 t) (at_node bytes [] t) manner node after_clean.pipe =
-        write-same (at_node wanted 0 t) (at_node wanted 0 two) (at_node bytes [] t) (at_node bytes [] two) manner node (pipe_in two q) (same_readers_still wanted 0) (same_writers_still bytes []) (same_own bytes []) ∙ ap (clean_write (at_node wanted 0 t) (at_node bytes [] t) manner node) cleaned.pipe in
-        became-then t two new p q r answered after_clean (clean_write (at_node wanted 0 t) (at_node bytes [] t) manner node after_clean.pipe) cleaned (rw same at later)
+    module _ (others own : Bool) (others_is : others ≡ went_in bytes t after_clean.answers) (manner : Manner) (new : Table T) (r : PipeRow) where
+      pub done-read : Done replied failed bytes two new q r answered own (clean_read (at_node wanted 0 two) (at_node bytes [] two) manner node (pipe_in two q)) → Done replied failed bytes t new p r answered (others || own) (and_then after_clean (clean_read (at_node wanted 0 t) (at_node bytes [] t) manner node))
+      done-read later =
+          let same : clean_read (at_node wanted 0 two) (at_node bytes [] two) manner node (pipe_in two q) ≡ clean_read (at_node wanted 0 t) (at_node bytes [] t) manner node after_clean.pipe =
+          read-same (at_node wanted 0 t) (at_node wanted 0 two) (at_node bytes [] t) (at_node bytes [] two) manner node (pipe_in two q) (same_readers_still wanted 0) (same_writers_still bytes []) (same_own wanted 0) ∙ ap (clean_read (at_node wanted 0 t) (at_node bytes [] t) manner node) cleaned.pipe in
+          done-then bytes t two new p q r answered others own after_clean (clean_read (at_node wanted 0 t) (at_node bytes [] t) manner node after_clean.pipe) (record { became = cleaned; filled_is = others_is }) (rw same at later)
+          (λ who at. own_or_waiting who (read-among node after_clean.pipe (at_node wanted 0 t) (at_node bytes [] t) manner who at))
+
+      pub done-write : Done replied failed bytes two new q r answered own (clean_write (at_node wanted 0 two) (at_node bytes [] two) manner node (pipe_in two q)) → Done replied failed bytes t new p r answered (others || own) (and_then after_clean (clean_write (at_node wanted 0 t) (at_node bytes [] t) manner node))
+      done-write later =
+          let same : clean_write (at_node wanted 0 two) (at_node bytes [] two) manner node (pipe_in two q) ≡ clean_write (at_node wanted 0 t) (at_node bytes [] t) manner node after_clean.pipe =
+          write-same (at_node wanted 0 t) (at_node wanted 0 two) (at_node bytes [] t) (at_node bytes [] two) manner node (pipe_in two q) (same_readers_still wanted 0) (same_writers_still bytes []) (same_own bytes []) ∙ ap (clean_write (at_node wanted 0 t) (at_node bytes [] t) manner node) cleaned.pipe in
+          done-then bytes t two new p q r answered others own after_clean (clean_write (at_node wanted 0 t) (at_node bytes [] t) manner node after_clean.pipe) (record { became = cleaned; filled_is = others_is }) (rw same at later)
+          (λ who at. own_or_waiting who (write-among node after_clean.pipe (at_node wanted 0 t) (at_node bytes [] t) manner who at))
 
   -- those who can be served are, after whatever was done with the pipe
-  pub became-settled : (wanted : T → ℕ) (bytes : T → List ℕ) (t two new : Table T) (p q r : PipeRow) (answered : ℕ) (first : After ℕ) → Became replied failed t two p q answered first → ((one other node : ℕ) → IsIn two one node → IsIn two other node → one ≡ other) → Became replied failed two new q r answered (settled wanted bytes two q) → Became replied failed t new p r answered (and_then first (settle (at_node wanted 0 t) (at_node bytes [] t)))
-  became-settled wanted bytes t two new p q r answered first done apart later =
+  pub done-settled : (wanted : T → ℕ) (bytes : T → List ℕ) (t two new : Table T) (p q r : PipeRow) (answered : ℕ) (before filled : Bool) (first : After ℕ) → Done replied failed bytes t two p q answered before first → ((one other node : ℕ) → IsIn two one node → IsIn two other node → one ≡ other) → Done replied failed bytes two new q r answered filled (settled wanted bytes two q) → Done replied failed bytes t new p r answered (before || filled) (and_then first (settle (at_node wanted 0 t) (at_node bytes [] t)))
+  done-settled wanted bytes t two new p q r answered before filled first whole apart later =
+      let done = whole.became in
       let in_answered : (who : ℕ) → Contains (mapped (λ a. a.0) first.answers) who → IsIn two answered who = λ who at. rw done.gave.nodes (Contains-append_right (nodes_of t answered) (mapped (λ a. a.0) first.answers) who at) in
+      let absent : (who : ℕ) → Contains (nodes_of two q.readers) who → Contains (mapped (λ a. a.0) first.answers) who → ⊥ = λ who at answer. done.of.apart_readers (apart answered q.readers who (in_answered who answer) at) in
+      let same_writers : (who : ℕ) → Contains (nodes_of two q.writers) who → at_node bytes [] two who ≡ at_node bytes [] t who =
+      λ who at. at_node-absent bytes [] t two first.answers who done.gave.gave (λ answer. done.of.apart_writers (apart answered q.writers who (in_answered who answer) at)) in
       let same : settled wanted bytes two q ≡ settle (at_node wanted 0 t) (at_node bytes [] t) first.pipe =
-      settle-same (at_node wanted 0 t) (at_node wanted 0 two) (at_node bytes [] t) (at_node bytes [] two) (pipe_in two q)
-      (λ who at. at_node-absent wanted 0 t two first.answers who done.gave.gave (λ answer. done.of.apart_readers (apart answered q.readers who (in_answered who answer) at)))
-      (λ who at. at_node-absent bytes [] t two first.answers who done.gave.gave (λ answer. done.of.apart_writers (apart answered q.writers who (in_answered who answer) at)))
-      q.bytes
+      settle-same (at_node wanted 0 t) (at_node wanted 0 two) (at_node bytes [] t) (at_node bytes [] two) (pipe_in two q) (λ who at. at_node-absent wanted 0 t two first.answers who done.gave.gave (absent who at)) same_writers q.bytes
       ∙ ap (settle (at_node wanted 0 t) (at_node bytes [] t)) done.pipe in
-      became-then t two new p q r answered first (settle (at_node wanted 0 t) (at_node bytes [] t) first.pipe) done (rw same at later)
+      done-then bytes t two new p q r answered before filled first (settle (at_node wanted 0 t) (at_node bytes [] t) first.pipe) whole (rw same at later)
+      (λ who at. elim (settle-among (at_node wanted 0 t) (at_node bytes [] t) first.pipe who at) [
+        | inl r ↦ at_node-absent bytes [] t two first.answers who done.gave.gave (absent who (rw (ap (λ x. x.readers) done.pipe) r))
+        | inr w ↦ same_writers who (rw (ap (λ x. x.writers) done.pipe) w)
+      ])
 
   -- what follows is done with the pipe as it is then
   pub became-next : (t mid new : Table T) (p q r : PipeRow) (answered : ℕ) (first : After ℕ) (there here : Pipe ℕ → After ℕ) → Became replied failed t mid p q answered first → Became replied failed mid new q r answered (there (pipe_in mid q)) → there (pipe_in mid q) ≡ here (pipe_in mid q) → Became replied failed t new p r answered (and_then first here)

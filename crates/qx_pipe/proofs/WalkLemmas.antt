@@ -1,7 +1,7 @@
 -- A list of nodes of which some leave.
-use Rattle.std.proofs.Common.{Bool, true, Option, below_more, ◌≡◌, inl, inr, ℕ, zero, suc, ◌+◌, ◌<◌, false, nat_eq, List, [], ◌∷◌, length, get_or, Contains, Some, None, is_some, unwrap_or, slice_get, refl, sym, ap, ◌∙◌, arith}
+use Rattle.std.proofs.Common.{Bool, true, Option, below_more, ◌≡◌, inl, inr, ℕ, zero, suc, ◌+◌, ◌<◌, false, nat_eq, List, [], ◌∷◌, drop, length, get_or, Contains, Some, None, is_some, unwrap_or, slice_get, refl, sym, ap, ◌∙◌, arith}
 use Rattle.std.specs.Prelude.{filter, not, if◌then◌else◌}
-use Rattle.std.specs.List.{IsDistinct}
+use Rattle.std.specs.List.{IsDistinct, list_any}
 use Rattle.std.specs.FinMap as map
 use Rattle.std.specs.Ordering.{nat_cmp}
 use Rattle.std.proofs.lemmas.Bool.Decides.{eqb_tells, nat_tests}
@@ -9,7 +9,7 @@ use Rattle.std.proofs.lemmas.Option.{get_or_from_slice_get}
 use Rattle.qx_lists.specs.Table.{Table, ContainsList, nodes_of, with_nodes, without}
 use Rattle.qx_lists.proofs.ListLemmas.{contains_first, contains_later}
 use Rattle.qx_lists.proofs.WalkLemmas.{without-absent}
-use Rattle.qx_lists.proofs.MapLemmas.{insert-there, get-insert_same, get-insert_other, same_map}
+use Rattle.qx_lists.proofs.MapLemmas.{insert-there, get-insert_same, get-insert_other, get-remove_same, get-remove_other, same_map}
 
 -- none of the first nodes leaves
 abbrev pub Stays : (ℕ → Bool) → List ℕ → ℕ → Type 0
@@ -96,3 +96,23 @@ module _ {T : Type 0} (t : Table T) (list : ℕ) where
 
   pub nodes-twice : (xs ys : List ℕ) → with_nodes (with_nodes t list xs) list ys ≡ with_nodes t list ys
   nodes-twice xs ys = ap (λ lists. record t { lists = lists }) (insert-twice t.lists list xs ys)
+
+  -- a list that is freed, whatever nodes it had
+  pub list-freed : (xs : List ℕ) → record (with_nodes t list xs) { lists = map.remove (map.insert t.lists list xs) list } ≡ record t { lists = map.remove t.lists list }
+  list-freed xs = ap (λ lists. record t { lists = lists }) (same_map _ _ (λ q. elim (eqb_tells q list) [
+    | inl same ↦ rw same.1 (get-remove_same (map.insert t.lists list xs) list ∙ sym (get-remove_same t.lists list))
+    | inr differs ↦ get-remove_other (map.insert t.lists list xs) list q differs.1 ∙ get-insert_other t.lists list xs q differs.1 ∙ sym (get-remove_other t.lists list q differs.1)
+  ]))
+
+pub first-shorter : (xs : List ℕ) → is_some (slice_get xs 0) ≡ true → length (drop 1 xs) < length xs
+first-shorter [] some = let clash : false ≡ true = some in absurd (cc)
+first-shorter (x ∷ xs) some = omega arith
+
+-- whether some pass a test, by the first that does
+pub any-first : (test : ℕ → Bool) (xs : List ℕ) → list_any test xs ≡ is_some (slice_get (filter test xs) 0)
+any-first test [] = refl
+any-first test (x ∷ xs) = by_test (test x) refl (any-first test xs)
+  where
+    by_test : (b : Bool) → test x ≡ b → list_any test xs ≡ is_some (slice_get (filter test xs) 0) → list_any test (x ∷ xs) ≡ is_some (slice_get (filter test (x ∷ xs)) 0)
+    by_test true is rest = rw is refl
+    by_test false is rest = rw is rest

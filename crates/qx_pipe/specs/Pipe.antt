@@ -1,13 +1,15 @@
 -- A pipe over a table: its waiting readers and writers are two lists of it.
 use Rattle.std.specs.Prelude.{Bool, true, false, None, ◌≡◌, ◌≢◌, ℕ, ◌+◌, ◌<◌, ◌==◌, List, [], ◌∷◌, ◌++◌, length, map as mapped, Result, Ok, Err, option_map, unwrap_or, if◌then◌else◌}
 use Rattle.std.specs.FinMap as map
+use Rattle.std.specs.List.{list_any}
 use Rattle.qx_types.specs.declared.errno.Errno.{Errno}
 use Rattle.std.specs.Borrow.{Bor}
-use Rattle.qx_lists.specs.Table.{Table, ContainsList, nodes_of, with_nodes, without}
+use Rattle.qx_lists.specs.Table.{Table, ContainsList, IsIn, nodes_of, with_nodes, without}
 use Rattle.qx_types.specs.declared.outcome.Answer.{Answer}
 use Rattle.qx_types.specs.declared.outcome.Answer.TheVariants.{Reply, Failed}
 use Rattle.qx_pipe.specs.declared.leaving.Leaving.{Leaving}
 use Rattle.qx_pipe.specs.declared.leaving.Leaving.TheVariants.{Gone, Node, Block, All}
+use Rattle.qx_machine.specs.PipeManager.{is_written}
 use Rattle.qx_machine.specs.Pipes.{After, Pipe, first_answered, settle}
 
 -- the bytes that stand, and which lists of the table are the pipe's
@@ -29,6 +31,10 @@ module _ {T : Type 0} where
   -- the pipe by the nodes that wait
   abbrev pub pipe_in : Table T → PipeRow → Pipe ℕ
   pipe_in t p = record { bytes = p.bytes; readers = nodes_of t p.readers; writers = nodes_of t p.writers }
+
+  -- the table without one of its lists
+  abbrev pub without_list : Table T → ℕ → Table T
+  without_list t list = record t { lists = map.remove t.lists list }
 
   -- how many wait
   abbrev pub waiting : Table T → PipeRow → ℕ
@@ -52,6 +58,10 @@ module _ {T : Type 0} where
   leaves block gone t (Node one) node = node == one
   leaves block gone t (Block key) node = at_node block 0 t node == key
   leaves block gone t All node = true
+
+  -- whether bytes go in with these answers, by what the answered nodes have
+  abbrev pub went_in : (T → List ℕ) → Table T → List (ℕ × Answer) → Bool
+  went_in bytes t answers = list_any (λ a. is_written (at_node bytes [] t a.0) a.1) answers
 
   abbrev pub settled : (T → ℕ) → (T → List ℕ) → Table T → PipeRow → After ℕ
   settled wanted bytes t p = settle (at_node wanted 0 t) (at_node bytes [] t) (pipe_in t p)
@@ -101,10 +111,12 @@ module _ {T : Type 0} (replied : T → ℕ → List ℕ → T) (failed : T → E
   PassedOne old new list node answered answer = Passed old new list answered (without node (nodes_of old list)) ((node, answer) ∷ [])
 
 -- one of those who wait was answered, and what is left to settle is what there was, without that answer
-pub record Turned {T : Type 0} (wanted : T → ℕ) (bytes : T → List ℕ) (replied : T → ℕ → List ℕ → T) (failed : T → Errno → T) (old new : Table T) (p q : PipeRow) (answered : ℕ) : Type 0 where
+pub record Turned {T : Type 0} (wanted : T → ℕ) (bytes : T → List ℕ) (replied : T → ℕ → List ℕ → T) (failed : T → Errno → T) (old new : Table T) (p q : PipeRow) (answered : ℕ) (filled : Bool) : Type 0 where
   pub who : ℕ
+  pub fresh : ¬ (IsIn old answered who)
   pub answer : Answer
   pub rest : settled wanted bytes old p ≡ first_answered who answer (settled wanted bytes new q)
+  pub filled_is : filled ≡ is_written (at_node bytes [] old who) answer
   pub gave : Answered replied failed old new p answered ((who, answer) ∷ [])
   pub pipe : IsPipeOf new q answered
   pub fewer : waiting new q < waiting old p
@@ -118,3 +130,8 @@ pub record Became {T : Type 0} (replied : T → ℕ → List ℕ → T) (failed 
   pub of : IsPipeOf new q answered
   pub same_readers : q.readers ≡ p.readers
   pub same_writers : q.writers ≡ p.writers
+
+-- the same, and it is told whether bytes went in
+pub record Done {T : Type 0} (replied : T → ℕ → List ℕ → T) (failed : T → Errno → T) (bytes : T → List ℕ) (old new : Table T) (p q : PipeRow) (answered : ℕ) (filled : Bool) (after : After ℕ) : Type 0 where
+  pub became : Became replied failed old new p q answered after
+  pub filled_is : filled ≡ went_in bytes old after.answers

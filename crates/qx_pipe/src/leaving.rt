@@ -1,9 +1,10 @@
 //! Nodes of a list that leave it.
-ghost use Rattle.std.specs.Prelude.{◌≡◌, ◌≢◌, ◌≤◌, filter, length, slice_get};
+ghost use Rattle.std.specs.Prelude.{◌==◌, ◌≡◌, ◌≢◌, ◌≤◌, filter, length, slice_get};
+ghost use Rattle.std.specs.List.{list_any};
 ghost use Rattle.std.specs.Result.{ForOk};
 ghost use Rattle.qx_lists.specs.Table.{ContainsList, ContainsNode, nodes_of, with_nodes};
 ghost use Rattle.qx_machine.specs.Pipes.{all_answered, staying};
-ghost use Rattle.qx_pipe.specs.Pipe.{Passed, handed, leaves};
+ghost use Rattle.qx_pipe.specs.Pipe.{Passed, handed, leaves, without_list};
 ghost use Rattle.qx_pipe.specs.declared.leaving.Leaving.TheVariants.{Gone};
 ghost use Rattle.qx_types.specs.declared.limits.TheConstants.Limits.{TRANSFER};
 
@@ -50,6 +51,14 @@ fn first_leaving<T: Waiter>(table: &Table<T>, list: usize, leaving: Leaving) -> 
     None
 }
 
+/// Whether a node stands in a list.
+pub(crate) fn is_in<T: Waiter>(table: &Table<T>, list: usize, node: usize) -> bool
+    requires { ContainsList table.now list }
+    ensures { result ≡ list_any (λ one. one == node) (nodes_of table.now list) }
+{
+    first_leaving(table, list, Leaving::Node(node)).is_some()
+}
+
 /// Takes the messages of ended processes out of a list.
 pub(crate) fn drop_gone<T: Waiter>(table: &mut Table<T>, list: usize)
     requires { ContainsList table.old list }
@@ -81,4 +90,13 @@ pub(crate) fn dismiss<T: Waiter>(
         table.know();
         pass(table, list, node, answered, answer);
     }
+}
+
+/// Takes a list away; its nodes stand in no list then.
+pub(crate) fn free_list<T>(table: &mut Table<T>, list: usize)
+    requires { ContainsList table.old list }
+    ensures { table.new ≡ without_list table.old list }
+{
+    'nodes: while table.pop_front(list).is_some() {}
+    table.free_list(list);
 }

@@ -1,15 +1,16 @@
-ghost use Rattle.std.specs.Prelude.{◌==◌, IfOk, IfSome, IfNone, OnErr, true, false, ℕ, ◌≡◌, ◌≢◌, ◌<◌, ◌≤◌, ◌+◌, ◌∷◌, ◌++◌, ◌⊎◌, ◌||◌, [], Some, if◌then◌else◌, drop, length, slice_get, take};
+ghost use Rattle.std.specs.Prelude.{◌==◌, IfOk, IfSome, IfNone, OnErr, false, ℕ, ◌≡◌, ◌≢◌, ◌<◌, ◌≤◌, ◌+◌, ◌∷◌, ◌++◌, ◌⊎◌, ◌||◌, [], Some, if◌then◌else◌, drop, length, slice_get, take};
 ghost use Rattle.std.specs.Result.{ForOk};
 ghost use Rattle.qx_lists.specs.Table.{ContainsList, IsFree, IsIn, nodes_of};
+ghost use Rattle.qx_machine.specs.PipeManager.{holds, is_written};
 ghost use Rattle.qx_machine.specs.Pipes as machine;
 ghost use Rattle.qx_machine.specs.Pipes.{one_answered, with_reader, with_writer, first_answered, nobody_answered};
 ghost use Rattle.qx_pipe.specs.Laws.{NoneFits};
-ghost use Rattle.qx_pipe.specs.Pipe.{Became, HandedOver, IsPipeOf, MadeIn, PassedOne, Turned, handed, at_node, leaves, pipe_in, settled};
+ghost use Rattle.qx_pipe.specs.Pipe.{Became, Done, HandedOver, IsPipeOf, MadeIn, PassedOne, Turned, handed, at_node, leaves, pipe_in, settled, without_list};
 ghost use Rattle.qx_types.specs.declared.limits.TheConstants.Limits.{PIPE, TRANSFER};
 ghost use Rattle.qx_types.specs.declared.outcome.Answer.TheVariants.{Failed, Reply};
 
 use crate::answers::{hand_over, pass};
-use crate::leaving::{Leaving, dismiss, drop_gone};
+use crate::leaving::{Leaving, dismiss, drop_gone, free_list, is_in};
 use circular_buffer::HeapCircularBuffer;
 use qx_lists::Table;
 use qx_machine::{Manner, Sides};
@@ -62,17 +63,49 @@ impl Pipe {
         }
     }
 
+    /// A pipe goes with its two lists.
+    pub fn free<T>(self, table: &mut Table<T>)
+        requires readers { ContainsList table.old self.readers }
+        requires writers { ContainsList table.old self.writers }
+        requires two { self.readers ≢ self.writers }
+        ensures { table.new ≡ without_list (without_list table.old self.readers) self.writers }
+    {
+        free_list(table, self.readers);
+        free_list(table, self.writers);
+    }
+
+    /// How many bytes stand.
+    pub fn len(&self) -> usize
+        ensures { result ≡ length self.now.bytes }
+    {
+        self.bytes.len()
+    }
+
+    /// Whether a message waits in the pipe.
+    pub fn holds<T: Waiter>(&self, table: &Table<T>, node: usize) -> bool
+        requires readers { ContainsList table.now self.now.readers }
+        requires writers { ContainsList table.now self.now.writers }
+        ensures { result ≡ holds (λ one. one == node) (Some (pipe_in table.now self.now)) }
+    {
+        is_in(table, self.readers, node) || is_in(table, self.writers, node)
+    }
+
     // The first reader gets the first of the bytes that stand.
-    fn serve_reader<T: Waiter>(&mut self, table: &mut Table<T>, reader: usize, answered: usize)
+    fn serve_reader<T: Waiter>(
+        &mut self,
+        table: &mut Table<T>,
+        reader: usize,
+        answered: usize,
+    ) -> bool
         requires pipe { IsPipeOf table.old self.old answered }
         requires first { slice_get (nodes_of table.old self.old.readers) 0 ≡ Some reader }
         requires stand { 0 < length self.old.bytes }
-        ensures { Turned T.wanted T.bytes T.replied T.failed table.old table.new self.old self.new answered }
+        ensures { Turned T.wanted T.bytes T.replied T.failed table.old table.new self.old self.new answered result }
     {
         table.know();
         let wanted = table.value(reader).wanted();
         let count = wanted.min(self.bytes.len());
-        self.pass_bytes(table, reader, answered, count);
+        self.pass_bytes(table, reader, answered, count)
     }
 
     // A reader gets so many of the first bytes that stand.
@@ -82,13 +115,14 @@ impl Pipe {
         reader: usize,
         answered: usize,
         count: usize,
-    )
+    ) -> bool
         requires waits { IsIn table.old self.old.readers reader }
         requires answered { ContainsList table.old answered }
         requires apart { answered ≢ self.old.readers }
         requires count { count ≤ length self.old.bytes }
         ensures bytes { self.new ≡ record self.old { bytes = drop count self.old.bytes } }
         ensures passed { PassedOne T.replied T.failed table.old table.new self.old.readers reader answered (Reply count (take count self.old.bytes)) }
+        ensures filled { result ≡ is_written (at_node T.bytes [] table.old reader) (Reply count (take count self.old.bytes)) }
     {
         let mut bytes = [0; Limits::PIPE];
         self.bytes.read_into(&mut bytes[..count]);
@@ -98,7 +132,7 @@ impl Pipe {
             reader,
             answered,
             Ok((count as u64, &bytes[..count])),
-        );
+        )
     }
 
     // Bytes that fit go in last.
@@ -110,12 +144,17 @@ impl Pipe {
     }
 
     // The first writer's bytes go in last.
-    fn serve_writer<T: Waiter>(&mut self, table: &mut Table<T>, writer: usize, answered: usize)
+    fn serve_writer<T: Waiter>(
+        &mut self,
+        table: &mut Table<T>,
+        writer: usize,
+        answered: usize,
+    ) -> bool
         requires pipe { IsPipeOf table.old self.old answered }
         requires first { slice_get (nodes_of table.old self.old.writers) 0 ≡ Some writer }
         requires no_reader { (self.old.bytes ≡ []) ⊎ (nodes_of table.old self.old.readers ≡ []) }
         requires fits { length self.old.bytes + length (at_node T.bytes [] table.old writer) ≤ PIPE }
-        ensures { Turned T.wanted T.bytes T.replied T.failed table.old table.new self.old self.new answered }
+        ensures { Turned T.wanted T.bytes T.replied T.failed table.old table.new self.old self.new answered result }
     {
         table.know();
         let bytes = table.value(writer).bytes();
@@ -127,33 +166,36 @@ impl Pipe {
             writer,
             answered,
             Ok((count as u64, &[])),
-        );
+        )
     }
 
-    /// Answers those who wait, as long as the first reader or the first writer can be served.
-    pub fn settle<T: Waiter>(&mut self, table: &mut Table<T>, answered: usize)
+    /// Answers those who wait, as long as the first reader or the first writer can be served. As each call below, tells
+    /// whether bytes went in.
+    pub fn settle<T: Waiter>(&mut self, table: &mut Table<T>, answered: usize) -> bool
         requires { IsPipeOf table.old self.old answered }
-        ensures { Became T.replied T.failed table.old table.new self.old self.new answered (settled T.wanted T.bytes table.old self.old) }
+        ensures { Done T.replied T.failed T.bytes table.old table.new self.old self.new answered result (settled T.wanted T.bytes table.old self.old) }
     {
-        'turns: while self.turn(table, answered) {}
+        let mut filled = false;
+        'turns: while let Some(more) = self.turn(table, answered) {
+            filled |= more;
+        }
+        filled
     }
 
     // Answers the first one that can be served, if there is one.
-    fn turn<T: Waiter>(&mut self, table: &mut Table<T>, answered: usize) -> bool
+    fn turn<T: Waiter>(&mut self, table: &mut Table<T>, answered: usize) -> Option<bool>
         requires pipe { IsPipeOf table.old self.old answered }
-        ensures turned { result ≡ true → Turned T.wanted T.bytes T.replied T.failed table.old table.new self.old self.new answered }
-        ensures rested { result ≡ false → settled T.wanted T.bytes table.old self.old ≡ nobody_answered (pipe_in table.old self.old) }
-        ensures same_pipe { result ≡ false → self.new ≡ self.old }
-        ensures same_table { result ≡ false → table.new ≡ table.old }
+        ensures turned { IfSome result (Turned T.wanted T.bytes T.replied T.failed table.old table.new self.old self.new answered) }
+        ensures rested { IfNone result (settled T.wanted T.bytes table.old self.old ≡ nobody_answered (pipe_in table.old self.old)) }
+        ensures same_pipe { IfNone result (self.new ≡ self.old) }
+        ensures same_table { IfNone result (table.new ≡ table.old) }
     {
         if let Some(reader) = self.served_reader(table) {
-            self.serve_reader(table, reader, answered);
-            true
+            Some(self.serve_reader(table, reader, answered))
         } else if let Some(writer) = self.served_writer(table) {
-            self.serve_writer(table, writer, answered);
-            true
+            Some(self.serve_writer(table, writer, answered))
         } else {
-            false
+            None
         }
     }
 
@@ -192,13 +234,13 @@ impl Pipe {
         node: usize,
         answered: usize,
         answer: Result<(u64, &[u8]), Errno>,
-    )
+    ) -> bool
         requires pipe { IsPipeOf table.old self.now answered }
         requires free { IsFree table.old node }
         requires short { ForOk answer (λ reply. length reply.1.now ≤ TRANSFER) }
-        ensures { Became T.replied T.failed table.old table.new self.now self.now answered (one_answered node (handed answer.entry) (pipe_in table.old self.now)) }
+        ensures { Done T.replied T.failed T.bytes table.old table.new self.now self.now answered result (one_answered node (handed answer.entry) (pipe_in table.old self.now)) }
     {
-        hand_over(table, node, answered, answer);
+        hand_over(table, node, answered, answer)
     }
 
     // A reader waits, last.
@@ -226,15 +268,16 @@ impl Pipe {
         reader: usize,
         answered: usize,
         count: usize,
-    )
+    ) -> bool
         requires pipe { IsPipeOf table.old self.old answered }
         requires free { IsFree table.old reader }
         requires count { count ≤ length self.old.bytes }
-        ensures { Became T.replied T.failed table.old table.new self.old self.new answered
+        ensures { Done T.replied T.failed T.bytes table.old table.new self.old self.new answered result
             (first_answered reader (Reply count (take count self.old.bytes)) (machine.settle (at_node T.wanted 0 table.old) (at_node T.bytes [] table.old) (record (pipe_in table.old self.old) { bytes = drop count self.old.bytes }))) }
     {
-        self.hand_bytes(table, reader, answered, count);
-        self.settle(table, answered);
+        let own = self.hand_bytes(table, reader, answered, count);
+        let others = self.settle(table, answered);
+        own | others
     }
 
     // A free reader gets so many of the first bytes that stand.
@@ -244,31 +287,33 @@ impl Pipe {
         reader: usize,
         answered: usize,
         count: usize,
-    )
+    ) -> bool
         requires free { IsFree table.old reader }
         requires answered { ContainsList table.old answered }
         requires count { count ≤ length self.old.bytes }
         ensures bytes { self.new ≡ record self.old { bytes = drop count self.old.bytes } }
         ensures handed { HandedOver T.replied T.failed table.old table.new reader answered (Reply count (take count self.old.bytes)) }
+        ensures filled { result ≡ is_written (at_node T.bytes [] table.old reader) (Reply count (take count self.old.bytes)) }
     {
         let mut bytes = [0; Limits::PIPE];
         self.bytes.read_into(&mut bytes[..count]);
-        hand_over(table, reader, answered, Ok((count as u64, &bytes[..count])));
+        hand_over(table, reader, answered, Ok((count as u64, &bytes[..count])))
     }
 
     // A writer's bytes, which fit, go in last, and others may be served then.
-    fn write_now<T: Waiter>(&mut self, table: &mut Table<T>, writer: usize, answered: usize)
+    fn write_now<T: Waiter>(&mut self, table: &mut Table<T>, writer: usize, answered: usize) -> bool
         requires pipe { IsPipeOf table.old self.old answered }
         requires free { IsFree table.old writer }
         requires fits { length self.old.bytes + length (at_node T.bytes [] table.old writer) ≤ PIPE }
-        ensures { Became T.replied T.failed table.old table.new self.old self.new answered
+        ensures { Done T.replied T.failed T.bytes table.old table.new self.old self.new answered result
             (first_answered writer (Reply (length (at_node T.bytes [] table.old writer)) []) (machine.settle (at_node T.wanted 0 table.old) (at_node T.bytes [] table.old) (record (pipe_in table.old self.old) { bytes = self.old.bytes ++ at_node T.bytes [] table.old writer }))) }
     {
         let bytes = table.value(writer).bytes();
         let count = bytes.len();
         self.append(bytes);
-        hand_over(table, writer, answered, Ok((count as u64, &[])));
-        self.settle(table, answered);
+        let own = hand_over(table, writer, answered, Ok((count as u64, &[])));
+        let others = self.settle(table, answered);
+        own | others
     }
 
     // A READ, once the pipe is clean.
@@ -278,25 +323,26 @@ impl Pipe {
         reader: usize,
         manner: Manner,
         answered: usize,
-    )
+    ) -> bool
         requires pipe { IsPipeOf table.old self.old answered }
         requires free { IsFree table.old reader }
-        ensures { Became T.replied T.failed table.old table.new self.old self.new answered (machine.clean_read (at_node T.wanted 0 table.old) (at_node T.bytes [] table.old) manner reader (pipe_in table.old self.old)) }
+        ensures { Done T.replied T.failed T.bytes table.old table.new self.old self.new answered result (machine.clean_read (at_node T.wanted 0 table.old) (at_node T.bytes [] table.old) manner reader (pipe_in table.old self.old)) }
     {
         let wanted = table.value(reader).wanted();
         let len = self.bytes.len();
         if wanted == 0 {
-            self.answer_alone(table, reader, answered, Ok((0, &[])));
+            self.answer_alone(table, reader, answered, Ok((0, &[])))
         } else if len != 0 {
-            self.read_now(table, reader, answered, wanted.min(len));
+            self.read_now(table, reader, answered, wanted.min(len))
         } else if !manner.has_other_side {
-            self.answer_alone(table, reader, answered, Ok((0, &[])));
+            self.answer_alone(table, reader, answered, Ok((0, &[])))
         } else if manner.is_nonblock {
-            self.answer_alone(table, reader, answered, Err(Errno::EAGAIN));
+            self.answer_alone(table, reader, answered, Err(Errno::EAGAIN))
         } else if manner.is_asked {
-            self.answer_alone(table, reader, answered, Err(Errno::EINTR));
+            self.answer_alone(table, reader, answered, Err(Errno::EINTR))
         } else {
             self.wait_to_read(table, reader, answered);
+            false
         }
     }
 
@@ -307,36 +353,37 @@ impl Pipe {
         writer: usize,
         manner: Manner,
         answered: usize,
-    )
+    ) -> bool
         requires pipe { IsPipeOf table.old self.old answered }
         requires free { IsFree table.old writer }
-        ensures { Became T.replied T.failed table.old table.new self.old self.new answered (machine.clean_write (at_node T.wanted 0 table.old) (at_node T.bytes [] table.old) manner writer (pipe_in table.old self.old)) }
+        ensures { Done T.replied T.failed T.bytes table.old table.new self.old self.new answered result (machine.clean_write (at_node T.wanted 0 table.old) (at_node T.bytes [] table.old) manner writer (pipe_in table.old self.old)) }
     {
         let len = table.value(writer).bytes().len();
         let nobody_waits = table.first(self.writers).is_none();
         if len == 0 {
-            self.answer_alone(table, writer, answered, Ok((0, &[])));
+            self.answer_alone(table, writer, answered, Ok((0, &[])))
         } else if !manner.has_other_side {
-            self.answer_alone(table, writer, answered, Err(Errno::EPIPE));
+            self.answer_alone(table, writer, answered, Err(Errno::EPIPE))
         } else if nobody_waits && len <= Limits::PIPE - self.bytes.len() {
-            self.write_now(table, writer, answered);
+            self.write_now(table, writer, answered)
         } else if manner.is_nonblock {
-            self.answer_alone(table, writer, answered, Err(Errno::EAGAIN));
+            self.answer_alone(table, writer, answered, Err(Errno::EAGAIN))
         } else if manner.is_asked {
-            self.answer_alone(table, writer, answered, Err(Errno::EINTR));
+            self.answer_alone(table, writer, answered, Err(Errno::EINTR))
         } else {
             self.wait_to_write(table, writer, answered);
+            false
         }
     }
 
     /// Takes out the waiting messages of ended processes, and answers those who can be served then.
-    pub fn clean<T: Waiter>(&mut self, table: &mut Table<T>, answered: usize)
+    pub fn clean<T: Waiter>(&mut self, table: &mut Table<T>, answered: usize) -> bool
         requires { IsPipeOf table.old self.old answered }
-        ensures { Became T.replied T.failed table.old table.new self.old self.new answered (machine.clean (at_node T.wanted 0 table.old) (at_node T.bytes [] table.old) (at_node T.gone false table.old) (pipe_in table.old self.old)) }
+        ensures { Done T.replied T.failed T.bytes table.old table.new self.old self.new answered result (machine.clean (at_node T.wanted 0 table.old) (at_node T.bytes [] table.old) (at_node T.gone false table.old) (pipe_in table.old self.old)) }
     {
         drop_gone(table, self.readers);
         drop_gone(table, self.writers);
-        self.settle(table, answered);
+        self.settle(table, answered)
     }
 
     /// A READ of a message that stands in no list: cleans the pipe, and then the message is answered or waits.
@@ -346,14 +393,15 @@ impl Pipe {
         reader: usize,
         manner: Manner,
         answered: usize,
-    )
+    ) -> bool
         requires pipe { IsPipeOf table.old self.old answered }
         requires free { IsFree table.old reader }
-        ensures { Became T.replied T.failed table.old table.new self.old self.new answered (machine.read (at_node T.wanted 0 table.old) (at_node T.bytes [] table.old) (at_node T.gone false table.old) manner reader (pipe_in table.old self.old)) }
+        ensures { Done T.replied T.failed T.bytes table.old table.new self.old self.new answered result (machine.read (at_node T.wanted 0 table.old) (at_node T.bytes [] table.old) (at_node T.gone false table.old) manner reader (pipe_in table.old self.old)) }
     {
-        self.clean(table, answered);
+        let others = self.clean(table, answered);
         table.know();
-        self.read_clean(table, reader, manner, answered);
+        let own = self.read_clean(table, reader, manner, answered);
+        others | own
     }
 
     /// A WRITE of a message that stands in no list: cleans the pipe, and then the message is answered or waits.
@@ -363,14 +411,15 @@ impl Pipe {
         writer: usize,
         manner: Manner,
         answered: usize,
-    )
+    ) -> bool
         requires pipe { IsPipeOf table.old self.old answered }
         requires free { IsFree table.old writer }
-        ensures { Became T.replied T.failed table.old table.new self.old self.new answered (machine.write (at_node T.wanted 0 table.old) (at_node T.bytes [] table.old) (at_node T.gone false table.old) manner writer (pipe_in table.old self.old)) }
+        ensures { Done T.replied T.failed T.bytes table.old table.new self.old self.new answered result (machine.write (at_node T.wanted 0 table.old) (at_node T.bytes [] table.old) (at_node T.gone false table.old) manner writer (pipe_in table.old self.old)) }
     {
-        self.clean(table, answered);
+        let others = self.clean(table, answered);
         table.know();
-        self.write_clean(table, writer, manner, answered);
+        let own = self.write_clean(table, writer, manner, answered);
+        others | own
     }
 
     // Those messages that are to leave are answered, readers first.
@@ -419,16 +468,17 @@ impl Pipe {
     }
 
     /// An unblock of a message: the pipe is cleaned; if the message waits then, it is answered EINTR, and others may be served.
-    pub fn cancel<T: Waiter>(&mut self, table: &mut Table<T>, node: usize, answered: usize)
+    pub fn cancel<T: Waiter>(&mut self, table: &mut Table<T>, node: usize, answered: usize) -> bool
         requires { IsPipeOf table.old self.old answered }
-        ensures { Became T.replied T.failed table.old table.new self.old self.new answered
+        ensures { Done T.replied T.failed T.bytes table.old table.new self.old self.new answered result
             (machine.cancel (at_node T.wanted 0 table.old) (at_node T.bytes [] table.old) (at_node T.gone false table.old) (λ one. one == node) (pipe_in table.old self.old)) }
     {
-        self.clean(table, answered);
+        let before = self.clean(table, answered);
         table.know();
         self.dismiss(table, Leaving::Node(node), answered, Errno::EINTR);
         table.know();
-        self.settle(table, answered);
+        let after = self.settle(table, answered);
+        before | after
     }
 
     /// A block is freed, and `sides` are those for which there are blocks then: the pipe is cleaned; the messages on the
@@ -441,19 +491,20 @@ impl Pipe {
         block: usize,
         sides: Sides,
         answered: usize,
-    )
+    ) -> bool
         requires { IsPipeOf table.old self.old answered }
-        ensures { Became T.replied T.failed table.old table.new self.old self.new answered
+        ensures { Done T.replied T.failed T.bytes table.old table.new self.old self.new answered result
             (machine.release (at_node T.wanted 0 table.old) (at_node T.bytes [] table.old) (at_node T.gone false table.old) (λ node. at_node T.block 0 table.old node == block) sides (pipe_in table.old self.old)) }
     {
-        self.clean(table, answered);
+        let before = self.clean(table, answered);
         table.know();
         self.dismiss(table, Leaving::Block(block), answered, Errno::EBADF);
         self.end_readers(table, sides, answered);
         self.end_writers(table, sides, answered);
         table.know();
-        self.settle(table, answered);
+        let after = self.settle(table, answered);
         self.discard(sides);
+        before | after
     }
 
     // Readers come to the end of a pipe that nobody writes any more.

@@ -9,8 +9,11 @@ use Rattle.qx_types.specs.Configuration.{Configuration}
 use Rattle.qx_types.specs.Managers.{manager_number, managers}
 use Rattle.qx_types.specs.Step.{actor_of, user_of}
 use Rattle.qx_types.specs.declared.names.Actor.{Actor}
+use Rattle.qx_types.specs.declared.errno.Errno.{Errno}
 use Rattle.qx_types.specs.declared.names.Manager.{Manager}
+use Rattle.qx_types.specs.declared.names.Manager.TheVariants.{Pipe}
 use Rattle.qx_types.specs.declared.names.TheConstants.Manager.{COUNT}
+use Rattle.qx_types.specs.declared.outcome.Answer.{Answer}
 use Rattle.qx_types.specs.declared.outcome.Outcome.{Outcome}
 use Rattle.qx_types.specs.declared.outcome.Outcome.TheVariants.{WrongState}
 use Rattle.qx_types.specs.declared.step.Step.{Step}
@@ -21,9 +24,14 @@ use Rattle.qx_machine.specs.declared.rows.OwnItem.TheVariants.{Message, Unblock}
 use Rattle.qx_machine.specs.declared.rows.Queued.{Queued}
 use Rattle.qx_machine.specs.Lines.{line_at, with_line}
 use Rattle.qx_machine.specs.Machine.{World, After, step_end, changed_manager, line_after, own_held, step, step_of, server_step, boot, client_step, receive_hand, receive_line, received_part, with_taken, perform_hand, performed_part, with_empty_hand, is_same_item, is_worker, line_of, line_without, lines_after}
-use Rattle.qx_machine.specs.Parts.{Part, Change, Put, Remove}
+use Rattle.qx_wire.specs.Reading.{meaning}
+use Rattle.qx_machine.specs.declared.rows.Caller.{Caller}
+use Rattle.qx_machine.specs.declared.rows.WaitingCall.{WaitingCall}
+use Rattle.qx_machine.specs.Functions.{Deed}
+use Rattle.qx_machine.specs.Parts.{Part, Change, Put, Remove, Resources}
+use Rattle.qx_machine.specs.PipeManager.{cancel_call}
 use Rattle.qx_machine.specs.Judgements.{◌>>=◌, found}
-use Rattle.qx_machine.specs.Performing.{Served, or_kept, taken_in}
+use Rattle.qx_machine.specs.Performing.{Served, answered_changes, caller_of, deed_of, or_kept, own_change, served_changes, taken_in}
 use Rattle.qx_machine.specs.Rows.{row_at}
 use Rattle.qx_machine.specs.Runs.{world_after}
 use Rattle.qx_machine.specs.Users as users
@@ -111,12 +119,31 @@ takes_on : {A : Type 0} (part : Part) (first : Result A Outcome) (next : A → R
 takes_on part (Ok value) next h = h value
 takes_on part (Err outcome) next h = tt
 
+takes_both : (first rest : List Change) → TakesOut first → TakesOut rest → TakesOut (first ++ rest)
+takes_both [] rest one two = two
+takes_both (Put manager item prio ∷ first) rest one two = absurd one
+takes_both (Remove manager item ∷ first) rest one two = takes_both first rest one two
+
+answers_take : (manager : Manager) (answers : List (WaitingCall × Answer)) → TakesOut (answered_changes manager answers)
+answers_take manager [] = tt
+answers_take manager (first ∷ rest) = answers_take manager rest
+
+own_takes : (manager : Manager) (caller : Caller) (is_replied : Bool) → TakesOut (if is_replied then own_change manager caller ∷ [] else [])
+own_takes manager caller true = tt
+own_takes manager caller false = tt
+
+served_takes : (manager : Manager) (caller : Caller) (given : Result (Deed Resources) Errno) → TakesOut (served_changes manager caller given)
+served_takes manager caller (Ok deed) = takes_both (if is_some deed.reply then own_change manager caller ∷ [] else []) (answered_changes manager deed.answers) (own_takes manager caller (is_some deed.reply)) (answers_take manager deed.answers)
+served_takes manager caller (Err error) = tt
+
 -- what a worker does puts nothing into a line
 serve_takes : (c : Configuration) (user : ℕ) (held : List OwnItem) (part : Part) (item : OwnItem) (moment : ℕ) → TakesOut (serve c user held part item moment).changes
 unfolding serve
 serve_takes c user held part (Message process thread) moment =
-    takes_on part (found (row_at part.processes process) WrongState) _ (λ its. takes_on part (found (row_at its.threads thread) WrongState) _ (λ row. takes_on part (found (taken_in row.state) WrongState) _ (λ sent. tt)))
-serve_takes c user held part (Unblock process thread call) moment = tt
+    takes_on part (found (row_at part.processes process) WrongState) _ (λ its. takes_on part (found (row_at its.threads thread) WrongState) _ (λ row. takes_on part (found (taken_in row.state) WrongState) _ (λ sent.
+      served_takes sent.target.manager (caller_of process thread row sent) (deed_of part.resources its (caller_of process thread row sent) sent.target moment (meaning sent.bytes)))))
+serve_takes c user held part (Unblock process thread call) moment =
+    takes_on part (cancel_call part.resources.inodes part.resources.pipes process thread call moment) _ (λ given. answers_take Pipe given.answers)
 
 without_fewer : (user : ℕ) (item : OwnItem) (line : List Queued) → length (line_without user item line) ≤ length line
 without_fewer user item [] = omega arith

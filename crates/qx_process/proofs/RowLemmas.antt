@@ -6,7 +6,7 @@ use Rattle.std.proofs.lemmas.Grind.{common_steps}
 use Rattle.std.proofs.lemmas.List.{set-get_or}
 use Rattle.std.proofs.lemmas.Option.{unwrap_or-slice_get, slice_get_read}
 use Rattle.qx_machine.specs.declared.rows.ThreadRow.{ThreadRow}
-use Rattle.qx_machine.specs.Processes.{Process}
+use Rattle.qx_machine.specs.Processes.{Process, with_thread}
 use Rattle.qx_machine.specs.Rows.{row_at, with_row}
 use Rattle.qx_process.specs.Lends.{put_thread}
 
@@ -40,6 +40,10 @@ set-same xs n x read = ap (λ y. set xs n y) read ∙ set-get_or xs n x
 -- a row put back where it stands changes nothing
 pub set-row : {A : Type 0} (xs : List (Option A)) (n : ℕ) (x : A) → row_at xs n ≡ Some x → set xs n (Some x) ≡ xs
 set-row xs n x is = ap (λ y. set xs n y) (sym is ∙ row_at-get_or xs n) ∙ set-get_or xs n None
+
+-- no thread is there to be changed
+pub thread_absent : (process : Process) (thread : ℕ) (f : ThreadRow → ThreadRow) → row_at process.threads thread ≡ None → with_thread thread f process ≡ process
+thread_absent process thread f is = ap (λ threads. record process { threads = threads }) (with_row-none process.threads thread f is)
 
 -- a thread's row that is left as it was changes nothing in the process
 pub thread_put_back : (process : Process) (thread : ℕ) (row : ThreadRow) → row_at process.threads thread ≡ Some row → put_thread thread row process ≡ process

@@ -4,10 +4,11 @@
 mod connections;
 pub mod places;
 pub mod process;
-mod room;
+pub mod room;
 mod servers;
 pub mod thread;
 mod threads;
 
 pub use process::Process;
+pub use room::Room;
 pub use thread::ThreadCell;

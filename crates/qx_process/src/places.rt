@@ -1,6 +1,6 @@
 //! Tables of rows under small numbers: a place for each number, as long as the table has grown.
 
-ghost use Rattle.std.specs.Prelude.{◌≡◌, ◌+◌, ◌<◌, ◌≤◌, ◌^◌, vec_capacity, vec_len, length, IfOk, OnOk, OnErr, OnSome, None, [], ◌∷◌, slice_set, Some};
+ghost use Rattle.std.specs.Prelude.{◌≡◌, ◌+◌, ◌<◌, ◌≤◌, ◌^◌, vec_capacity, vec_len, length, IfOk, OnOk, OnErr, OnSome, None, [], ◌∷◌, replicate, slice_set, Some};
 ghost use Rattle.std.specs.Option.{option_copied};
 ghost use Rattle.qx_machine.specs.Rows.{row_at, lowest_from, put_row};
 
@@ -62,6 +62,17 @@ pub fn empty<T>(alloc: Global) -> Result<Vec<Option<T>>, AllocError>
 {
     let mut places = Vec::with_capacity(alloc, 1)?;
     places.push_reserved(None);
+    Ok(places)
+}
+
+/// A table of so many places, all free.
+pub fn free_places<T: Drop>(alloc: Global, count: usize) -> Result<Vec<Option<T>>, AllocError>
+    ensures free { IfOk result (λ places. places.items ≡ replicate count None) }
+{
+    let mut places = Vec::with_capacity(alloc, count)?;
+    for _ in 0..count {
+        places.push_reserved(None);
+    }
     Ok(places)
 }
 

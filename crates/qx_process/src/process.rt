@@ -1,21 +1,22 @@
-ghost use Rattle.std.specs.Prelude.{◌≡◌, ◌≤◌, length, is_some, IsTrue, IfSome, OnSome, OnOk, OnErr, Some, None};
+ghost use Rattle.std.specs.Prelude.{◌≡◌, ◌≤◌, is_some, IfSome, OnSome, OnOk, OnErr, Some, None};
 ghost use Rattle.std.specs.Option.{option_copied, option_copied_mut};
 ghost use Rattle.std.specs.Borrow.{sem};
 ghost use Rattle.qx_types.specs.Managers.{manager_number};
-ghost use Rattle.qx_types.specs.declared.limits.TheConstants.Limits.{BODY, FIRST_CONNECTION, LAST_CONNECTION, THREADS};
+ghost use Rattle.qx_types.specs.declared.limits.TheConstants.Limits.{FIRST_CONNECTION, LAST_CONNECTION, THREADS};
 ghost use Rattle.qx_machine.specs.Processes as machine;
 ghost use Rattle.qx_machine.specs.Processes.{answered_thread, with_thread};
 ghost use Rattle.qx_machine.specs.Rows.{row_at, lowest_from};
 ghost use Rattle.qx_machine.specs.Servers.{is_attached};
-ghost use Rattle.qx_process.specs.Reads.{is_thread_blocked, CanCall, CanGo, HasNumber, IsPriority, IsRanked};
+ghost use Rattle.qx_process.specs.Reads.{CanCall, CanGo, HasNumber, IsPriority, IsRanked};
 
 use crate::connections::{self, Connections};
 use crate::places;
+use crate::room::Room;
 use crate::servers::{self, Servers, Sides};
 use crate::thread::ThreadCell;
 use crate::threads::{self, PLACES, Threads};
 use qx_machine::{Connection, Over, Sent, ServerConnection, ThreadRow};
-use qx_types::{Answer, Coid, Errno, Limits, Manager, Prio};
+use qx_types::{Answer, Coid, Errno, Limits, Manager, MessageBytes, Prio};
 use std::alloc::{AllocError, Global};
 use std::marker::Model;
 
@@ -172,29 +173,41 @@ impl Process {
         Ok(())
     }
 
-    /// A blocked thread gets a reply; what was attached for its message alone goes (C Library Reference: `MsgReply`).
-    pub fn reply(&mut self, thread: u8, over: Over, status: u64, bytes: &[u8])
-        requires blocked { IsTrue (is_thread_blocked (row_at self.old.threads thread)) }
-        requires fits { length bytes.now ≤ BODY }
-        ensures process { self.new ≡ machine.after_reply thread over (with_thread thread (answered_thread (Answer.Reply status bytes.now)) self.old) }
+    /// A thread gets a reply, with the room for its replies, unless the reply took that along; what was attached for its
+    /// message alone goes (C Library Reference: `MsgReply`).
+    pub fn reply(
+        &mut self,
+        thread: u8,
+        over: Over,
+        status: u64,
+        bytes: MessageBytes,
+        room: Option<Room>,
+    )
+        ensures process { self.new ≡ machine.after_reply thread over (with_thread thread (answered_thread (Answer.Reply status bytes)) self.old) }
     {
-        if let Some(cell) = self.thread_mut(thread) {
-            cell.reply(status, bytes);
-        }
+        self.answer(thread, Answer::Reply(status, bytes), room);
         self.let_go(thread, over);
     }
 
-    /// A blocked thread gets an error, which gives a new connection back too (C Library Reference: `MsgError`).
-    pub fn fail(&mut self, thread: u8, over: Over, error: Errno)
-        requires blocked { IsTrue (is_thread_blocked (row_at self.old.threads thread)) }
+    /// A thread gets an error, with the room for its replies where that had gone; what its call attached goes (C Library
+    /// Reference: `MsgError`).
+    pub fn fail(&mut self, thread: u8, over: Over, error: Errno, room: Option<Room>)
         ensures process { self.new ≡ machine.after_error thread over (with_thread thread (answered_thread (Answer.Failed error)) self.old) }
     {
-        if let Some(cell) = self.thread_mut(thread) {
-            cell.fail(error);
-        }
+        self.answer(thread, Answer::Failed(error), room);
         match over {
             Over::New(coid) => self.detach(coid),
             _ => self.let_go(thread, over),
+        }
+    }
+
+    /// A thread gets an answer, with the room for its replies where that comes back with it.
+    #[tactic(auto, using(crate::proofs::RowLemmas::thread_absent))]
+    fn answer(&mut self, thread: u8, answer: Answer, room: Option<Room>)
+        ensures process { self.new ≡ with_thread thread (answered_thread answer) self.old }
+    {
+        if let Some(cell) = self.thread_mut(thread) {
+            cell.answer(answer, room);
         }
     }
 

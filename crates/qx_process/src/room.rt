@@ -1,4 +1,4 @@
-ghost use Rattle.std.specs.Prelude.{◌≡◌, ◌≤◌, ◌<◌, length, IsSome, IfOk, None};
+ghost use Rattle.std.specs.Prelude.{◌≡◌, ◌≤◌, ◌<◌, [], length, IsSome, IfOk, None};
 ghost use Rattle.qx_bytes.specs.declared.message.TheConstants.MessageBytes.{INLINE};
 ghost use Rattle.qx_types.specs.declared.limits.TheConstants.Limits.{BODY};
 
@@ -8,31 +8,49 @@ use std::alloc::{AllocError, Global};
 use std::marker::Model;
 
 /// Memory for the bytes of a reply, of exactly as many as one may have: there before a message is sent, so that no answer
-/// is refused for want of it.
+/// is refused for want of it. Until the reply comes it may keep bytes of the call.
 #[derive(Drop)]
 pub struct Room {
     bytes: Vec<u8>,
 }
 
 impl Model for Room {
-    ghost use Rattle.std.specs.Prelude.{◌≡◌, ℕ, vec_len, vec_capacity};
+    ghost use Rattle.std.specs.Prelude.{◌≡◌, ◌≤◌, List, ℕ, vec_len, vec_capacity};
     ghost use Rattle.qx_types.specs.declared.limits.TheConstants.Limits.{BODY};
 
-    ghost Value = { ℕ };
+    ghost Value = { List ℕ };
 
-    ghost view = { λ r. vec_capacity r.bytes };
+    ghost view = { λ r. r.bytes.items };
 
-    ghost invariant = { λ r. (vec_len r.bytes ≡ 0) × (vec_capacity r.bytes ≡ BODY) };
+    ghost invariant = { λ r. (vec_len r.bytes ≤ BODY) × (vec_capacity r.bytes ≡ BODY) };
 }
 
 impl Room {
-    /// Room for the bytes of one reply, and no more.
+    /// Room for the bytes of one reply, and no more, with none in it.
     pub fn new(alloc: Global) -> Result<Self, AllocError>
-        ensures exact { IfOk result (λ room. room ≡ BODY) }
+        ensures none { IfOk result (λ room. room ≡ []) }
     {
         Ok(Room {
             bytes: Vec::with_capacity(alloc, Limits::BODY)?,
         })
+    }
+
+    /// Keeps a copy of these bytes in place of what was in it.
+    pub fn keep(&mut self, bytes: &[u8])
+        requires fits { length bytes.now ≤ BODY }
+        ensures kept { self.new ≡ bytes.now }
+    {
+        self.bytes.clear();
+        for byte in bytes {
+            self.bytes.push_reserved(*byte);
+        }
+    }
+
+    /// The bytes in it.
+    pub fn as_slice(&self) -> &[u8]
+        ensures bytes { result.now ≡ self.now }
+    {
+        self.bytes.as_slice()
     }
 
     /// Few bytes of a reply, which stand inline and leave the room.
@@ -50,6 +68,7 @@ impl Room {
         ensures bytes { result ≡ reply.now }
     {
         let Room { mut bytes } = self;
+        bytes.clear();
         match bytes.extend_from_slice(reply) {
             Ok(()) => {
                 bytes.shrink_to_fit();

@@ -1,17 +1,18 @@
-ghost use Rattle.std.specs.Prelude.{◌≡◌, ◌≤◌, ◌<◌, length, IsTrue, MatchOption, OnOk, OnErr};
-ghost use Rattle.qx_types.specs.declared.limits.TheConstants.Limits.{BODY, CALLS};
+ghost use Rattle.std.specs.Prelude.{◌≡◌, ◌<◌, IsSome, MatchOption, OnOk, OnErr, Some, option_map};
+ghost use Rattle.qx_types.specs.declared.limits.TheConstants.Limits.{CALLS};
 ghost use Rattle.qx_machine.specs.Clients.{answer_in};
-ghost use Rattle.qx_machine.specs.Processes.{asked_thread, new_thread, queued_thread, taken_thread, answered_thread, ready_thread, ranked_thread};
-ghost use Rattle.qx_process.specs.Reads.{is_blocked, IsPriority, IsRanked};
+ghost use Rattle.qx_machine.specs.Performing.{taken_in};
+ghost use Rattle.qx_machine.specs.Processes.{asked_thread, new_thread, queued_thread, served_thread, taken_thread, answered_thread, ready_thread, ranked_thread};
+ghost use Rattle.qx_process.specs.Reads.{IsPriority, IsRanked, unserved_thread};
 
-use crate::room::{Room, reply_bytes};
+use crate::room::Room;
 use qx_machine::{Sent, State, ThreadRow};
-use qx_types::{Answer, Errno, Prio};
+use qx_types::{Answer, MessageBytes, Prio};
 use std::alloc::{AllocError, Global};
 use std::marker::Model;
 use std::mem;
 
-/// A thread, with the room for its replies: there while it is blocked, and afterwards until an answer takes it along.
+/// A thread, with the room for its replies: there until its message is served, and afterwards until an answer takes it along.
 #[derive(Drop)]
 pub struct ThreadCell {
     row: ThreadRow,
@@ -21,13 +22,13 @@ pub struct ThreadCell {
 impl Model for ThreadCell {
     ghost use Rattle.std.specs.Prelude.{IsTrue, IsSome};
     ghost use Rattle.qx_machine.specs.declared.rows.ThreadRow.{ThreadRow};
-    ghost use Rattle.qx_process.specs.Reads.{is_blocked, IsRanked};
+    ghost use Rattle.qx_process.specs.Reads.{is_unserved, IsRanked};
 
     ghost Value = { ThreadRow };
 
     ghost view = { λ c. c.row };
 
-    ghost invariant = { λ c. (IsTrue (is_blocked c.row.state) → IsSome c.room) × IsRanked c.row };
+    ghost invariant = { λ c. (IsTrue (is_unserved c.row.state) → IsSome c.room) × IsRanked c.row };
 }
 
 impl ThreadCell {
@@ -83,27 +84,60 @@ impl ThreadCell {
     pub fn ask_unblock(&mut self)
         ensures row { self.new ≡ asked_thread self.old }
     {
-        if let State::Taken(sent) = &mut self.row.state {
-            sent.is_asked = true;
+        match &mut self.row.state {
+            State::Taken(sent) => sent.is_asked = true,
+            State::Waiting(sent) => sent.is_asked = true,
+            _ => {}
         }
     }
 
-    /// The thread gets a reply, which can't be refused for want of memory (C Library Reference: `MsgReply`).
-    pub fn reply(&mut self, status: u64, bytes: &[u8])
-        requires blocked { IsTrue (is_blocked self.old.state) }
-        requires fits { length bytes.now ≤ BODY }
-        ensures row { self.new ≡ answered_thread (Answer.Reply status bytes.now) self.old }
+    /// The thread's message, which was received, is served: its bytes and the room for the reply go with that (Writing a
+    /// Resource Manager: a client is REPLY-blocked until it is replied to).
+    pub fn hand_over(&mut self) -> (MessageBytes, Room)
+        requires received { IsSome (taken_in self.old.state) }
+        ensures bytes { Some result.0 ≡ option_map (λ sent. sent.bytes) (taken_in self.old.state) }
+        ensures row { self.new ≡ served_thread self.old }
     {
-        let bytes = reply_bytes(&mut self.room, bytes);
-        self.row.state = State::Answered(Answer::Reply(status, bytes));
+        let Some(room) = self.room.take() else {
+            unreachable!();
+        };
+        let State::Taken(Sent {
+            target,
+            is_asked,
+            bytes,
+        }) = mem::replace(&mut self.row.state, State::Ready)
+        else {
+            unreachable!();
+        };
+        let gone = room.inline(&[]);
+        self.row.state = State::Waiting(Sent {
+            target,
+            is_asked,
+            bytes: gone,
+        });
+        (bytes, room)
     }
 
-    /// The thread gets an error, and keeps the room (C Library Reference: `MsgError`).
-    pub fn fail(&mut self, error: Errno)
-        requires blocked { IsTrue (is_blocked self.old.state) }
-        ensures row { self.new ≡ answered_thread (Answer.Failed error) self.old }
+    /// The thread's message, which was handed over, is received as before, and not served.
+    pub fn hand_back(&mut self, bytes: MessageBytes, room: Room)
+        ensures row { self.new ≡ unserved_thread bytes self.old }
     {
-        self.row.state = State::Answered(Answer::Failed(error));
+        self.row.state = match mem::replace(&mut self.row.state, State::Ready) {
+            State::Waiting(sent) => State::Taken(Sent { bytes, ..sent }),
+            state => state,
+        };
+        self.room = Some(room);
+    }
+
+    /// The thread gets an answer, and with it the room for its replies, unless the answer took that along or it never went
+    /// (C Library Reference: `MsgReply`, `MsgError`).
+    pub fn answer(&mut self, answer: Answer, room: Option<Room>)
+        ensures row { self.new ≡ answered_thread answer self.old }
+    {
+        self.row.state = State::Answered(answer);
+        if room.is_some() {
+            self.room = room;
+        }
     }
 
     /// The thread gets another priority (C Library Reference: `SchedSet`).

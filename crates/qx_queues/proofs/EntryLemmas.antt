@@ -17,6 +17,7 @@ use Rattle.qx_machine.specs.declared.rows.Queued.{Queued}
 use Rattle.qx_machine.specs.Lines.{into, line_at, with_line}
 use Rattle.qx_queues.specs.Queues.{pulse_call, first_field, is_same_thread, as_message, sender_of, own_field}
 use Rattle.qx_queues.specs.Kept.{nobodys, owner_in, owner_of}
+use Rattle.qx_queues.specs.Waiting.{Waiting}
 use Rattle.qx_queues.specs.Nodes.{Disconnect, Message, Owner, Unblock}
 
 -- priority insertion, by what the items stand for
@@ -52,8 +53,8 @@ pub map-drop : {A B : Type 0} (f : A → B) (xs : List A) → map f (drop 1 xs) 
 map-drop f [] = refl
 map-drop f (x ∷ xs) = refl
 
-pub entry-insert_same : (values : maps.FinMap nat_cmp Queued) (node : ℕ) (entry : Queued) → unwrap_or (maps.get (maps.insert values node entry) node) nobodys ≡ entry
-entry-insert_same values node entry = ap (λ o. unwrap_or o nobodys) (get-insert_same values node entry)
+pub waiting-insert_same : (values : maps.FinMap nat_cmp Waiting) (node : ℕ) (waiting : Waiting) → unwrap_or (maps.get (maps.insert values node waiting) node) nobodys ≡ waiting
+waiting-insert_same values node waiting = ap (λ o. unwrap_or o nobodys) (get-insert_same values node waiting)
 
 abbrev thread_of : ℕ → ℕ → ℕ → Thread
 thread_of user process thread = record { proc = record { user = record { 0 = user }; num = process }; tid = thread }

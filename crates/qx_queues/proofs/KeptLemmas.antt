@@ -1,5 +1,5 @@
 -- How the lines and the nodes stand in the table, as a node is made, put into a line, taken out of one or given back.
-use Rattle.std.proofs.Common.{◌≡◌, ◌≢◌, ◌⊎◌, ◌++◌, subst, inl, inr, ℕ, zero, suc, true, false, nat_eq, List, [], ◌∷◌, Contains, Option, Some, None, option_map, map, drop, length, replicate, slice_get, slice_set, unwrap_or, is_some, IfSome, refl, sym, ◌∙◌, ap, arith}
+use Rattle.std.proofs.Common.{◌≡◌, ◌≢◌, ◌⊎◌, ◌==◌, ◌||◌, ◌++◌, subst, inl, inr, ℕ, zero, suc, Bool, true, false, nat_eq, List, [], ◌∷◌, Contains, Option, Some, None, option_map, map, drop, length, replicate, slice_get, slice_set, unwrap_or, is_some, IfSome, refl, sym, ◌∙◌, ap, arith}
 use Rattle.std.specs.FinMap as maps
 use Rattle.std.specs.Ordering.{nat_cmp}
 use Rattle.std.specs.List.{IsDistinct, AllByRecursion}
@@ -8,8 +8,8 @@ use Rattle.std.proofs.lemmas.Bool.Decides.{eqb_tells}
 use Rattle.std.proofs.lemmas.Option.{same_Some, slice_get-map}
 use Rattle.qx_types.specs.declared.names.Proc.{Proc}
 use Rattle.qx_types.specs.declared.names.Thread.{Thread}
-use Rattle.qx_lists.specs.Table.{Table, ContainsNode, IsFree, IsIn, nodes_of, without}
-use Rattle.qx_lists.proofs.ListLemmas.{contains_first, contains_later, nowhere_from}
+use Rattle.qx_lists.specs.Table.{Table, ContainsList, ContainsNode, IsFree, IsIn, nodes_of, without}
+use Rattle.qx_lists.proofs.ListLemmas.{contains_cases, contains_first, contains_later, nowhere_from}
 use Rattle.qx_lists.proofs.MapLemmas.{get-remove_same}
 use Rattle.qx_lines.specs.declared.Line.{Line}
 use Rattle.qx_lines.specs.Line.{IsInLine, IsLineOf, IsOwn, SameElsewhere, nodes_in}
@@ -19,13 +19,15 @@ use Rattle.qx_machine.specs.declared.rows.OwnItem.TheVariants as item
 use Rattle.qx_machine.specs.declared.rows.Queued.{Queued}
 use Rattle.qx_machine.specs.Machine.{line_without, rank}
 use Rattle.qx_machine.specs.Lines.{into, line_at, with_line}
-use Rattle.qx_queues.specs.Queues.{IsGone, pulse_call, first_field, is_same_thread, as_message, no_other, sender, stands, own_field, unblock_call}
-use Rattle.qx_queues.specs.Kept.{Kept, PutIn, TakenOut, entries, entry_at, list_at, named, owner_in, owner_of}
+use Rattle.qx_queues.specs.Queues.{IsGone, UsersAnswer, UsersCall, caller, has_call, is_answered, pulse_call, first_field, is_same_thread, as_message, no_other, sender, stands, own_field, unblock_call}
+use Rattle.qx_queues.specs.Kept.{Carries, HasLoad, Kept, PutIn, TakenOut, answered_calls, call_at, given_at, waiting_lists, entries, entry_at, is_line, list_at, named, owner_in, owner_of, users_call, waiting_at}
+use Rattle.qx_queues.specs.Waiting.{Answered, Load, Nothing, Waiting, Waits, caller_in, caller_of, carried, given_in, given_of, no_call, rank_of}
 use Rattle.qx_queues.specs.Nodes.{Disconnect, Message, Owner, Unblock}
-use Rattle.qx_queues.proofs.EntryLemmas.{Reads, differs_from, reads-call, reads-message, some_of, field-entry, field-find, field-part}
+use Rattle.qx_queues.proofs.BesideLemmas.{SameCalls, is_line-more, is_line-numbered, is_line-set, line_numbered, nodes_waiting, same_calls}
+use Rattle.qx_queues.proofs.EntryLemmas.{Reads, differs_from, is_same_thread-self, or_true, owned_thread, reads-call, reads-message, some_of, field-entry, field-find, field-part}
 use Rattle.qx_queues.proofs.LineLemmas.{is_this, other-unblock, owner-this, this-message, this-unblock, without-absent, without-map}
 use Rattle.qx_queues.proofs.NodesLemmas.{none_of}
-use Rattle.qx_queues.proofs.TableLemmas.{absent_is, contained-other, contains-insert, contains-other, contains-self, entries-kept, entry-other, entry-same, inserted, line-kept, none_some, nowhere, removed, some_same}
+use Rattle.qx_queues.proofs.TableLemmas.{absent_is, contained-other, contains-insert, contains-other, contains-self, entries-kept, entry-other, entry-same, inserted, line-kept, none_some, nowhere, removed, some_same, waiting-other}
 
 -- a place that was written, and the others
 pub slice_get-set : {A : Type 0} (xs : List A) (i j : ℕ) (x y : A) → slice_get (slice_set xs i x) j ≡ Some y → ((j ≡ i) × (y ≡ x)) ⊎ ((j ≢ i) × (slice_get xs j ≡ Some y))
@@ -47,11 +49,6 @@ slice_get-more (z ∷ zs) x y (suc i) is = elim (slice_get-more zs x y i is) [
   | inr there ↦ inr there
 ]
 
-list_at-more : (lines : List Line) (line : Line) (number list : ℕ) → list_at lines number ≡ Some list → list_at (lines ++ line ∷ []) number ≡ Some list
-list_at-more [] line number list is = absurd (none_some list None refl is)
-list_at-more (first ∷ lines) line zero list is = is
-list_at-more (first ∷ lines) line (suc number) list is = list_at-more lines line number list is
-
 -- the line of a number whose list is known
 pub line_of : (lines : List Line) (number list : ℕ) → list_at lines number ≡ Some list → (line : Line) × ((slice_get lines number ≡ Some line) × (line.list ≡ list))
 line_of [] number list is = absurd (none_some list None refl is)
@@ -62,7 +59,7 @@ pub list_of : (lines : List Line) (number : ℕ) (line : Line) → slice_get lin
 list_of lines number line is = ap (option_map (λ l. l.list)) is
 
 -- the items of the line of a number
-pub line_at-shown : (t : Table Queued) (lines : List Line) (number : ℕ) (line : Line) → slice_get lines number ≡ Some line → line_at (map (entries t) lines) number ≡ entries t line
+pub line_at-shown : (t : Table Waiting) (lines : List Line) (number : ℕ) (line : Line) → slice_get lines number ≡ Some line → line_at (map (entries t) lines) number ≡ entries t line
 line_at-shown t lines number line is = ap (λ o. unwrap_or o []) (slice_get-map (entries t) lines number ∙ ap (option_map (entries t)) is)
 
 -- a line that changes keeps its list
@@ -74,7 +71,7 @@ list_at-set before after own (line ∷ lines) (suc number) zero is = refl
 list_at-set before after own (line ∷ lines) (suc number) (suc other) is = list_at-set before after own lines number other is
 
 -- lines that show what they showed, but for one
-shown-set : (old new : Table Queued) (lines : List Line) (number : ℕ) (after : Line) → ((other : ℕ) (line : Line) → other ≢ number → slice_get lines other ≡ Some line → entries new line ≡ entries old line) → map (entries new) (slice_set lines number after) ≡ slice_set (map (entries old) lines) number (entries new after)
+shown-set : (old new : Table Waiting) (lines : List Line) (number : ℕ) (after : Line) → ((other : ℕ) (line : Line) → other ≢ number → slice_get lines other ≡ Some line → entries new line ≡ entries old line) → map (entries new) (slice_set lines number after) ≡ slice_set (map (entries old) lines) number (entries new after)
 shown-set old new [] number after same = refl
 shown-set old new (line ∷ lines) zero after same = ap (λ l. entries new after ∷ l) (all lines (λ other line at. same (suc other) line (λ is. omega (arith, is)) at))
   where
@@ -84,15 +81,17 @@ shown-set old new (line ∷ lines) zero after same = ap (λ l. entries new after
 shown-set old new (line ∷ lines) (suc number) after same = rw (same zero line (λ is. omega (arith, is)) refl, shown-set old new lines number after (λ other line differs at. same (suc other) line (λ is. differs (omega (arith, is))) at)) refl
 
 -- all lines show what they showed
-pub shown-kept : (old new : Table Queued) (lines : List Line) → ((line : Line) → entries new line ≡ entries old line) → map (entries new) lines ≡ map (entries old) lines
+pub shown-kept : (old new : Table Waiting) (lines : List Line) → ((line : Line) → entries new line ≡ entries old line) → map (entries new) lines ≡ map (entries old) lines
 shown-kept old new [] same = refl
 shown-kept old new (line ∷ lines) same = rw (same line, shown-kept old new lines same) refl
 
 -- the same nodes in another room
-pub Kept-room : (old new : Table Queued) (lines : List Line) (node_of : Owner → Option ℕ) → new.lists ≡ old.lists → new.values ≡ old.values → Kept old lines node_of → Kept new lines node_of
+pub Kept-room : {answered : ℕ} (old new : Table Waiting) (lines : List Line) (node_of : Owner → Option ℕ) → new.lists ≡ old.lists → new.values ≡ old.values → Kept old lines answered node_of → Kept new lines answered node_of
 Kept-room old new lines node_of same_lists values kept = record {
-  line = λ number line at. IsLineOf-same rank old new line (kept.line number line at) (λ list own. rw same_lists refl) (λ node in_line. rw values refl);
+  line = λ number line at. IsLineOf-same rank_of old new line (kept.line number line at) (λ list own. rw same_lists refl) (λ node in_line. rw values refl);
   apart = kept.apart;
+  answers = rw same_lists kept.answers;
+  off_lines = kept.off_lines;
   there = rw values kept.there;
   names = rw values kept.names;
   owned = rw values kept.owned;
@@ -101,24 +100,80 @@ Kept-room old new lines node_of same_lists values kept = record {
 }
 
 -- the same nodes of the same owners
-pub Kept-owners : (t : Table Queued) (lines : List Line) (node_of after : Owner → Option ℕ) → ((owner : Owner) → after owner ≡ node_of owner) → Kept t lines node_of → Kept t lines after
-Kept-owners t lines node_of after same kept =
+pub Kept-owners : {answered : ℕ} (t : Table Waiting) (lines : List Line) (node_of after : Owner → Option ℕ) → ((owner : Owner) → after owner ≡ node_of owner) → Kept t lines answered node_of → Kept t lines answered after
+Kept-owners {answered} t lines node_of after same kept =
     let all : node_of ≡ after = λ i owner. sym (same owner) i in
-    subst (Kept t lines) all kept
+    subst (Kept t lines answered) all kept
 
 not_disconnect : (thread : Thread) (it : OwnItem) (proc : Proc) (number : ℕ) → owner_in thread it ≡ Disconnect proc number → ⊥
 not_disconnect thread (item.Message process n) proc number is = cc
 not_disconnect thread (item.Unblock process n call) proc number is = cc
 
+-- a node of unblock pulses carries no call
+pub no_call-unblock : {answered : ℕ} (t : Table Waiting) (lines : List Line) (node_of : Owner → Option ℕ) (thread : Thread) (node : ℕ) → Kept t lines answered node_of → node_of (Unblock thread) ≡ Some node → (list : ℕ) → IsIn t list node → is_line lines list ≡ false → Carries (list == answered) (waiting_at t node) → ⊥
+no_call-unblock t lines node_of thread node kept has list at apart carries = let clash : Message (caller_of (waiting_at t node)) ≡ Unblock thread = sym carries.own ∙ kept.names (Unblock thread) node has in cc
+
+-- whose the call is that waits with a node, and whose the answer that it carries
+waits-caller : (user : ℕ) (load : Load) → HasLoad false load → caller_in user load ≡ caller (record { user = user; call = unwrap_or (carried load) no_call })
+waits-caller user Nothing has = absurd has
+waits-caller user (Waits call) has = refl
+waits-caller user (Answered given) has = absurd has
+
+answered-caller : (user : ℕ) (load : Load) → HasLoad true load → caller_in user load ≡ (given_in load).thread
+answered-caller user Nothing has = absurd has
+answered-caller user (Waits call) has = absurd has
+answered-caller user (Answered given) has = refl
+
+pub waits-owner : (waiting : Waiting) → Carries false waiting → owner_of waiting.queued ≡ Message (caller (users_call waiting))
+waits-owner waiting carries = carries.own ∙ ap Message (waits-caller waiting.queued.user.0 waiting.load carries.load)
+
+pub answered-owner : (waiting : Waiting) → Carries true waiting → owner_of waiting.queued ≡ Message (given_of waiting).thread
+answered-owner waiting carries = carries.own ∙ ap Message (answered-caller waiting.queued.user.0 waiting.load carries.load)
+
+-- nor does the node of a thread's messages, where none of the thread waits or was answered
+module _ {answered : ℕ} (t : Table Waiting) (lines : List Line) (node_of : Owner → Option ℕ) (thread : Thread) (node : ℕ) (kept : Kept t lines answered node_of) (has : node_of (Message thread) ≡ Some node) where
+  of_thread : (own : Thread) → owner_of (entry_at t node) ≡ Message own → is_same_thread own thread ≡ true
+  of_thread own is = ap (λ other. is_same_thread other thread) (ap (λ owner. owned_thread owner thread) (sym is ∙ kept.names (Message thread) node has)) ∙ is_same_thread-self thread
+
+  pub no_call-message : ((list : ℕ) → has_call (unwrap_or (maps.get (waiting_lists t lines answered) list) []) thread ≡ false) → is_answered (answered_calls t answered) thread ≡ false → (list : ℕ) → IsIn t list node → is_line lines list ≡ false → Carries (list == answered) (waiting_at t node) → ⊥
+  no_call-message waiting unanswered list at apart carries = elim (eqb_tells list answered) [
+    | inl same ↦
+        let here : Contains (nodes_of t answered) node = rw same.1 at at in
+        let now : Carries true (waiting_at t node) = rw same.0 at carries in
+        let stands : is_answered (answered_calls t answered) thread ≡ true = is_answered-given (given_at t) (nodes_of t answered) here (of_thread (given_at t node).thread (answered-owner (waiting_at t node) now)) in
+        let clash : true ≡ false = sym stands ∙ unanswered in
+        cc
+    | inr differs ↦
+        let shown : unwrap_or (maps.get (waiting_lists t lines answered) list) [] ≡ map (call_at t) (nodes_of t list) = nodes_waiting t lines answered list differs.0 apart in
+        let now : Carries false (waiting_at t node) = rw differs.0 at carries in
+        let stands : has_call (unwrap_or (maps.get (waiting_lists t lines answered) list) []) thread ≡ true = rw shown (has_call-waits (call_at t) (nodes_of t list) at (of_thread (caller (call_at t node)) (waits-owner (waiting_at t node) now))) in
+        let clash : true ≡ false = sym stands ∙ waiting list in
+        cc
+  ]
+    where
+      has_call-waits : (f : ℕ → UsersCall) (nodes : List ℕ) → Contains nodes node → is_same_thread (caller (f node)) thread ≡ true → has_call (map f nodes) thread ≡ true
+      has_call-waits f [] at is = absurd (omega (arith, at.1))
+      has_call-waits f (x ∷ xs) at is = elim (contains_cases x node xs at) [
+        | inl first ↦ rw (sym first, is) refl
+        | inr later ↦ rw (has_call-waits f xs later is) (or_true (is_same_thread (caller (f x)) thread))
+      ]
+
+      is_answered-given : (f : ℕ → UsersAnswer) (nodes : List ℕ) → Contains nodes node → is_same_thread (f node).thread thread ≡ true → is_answered (map f nodes) thread ≡ true
+      is_answered-given f [] at is = absurd (omega (arith, at.1))
+      is_answered-given f (x ∷ xs) at is = elim (contains_cases x node xs at) [
+        | inl first ↦ rw (sym first, is) refl
+        | inr later ↦ rw (is_answered-given f xs later is) (or_true (is_same_thread (f x).thread thread))
+      ]
+
 -- a disconnect node stands in no list
-pub IsFree-disconnect : (t : Table Queued) (lines : List Line) (node_of : Owner → Option ℕ) (proc : Proc) (number node : ℕ) → Kept t lines node_of → node_of (Disconnect proc number) ≡ Some node → IsFree t node
+pub IsFree-disconnect : {answered : ℕ} (t : Table Waiting) (lines : List Line) (node_of : Owner → Option ℕ) (proc : Proc) (number node : ℕ) → Kept t lines answered node_of → node_of (Disconnect proc number) ≡ Some node → IsFree t node
 IsFree-disconnect t lines node_of proc number node kept has = record {
   there = kept.there (Disconnect proc number) node has;
   in_no_list = nowhere_from t.lists node (λ list at. not_disconnect _ _ proc number (kept.once (Disconnect proc number) (owner_of (entry_at t node)) node has (kept.listed list node at).1));
 }
 
 -- what a line tells of a thread is told by the node of its messages or of its unblock pulses
-module _ {A : Type 0} (part : OwnItem → Option A) (thread : Thread) (owner : Owner) (reads : Reads part thread owner) (t : Table Queued) (lines : List Line) (node_of : Owner → Option ℕ) (kept : Kept t lines node_of) where
+module _ {A : Type 0} {answered : ℕ} (part : OwnItem → Option A) (thread : Thread) (owner : Owner) (reads : Reads part thread owner) (t : Table Waiting) (lines : List Line) (node_of : Owner → Option ℕ) (kept : Kept t lines answered node_of) where
   found-own : (a : A) (line : Line) (xs : List ℕ) → ((x : ℕ) → Contains xs x → IsInLine t line x) → first_field part thread (map (entry_at t) xs) ≡ Some a → (x : ℕ) × (Contains xs x × ((node_of owner ≡ Some x) × (part (entry_at t x).item ≡ Some a)))
   found-own a line xs members is =
       let found = field-find (entry_at t) part thread a xs is in
@@ -138,21 +193,24 @@ module _ {A : Type 0} (part : OwnItem → Option A) (thread : Thread) (owner : O
       line_there (line ∷ lines) (suc number) some = line_there lines number some
 
 -- what the lines tell of a thread, and the node of its messages or of its unblock pulses
-module _ {A : Type 0} (part : OwnItem → Option A) (thread : Thread) (owner : Owner) (reads : Reads part thread owner) (own_name : named owner ≡ owner) (t : Table Queued) (lines : List Line) (node_of : Owner → Option ℕ) (node : ℕ) (kept : Kept t lines node_of) (has : node_of owner ≡ Some node) where
+module _ {A : Type 0} {answered : ℕ} (part : OwnItem → Option A) (thread : Thread) (owner : Owner) (reads : Reads part thread owner) (own_name : named owner ≡ owner) (t : Table Waiting) (lines : List Line) (node_of : Owner → Option ℕ) (node : ℕ) (kept : Kept t lines answered node_of) (has : node_of owner ≡ Some node) where
   tells : is_some (own_field part thread (entry_at t node)) ≡ true
   tells = reads.from (entry_at t node) (kept.names owner node has ∙ own_name)
 
-  -- where nothing is told of the thread, the node stands in no list
-  pub IsFree-own : ((number : ℕ) → is_some (first_field part thread (line_at (map (entries t) lines) number)) ≡ false) → IsFree t node
-  IsFree-own idle = record {
+  -- where nothing is told of the thread, the node stands in no list, unless it carries a call
+  pub IsFree-own : ((number : ℕ) → is_some (first_field part thread (line_at (map (entries t) lines) number)) ≡ false) → ((list : ℕ) → IsIn t list node → is_line lines list ≡ false → Carries (list == answered) (waiting_at t node) → ⊥) → IsFree t node
+  IsFree-own idle no_call = record {
     there = kept.there owner node has;
-    in_no_list = nowhere_from t.lists node (λ list at.
-        let of = (kept.listed list node at).0 in
-        let line = line_of lines of.0 list of.1 in
-        let here : Contains (nodes_in t line.0) node = rw (← line.1.1) at at in
-        let in_line : is_some (first_field part thread (entries t line.0)) ≡ true = field-entry (entry_at t) part thread (nodes_in t line.0) node here tells in
-        let clash : true ≡ false = sym in_line ∙ ap (λ l. is_some (first_field part thread l)) (sym (line_at-shown t lines of.0 line.0 line.1.0)) ∙ idle of.0 in
-        cc);
+    in_no_list = nowhere_from t.lists node (λ list at. elim (cases_Bool (is_line lines list)) [
+      | inr apart ↦ no_call list at apart ((kept.listed list node at).0 apart)
+      | inl is ↦
+          let of = line_numbered lines list is in
+          let line = line_of lines of.0 list of.1 in
+          let here : Contains (nodes_in t line.0) node = rw (← line.1.1) at at in
+          let in_line : is_some (first_field part thread (entries t line.0)) ≡ true = field-entry (entry_at t) part thread (nodes_in t line.0) node here tells in
+          let clash : true ≡ false = sym in_line ∙ ap (λ l. is_some (first_field part thread l)) (sym (line_at-shown t lines of.0 line.0 line.1.0)) ∙ idle of.0 in
+          absurd (cc)
+    ]);
   }
 
   only : (x : ℕ) → node_of (owner_of (entry_at t x)) ≡ Some x → owner_of (entry_at t x) ≡ owner → x ≡ node
@@ -203,8 +261,12 @@ module _ {A : Type 0} (part : OwnItem → Option A) (thread : Thread) (owner : O
         absurd (cc)
   ])
 
+-- the node of a thread's messages stands in no list, where no message of the thread stands in a line and no call of it is carried
+pub IsFree-message : {answered : ℕ} (t : Table Waiting) (lines : List Line) (node_of : Owner → Option ℕ) (thread : Thread) (node : ℕ) → Kept t lines answered node_of → node_of (Message thread) ≡ Some node → ((number : ℕ) → stands (line_at (map (entries t) lines) number) thread ≡ false) → ((list : ℕ) → has_call (unwrap_or (maps.get (waiting_lists t lines answered) list) []) thread ≡ false) → is_answered (answered_calls t answered) thread ≡ false → IsFree t node
+IsFree-message t lines node_of thread node kept has idle waiting unanswered = IsFree-own as_message thread (Message thread) (reads-message thread) refl t lines node_of node kept has idle (no_call-message t lines node_of thread node kept has waiting unanswered)
+
 -- a thread's message goes out of a line as its node does, and so does the pulse that names a call
-module _ (t : Table Queued) (lines : List Line) (node_of : Owner → Option ℕ) (thread : Thread) (node : ℕ) (kept : Kept t lines node_of) (line : Line) where
+module _ {answered : ℕ} (t : Table Waiting) (lines : List Line) (node_of : Owner → Option ℕ) (thread : Thread) (node : ℕ) (kept : Kept t lines answered node_of) (line : Line) where
   pub message-leaves : node_of (Message thread) ≡ Some node → IsDistinct nat_eq (nodes_in t line) → map (entry_at t) (without node (nodes_in t line)) ≡ line_without thread.proc.user.0 (item.Message thread.proc.num thread.tid) (entries t line)
   message-leaves has distinct = items-without as_message thread (Message thread) (reads-message thread) refl t lines node_of node kept has line thread.proc.user.0 (item.Message thread.proc.num thread.tid) distinct
       (this-message thread (entry_at t node) (kept.names (Message thread) node has)) (λ entry at. owner-this thread.proc.user.0 (item.Message thread.proc.num thread.tid) entry at)
@@ -220,13 +282,13 @@ module _ (t : Table Queued) (lines : List Line) (node_of : Owner → Option ℕ)
         (other-unblock thread call other (entry_at t node) names differs) (λ entry at. owner-this thread.proc.user.0 (item.Unblock thread.proc.num thread.tid call) entry at)
 
 -- what holds of no items and of the items of each line, holds of the line of each number
-at_any : (t : Table Queued) (P : List Queued → Type 0) → P [] → ((line : Line) → P (entries t line)) → (lines : List Line) (number : ℕ) → P (line_at (map (entries t) lines) number)
+at_any : (t : Table Waiting) (P : List Queued → Type 0) → P [] → ((line : Line) → P (entries t line)) → (lines : List Line) (number : ℕ) → P (line_at (map (entries t) lines) number)
 at_any t P none all [] number = none
 at_any t P none all (line ∷ lines) zero = all line
 at_any t P none all (line ∷ lines) (suc number) = at_any t P none all lines number
 
 -- a pulse that names another call
-module _ (t : Table Queued) (lines : List Line) (node_of : Owner → Option ℕ) (thread : Thread) (node : ℕ) (kept : Kept t lines node_of) (has : node_of (Unblock thread) ≡ Some node) (call other number : ℕ) (names : pulse_call (entry_at t node).item ≡ Some other) (differs : other ≢ call) where
+module _ {answered : ℕ} (t : Table Waiting) (lines : List Line) (node_of : Owner → Option ℕ) (thread : Thread) (node : ℕ) (kept : Kept t lines answered node_of) (has : node_of (Unblock thread) ≡ Some node) (call other number : ℕ) (names : pulse_call (entry_at t node).item ≡ Some other) (differs : other ≢ call) where
   pub other-stays : line_without thread.proc.user.0 (item.Unblock thread.proc.num thread.tid call) (line_at (map (entries t) lines) number) ≡ line_at (map (entries t) lines) number
   other-stays = at_any t (λ l. line_without thread.proc.user.0 (item.Unblock thread.proc.num thread.tid call) l ≡ l) refl (λ line. pulse-stays t lines node_of thread node kept line has call other names differs) lines number
 
@@ -236,17 +298,31 @@ module _ (t : Table Queued) (lines : List Line) (node_of : Owner → Option ℕ)
       differs (some_same other call (pulse_call (entry_at t node).item) names part)
 
 -- one line changes
-module _ (old new : Table Queued) (lines : List Line) (number : ℕ) (before after : Line) (node_of : Owner → Option ℕ) (kept : Kept old lines node_of) (is : slice_get lines number ≡ Some before) (own : after.list ≡ before.list) (elsewhere : (list : ℕ) → (IsOwn before list → ⊥) → maps.get new.lists list ≡ maps.get old.lists list) where
+module _ {answered : ℕ} (old new : Table Waiting) (lines : List Line) (number : ℕ) (before after : Line) (node_of : Owner → Option ℕ) (kept : Kept old lines answered node_of) (is : slice_get lines number ≡ Some before) (own : after.list ≡ before.list) (elsewhere : (list : ℕ) → (IsOwn before list → ⊥) → maps.get new.lists list ≡ maps.get old.lists list) where
   not_own : (other : ℕ) (line : Line) → other ≢ number → slice_get lines other ≡ Some line → line.list ≢ before.list
   not_own other line differs at same = differs (kept.apart other number line.list (list_of lines other line at) (list_of lines number before is ∙ ap Some (sym same)))
 
-  changed : IsLineOf rank new after → ((line : Line) → IsLineOf rank old line → maps.get new.lists line.list ≡ maps.get old.lists line.list → IsLineOf rank new line) → ((node : ℕ) → is_some (maps.get new.values node) ≡ is_some (maps.get old.values node)) → ((node : ℕ) → owner_of (entry_at new node) ≡ owner_of (entry_at old node)) → ((node : ℕ) → Contains (nodes_in new after) node → Contains (nodes_in old before) node ⊎ (node_of (owner_of (entry_at old node)) ≡ Some node)) → Kept new (slice_set lines number after) node_of
-  changed line others same same_owner among = record {
+  same_lines : (list : ℕ) → is_line (slice_set lines number after) list ≡ is_line lines list
+  same_lines list = is_line-set before after own lines number list is
+
+  off_line : (list : ℕ) → is_line lines list ≡ false → IsOwn before list → ⊥
+  off_line list apart here = let clash : true ≡ false = sym (is_line-numbered lines number list (list_of lines number before is ∙ ap Some (sym here))) ∙ apart in cc
+
+  calls-changed : ((list node : ℕ) → IsIn old list node → waiting_at new node ≡ waiting_at old node) → SameCalls old new lines (slice_set lines number after) answered
+  calls-changed same_waiting = same_calls old new lines (slice_set lines number after) answered same_lines kept.off_lines (record {
+    lists = λ list apart. elsewhere list (off_line list apart);
+    nodes = same_waiting;
+  })
+
+  changed : IsLineOf rank_of new after → ((line : Line) → IsLineOf rank_of old line → maps.get new.lists line.list ≡ maps.get old.lists line.list → IsLineOf rank_of new line) → ((node : ℕ) → is_some (maps.get new.values node) ≡ is_some (maps.get old.values node)) → ((node : ℕ) → owner_of (entry_at new node) ≡ owner_of (entry_at old node)) → ((list node : ℕ) → IsIn old list node → waiting_at new node ≡ waiting_at old node) → ((node : ℕ) → Contains (nodes_in new after) node → Contains (nodes_in old before) node ⊎ (node_of (owner_of (entry_at old node)) ≡ Some node)) → Kept new (slice_set lines number after) answered node_of
+  changed line others same same_owner same_waiting among = record {
     line = λ other found at. elim (slice_get-set lines number other after found at) [
       | inl here ↦ rw here.1 line
       | inr there ↦ others found (kept.line other found there.1) (elsewhere found.list (not_own other found there.0 there.1))
     ];
     apart = λ one other list a b. kept.apart one other list (sym (stays one) ∙ a) (sym (stays other) ∙ b);
+    answers = ap is_some (elsewhere answered (off_line answered kept.off_lines)) ∙ kept.answers;
+    off_lines = same_lines answered ∙ kept.off_lines;
     there = λ owner node has. same node ∙ kept.there owner node has;
     names = λ owner node has. same_owner node ∙ kept.names owner node has;
     owned = λ node there. kept.owned node (sym (same node) ∙ there);
@@ -254,7 +330,7 @@ module _ (old new : Table Queued) (lines : List Line) (number : ℕ) (before aft
     listed = λ list node at. elim (eqb_tells list before.list) [
       | inl here ↦
           let in_after : Contains (nodes_in new after) node = rw (own ∙ sym here.1) at in (
-            (number, here_now list here.1),
+            λ apart. absurd (off_line list (sym (same_lines list) ∙ apart) here.1),
             ap node_of (same_owner node) ∙ elim (among node in_after) [
               | inl earlier ↦ (kept.listed before.list node earlier).1
               | inr it ↦ it
@@ -263,29 +339,33 @@ module _ (old new : Table Queued) (lines : List Line) (number : ℕ) (before aft
       | inr differs ↦
           let earlier : IsIn old list node = rw (ap (λ o. unwrap_or o []) (elsewhere list differs.1)) at at in
           let was = kept.listed list node earlier in
-          ((was.0.0, stays was.0.0 ∙ was.0.1), ap node_of (same_owner node) ∙ was.1)
+          (λ apart. rw (same_waiting list node earlier) (was.0 (sym (same_lines list) ∙ apart)), ap node_of (same_owner node) ∙ was.1)
     ];
   }
     where
       stays : (other : ℕ) → list_at (slice_set lines number after) other ≡ list_at lines other
       stays other = list_at-set before after own lines number other is
 
-      here_now : (list : ℕ) → list ≡ before.list → list_at (slice_set lines number after) number ≡ Some list
-      here_now list here = stays number ∙ list_of lines number before is ∙ ap Some (sym here)
-
 -- a free node is put into a line, and stands for another item of its owner
-module _ (old new : Table Queued) (lines : List Line) (number : ℕ) (before after : Line) (node_of : Owner → Option ℕ) (owner : Owner) (node : ℕ) (entry : Queued) (kept : Kept old lines node_of) (is : slice_get lines number ≡ Some before) (own : node_of owner ≡ Some node) (free : IsFree old node) (put : PutIn old new before after node entry) where
-  pub Kept-put : owner_of entry ≡ owner → named owner ≡ owner → Kept new (slice_set lines number after) node_of
+module _ {answered : ℕ} (old new : Table Waiting) (lines : List Line) (number : ℕ) (before after : Line) (node_of : Owner → Option ℕ) (owner : Owner) (node : ℕ) (waiting : Waiting) (kept : Kept old lines answered node_of) (is : slice_get lines number ≡ Some before) (own : node_of owner ≡ Some node) (free : IsFree old node) (put : PutIn old new before after node waiting) where
+  others_stay : (list other : ℕ) → IsIn old list other → waiting_at new other ≡ waiting_at old other
+  others_stay list other at = waiting-other old new node (inserted old new _ _ put.values) other (λ same. nowhere old free list (rw same at at))
+
+  pub calls-put : SameCalls old new lines (slice_set lines number after) answered
+  calls-put = calls-changed old new lines number before after node_of kept is put.own put.lists others_stay
+
+  pub Kept-put : owner_of waiting.queued ≡ owner → named owner ≡ owner → Kept new (slice_set lines number after) answered node_of
   Kept-put names own_name = changed old new lines number before after node_of kept is put.own put.lists put.line
       (λ line stands lists. line-kept old new node (inserted old new _ _ put.values) line stands lists (nowhere old free line.list))
       (λ other. elim (eqb_tells other node) [
-        | inl same ↦ rw same.1 (contains-self old new node entry put.values ∙ sym free.there)
-        | inr differs ↦ ap is_some (inserted old new node entry put.values other differs.1)
+        | inl same ↦ rw same.1 (contains-self old new node waiting put.values ∙ sym free.there)
+        | inr differs ↦ ap is_some (inserted old new node waiting put.values other differs.1)
       ])
       (λ other. elim (eqb_tells other node) [
-        | inl same ↦ rw same.1 (ap owner_of (entry-same old new node entry put.values) ∙ names ∙ sym was)
+        | inl same ↦ rw same.1 (ap owner_of (entry-same old new node waiting put.values) ∙ names ∙ sym was)
         | inr differs ↦ ap owner_of (entry-other old new node (inserted old new _ _ put.values) other differs.1)
       ])
+      others_stay
       (λ other at. elim (put.among other at) [
         | inl earlier ↦ inl earlier
         | inr same ↦ inr (rw same (ap node_of was ∙ own))
@@ -294,19 +374,23 @@ module _ (old new : Table Queued) (lines : List Line) (number : ℕ) (before aft
       was : owner_of (entry_at old node) ≡ owner
       was = kept.names owner node own ∙ own_name
 
-  pub shown-put : map (entries new) (slice_set lines number after) ≡ with_line (map (entries old) lines) number (λ line. into rank line entry)
+  pub shown-put : map (entries new) (slice_set lines number after) ≡ with_line (map (entries old) lines) number (λ line. into rank line waiting.queued)
   shown-put =
       shown-set old new lines number after (λ other line differs at. entries-kept old new node (inserted old new _ _ put.values) line (put.lists line.list (not_own old new lines number before after node_of kept is put.own put.lists other line differs at)) (nowhere old free line.list))
-      ∙ ap (slice_set (map (entries old) lines) number) (put.entries ∙ ap (λ line. into rank line entry) (sym (line_at-shown old lines number before is)))
+      ∙ ap (slice_set (map (entries old) lines) number) (put.entries ∙ ap (λ line. into rank line waiting.queued) (sym (line_at-shown old lines number before is)))
 
 -- nodes leave a line
-module _ (old new : Table Queued) (lines : List Line) (number : ℕ) (before after : Line) (change : List ℕ → List ℕ) (node_of : Owner → Option ℕ) (kept : Kept old lines node_of) (is : slice_get lines number ≡ Some before) (taken : TakenOut old new before after change) where
-  pub Kept-taken : ((x : ℕ) → Contains (change (nodes_in old before)) x → Contains (nodes_in old before) x) → Kept new (slice_set lines number after) node_of
+module _ {answered : ℕ} (old new : Table Waiting) (lines : List Line) (number : ℕ) (before after : Line) (change : List ℕ → List ℕ) (node_of : Owner → Option ℕ) (kept : Kept old lines answered node_of) (is : slice_get lines number ≡ Some before) (taken : TakenOut old new before after change) where
+  pub Kept-taken : ((x : ℕ) → Contains (change (nodes_in old before)) x → Contains (nodes_in old before) x) → Kept new (slice_set lines number after) answered node_of
   Kept-taken fewer = changed old new lines number before after node_of kept is taken.own taken.lists taken.line
-      (λ line stands lists. IsLineOf-same rank old new line stands (λ list own. rw own lists) (λ node at. rw taken.values refl))
+      (λ line stands lists. IsLineOf-same rank_of old new line stands (λ list own. rw own lists) (λ node at. rw taken.values refl))
       (λ node. rw taken.values refl)
       (λ node. rw taken.values refl)
+      (λ list node at. rw taken.values refl)
       (λ node at. let rest : Contains (change (nodes_in old before)) node = rw taken.nodes at at in inl (fewer node rest))
+
+  pub calls-taken : SameCalls old new lines (slice_set lines number after) answered
+  calls-taken = calls-changed old new lines number before after node_of kept is taken.own taken.lists (λ list node at. rw taken.values refl)
 
   pub shown-taken : (items : List Queued → List Queued) → map (entry_at old) (change (nodes_in old before)) ≡ items (entries old before) → map (entries new) (slice_set lines number after) ≡ with_line (map (entries old) lines) number items
   shown-taken items same =
@@ -317,8 +401,8 @@ module _ (old new : Table Queued) (lines : List Line) (number : ℕ) (before aft
       ∙ ap (slice_set (map (entries old) lines) number) (rest ∙ ap items (sym (line_at-shown old lines number before is)))
 
 -- an owner that had no node gets a new one
-module _ (old new : Table Queued) (node : ℕ) (entry : Queued) (room : ℕ) (is : new ≡ record old { values = maps.insert old.values node entry; room = room }) (absent : maps.get old.values node ≡ None) (contained : (list other : ℕ) → IsIn old list other → ContainsNode old other) where
-  values_made : new.values ≡ maps.insert old.values node entry
+module _ (old new : Table Waiting) (node : ℕ) (waiting : Waiting) (room : ℕ) (is : new ≡ record old { values = maps.insert old.values node waiting; room = room }) (absent : maps.get old.values node ≡ None) (contained : (list other : ℕ) → IsIn old list other → ContainsNode old other) where
+  values_made : new.values ≡ maps.insert old.values node waiting
   values_made = ap (λ t. t.values) is
 
   lists_made : (list : ℕ) → maps.get new.lists list ≡ maps.get old.lists list
@@ -333,16 +417,24 @@ module _ (old new : Table Queued) (node : ℕ) (entry : Queued) (room : ℕ) (is
   pub entries-made : (line : Line) → entries new line ≡ entries old line
   entries-made line = entries-kept old new node (inserted old new _ _ values_made) line (lists_made line.list) (not_listed line.list)
 
-  pub Kept-made : (lines : List Line) (node_of after : Owner → Option ℕ) (owner : Owner) → node_of owner ≡ None → after owner ≡ Some node → ((other : Owner) → (other ≡ owner) ⊎ ((other ≢ owner) × (after other ≡ node_of other))) → owner_of entry ≡ named owner → Kept old lines node_of → Kept new lines after
-  Kept-made lines node_of after owner lacked gets others names kept = record {
+  pub calls-made : (lines : List Line) (answered : ℕ) → is_line lines answered ≡ false → SameCalls old new lines lines answered
+  calls-made lines answered off = same_calls old new lines lines answered (λ list. refl) off (record {
+    lists = λ list apart. lists_made list;
+    nodes = λ list x at. waiting-other old new node (inserted old new _ _ values_made) x (was_there x (contained list x at));
+  })
+
+  pub Kept-made : {answered : ℕ} (lines : List Line) (node_of after : Owner → Option ℕ) (owner : Owner) → node_of owner ≡ None → after owner ≡ Some node → ((other : Owner) → (other ≡ owner) ⊎ ((other ≢ owner) × (after other ≡ node_of other))) → owner_of waiting.queued ≡ named owner → Kept old lines answered node_of → Kept new lines answered after
+  Kept-made {answered} lines node_of after owner lacked gets others names kept = record {
     line = λ number line at. line-kept old new node (inserted old new _ _ values_made) line (kept.line number line at) (lists_made line.list) (not_listed line.list);
     apart = kept.apart;
+    answers = ap is_some (lists_made answered) ∙ kept.answers;
+    off_lines = kept.off_lines;
     there = λ one x has. elim (whose one x has) [
-      | inl made ↦ rw made.1 (contains-self old new node entry values_made)
-      | inr was ↦ contains-insert old new node entry values_made x (kept.there one x was)
+      | inl made ↦ rw made.1 (contains-self old new node waiting values_made)
+      | inr was ↦ contains-insert old new node waiting values_made x (kept.there one x was)
     ];
     names = λ one x has. elim (whose one x has) [
-      | inl made ↦ rw (made.0, made.1) (ap owner_of (entry-same old new node entry values_made) ∙ names)
+      | inl made ↦ rw (made.0, made.1) (ap owner_of (entry-same old new node waiting values_made) ∙ names)
       | inr was ↦ ap owner_of (entry-other old new node (inserted old new _ _ values_made) x (was_there x (kept.there one x was))) ∙ kept.names one x was
     ];
     owned = λ x there. elim (eqb_tells x node) [
@@ -362,8 +454,8 @@ module _ (old new : Table Queued) (node : ℕ) (entry : Queued) (room : ℕ) (is
     listed = λ list x at.
         let earlier : IsIn old list x = rw (ap (λ o. unwrap_or o []) (lists_made list)) at at in
         let was = kept.listed list x earlier in
-        let same = entry-other old new node (inserted old new _ _ values_made) x (was_there x (contained list x earlier)) in
-        (was.0, still (owner_of (entry_at new x)) x (ap (λ entry. node_of (owner_of entry)) same ∙ was.1));
+        let same = waiting-other old new node (inserted old new _ _ values_made) x (was_there x (contained list x earlier)) in
+        (rw same was.0, still (owner_of (entry_at new x)) x (ap (λ waiting. node_of (owner_of waiting.queued)) same ∙ was.1));
   }
     where
       whose : (one : Owner) (x : ℕ) → after one ≡ Some x → ((one ≡ owner) × (x ≡ node)) ⊎ (node_of one ≡ Some x)
@@ -379,7 +471,7 @@ module _ (old new : Table Queued) (node : ℕ) (entry : Queued) (room : ℕ) (is
       ]
 
 -- an owner gives its node back, which stands in no list
-module _ (old new : Table Queued) (node room : ℕ) (is : new ≡ record old { values = maps.remove old.values node; room = room }) (free : IsFree old node) where
+module _ (old new : Table Waiting) (node room : ℕ) (is : new ≡ record old { values = maps.remove old.values node; room = room }) (free : IsFree old node) where
   values_freed : new.values ≡ maps.remove old.values node
   values_freed = ap (λ t. t.values) is
 
@@ -389,10 +481,18 @@ module _ (old new : Table Queued) (node room : ℕ) (is : new ≡ record old { v
   pub entries-freed : (line : Line) → entries new line ≡ entries old line
   entries-freed line = entries-kept old new node (removed old new node values_freed) line (lists_freed line.list) (nowhere old free line.list)
 
-  pub Kept-freed : (lines : List Line) (node_of after : Owner → Option ℕ) (owner : Owner) → node_of owner ≡ Some node → after owner ≡ None → ((other : Owner) → (other ≡ owner) ⊎ ((other ≢ owner) × (after other ≡ node_of other))) → Kept old lines node_of → Kept new lines after
-  Kept-freed lines node_of after owner had gone others kept = record {
+  pub calls-freed : (lines : List Line) (answered : ℕ) → is_line lines answered ≡ false → SameCalls old new lines lines answered
+  calls-freed lines answered off = same_calls old new lines lines answered (λ list. refl) off (record {
+    lists = λ list apart. lists_freed list;
+    nodes = λ list x at. waiting-other old new node (removed old new node values_freed) x (λ same. nowhere old free list (rw same at at));
+  })
+
+  pub Kept-freed : {answered : ℕ} (lines : List Line) (node_of after : Owner → Option ℕ) (owner : Owner) → node_of owner ≡ Some node → after owner ≡ None → ((other : Owner) → (other ≡ owner) ⊎ ((other ≢ owner) × (after other ≡ node_of other))) → Kept old lines answered node_of → Kept new lines answered after
+  Kept-freed {answered} lines node_of after owner had gone others kept = record {
     line = λ number line at. line-kept old new node (removed old new node values_freed) line (kept.line number line at) (lists_freed line.list) (nowhere old free line.list);
     apart = kept.apart;
+    answers = ap is_some (lists_freed answered) ∙ kept.answers;
+    off_lines = kept.off_lines;
     there = λ one x has. let was = before one x has in contains-other old new node (removed old new node values_freed) x was.0 (kept.there one x was.1);
     names = λ one x has. let was = before one x has in ap owner_of (entry-other old new node (removed old new node values_freed) x was.0) ∙ kept.names one x was.1;
     owned = λ x there.
@@ -404,7 +504,8 @@ module _ (old new : Table Queued) (node room : ℕ) (is : new ≡ record old { v
         let earlier : IsIn old list x = rw (ap (λ o. unwrap_or o []) (lists_freed list)) at at in
         let was = kept.listed list x earlier in
         let differs : x ≢ node = λ same. nowhere old free list (rw same at earlier) in
-        (was.0, still (owner_of (entry_at new x)) x differs (ap (λ entry. node_of (owner_of entry)) (entry-other old new node (removed old new node values_freed) x differs) ∙ was.1));
+        let same = waiting-other old new node (removed old new node values_freed) x differs in
+        (rw same was.0, still (owner_of (entry_at new x)) x differs (ap (λ waiting. node_of (owner_of waiting.queued)) same ∙ was.1));
   }
     where
       before : (one : Owner) (x : ℕ) → after one ≡ Some x → (x ≢ node) × (node_of one ≡ Some x)
@@ -420,10 +521,12 @@ module _ (old new : Table Queued) (node room : ℕ) (is : new ≡ record old { v
       ]
 
 -- nobody has a node at first, and there are no lines
-pub Kept-none : (t : Table Queued) (node_of : Owner → Option ℕ) → t.values ≡ maps.empty → ((list : ℕ) → nodes_of t list ≡ []) → ((owner : Owner) → node_of owner ≡ None) → Kept t [] node_of
-Kept-none t node_of values no_list none = record {
+pub Kept-none : (t : Table Waiting) (answered : ℕ) (node_of : Owner → Option ℕ) → t.values ≡ maps.empty → ((list : ℕ) → nodes_of t list ≡ []) → ContainsList t answered → ((owner : Owner) → node_of owner ≡ None) → Kept t [] answered node_of
+Kept-none t answered node_of values no_list answers none = record {
   line = λ number line at. absurd (none_some line None refl at);
   apart = λ one other list at also. absurd (none_some list None refl at);
+  answers = answers;
+  off_lines = refl;
   there = λ owner node has. absurd (none_some node _ (none owner) has);
   names = λ owner node has. absurd (none_some node _ (none owner) has);
   owned = λ node there. absurd (absent_is (maps.get t.values node) there (rw values (maps.get-empty nat_cmp node)));
@@ -435,11 +538,11 @@ Kept-none t node_of values no_list none = record {
     nothing_in node at = omega (arith, at.1)
 
 -- one more line
-pub Kept-line : (old new : Table Queued) (lines : List Line) (line : Line) (node_of : Owner → Option ℕ) → nodes_in new line ≡ [] → IsLineOf rank new line → ((list : ℕ) → IsOwn line list → maps.get old.lists list ≡ None) → SameElsewhere old new line → Kept old lines node_of → Kept new (lines ++ line ∷ []) node_of
-Kept-line old new lines line node_of none stands was_new elsewhere kept = record {
+pub Kept-line : {answered : ℕ} (old new : Table Waiting) (lines : List Line) (line : Line) (node_of : Owner → Option ℕ) → nodes_in new line ≡ [] → IsLineOf rank_of new line → ((list : ℕ) → IsOwn line list → maps.get old.lists list ≡ None) → SameElsewhere old new line → Kept old lines answered node_of → Kept new (lines ++ line ∷ []) answered node_of
+Kept-line {answered} old new lines line node_of none stands was_new elsewhere kept = record {
   line = λ number found at. elim (slice_get-more lines line found number at) [
     | inl last ↦ rw last.1 stands
-    | inr earlier ↦ IsLineOf-elsewhere rank old new found line (kept.line number found earlier) elsewhere (unlike number found earlier)
+    | inr earlier ↦ IsLineOf-elsewhere rank_of old new found line (kept.line number found earlier) elsewhere (unlike number found earlier)
   ];
   apart = λ one other list at also.
       let first = line_of (lines ++ line ∷ []) one list at in
@@ -454,6 +557,8 @@ Kept-line old new lines line node_of none stands was_new elsewhere kept = record
           | inr too ↦ kept.apart one other list (list_of lines one first.0 earlier ∙ ap Some first.1.1) (list_of lines other second.0 too ∙ ap Some second.1.1)
         ]
       ];
+  answers = ap is_some (elsewhere.lists answered not_new) ∙ kept.answers;
+  off_lines = is_line-more lines line answered ∙ rw (kept.off_lines, differs_new) refl;
   there = rw elsewhere.values kept.there;
   names = rw elsewhere.values kept.names;
   owned = rw elsewhere.values kept.owned;
@@ -463,36 +568,48 @@ Kept-line old new lines line node_of none stands was_new elsewhere kept = record
     | inr differs ↦
         let earlier : IsIn old list node = rw (ap (λ o. unwrap_or o []) (elsewhere.lists list differs.1)) at at in
         let was = kept.listed list node earlier in
-        ((was.0.0, list_at-more lines line was.0.0 list was.0.1), rw elsewhere.values was.1)
+        (λ apart. rw elsewhere.values (was.0 (fewer (is_line lines list) (line.list == list) (sym (is_line-more lines line list) ∙ apart))), rw elsewhere.values was.1)
   ];
 }
   where
+    not_new : IsOwn line answered → ⊥
+    not_new here = absent_is (maps.get old.lists answered) kept.answers (was_new answered here)
+
+    differs_new : (line.list == answered) ≡ false
+    differs_new = elim (eqb_tells line.list answered) [ inl same ↦ absurd (not_new (sym same.1)) | inr differs ↦ differs.0 ]
+
+    fewer : (a b : Bool) → (a || b) ≡ false → a ≡ false
+    fewer false b is = refl
+    fewer true b is = cc
+
     unlike : (number : ℕ) (found : Line) → slice_get lines number ≡ Some found → (list : ℕ) → IsOwn found list → IsOwn line list → ⊥
-    unlike number found at = apart_from_new rank old found line (kept.line number found at) was_new
+    unlike number found at = apart_from_new rank_of old found line (kept.line number found at) was_new
 
--- where nobody has a node, no line has an item
-pub shown-none : (t : Table Queued) (lines : List Line) (node_of : Owner → Option ℕ) → Kept t lines node_of → ((owner : Owner) → node_of owner ≡ None) → map (entries t) lines ≡ replicate (length lines) []
-shown-none t lines node_of kept none = all lines
-  where
-    no_nodes : (xs : List ℕ) → ((x : ℕ) → Contains xs x → ⊥) → xs ≡ []
-    no_nodes [] empty = refl
-    no_nodes (x ∷ xs) empty = absurd (empty x (contains_first x xs))
+no_nodes : (xs : List ℕ) → ((x : ℕ) → Contains xs x → ⊥) → xs ≡ []
+no_nodes [] empty = refl
+no_nodes (x ∷ xs) empty = absurd (empty x (contains_first x xs))
 
-    empty_line : (line : Line) → entries t line ≡ []
-    empty_line line =
-        let nodes : nodes_in t line ≡ [] = no_nodes (nodes_in t line) (λ node at. none_some node _ (none (owner_of (entry_at t node))) (kept.listed line.list node at).1) in
-        rw nodes refl
+-- where nobody has a node, no list has one
+module _ {answered : ℕ} (t : Table Waiting) (lines : List Line) (node_of : Owner → Option ℕ) (kept : Kept t lines answered node_of) (none : (owner : Owner) → node_of owner ≡ None) where
+  list-none : (list : ℕ) → nodes_of t list ≡ []
+  list-none list = no_nodes (nodes_of t list) (λ node at. none_some node _ (none (owner_of (entry_at t node))) (kept.listed list node at).1)
 
-    all : (lines : List Line) → map (entries t) lines ≡ replicate (length lines) []
-    all [] = refl
-    all (line ∷ lines) = rw (empty_line line, all lines) refl
+  pub shown-none : map (entries t) lines ≡ replicate (length lines) []
+  shown-none = all lines
+    where
+      all : (lines : List Line) → map (entries t) lines ≡ replicate (length lines) []
+      all [] = refl
+      all (line ∷ lines) = rw (list-none line.list, all lines) refl
+
+  pub answered-none : answered_calls t answered ≡ []
+  answered-none = rw (list-none answered) refl
 
 gone_by : (it : OwnItem) (thread : Thread) (line : List Queued) → (owner_in thread it ≡ Message thread → stands line thread ≡ false) → (owner_in thread it ≡ Unblock thread → unblock_call line thread ≡ None) → no_other it thread line
 gone_by (item.Message process number) thread line message pulse = message refl
 gone_by (item.Unblock process number call) thread line message pulse = pulse refl
 
 -- the first item of a line stands there once
-module _ (t : Table Queued) (lines : List Line) (node_of : Owner → Option ℕ) (line : Line) (kept : Kept t lines node_of) where
+module _ {answered : ℕ} (t : Table Waiting) (lines : List Line) (node_of : Owner → Option ℕ) (line : Line) (kept : Kept t lines answered node_of) where
   gone_from : (x : ℕ) (xs : List ℕ) (first : Queued) → x ∷ xs ≡ nodes_in t line → AllByRecursion (λ y. nat_eq x y ≡ false) xs → entry_at t x ≡ first → IsGone first (map (entry_at t) xs)
   gone_from x xs first nodes apart is =
       let inside : (y : ℕ) → Contains (x ∷ xs) y → IsInLine t line y = λ y at. rw (← nodes) at in

@@ -1,8 +1,9 @@
 -- Which threads and server connections have nodes, as sets.
 use Rattle.std.proofs.Common.{◌≡◌, ◌≢◌, inl, inr, ℕ, zero, suc, ◌+◌, ◌-◌, ◌*◌, ◌<◌, ◌≤◌, ◌&&◌, ◌||◌, ◌==◌, nat_le, Bool, true, false, List, [], ◌∷◌, Option, Some, None, get_or, length, is_some, option_map, refl, sym, ◌∙◌, ap, arith}
+use Rattle.std.specs.FinMap as maps
 use Rattle.std.specs.FinSet as set
 use Rattle.std.specs.List.{list_any}
-use Rattle.std.specs.Ordering.{eq_by_cmp}
+use Rattle.std.specs.Ordering.{eq_by_cmp, nat_cmp}
 use Rattle.std.specs.Cmp.{eq_by_cmp_equiv}
 use Rattle.std.proofs.lemmas.Bool.Decides.{eqb_tells, nat_tests}
 use Rattle.std.proofs.lemmas.List.Folds.{list_any-append}
@@ -16,7 +17,7 @@ use Rattle.qx_machine.specs.declared.rows.Queued.{Queued}
 use Rattle.qx_queues.specs.declared.nodes.ProcessNodes.{ProcessNodes}
 use Rattle.qx_queues.specs.declared.nodes.ThreadNodes.{ThreadNodes}
 use Rattle.qx_queues.specs.declared.nodes.UserNodes.{UserNodes}
-use Rattle.qx_queues.specs.Queues.{Queues, has_thread, is_same_thread, is_thread_of, server_cmp, thread_cmp, with_process, with_server, with_thread, without_server}
+use Rattle.qx_queues.specs.Queues.{Queues, UsersAnswer, UsersCall, has_thread, is_same_thread, is_thread_of, server_cmp, thread_cmp, with_process, with_server, with_thread, without_server}
 use Rattle.qx_queues.specs.Nodes.{Asked, Disconnect, Message, Owner, Unblock, asked_in, disconnect_at, if_there, keys_in, no_nodes, no_process, no_processes, node_of, nodes_at, numbered, process_at, process_in, servers_of, threads_of, with_disconnect_at, with_nodes_at}
 use Rattle.qx_queues.proofs.EntryLemmas.{or_false}
 use Rattle.qx_queues.proofs.NodesLemmas.{default_of, disconnect_at-none, disconnect_at-other, disconnect_at-with_nodes, length-with_nodes, none_of, nodes_at-none, nodes_at-other, nodes_at-with_disconnect, same_or_not, started-thread}
@@ -188,23 +189,23 @@ pub started : (nodes : List UserNodes) (proc : Proc) → (tid : ℕ) × (set.con
 started nodes proc there = started-thread nodes (record { proc = proc; tid = there.0 }) (sym (threads-nodes nodes (record { proc = proc; tid = there.0 })) ∙ there.1)
 
 -- two channels of the same parts
-pub same_queues : {lines lines2 : List (List Queued)} {threads threads2 : set.FinSet thread_cmp} {servers servers2 : set.FinSet server_cmp} {users users2 room room2 : ℕ} → lines ≡ lines2 → threads ≡ threads2 → servers ≡ servers2 → users ≡ users2 → room ≡ room2 → ◌≡◌ {A = Queues} (record { lines = lines; threads = threads; servers = servers; users = users; room = room }) (record { lines = lines2; threads = threads2; servers = servers2; users = users2; room = room2 })
-same_queues a b c d e = λ i. record { lines = a i; threads = b i; servers = c i; users = d i; room = e i }
+pub same_queues : {lines lines2 : List (List Queued)} {threads threads2 : set.FinSet thread_cmp} {servers servers2 : set.FinSet server_cmp} {users users2 room room2 : ℕ} {pipes pipes2 : maps.FinMap nat_cmp (List UsersCall)} {answered answered2 : List UsersAnswer} → lines ≡ lines2 → threads ≡ threads2 → servers ≡ servers2 → users ≡ users2 → room ≡ room2 → pipes ≡ pipes2 → answered ≡ answered2 → ◌≡◌ {A = Queues} (record { lines = lines; threads = threads; servers = servers; users = users; room = room; pipes = pipes; answered = answered }) (record { lines = lines2; threads = threads2; servers = servers2; users = users2; room = room2; pipes = pipes2; answered = answered2 })
+same_queues a b c d e f g = λ i. record { lines = a i; threads = b i; servers = c i; users = d i; room = e i; pipes = f i; answered = g i }
 
-module _ (lines : List (List Queued)) (nodes : List UserNodes) (room : ℕ) (proc : Proc) (number : ℕ) where
+module _ (lines : List (List Queued)) (nodes : List UserNodes) (room : ℕ) (pipes : maps.FinMap nat_cmp (List UsersCall)) (answered : List UsersAnswer) (proc : Proc) (number : ℕ) where
   abbrev shown : Queues
-  shown = record { lines = lines; threads = threads_of nodes; servers = servers_of nodes; users = length nodes; room = room }
+  shown = record { lines = lines; threads = threads_of nodes; servers = servers_of nodes; users = length nodes; room = room; pipes = pipes; answered = answered }
 
   -- a server connection that has its disconnect node gets none, and one that has none gives none back
   pub server-had : is_some (disconnect_at nodes proc number) ≡ true → shown ≡ with_server shown proc number
   server-had had =
       let there : set.contains (servers_of nodes) (proc, number) ≡ true = servers-nodes nodes proc number ∙ had in
-      same_queues refl refl (insert-there server_total server_exact (servers_of nodes) (proc, number) there) refl (sym (rw there refl))
+      same_queues refl refl (insert-there server_total server_exact (servers_of nodes) (proc, number) there) refl (sym (rw there refl)) refl refl
 
   pub server-lacked : is_some (disconnect_at nodes proc number) ≡ false → shown ≡ without_server shown proc number
   server-lacked lacked =
       let absent : set.contains (servers_of nodes) (proc, number) ≡ false = servers-nodes nodes proc number ∙ lacked in
-      same_queues refl refl (remove-absent server_total server_exact (servers_of nodes) (proc, number) absent) refl (sym (rw absent refl))
+      same_queues refl refl (remove-absent server_total server_exact (servers_of nodes) (proc, number) absent) refl (sym (rw absent refl)) refl refl
 
 -- the first threads of a process were added
 pub with_process-more : (c : Queues) (proc : Proc) (threads : ℕ) → (threads ≡ 0 → ⊥) → with_thread (with_process c proc (threads - 1)) (record { proc = proc; tid = threads }) ≡ with_process c proc threads

@@ -8,14 +8,14 @@ use Rattle.qx_lists.proofs.MapLemmas.{get-insert_same, get-insert_other, get-rem
 use Rattle.qx_lines.specs.declared.Line.{Line}
 use Rattle.qx_lines.specs.Line.{IsLineOf, SameElsewhere, nodes_in, rank_at}
 use Rattle.qx_lines.proofs.LineFacts.{IsLineOf-same}
-use Rattle.qx_machine.specs.declared.rows.Queued.{Queued}
 use Rattle.qx_machine.specs.Machine.{rank}
 use Rattle.qx_machine.specs.Lines.{into}
-use Rattle.qx_queues.specs.Kept.{PutIn, entries, entry_at, nobodys}
-use Rattle.qx_queues.proofs.EntryLemmas.{contains_into, entry-insert_same, into-map, map-agree}
+use Rattle.qx_queues.specs.Kept.{PutIn, entries, entry_at, nobodys, waiting_at}
+use Rattle.qx_queues.specs.Waiting.{Waiting, rank_of}
+use Rattle.qx_queues.proofs.EntryLemmas.{contains_into, waiting-insert_same, into-map, map-agree}
 
 -- a free node stands in no list
-pub nowhere : {node : ℕ} (t : Table Queued) → IsFree t node → (list : ℕ) → IsIn t list node → ⊥
+pub nowhere : {node : ℕ} (t : Table Waiting) → IsFree t node → (list : ℕ) → IsIn t list node → ⊥
 nowhere {node = node} t free = stands_nowhere t.lists node free.in_no_list
 
 pub absent_is : {A : Type 0} (o : Option A) → is_some o ≡ true → o ≡ None → ⊥
@@ -27,27 +27,30 @@ none_some x o none some = let clash : None ≡ Some x = sym none ∙ some in cc
 pub some_same : {A : Type 0} (x y : A) (o : Option A) → o ≡ Some x → o ≡ Some y → x ≡ y
 some_same x y o one other = let same : Some x ≡ Some y = sym one ∙ other in cc
 
-rank_at-entry : (t : Table Queued) (node : ℕ) → rank_at rank t node ≡ rank (entry_at t node)
+pub rank_at-entry : (t : Table Waiting) (node : ℕ) → rank_at rank_of t node ≡ rank (entry_at t node)
 rank_at-entry t node = by_value (maps.get t.values node)
   where
-    by_value : (o : Option Queued) → unwrap_or (option_map rank o) 0 ≡ rank (unwrap_or o nobodys)
+    by_value : (o : Option Waiting) → unwrap_or (option_map rank_of o) 0 ≡ rank (unwrap_or o nobodys).queued
     by_value None = refl
-    by_value (Some entry) = refl
+    by_value (Some waiting) = refl
 
 -- the values of all other nodes stay
-abbrev pub SameBut : Table Queued → Table Queued → ℕ → Type 0
+abbrev pub SameBut : Table Waiting → Table Waiting → ℕ → Type 0
 SameBut old new node = (other : ℕ) → other ≢ node → maps.get new.values other ≡ maps.get old.values other
 
-pub inserted : (old new : Table Queued) (node : ℕ) (entry : Queued) → new.values ≡ maps.insert old.values node entry → SameBut old new node
-inserted old new node entry values other differs = rw values (get-insert_other old.values node entry other differs)
+pub inserted : (old new : Table Waiting) (node : ℕ) (waiting : Waiting) → new.values ≡ maps.insert old.values node waiting → SameBut old new node
+inserted old new node waiting values other differs = rw values (get-insert_other old.values node waiting other differs)
 
-pub removed : (old new : Table Queued) (node : ℕ) → new.values ≡ maps.remove old.values node → SameBut old new node
+pub removed : (old new : Table Waiting) (node : ℕ) → new.values ≡ maps.remove old.values node → SameBut old new node
 removed old new node values other differs = rw values (get-remove_other old.values node other differs)
 
-module _ (old new : Table Queued) (node : ℕ) (same : SameBut old new node) where
-  -- what another node stands for stays
+module _ (old new : Table Waiting) (node : ℕ) (same : SameBut old new node) where
+  -- what another node stands for and carries stays
+  pub waiting-other : (other : ℕ) → other ≢ node → waiting_at new other ≡ waiting_at old other
+  waiting-other other differs = ap (λ o. unwrap_or o nobodys) (same other differs)
+
   pub entry-other : (other : ℕ) → other ≢ node → entry_at new other ≡ entry_at old other
-  entry-other other differs = ap (λ o. unwrap_or o nobodys) (same other differs)
+  entry-other other differs = ap (λ w. w.queued) (waiting-other other differs)
 
   pub contains-other : (other : ℕ) → other ≢ node → ContainsNode old other → ContainsNode new other
   contains-other other differs there = ap is_some (same other differs) ∙ there
@@ -61,16 +64,19 @@ module _ (old new : Table Queued) (node : ℕ) (same : SameBut old new node) whe
       let nodes : nodes_in new line ≡ nodes_in old line = ap (λ o. unwrap_or o []) lists in
       rw nodes (map-agree (entry_at new) (entry_at old) (nodes_in old line) (λ other at. entry-other other (λ same. absent (rw same at at))))
 
-  pub line-kept : (line : Line) → IsLineOf rank old line → maps.get new.lists line.list ≡ maps.get old.lists line.list → (Contains (nodes_in old line) node → ⊥) → IsLineOf rank new line
+  pub line-kept : (line : Line) → IsLineOf rank_of old line → maps.get new.lists line.list ≡ maps.get old.lists line.list → (Contains (nodes_in old line) node → ⊥) → IsLineOf rank_of new line
   line-kept line stands lists absent =
-      IsLineOf-same rank old new line stands (λ list own. rw own lists) (λ other at. rank_at-entry new other ∙ ap rank (entry-other other (λ same. absent (rw same at at))) ∙ sym (rank_at-entry old other))
+      IsLineOf-same rank_of old new line stands (λ list own. rw own lists) (λ other at. rank_at-entry new other ∙ ap rank (entry-other other (λ same. absent (rw same at at))) ∙ sym (rank_at-entry old other))
 
-module _ (old new : Table Queued) (node : ℕ) (entry : Queued) (values : new.values ≡ maps.insert old.values node entry) where
-  pub entry-same : entry_at new node ≡ entry
-  entry-same = rw values (entry-insert_same old.values node entry)
+module _ (old new : Table Waiting) (node : ℕ) (waiting : Waiting) (values : new.values ≡ maps.insert old.values node waiting) where
+  pub waiting-same : waiting_at new node ≡ waiting
+  waiting-same = rw values (waiting-insert_same old.values node waiting)
+
+  pub entry-same : entry_at new node ≡ waiting.queued
+  entry-same = ap (λ w. w.queued) waiting-same
 
   pub contains-self : ContainsNode new node
-  contains-self = rw values (ap is_some (get-insert_same old.values node entry))
+  contains-self = rw values (ap is_some (get-insert_same old.values node waiting))
 
   pub contains-insert : (other : ℕ) → ContainsNode old other → ContainsNode new other
   contains-insert other there = elim (eqb_tells other node) [
@@ -79,33 +85,33 @@ module _ (old new : Table Queued) (node : ℕ) (entry : Queued) (values : new.va
   ]
 
 -- a node that got a value and was then put into a line
-pub PutIn-of : (old mid new : Table Queued) (before after : Line) (node : ℕ) (entry : Queued) → mid ≡ with_value old node entry → IsFree old node → IsLineOf rank new after → nodes_in new after ≡ into (rank_at rank mid) (nodes_in mid before) node → SameElsewhere mid new before → after.list ≡ before.list → PutIn old new before after node entry
-PutIn-of old mid new before after node entry is free line nodes elsewhere own =
-    let mid_values : mid.values ≡ maps.insert old.values node entry = ap (λ t. t.values) is in
+pub PutIn-of : (old mid new : Table Waiting) (before after : Line) (node : ℕ) (waiting : Waiting) → mid ≡ with_value old node waiting → IsFree old node → IsLineOf rank_of new after → nodes_in new after ≡ into (rank_at rank_of mid) (nodes_in mid before) node → SameElsewhere mid new before → after.list ≡ before.list → PutIn old new before after node waiting
+PutIn-of old mid new before after node waiting is free line nodes elsewhere own =
+    let mid_values : mid.values ≡ maps.insert old.values node waiting = ap (λ t. t.values) is in
     let mid_lists : (list : ℕ) → maps.get mid.lists list ≡ maps.get old.lists list = λ list. ap (λ t. maps.get t.lists list) is in
     let mid_nodes : nodes_in mid before ≡ nodes_in old before = ap (λ o. unwrap_or o []) (mid_lists before.list) in
     let kept : map (entry_at mid) (nodes_in old before) ≡ entries old before = map-agree (entry_at mid) (entry_at old) (nodes_in old before) (λ other at. entry-other old mid node (inserted old mid _ _ mid_values) other (λ same. nowhere old free before.list (rw same at at))) in
-    let placed : entries new after ≡ map (entry_at mid) (into (rank_at rank mid) (nodes_in old before) node) = rw (nodes, elsewhere.values, mid_nodes) refl in
-    let read : into rank (map (entry_at mid) (nodes_in old before)) (entry_at mid node) ≡ into rank (entries old before) entry = rw (kept, entry-same old mid node entry mid_values) refl in
+    let placed : entries new after ≡ map (entry_at mid) (into (rank_at rank_of mid) (nodes_in old before) node) = rw (nodes, elsewhere.values, mid_nodes) refl in
+    let read : into rank (map (entry_at mid) (nodes_in old before)) (entry_at mid node) ≡ into rank (entries old before) waiting.queued = rw (kept, entry-same old mid node waiting mid_values) refl in
     record {
       line = line;
-      entries = placed ∙ into-map (rank_at rank mid) rank (entry_at mid) (rank_at-entry mid) (nodes_in old before) node ∙ read;
+      entries = placed ∙ into-map (rank_at rank_of mid) rank (entry_at mid) (rank_at-entry mid) (nodes_in old before) node ∙ read;
       values = elsewhere.values ∙ mid_values;
       room = elsewhere.room ∙ ap (λ t. t.room) is;
       among = λ other at.
-          let here : Contains (into (rank_at rank mid) (nodes_in old before) node) other = rw (nodes, mid_nodes) at at in
-          contains_into (rank_at rank mid) (nodes_in old before) node other here;
+          let here : Contains (into (rank_at rank_of mid) (nodes_in old before) node) other = rw (nodes, mid_nodes) at at in
+          contains_into (rank_at rank_of mid) (nodes_in old before) node other here;
       lists = λ list not_own. elsewhere.lists list not_own ∙ mid_lists list;
       own = own;
     }
 
 -- a free node that got a value
-module _ (old new : Table Queued) (node : ℕ) (entry : Queued) (is : new ≡ with_value old node entry) (free : IsFree old node) where
-  pub IsLineOf-value : (line : Line) → IsLineOf rank old line → IsLineOf rank new line
+module _ (old new : Table Waiting) (node : ℕ) (waiting : Waiting) (is : new ≡ with_value old node waiting) (free : IsFree old node) where
+  pub IsLineOf-value : (line : Line) → IsLineOf rank_of old line → IsLineOf rank_of new line
   IsLineOf-value line stands = line-kept old new node (inserted old new _ _ (ap (λ t. t.values) is)) line stands (ap (λ t. maps.get t.lists line.list) is) (nowhere old free line.list)
 
   pub IsFree-value : IsFree new node
   IsFree-value = record {
-    there = contains-self old new node entry (ap (λ t. t.values) is);
+    there = contains-self old new node waiting (ap (λ t. t.values) is);
     in_no_list = rw is free.in_no_list;
   }

@@ -1,8 +1,10 @@
 -- How the lines and the nodes stand in the table. No public clause cites this module.
-use Rattle.std.specs.Prelude.{◌≡◌, ◌⊎◌, ℕ, ◌==◌, Bool, false, Contains, List, Option, None, Some, is_some, map, option_map, slice_get, unwrap_or}
+use Rattle.std.specs.Prelude.{◌≡◌, ◌≢◌, ◌⊎◌, ℕ, ◌==◌, ◌&&◌, not, Bool, true, false, Contains, List, Option, None, Some, drop, is_some, map, option_map, slice_get, unwrap_or}
 use Rattle.std.specs.FinMap as maps
+use Rattle.std.specs.List.{list_any}
+use Rattle.std.specs.Ordering.{nat_cmp}
 use Rattle.qx_types.specs.declared.names.Thread.{Thread}
-use Rattle.qx_lists.specs.Table.{Table, ContainsNode, IsIn}
+use Rattle.qx_lists.specs.Table.{Table, ContainsList, ContainsNode, IsIn, nodes_of}
 use Rattle.qx_lines.specs.declared.Line.{Line}
 use Rattle.qx_lines.specs.Line.{IsLineOf, IsOwn, nodes_in}
 use Rattle.qx_machine.specs.declared.rows.OwnItem.{OwnItem}
@@ -10,23 +12,55 @@ use Rattle.qx_machine.specs.declared.rows.OwnItem.TheVariants as item
 use Rattle.qx_machine.specs.declared.rows.Queued.{Queued}
 use Rattle.qx_machine.specs.Lines.{into, line_at}
 use Rattle.qx_machine.specs.Machine.{queued_item, rank}
-use Rattle.qx_queues.specs.Queues.{sender, unblock_call}
+use Rattle.qx_queues.specs.Queues.{UsersAnswer, UsersCall, sender, unblock_call}
+use Rattle.qx_queues.specs.Waiting.{Answered, Load, Waiting, Waits, call_of, caller_of, given_of, idle, rank_of}
 use Rattle.qx_queues.specs.Nodes.{Disconnect, Message, Owner, Unblock}
 
-abbrev pub nobodys : Queued
-nobodys = queued_item 0 (item.Message 0 0) 0
+abbrev pub nobodys : Waiting
+nobodys = idle (queued_item 0 (item.Message 0 0) 0)
+
+-- what a node stands for and carries
+abbrev pub waiting_at : Table Waiting → ℕ → Waiting
+waiting_at table node = unwrap_or (maps.get table.values node) nobodys
 
 -- what a node stands for
-abbrev pub entry_at : Table Queued → ℕ → Queued
-entry_at table node = unwrap_or (maps.get table.values node) nobodys
+abbrev pub entry_at : Table Waiting → ℕ → Queued
+entry_at table node = (waiting_at table node).queued
 
 -- the items of a line in their order
-abbrev pub entries : Table Queued → Line → List Queued
+abbrev pub entries : Table Waiting → Line → List Queued
 entries table line = map (entry_at table) (nodes_in table line)
 
 -- the list of the line of a number
 abbrev pub list_at : List Line → ℕ → Option ℕ
 list_at lines number = option_map (λ line. line.list) (slice_get lines number)
+
+-- the list is that of a line
+abbrev pub is_line : List Line → ℕ → Bool
+is_line lines list = list_any (λ line. line.list == list) lines
+
+-- the list is a pipe's
+abbrev pub is_pipes : List Line → ℕ → ℕ → Bool
+is_pipes lines answered list = not (list == answered) && not (is_line lines list)
+
+-- the call that waits with a node, with its user
+abbrev pub users_call : Waiting → UsersCall
+users_call waiting = record { user = waiting.queued.user.0; call = call_of waiting }
+
+abbrev pub call_at : Table Waiting → ℕ → UsersCall
+call_at table node = users_call (waiting_at table node)
+
+-- the answer that a node carries
+abbrev pub given_at : Table Waiting → ℕ → UsersAnswer
+given_at table node = given_of (waiting_at table node)
+
+-- who waits in each list of a pipe
+unfoldable pub waiting_lists : Table Waiting → List Line → ℕ → maps.FinMap nat_cmp (List UsersCall)
+waiting_lists table lines answered = maps.from_entries (map (λ e. (e.0, map (call_at table) e.1)) (maps.entries (maps.retain_keys table.lists (is_pipes lines answered))))
+
+-- who was answered what
+abbrev pub answered_calls : Table Waiting → ℕ → List UsersAnswer
+answered_calls table answered = map (given_at table) (nodes_of table answered)
 
 abbrev pub owner_in : Thread → OwnItem → Owner
 owner_in thread (item.Message process number) = Message thread
@@ -42,16 +76,29 @@ named (Message thread) = Message thread
 named (Unblock thread) = Unblock thread
 named (Disconnect proc number) = Message (record { proc = proc; tid = 0 })
 
--- the lines are lists of the table, each its own; each node of the table is exactly one owner's, and stands for an item of that owner; and
--- nodes of messages and of unblock pulses alone stand in lists, which are the lines'
-pub record Kept (table : Table Queued) (lines : List Line) (node_of : Owner → Option ℕ) : Type 0 where
-  pub line : (number : ℕ) (line : Line) → slice_get lines number ≡ Some line → IsLineOf rank table line
+abbrev pub HasLoad : Bool → Load → Type 0
+HasLoad true (Answered given) = Unit {0}
+HasLoad false (Waits call) = Unit {0}
+HasLoad _ _ = ⊥
+
+-- a node carries a call of the thread whose messages it stands for, which waits, or the answer to one
+pub record Carries (is_answered : Bool) (waiting : Waiting) : Type 0 where
+  pub own : owner_of waiting.queued ≡ Message (caller_of waiting)
+  pub load : HasLoad is_answered waiting.load
+
+-- the lines and the answered nodes are lists of the table, each its own; each node of the table is exactly one owner's, and stands for an
+-- item of that owner; and nodes of messages and of unblock pulses alone stand in lists: in those of the lines, and those of messages that
+-- carry calls or answers in others
+pub record Kept (table : Table Waiting) (lines : List Line) (answered : ℕ) (node_of : Owner → Option ℕ) : Type 0 where
+  pub line : (number : ℕ) (line : Line) → slice_get lines number ≡ Some line → IsLineOf rank_of table line
   pub apart : (one other list : ℕ) → list_at lines one ≡ Some list → list_at lines other ≡ Some list → one ≡ other
+  pub answers : ContainsList table answered
+  pub off_lines : is_line lines answered ≡ false
   pub there : (owner : Owner) (node : ℕ) → node_of owner ≡ Some node → ContainsNode table node
   pub names : (owner : Owner) (node : ℕ) → node_of owner ≡ Some node → owner_of (entry_at table node) ≡ named owner
   pub owned : (node : ℕ) → ContainsNode table node → (owner : Owner) × (node_of owner ≡ Some node)
   pub once : (owner other : Owner) (node : ℕ) → node_of owner ≡ Some node → node_of other ≡ Some node → other ≡ owner
-  pub listed : (list node : ℕ) → IsIn table list node → ((number : ℕ) × (list_at lines number ≡ Some list)) × (node_of (owner_of (entry_at table node)) ≡ Some node)
+  pub listed : (list node : ℕ) → IsIn table list node → (is_line lines list ≡ false → Carries (list == answered) (waiting_at table node)) × (node_of (owner_of (entry_at table node)) ≡ Some node)
 
 -- the line of that number is the one of these
 abbrev pub is_at : ℕ → Option ℕ → Bool
@@ -63,20 +110,30 @@ abbrev pub KnowsPulses : List (List Queued) → (Thread → Option ℕ) → Type
 KnowsPulses lines asked = (thread : Thread) (number : ℕ) → is_some (unblock_call (line_at lines number) thread) ≡ is_at number (asked thread)
 
 -- a free node was put into a line, and stands for an item
-pub record PutIn (old new : Table Queued) (before after : Line) (node : ℕ) (entry : Queued) : Type 0 where
-  pub line : IsLineOf rank new after
-  pub entries : entries new after ≡ into rank (entries old before) entry
-  pub values : new.values ≡ maps.insert old.values node entry
+pub record PutIn (old new : Table Waiting) (before after : Line) (node : ℕ) (waiting : Waiting) : Type 0 where
+  pub line : IsLineOf rank_of new after
+  pub entries : entries new after ≡ into rank (entries old before) waiting.queued
+  pub values : new.values ≡ maps.insert old.values node waiting
   pub room : new.room ≡ old.room
   pub among : (other : ℕ) → Contains (nodes_in new after) other → Contains (nodes_in old before) other ⊎ (other ≡ node)
   pub lists : (list : ℕ) → (IsOwn before list → ⊥) → maps.get new.lists list ≡ maps.get old.lists list
   pub own : after.list ≡ before.list
 
 -- nodes left a line
-pub record TakenOut (old new : Table Queued) (before after : Line) (change : List ℕ → List ℕ) : Type 0 where
-  pub line : IsLineOf rank new after
+pub record TakenOut (old new : Table Waiting) (before after : Line) (change : List ℕ → List ℕ) : Type 0 where
+  pub line : IsLineOf rank_of new after
   pub nodes : nodes_in new after ≡ change (nodes_in old before)
   pub values : new.values ≡ old.values
   pub room : new.room ≡ old.room
   pub lists : (list : ℕ) → (IsOwn before list → ⊥) → maps.get new.lists list ≡ maps.get old.lists list
   pub own : after.list ≡ before.list
+
+-- the first of the answered nodes, if there is one, left their list, and carries nothing any more
+pub record Unloaded (old new : Table Waiting) (answered : ℕ) : Type 0 where
+  pub there : ContainsList new answered
+  pub rest : nodes_of new answered ≡ drop 1 (nodes_of old answered)
+  pub lists : (list : ℕ) → list ≢ answered → maps.get new.lists list ≡ maps.get old.lists list
+  pub nodes : (node : ℕ) → is_some (maps.get new.values node) ≡ is_some (maps.get old.values node)
+  pub entries : (node : ℕ) → entry_at new node ≡ entry_at old node
+  pub others : (node : ℕ) → slice_get (nodes_of old answered) 0 ≢ Some node → waiting_at new node ≡ waiting_at old node
+  pub room : new.room ≡ old.room

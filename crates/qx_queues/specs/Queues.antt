@@ -1,19 +1,25 @@
 -- What contracts see of the managers' lines, and what its calls make of it.
-use Rattle.std.specs.Prelude.{◌≡◌, ℕ, zero, suc, ◌+◌, ◌-◌, ◌==◌, ◌&&◌, if◌then◌else◌, nat_le, refl, IsTrue, Bool, false, List, [], ◌∷◌, Option, Some, None, is_some, replicate}
+use Rattle.std.specs.Prelude.{◌≡◌, ℕ, zero, suc, ◌+◌, ◌-◌, ◌==◌, ◌&&◌, if◌then◌else◌, nat_le, refl, IsTrue, Bool, false, List, [], ◌∷◌, Option, Some, None, is_some, replicate, unwrap_or}
 use Rattle.std.specs.Coded.{Coded, code_by, coded×, coded_ℕ, coded_list}
+use Rattle.std.specs.FinMap as maps
 use Rattle.std.specs.FinSet as set
+use Rattle.std.specs.List.{list_any}
 use Rattle.std.specs.Option.{option_or}
 use Rattle.std.specs.Ordering.{nat_cmp, on, then_cmp}
 use Rattle.std.specs.declared.cmp.Ordering.{Ordering}
 use Rattle.qx_types.specs.contracts.names.Proc as proc_row
 use Rattle.qx_types.specs.contracts.names.Thread as thread_row
+use Rattle.qx_types.specs.contracts.outcome.Answer as answer_row
 use Rattle.qx_types.specs.declared.names.Proc.{Proc}
 use Rattle.qx_types.specs.declared.names.TheConstants.Manager.{COUNT}
 use Rattle.qx_types.specs.declared.names.Thread.{Thread}
+use Rattle.qx_types.specs.declared.outcome.Answer.{Answer}
 use Rattle.qx_machine.specs.contracts.rows.Queued as queued_row
+use Rattle.qx_machine.specs.contracts.rows.WaitingCall as call_row
 use Rattle.qx_machine.specs.declared.rows.OwnItem.{OwnItem}
 use Rattle.qx_machine.specs.declared.rows.OwnItem.TheVariants as item
 use Rattle.qx_machine.specs.declared.rows.Queued.{Queued}
+use Rattle.qx_machine.specs.declared.rows.WaitingCall.{WaitingCall}
 use Rattle.qx_machine.specs.Lines.{line_at, with_line}
 use Rattle.qx_machine.specs.Machine.{queued_item}
 
@@ -29,28 +35,50 @@ thread_cmp = then_cmp (on (λ t. t.proc) proc_cmp) (on (λ t. t.tid) nat_cmp)
 abbrev pub server_cmp : Proc × ℕ → Proc × ℕ → Ordering
 server_cmp = then_cmp (on (λ s. s.0) proc_cmp) (on (λ s. s.1) nat_cmp)
 
+-- a user's call that waits in a pipe, or waited until it was answered
+pub record UsersCall : Type 0 where
+  pub user : ℕ
+  pub call : WaitingCall
+
+-- the answer to a user's call that waited: to which call of which thread it goes, and what it is
+pub record UsersAnswer : Type 0 where
+  pub thread : Thread
+  pub call : ℕ
+  pub answer : Answer
+
 -- the lines under their managers' numbers, which threads and which server connections have nodes, the number that all users' are below,
--- and how many more nodes can be made with no memory
+-- how many more nodes can be made with no memory, who waits in each list of a pipe, in order, and who was answered what, in order
 pub record Queues : Type 0 where
   pub lines : List (List Queued)
   pub threads : set.FinSet thread_cmp
   pub servers : set.FinSet server_cmp
   pub users : ℕ
   pub room : ℕ
+  pub pipes : maps.FinMap nat_cmp (List UsersCall)
+  pub answered : List UsersAnswer
 
--- the value is stored as the tuple of its fields
+-- the values are stored as the tuples of their fields
+abbrev pub call_code : Coded UsersCall
+call_code = code_by (ℕ × WaitingCall) (coded× coded_ℕ (call_row.the_row).coded) (λ c. (c.user, c.call)) (λ p. record { user = p.0; call = p.1 }) (λ _. refl)
+
+abbrev pub answer_code : Coded UsersAnswer
+answer_code = code_by (Thread × (ℕ × Answer)) (coded× (thread_row.the_row).coded (coded× coded_ℕ (answer_row.the_row).coded)) (λ a. (a.thread, (a.call, a.answer))) (λ p. record { thread = p.0; call = p.1.0; answer = p.1.1 }) (λ _. refl)
+
+abbrev pub pipes_code : Coded (maps.FinMap nat_cmp (List UsersCall) × List UsersAnswer)
+pipes_code = coded× (maps.code coded_ℕ (coded_list call_code)) (coded_list answer_code)
+
 abbrev pub queues_code : Coded Queues
 queues_code =
     code_by
-    (List (List Queued) × (set.FinSet thread_cmp × (set.FinSet server_cmp × (ℕ × ℕ))))
-    (coded× (coded_list (coded_list (queued_row.the_row).coded)) (coded× (set.code (thread_row.the_row).coded) (coded× (set.code (coded× (proc_row.the_row).coded coded_ℕ)) (coded× coded_ℕ coded_ℕ))))
-    (λ c. (c.lines, (c.threads, (c.servers, (c.users, c.room)))))
-    (λ p. record { lines = p.0; threads = p.1.0; servers = p.1.1.0; users = p.1.1.1.0; room = p.1.1.1.1 })
+    (List (List Queued) × (set.FinSet thread_cmp × (set.FinSet server_cmp × (ℕ × (ℕ × (maps.FinMap nat_cmp (List UsersCall) × List UsersAnswer))))))
+    (coded× (coded_list (coded_list (queued_row.the_row).coded)) (coded× (set.code (thread_row.the_row).coded) (coded× (set.code (coded× (proc_row.the_row).coded coded_ℕ)) (coded× coded_ℕ (coded× coded_ℕ pipes_code)))))
+    (λ c. (c.lines, (c.threads, (c.servers, (c.users, (c.room, (c.pipes, c.answered)))))))
+    (λ p. record { lines = p.0; threads = p.1.0; servers = p.1.1.0; users = p.1.1.1.0; room = p.1.1.1.1.0; pipes = p.1.1.1.1.1.0; answered = p.1.1.1.1.1.1 })
     (λ _. refl)
 
--- nobody has nodes, and the lines are empty
+-- nobody has nodes, the lines are empty, there is no pipe, and nobody was answered
 abbrev pub no_queues : ℕ → Queues
-no_queues users = record { lines = replicate COUNT []; threads = set.empty; servers = set.empty; users = users + 1; room = 0 }
+no_queues users = record { lines = replicate COUNT []; threads = set.empty; servers = set.empty; users = users + 1; room = 0; pipes = maps.empty; answered = [] }
 
 -- the line of the manager of a number
 abbrev pub queues_line : Queues → ℕ → List Queued
@@ -120,9 +148,40 @@ no_other (item.Unblock process thread call) sender line = unblock_call line send
 abbrev pub IsGone : Queued → List Queued → Type 0
 IsGone entry line = no_other entry.item (sender entry) line
 
+-- who waits in the list of a number
+abbrev pub waiting_in : Queues → ℕ → List UsersCall
+waiting_in c list = unwrap_or (maps.get c.pipes list) []
+
+-- the thread whose call it is
+abbrev pub caller : UsersCall → Thread
+caller own = record { proc = record { user = record { 0 = own.user }; num = own.call.process }; tid = own.call.thread }
+
+-- a call of the thread is among these
+abbrev pub has_call : List UsersCall → Thread → Bool
+has_call all thread = list_any (λ own. is_same_thread (caller own) thread) all
+
+-- a call's answer goes to its thread
+abbrev pub answer_to : UsersCall → Answer → UsersAnswer
+answer_to own answer = record { thread = caller own; call = own.call.call; answer = answer }
+
+-- an answer to the thread is among these
+abbrev pub is_answered : List UsersAnswer → Thread → Bool
+is_answered all thread = list_any (λ given. is_same_thread given.thread thread) all
+
+-- no call of the thread waits in a pipe or has an answer that was not taken out yet
+pub record HasNoCall (c : Queues) (thread : Thread) : Type 0 where
+  pub waiting : (list : ℕ) → has_call (waiting_in c list) thread ≡ false
+  pub answered : is_answered c.answered thread ≡ false
+
 -- the thread has nodes
 abbrev pub has_thread : Queues → Thread → Bool
 has_thread c thread = set.contains c.threads thread
+
+-- the thread's message was received: the thread has nodes, its message stands in no line, and no call of it waits or has an answer
+pub record IsReceived (c : Queues) (thread : Thread) : Type 0 where
+  pub own : IsTrue (has_thread c thread)
+  pub idle : (number : ℕ) → stands (queues_line c number) thread ≡ false
+  pub no_call : HasNoCall c thread
 
 -- the process has a disconnect node at the manager of a number
 abbrev pub has_server : Queues → Proc → ℕ → Bool

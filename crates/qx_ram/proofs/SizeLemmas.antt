@@ -73,8 +73,8 @@ same_sums f g (x ∷ xs) (y ∷ ys) f_none g_none same =
     omega (arith, rest, head, one, two)
 
 pub total_of_sizes : TotalOfSizes
-total_of_sizes inodes files fits =
-    same_sums size_of (λ row. unwrap_or (file_size row) 0) files.contents inodes.attributes refl refl (λ n. by_bytes (row_at files.contents n) ∙ ap (λ size. unwrap_or size 0) (fits.sized n))
+total_of_sizes inodes names files fits =
+    same_sums size_of (λ row. unwrap_or (file_size row) 0) files inodes.attributes refl refl (λ n. by_bytes (row_at files n) ∙ ap (λ size. unwrap_or size 0) (fits.sized n))
   where
     by_bytes : (bytes : Option (List ℕ)) → size_of bytes ≡ unwrap_or (option_map (λ bytes. length bytes) bytes) 0
     by_bytes None = refl

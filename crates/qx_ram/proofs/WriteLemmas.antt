@@ -24,12 +24,12 @@ pub record IsTarget (inodes : Inodes) (files : Files) (number : ℕ) (t : Target
   pub block_is : row_at inodes.blocks number ≡ Some t.block
   pub may_write : has t.block.flags WRITE ≡ true
   pub attribute_is : row_at inodes.attributes t.block.inode ≡ Some t.attribute
-  pub contents_are : row_at files.contents t.block.inode ≡ Some bytes
+  pub contents_are : row_at files t.block.inode ≡ Some bytes
   pub size_is : t.size ≡ length bytes
   pub offset_is : t.offset ≡ write_offset t.block bytes
 
 module _ (inodes : Inodes) (files : Files) (number : ℕ) (t : Target) where
-  by_contents : (block : Ocb) (attribute : Attribute) (bytes : Option (List ℕ)) → row_at inodes.blocks number ≡ Some block → has block.flags WRITE ≡ true → row_at inodes.attributes block.inode ≡ Some attribute → row_at files.contents block.inode ≡ bytes → target inodes files number ≡ Ok t → IsTarget inodes files number t
+  by_contents : (block : Ocb) (attribute : Attribute) (bytes : Option (List ℕ)) → row_at inodes.blocks number ≡ Some block → has block.flags WRITE ≡ true → row_at inodes.attributes block.inode ≡ Some attribute → row_at files block.inode ≡ bytes → target inodes files number ≡ Ok t → IsTarget inodes files number t
   by_contents block attribute None is may there contents e =
       let clash : Err EBADF ≡ Ok t = rw (is, may, there, contents) at e in absurd (cc)
   by_contents block attribute (Some bytes) is may there contents e =
@@ -39,7 +39,7 @@ module _ (inodes : Inodes) (files : Files) (number : ℕ) (t : Target) where
 
   by_attribute : (block : Ocb) (attribute : Option Attribute) → row_at inodes.blocks number ≡ Some block → has block.flags WRITE ≡ true → row_at inodes.attributes block.inode ≡ attribute → target inodes files number ≡ Ok t → IsTarget inodes files number t
   by_attribute block None is may there e = let clash : Err EBADF ≡ Ok t = rw (is, may, there) at e in absurd (cc)
-  by_attribute block (Some attribute) is may there e = by_contents block attribute (row_at files.contents block.inode) is may there refl e
+  by_attribute block (Some attribute) is may there e = by_contents block attribute (row_at files block.inode) is may there refl e
 
   by_flags : (block : Ocb) (may : Bool) → row_at inodes.blocks number ≡ Some block → has block.flags WRITE ≡ may → target inodes files number ≡ Ok t → IsTarget inodes files number t
   by_flags block false is may e = let clash : Err EBADF ≡ Ok t = rw (is, may) at e in absurd (cc)
@@ -63,14 +63,14 @@ two_faults true false given = refl
 two_faults false few given = refl
 
 -- the sum of the sizes after a write
-pub total_after : (files : Files) (inode offset : ℕ) (bytes new : List ℕ) → row_at files.contents inode ≡ Some bytes → total_size (with_contents files inode (Some (put bytes offset new))) ≡ total_size files - length bytes + max (length bytes) (offset + length new)
+pub total_after : (files : Files) (inode offset : ℕ) (bytes new : List ℕ) → row_at files inode ≡ Some bytes → total_size (with_contents files inode (Some (put bytes offset new))) ≡ total_size files - length bytes + max (length bytes) (offset + length new)
 total_after files inode offset bytes new is =
-    let set = total_set files.contents inode bytes (Some (put bytes offset new)) is in
-    let within = size_within files.contents inode bytes is in
+    let set = total_set files inode bytes (Some (put bytes offset new)) is in
+    let within = size_within files inode bytes is in
     let long = length-put bytes new offset in
     omega (arith, set, within, long)
 
-pub pasted_is : (files : Files) (inode offset : ℕ) (bytes new : List ℕ) → row_at files.contents inode ≡ Some bytes → pasted files inode offset new ≡ with_contents files inode (Some (put bytes offset new))
+pub pasted_is : (files : Files) (inode offset : ℕ) (bytes new : List ℕ) → row_at files inode ≡ Some bytes → pasted files inode offset new ≡ with_contents files inode (Some (put bytes offset new))
 pasted_is files inode offset bytes new is = rw is refl
 
 -- what is given where nothing is refused
@@ -116,8 +116,8 @@ module _ (inodes : Inodes) (files : Files) (number moment : ℕ) (t : Target) (i
   unfolding now
   same_fault = rw (it.size_is, it.offset_is, total_after files t.block.inode (write_offset t.block it.bytes) it.bytes new it.contents_are) refl
 
-  pub pasted_size : size_of (row_at (pasted files t.block.inode t.offset new).contents t.block.inode) ≡ length (put it.bytes t.offset new)
-  pasted_size = rw it.contents_are (ap size_of (row-set_same files.contents t.block.inode it.bytes (put it.bytes t.offset new) it.contents_are))
+  pub pasted_size : size_of (row_at (pasted files t.block.inode t.offset new) t.block.inode) ≡ length (put it.bytes t.offset new)
+  pasted_size = rw it.contents_are (ap size_of (row-set_same files t.block.inode it.bytes (put it.bytes t.offset new) it.contents_are))
 
   same_given : (size : ℕ) → size ≡ length (put it.bytes t.offset new) → exact ≡ write_given inodes files number moment t size new
   unfolding now exact

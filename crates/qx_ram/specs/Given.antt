@@ -5,10 +5,11 @@ use Rattle.qx_types.specs.declared.errno.Errno.TheVariants.{EBADF, EFBIG, EINVAL
 use Rattle.qx_types.specs.declared.flags.OFlags.{OFlags}
 use Rattle.qx_types.specs.declared.flags.TheConstants.OFlags.{WRITE}
 use Rattle.qx_types.specs.declared.limits.TheConstants.Limits.{FILE, FILES, OFFSET}
-use Rattle.qx_machine.specs.declared.rows.Ocb.{Ocb}
+use Rattle.qx_attr.specs.Flags.{block_for}
 use Rattle.qx_machine.specs.Files.{Files, Given, moved_by, put, write_offset}
-use Rattle.qx_machine.specs.Inodes.{Inodes, has}
+use Rattle.qx_machine.specs.Inodes.{Inodes}
 use Rattle.qx_machine.specs.Judgements.{◌>>=◌, found, need}
+use Rattle.qx_machine.specs.Names.{Names}
 use Rattle.qx_machine.specs.Rows.{row_at, with_row}
 use Rattle.qx_ram.specs.declared.target.Target.{Target}
 
@@ -22,19 +23,17 @@ abbrev pub given : Inodes → Files → Result ℕ Errno → Result Given Errno
 given inodes files (Ok status) = Ok (record { status = status; bytes = []; inodes = inodes; files = files })
 given inodes files (Err error) = Err error
 
--- an open control block that was opened with a flag
-abbrev pub block_for : Inodes → ℕ → OFlags → Result Ocb Errno
-block_for inodes number flag = do
-  block ← found (row_at inodes.blocks number) EBADF
-  allowed ← need (has block.flags flag) EBADF
-  Ok block
+-- beside the names that there are then
+abbrev pub named : Names → Result Given Errno → Result (Names × Given) Errno
+named names (Ok given) = Ok (names, given)
+named names (Err error) = Err error
 
 -- what a write goes to
 abbrev pub target : Inodes → Files → ℕ → Result Target Errno
 target inodes files number = do
   block ← block_for inodes number WRITE
   attribute ← found (row_at inodes.attributes block.inode) EBADF
-  bytes ← found (row_at files.contents block.inode) EBADF
+  bytes ← found (row_at files block.inode) EBADF
   Ok (record { block = block; attribute = attribute; size = length bytes; offset = write_offset block bytes })
 
 -- why so many bytes can't be written, by the sum of the sizes before
@@ -46,7 +45,7 @@ write_fault total target count =
 
 -- bytes were put into a file, if it is there
 abbrev pub pasted : Files → ℕ → ℕ → List ℕ → Files
-pasted files inode offset new = record files { contents = with_row files.contents inode (λ old. put old offset new) }
+pasted files inode offset new = with_row files inode (λ old. put old offset new)
 
 -- a further offset
 abbrev pub moved_to : ℕ → ℤ → Result ℕ Errno

@@ -3,6 +3,7 @@ use Rattle.std.specs.Prelude.{ℕ, ◌≡◌, ◌+◌, ◌-◌, List, ◌++◌, 
 use Rattle.std.specs.List.{sum_by}
 use Rattle.qx_machine.specs.Files.{Files, get, put, total_size}
 use Rattle.qx_machine.specs.Inodes.{Inodes}
+use Rattle.qx_machine.specs.Names.{Names}
 use Rattle.qx_ram.specs.Fits.{Fits, file_size}
 
 -- what was written is read back at its place
@@ -19,4 +20,4 @@ KeptBehind = (bytes : List ℕ) (offset : ℕ) (new : List ℕ) → drop (offset
 
 -- the sum of the sizes of a user's files is that of the sizes that their inodes have
 abbrev pub TotalOfSizes : Type 0
-TotalOfSizes = (inodes : Inodes) (files : Files) → Fits inodes files → total_size files ≡ sum_by (λ row. unwrap_or (file_size row) 0) inodes.attributes
+TotalOfSizes = (inodes : Inodes) (names : Names) (files : Files) → Fits inodes names files → total_size files ≡ sum_by (λ row. unwrap_or (file_size row) 0) inodes.attributes

@@ -30,11 +30,9 @@ impl Contents {
     pub fn new(alloc: Global) -> Result<Self, AllocError>
         ensures none { IfOk result (λ contents. contents ≡ replicate (INODES + 1) None) }
     {
-        let mut places = Vec::with_capacity(alloc, Limits::INODES + 1)?;
-        for _ in 0..Limits::INODES + 1 {
-            places.push_reserved(None);
-        }
-        Ok(Contents { places })
+        Ok(Contents {
+            places: places::free_places(alloc, Limits::INODES + 1)?,
+        })
     }
 
     /// The bytes of a file.

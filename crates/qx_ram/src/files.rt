@@ -2,31 +2,27 @@ ghost use Rattle.std.specs.Prelude.{◌≡◌, ◌+◌, ◌<◌, ◌≤◌, ◌^
 ghost use Rattle.std.specs.Result.{result_map_both};
 ghost use Rattle.qx_machine.specs.Files as machine;
 ghost use Rattle.qx_machine.specs.Files.{get, put, total_size};
-ghost use Rattle.qx_machine.specs.Names.{with_root};
+ghost use Rattle.qx_machine.specs.Names as of_names;
 ghost use Rattle.qx_machine.specs.Rows.{row_at, with_row};
-ghost use Rattle.qx_names.specs.Paths.{IsUnnamed};
 ghost use Rattle.qx_ram.specs.Fits.{Fits};
-ghost use Rattle.qx_ram.specs.Given.{block_for, given, given_bytes, moved_to, pasted, target, write_fault};
+ghost use Rattle.qx_ram.specs.Given.{given, given_bytes, moved_to, pasted, target, write_fault};
 ghost use Rattle.qx_types.specs.declared.limits.TheConstants.Limits.{FILE, FILES, TRANSFER};
 
 use crate::contents::Contents;
 use crate::target::Target;
 use bitflags::Flags;
-use qx_attr::{Inodes, Ocb};
-use qx_machine::Attribute;
-use qx_names::Names;
+use qx_attr::Inodes;
+use qx_machine::{Attribute, Kind};
 use qx_types::{Errno, Limits, OFlags, Whence};
 use std::alloc::{AllocError, Global};
 use std::marker::Model;
 
-/// The files of one user: their bytes, and the names in the RAM manager's mounts (Writing a Resource Manager: connect and
-/// I/O functions).
+/// The files of one user (Writing a Resource Manager: connect and I/O functions).
 #[derive(Drop)]
 pub struct Files {
     contents: Contents,
     // The sum of the sizes.
     total: usize,
-    pub(crate) names: Names,
 }
 
 impl Model for Files {
@@ -34,14 +30,10 @@ impl Model for Files {
     ghost use Rattle.std.specs.List.{sum_by};
     ghost use Rattle.qx_machine.specs.Files as machine;
     ghost use Rattle.qx_types.specs.declared.limits.TheConstants.Limits.{FILES};
-    ghost use Rattle.std.specs.Coded.{codes};
-    ghost use Rattle.qx_names.specs.Paths.{names_code};
 
     ghost Value = { machine.Files };
 
-    ghost coded = { Prim.hlevel (codes, names_code) };
-
-    ghost view = { λ f. record { contents = f.contents; names = f.names } };
+    ghost view = { λ f. f.contents };
 
     ghost invariant = { λ f. record {
       summed : f.total ≡ sum_by machine.size_of f.contents;
@@ -57,22 +49,12 @@ impl Files {
         Ok(Files {
             contents: Contents::new(alloc)?,
             total: 0,
-            names: Names::new(alloc),
         })
-    }
-
-    /// Names a mount's root, to which no path led. Where memory is short, nothing changes.
-    pub fn add_root(&mut self, root: u32) -> Result<(), AllocError>
-        requires new { IsUnnamed self.old.names root }
-        ensures ok { OnOk result (self.new ≡ record self.old { names = with_root self.old.names root }) }
-        ensures err { OnErr result (self.new ≡ self.old) }
-    {
-        self.names.add_root(root)
     }
 
     /// How many bytes a file has; none where the inode has no bytes.
     pub fn size(&self, inode: u32) -> Option<usize>
-        ensures size { result ≡ option_map (λ bytes. length bytes) (row_at self.now.contents inode) }
+        ensures size { result ≡ option_map (λ bytes. length bytes) (row_at self.now inode) }
     {
         match self.contents.get(inode) {
             Some(data) => Some(data.len()),
@@ -82,7 +64,7 @@ impl Files {
 
     /// Makes a file with no bytes, under the number of an inode that has none.
     pub(crate) fn make(&mut self, inode: u32)
-        requires free { row_at self.old.contents inode ≡ None }
+        requires free { row_at self.old inode ≡ None }
         ensures made { self.new ≡ machine.with_new_file self.old inode }
     {
         self.contents.put(inode);
@@ -90,7 +72,7 @@ impl Files {
 
     /// Makes a file empty and sets its times (C Library Reference: `open`, `O_TRUNC`).
     pub(crate) fn truncate(&mut self, inodes: &mut Inodes, inode: u32, moment: u64)
-        requires file { IsSome (row_at self.old.contents inode) }
+        requires file { IsSome (row_at self.old inode) }
         ensures times { inodes.new.inodes ≡ record inodes.old.inodes { attributes = with_row inodes.old.inodes.attributes inode (machine.resized 0 moment) } }
         ensures empty { self.new ≡ machine.with_contents self.old inode (Some []) }
     {
@@ -109,7 +91,7 @@ impl Files {
 
     /// Takes the bytes of a file.
     fn clear(&mut self, inode: u32)
-        requires file { IsSome (row_at self.old.contents inode) }
+        requires file { IsSome (row_at self.old inode) }
         ensures { self.new ≡ machine.with_contents self.old inode (Some []) }
     {
         if let Some(data) = self.contents.get_mut(inode) {
@@ -121,12 +103,11 @@ impl Files {
     /// The bytes from where an open control block stands, at most so many, which lend themselves to be copied; their number
     /// is the status (C Library Reference: `read`). EBADF without a block for reading, EISDIR on a directory.
     pub fn read(&self, inodes: &mut Inodes, number: u16, count: u32) -> Result<&[u8], Errno>
-        requires fits { Fits inodes.old.inodes self.now }
         ensures given { given_bytes inodes.new.inodes self.now (result_map_both (λ bytes. bytes.now) (λ error. error) result) ≡ machine.read_file inodes.old.inodes self.now number count }
         ensures kept { OnErr result (inodes.new ≡ inodes.old) }
-        ensures fits { Fits inodes.new.inodes self.now }
+        ensures fits { (names : of_names.Names) → Fits inodes.old.inodes names self.now → Fits inodes.new.inodes names self.now }
     {
-        let block = block_for(inodes, number, OFlags::READ)?;
+        let block = inodes.block_for(number, OFlags::READ)?;
         let Some(data) = self.contents.get(block.inode) else {
             return Err(Errno::EISDIR);
         };
@@ -146,13 +127,12 @@ impl Files {
         moment: u64,
         new: &[u8],
     ) -> Result<Result<u64, Errno>, AllocError>
-        requires fits { Fits inodes.old.inodes self.old }
         requires few { length new.now ≤ TRANSFER }
         ensures given { IfOk result (λ r. given inodes.new.inodes self.new r ≡ machine.write_file inodes.old.inodes self.old number moment new.now) }
         ensures kept { IfOk result (λ r. OnErr r ((self.new ≡ self.old) × (inodes.new ≡ inodes.old))) }
         ensures err { OnErr result ((self.new ≡ self.old) × (inodes.new ≡ inodes.old)) }
         ensures wanted { OnErr result (IsOk (machine.write_file inodes.old.inodes self.old number moment new.now)) }
-        ensures fits { Fits inodes.new.inodes self.new }
+        ensures fits { (names : of_names.Names) → Fits inodes.old.inodes names self.old → Fits inodes.new.inodes names self.new }
     {
         let target = match self.target(inodes, number) {
             Ok(target) => target,
@@ -186,10 +166,9 @@ impl Files {
         whence: Whence,
         by: i64,
     ) -> Result<u64, Errno>
-        requires fits { Fits inodes.old.inodes self.now }
         ensures given { given inodes.new.inodes self.now result ≡ machine.seek_file inodes.old.inodes self.now number whence by }
         ensures kept { OnErr result (inodes.new ≡ inodes.old) }
-        ensures fits { Fits inodes.new.inodes self.now }
+        ensures fits { (names : of_names.Names) → Fits inodes.old.inodes names self.now → Fits inodes.new.inodes names self.now }
     {
         let Some(block) = inodes.block(number) else {
             return Err(Errno::EBADF);
@@ -207,20 +186,16 @@ impl Files {
         Ok(offset)
     }
 
-    /// Takes an open control block away (C Library Reference: `close`), and what was open with it, with its bytes, where
-    /// nothing names that and nothing else has it open.
+    /// Takes an open control block of a file or of a directory away (C Library Reference: `close`), and what was open with it,
+    /// with its bytes, where nothing names that and nothing else has it open. EBADF without such a block.
     pub fn release(&mut self, inodes: &mut Inodes, number: u16) -> Result<u64, Errno>
-        requires fits { Fits inodes.old.inodes self.old }
         ensures given { given inodes.new.inodes self.new result ≡ machine.release_file inodes.old.inodes self.old number }
         ensures kept { OnErr result ((self.new ≡ self.old) × (inodes.new ≡ inodes.old)) }
-        ensures fits { Fits inodes.new.inodes self.new }
+        ensures fits { (names : of_names.Names) → Fits inodes.old.inodes names self.old → Fits inodes.new.inodes names self.new }
     {
-        let Some(block) = inodes.block(number) else {
-            return Err(Errno::EBADF);
-        };
-        let inode = block.inode;
+        let block = qx_iofunc::own_block(inodes, number, Kind::File)?;
         inodes.close_block(number);
-        self.free(inodes, inode);
+        self.free(inodes, block.inode);
         Ok(0)
     }
 
@@ -247,7 +222,7 @@ impl Files {
     fn target(&self, inodes: &Inodes, number: u16) -> Result<Target, Errno>
         ensures { result ≡ target inodes.now.inodes self.now number }
     {
-        let block = block_for(inodes, number, OFlags::WRITE)?;
+        let block = inodes.block_for(number, OFlags::WRITE)?;
         let Some(attr) = inodes.attr(block.inode) else {
             return Err(Errno::EBADF);
         };
@@ -288,7 +263,7 @@ impl Files {
     fn paste(&mut self, inode: u32, offset: usize, new: &[u8]) -> Result<usize, AllocError>
         requires within { offset + length new.now ≤ FILE }
         requires few { total_size (pasted self.old inode offset new.now) ≤ FILES }
-        ensures size { IfOk result (λ size. size ≡ machine.size_of (row_at self.new.contents inode)) }
+        ensures size { IfOk result (λ size. size ≡ machine.size_of (row_at self.new inode)) }
         ensures ok { OnOk result (self.new ≡ pasted self.old inode offset new.now) }
         ensures err { OnErr result (self.new ≡ self.old) }
     {
@@ -327,14 +302,4 @@ fn paste(
     let before = data.len();
     data.write(offset, new)?;
     Ok((before, data.len()))
-}
-
-/// An open control block with a flag, else EBADF.
-fn block_for(inodes: &Inodes, number: u16, flag: OFlags) -> Result<Ocb, Errno>
-    ensures { result ≡ block_for inodes.now.inodes number flag }
-{
-    match inodes.block(number) {
-        Some(block) if block.flags.contains(flag) => Ok(*block),
-        _ => Err(Errno::EBADF),
-    }
 }

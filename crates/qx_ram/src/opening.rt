@@ -1,18 +1,19 @@
-//! What the RAM manager does to what a path leads to, and what its names tell.
+//! What the RAM manager does to what a path leads to.
 
-ghost use Rattle.std.specs.Prelude.{◌≡◌, [], None, Ok, IfOk, IsOk, IsTrue, OnErr, is_some};
-ghost use Rattle.qx_iofunc.specs.Given.{changed_to, opening as given_opening, replied, status_of, told};
+ghost use Rattle.std.specs.Prelude.{◌≡◌, None, Ok, IfOk, IsOk, IsTrue, OnErr, is_some};
+ghost use Rattle.qx_iofunc.specs.Given.{opening as given_opening};
 ghost use Rattle.qx_machine.specs.Files as machine;
-ghost use Rattle.qx_machine.specs.Opening as of_paths;
+ghost use Rattle.qx_machine.specs.Names as of_names;
 ghost use Rattle.qx_machine.specs.Rows.{row_at};
 ghost use Rattle.qx_ram.specs.Fits.{Fits};
-ghost use Rattle.qx_ram.specs.Given.{given};
+ghost use Rattle.qx_ram.specs.Given.{given, named};
 
 use crate::files::Files;
 use bitflags::Flags;
-use qx_attr::{Inodes, Reply, Status};
+use qx_attr::Inodes;
 use qx_iofunc::Opening;
 use qx_machine::Kind;
+use qx_names::Names;
 use qx_types::{Errno, OFlags, User};
 use qx_wire::Rest;
 use std::alloc::AllocError;
@@ -24,6 +25,7 @@ impl Files {
     pub fn connect(
         &mut self,
         inodes: &mut Inodes,
+        names: &mut Names,
         user: User,
         root: u32,
         rest: &Rest<'_>,
@@ -31,20 +33,20 @@ impl Files {
         mode: u16,
         moment: u64,
     ) -> Result<Result<u16, Errno>, AllocError>
-        requires fits { Fits inodes.old.inodes self.old }
-        ensures given { IfOk result (λ r. given inodes.new.inodes self.new r ≡ machine.open_file inodes.old.inodes self.old user.0 root rest.now flags mode moment) }
-        ensures kept { IfOk result (λ r. OnErr r ((self.new ≡ self.old) × (inodes.new.inodes ≡ inodes.old.inodes))) }
-        ensures err { OnErr result ((self.new ≡ self.old) × (inodes.new.inodes ≡ inodes.old.inodes)) }
-        ensures wanted { OnErr result (IsOk (machine.open_file inodes.old.inodes self.old user.0 root rest.now flags mode moment)) }
-        ensures fits { Fits inodes.new.inodes self.new }
+        requires fits { Fits inodes.old.inodes names.old self.old }
+        ensures given { IfOk result (λ r. named names.new (given inodes.new.inodes self.new r) ≡ machine.open_file inodes.old.inodes names.old self.old user.0 root rest.now flags mode moment) }
+        ensures kept { IfOk result (λ r. OnErr r ((self.new ≡ self.old) × (inodes.new.inodes ≡ inodes.old.inodes) × (names.new ≡ names.old))) }
+        ensures err { OnErr result ((self.new ≡ self.old) × (inodes.new.inodes ≡ inodes.old.inodes) × (names.new ≡ names.old)) }
+        ensures wanted { OnErr result (IsOk (machine.open_file inodes.old.inodes names.old self.old user.0 root rest.now flags mode moment)) }
+        ensures fits { Fits inodes.new.inodes names.new self.new }
     {
-        let lookup = match qx_iofunc::lookup(inodes, &self.names, user, root, rest, flags) {
+        let lookup = match qx_iofunc::lookup(inodes, names, user, root, rest, flags) {
             Ok(lookup) => lookup,
             Err(error) => return Ok(Err(error)),
         };
         let opening = qx_iofunc::open(
             inodes,
-            &mut self.names,
+            names,
             user,
             lookup,
             flags,
@@ -58,8 +60,8 @@ impl Files {
 
     /// What an open does to the bytes: a new file has none, and one that is opened for writing with TRUNC is made empty.
     fn opened(&mut self, inodes: &mut Inodes, flags: OFlags, moment: u64, opening: Opening)
-        requires new { IsTrue opening.is_new → row_at self.old.contents opening.inode ≡ None }
-        ensures { given inodes.new.inodes self.new (Ok opening.number) ≡ Ok (machine.opened_file self.old flags moment (given_opening inodes.old.inodes self.old.names opening)) }
+        requires new { IsTrue opening.is_new → row_at self.old opening.inode ≡ None }
+        ensures { (names : of_names.Names) → given inodes.new.inodes self.new (Ok opening.number) ≡ Ok (machine.opened_file self.old flags moment (given_opening inodes.old.inodes names opening)) }
     {
         if opening.is_new {
             self.make(opening.inode);
@@ -73,46 +75,9 @@ impl Files {
 
     /// Whether an inode has bytes.
     fn is_file(&self, inode: u32) -> bool
-        ensures file { result ≡ is_some (row_at self.now.contents inode) }
+        ensures file { result ≡ is_some (row_at self.now inode) }
     {
         self.size(inode).is_some()
-    }
-
-    /// The status of what a path leads to (C Library Reference: `stat`).
-    pub fn stat(
-        &self,
-        inodes: &Inodes,
-        user: User,
-        root: u32,
-        rest: &Rest<'_>,
-    ) -> Result<Status, Errno>
-        ensures status { status_of result ≡ of_paths.stat_path inodes.now.inodes self.now.names user.0 root rest.now }
-    {
-        qx_iofunc::stat(inodes, &self.names, user, root, rest)
-    }
-
-    /// Makes a directory (C Library Reference: `mkdir`); the status is 0. The errors of `qx_iofunc::mkdir`. Where an error
-    /// comes or memory is short, nothing changes; memory is wanted only where no error comes.
-    pub fn mkdir(
-        &mut self,
-        inodes: &mut Inodes,
-        user: User,
-        root: u32,
-        rest: &Rest<'_>,
-        mode: u16,
-        moment: u64,
-    ) -> Result<Result<u64, Errno>, AllocError>
-        requires fits { Fits inodes.old.inodes self.old }
-        ensures given { IfOk result (λ r. given inodes.new.inodes self.new r ≡ machine.make_file_directory inodes.old.inodes self.old user.0 root rest.now mode moment) }
-        ensures kept { IfOk result (λ r. OnErr r ((self.new ≡ self.old) × (inodes.new.inodes ≡ inodes.old.inodes))) }
-        ensures err { OnErr result ((self.new ≡ self.old) × (inodes.new.inodes ≡ inodes.old.inodes)) }
-        ensures wanted { OnErr result (IsOk (machine.make_file_directory inodes.old.inodes self.old user.0 root rest.now mode moment)) }
-        ensures fits { Fits inodes.new.inodes self.new }
-    {
-        match qx_iofunc::mkdir(inodes, &mut self.names, user, root, rest, mode, moment)? {
-            Ok(_) => Ok(Ok(0)),
-            Err(error) => Ok(Err(error)),
-        }
     }
 
     /// Takes the name of a file or of an empty directory away, and what it named, unless that is open (C Library
@@ -120,50 +85,19 @@ impl Files {
     pub fn unlink(
         &mut self,
         inodes: &mut Inodes,
+        names: &mut Names,
         user: User,
         root: u32,
         rest: &Rest<'_>,
         moment: u64,
     ) -> Result<u64, Errno>
-        requires fits { Fits inodes.old.inodes self.old }
-        ensures given { given inodes.new.inodes self.new result ≡ machine.unlink_file inodes.old.inodes self.old user.0 root rest.now moment }
-        ensures kept { OnErr result ((self.new ≡ self.old) × (inodes.new.inodes ≡ inodes.old.inodes)) }
-        ensures fits { Fits inodes.new.inodes self.new }
+        requires fits { Fits inodes.old.inodes names.old self.old }
+        ensures given { named names.new (given inodes.new.inodes self.new result) ≡ machine.unlink_file inodes.old.inodes names.old self.old user.0 root rest.now moment }
+        ensures kept { OnErr result ((self.new ≡ self.old) × (inodes.new.inodes ≡ inodes.old.inodes) × (names.new ≡ names.old)) }
+        ensures fits { Fits inodes.new.inodes names.new self.new }
     {
-        let inode = qx_iofunc::unlink(inodes, &mut self.names, user, root, rest, moment)?;
+        let inode = qx_iofunc::unlink(inodes, names, user, root, rest, Kind::File, moment)?;
         self.free(inodes, inode);
         Ok(0)
-    }
-
-    /// Writes the names in a directory that is open, behind one, into a reply, and gives their number (C Library Reference:
-    /// `readdir`).
-    pub fn list(
-        &self,
-        inodes: &Inodes,
-        number: u16,
-        after: &[u8],
-        reply: &mut Reply,
-    ) -> Result<u64, Errno>
-        requires empty { reply.old ≡ [] }
-        ensures listed { replied reply.new result ≡ told (of_paths.list_block inodes.now.inodes self.now.names number after.now) }
-        ensures kept { OnErr result (reply.new ≡ []) }
-    {
-        qx_iofunc::list(inodes, &self.names, number, after, reply)
-    }
-
-    /// Sets the mode of what is open (C Library Reference: `fchmod`).
-    pub fn chmod(
-        &self,
-        inodes: &mut Inodes,
-        number: u16,
-        moment: u64,
-        mode: u16,
-    ) -> Result<(), Errno>
-        requires fits { Fits inodes.old.inodes self.now }
-        ensures changed { changed_to inodes.new.inodes result ≡ of_paths.chmod_block inodes.old.inodes number moment mode }
-        ensures kept { OnErr result (inodes.new ≡ inodes.old) }
-        ensures fits { Fits inodes.new.inodes self.now }
-    {
-        qx_iofunc::chmod(inodes, number, moment, mode)
     }
 }

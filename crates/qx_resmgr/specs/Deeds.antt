@@ -1,15 +1,37 @@
 -- What a function came to, and which messages want memory.
-use Rattle.std.specs.Prelude.{ℕ, Bool, true, false, List, Result, Ok, Err}
+use Rattle.std.specs.Prelude.{ℕ, ◌≡◌, Bool, true, false, List, Option, Some, None, Result, Ok, Err, IsSome}
 use Rattle.qx_types.specs.declared.errno.Errno.{Errno}
 use Rattle.qx_wire.specs.declared.message.Message.{Message}
 use Rattle.qx_wire.specs.declared.message.Message.TheVariants.{Open, Mknod, Write}
+use Rattle.qx_machine.specs.Functions as functions
 use Rattle.qx_machine.specs.Functions.{Deed}
 use Rattle.qx_resmgr.specs.declared.functions.Done.{Done}
+use Rattle.qx_resmgr.specs.declared.functions.Done.TheVariants.{Reply, NoReply}
+use Rattle.qx_resmgr.specs.declared.state.State.{Ghosts}
 
--- what is done, with the state that it leaves and the bytes of the reply
-abbrev pub deed_with : {S : Type 0} → S → List ℕ → Result Done Errno → Result (Deed S) Errno
-deed_with state bytes (Ok done) = Ok (record { status = done.status; bytes = bytes; state = state; effect = done.effect })
-deed_with state bytes (Err error) = Err error
+-- what a message is replied, with these bytes
+abbrev pub reply_with : List ℕ → Done → Option functions.Reply
+reply_with bytes (Reply status effect) = Some (record { status = status; bytes = bytes; effect = effect })
+reply_with bytes NoReply = None
+
+-- that a function did what its table says, from the two states before it to the two after it: it replied that, left that, and gave those
+-- answers, or it gave that error and changed nothing
+abbrev pub Did : {S W T : Type 0} → Ghosts S W T → S → W → S → W → List ℕ → Result Done Errno → Result (Deed T) Errno → Type 0
+Did kept state waits after waits_after bytes (Ok done) (Ok deed) =
+    (reply_with bytes done ≡ deed.reply) × (kept.told after waits_after ≡ deed.state) × kept.left state waits after waits_after deed.answers × kept.fits after waits_after
+Did kept state waits after waits_after bytes (Err error) (Err meant) = (error ≡ meant) × (after ≡ state) × (waits_after ≡ waits)
+Did kept state waits after waits_after bytes _ _ = ⊥
+
+-- that a message is not left without a reply
+abbrev pub IsReplied : Result Done Errno → Type 0
+IsReplied (Ok NoReply) = ⊥
+IsReplied _ = Unit {0}
+
+-- how a function that had room for a later reply leaves it: it goes with a message that is left without a reply, and else it is there, with
+-- whatever is in it
+abbrev pub HasRoomAfter : {R : Type 0} → Option R → Result Done Errno → Type 0
+HasRoomAfter room (Ok NoReply) = room ≡ None
+HasRoomAfter room _ = IsSome room
 
 -- whether a message's function may want memory, of a manager whose writes may or may not
 abbrev pub wants_memory : Bool → Message → Bool

@@ -1,8 +1,10 @@
-//! Resource managers: the two tables of functions, and serving a message by them.
+//! Resource managers: what one works on, the two tables of functions, and serving a message by them.
 #![tactic(auto)]
 
 mod functions;
 mod serving;
+mod state;
 
 pub use functions::{Connect, Done, Io, no_function};
 pub use serving::serve;
+pub use state::State;

@@ -1,12 +1,14 @@
-ghost use Rattle.std.specs.Prelude.{◌≡◌, [], IfOk, IsFalse, IsTrue, IsOk, OnErr};
+ghost use Rattle.std.specs.Prelude.{◌≡◌, [], IfOk, IsFalse, IsTrue, IsOk, IsSome, OnErr};
 ghost use Rattle.qx_wire.specs.Table.{in_ranges};
 ghost use Rattle.qx_machine.specs.Functions as functions;
 ghost use Rattle.qx_machine.specs.Functions.{served};
-ghost use Rattle.qx_resmgr.specs.Deeds.{deed_with, wants_memory};
+ghost use Rattle.qx_resmgr.specs.Deeds.{Did, HasRoomAfter, wants_memory};
 
 use crate::functions::{Connect, Done, Io, no_function};
+use crate::state::State;
 use qx_attr::Reply;
 use qx_machine::{NewOpen, Opened, Over, Target};
+use qx_process::Room;
 use qx_types::Errno;
 use qx_wire::Message;
 use std::alloc::AllocError;
@@ -14,40 +16,50 @@ use std::alloc::AllocError;
 /// Does what a message asks a manager for at a moment, by the function for it in one of the manager's two tables (Writing
 /// a Resource Manager: `resmgr_handler`). ENOSYS where there is none; EINVAL where an open didn't come over a new
 /// connection, or another message to a path not over a side connection; the error of `opened`, for a message over what is
-/// open; then the function's own errors. An error changes nothing. The bytes of the reply are then in `reply`. Only an
-/// open, a mknod and, of some managers, a write may want memory, and only where they would be done.
-pub fn serve<M: Connect<S> + Io<S>, S>(
+/// open; then the function's own errors. An error changes nothing. The bytes of the reply are then in `reply`; a message
+/// that is left without one took `room` along. Only an open, a mknod and, of some managers, a write may want memory, and
+/// only where they would be done.
+pub fn serve<M: Connect<S, W, T> + Io<S, W, T>, S: State<W, T>, W, T>(
     state: &mut S,
+    waits: &mut W,
     target: Target,
     opened: Result<Opened, Errno>,
     message: Message<'_>,
     moment: u64,
     reply: &mut Reply,
+    room: &mut Option<Room>,
 ) -> Result<Result<Done, Errno>, AllocError>
+    requires fits { S.fits state.old waits.old }
+    requires ready { IfOk opened (λ o. M.ready state.old waits.old o) }
+    requires room { IsSome room.old }
     requires ranges { IsTrue (in_ranges message) }
     requires empty { reply.old ≡ [] }
-    ensures ok { IfOk result (λ given. deed_with state.new reply.new given ≡ served M.connect M.io state.old target opened moment message.entry) }
-    ensures kept { IfOk result (λ given. OnErr given (state.new ≡ state.old)) }
-    ensures err { OnErr result (state.new ≡ state.old) }
-    ensures wanted { OnErr result (IsOk (served M.connect M.io state.old target opened moment message.entry)) }
+    ensures did { IfOk result (λ given. Did S.State state.old waits.old state.new waits.new reply.new given (served M.connect M.io (S.told state.old waits.old) target opened moment message.entry)) }
+    ensures room { IfOk result (λ given. HasRoomAfter room.new given) }
+    ensures err { OnErr result ((state.new ≡ state.old) × (waits.new ≡ waits.old) × (room.new ≡ room.old)) }
+    ensures wanted { OnErr result (IsOk (served M.connect M.io (S.told state.old waits.old) target opened moment message.entry)) }
     ensures sure { IsFalse (wants_memory M.wants message.entry) → IsOk result }
 {
     let given = match message {
         Message::Open { flags, mode, rest } => {
-            return M::open(state, new_open(target), flags, mode, &rest, moment);
+            return M::open(state, waits, new_open(target), flags, mode, &rest, moment);
         }
         Message::Mknod { mode, rest } => {
-            return M::mknod(state, side_root(target), mode, &rest, moment);
+            return M::mknod(state, waits, side_root(target), mode, &rest, moment);
         }
-        Message::Write { bytes } => return M::write(state, opened, bytes.as_slice(), moment),
-        Message::Stat { rest } => M::stat(state, side_root(target), &rest, moment, reply),
-        Message::Unlink { rest } => M::unlink(state, side_root(target), &rest, moment),
-        Message::Read { count } => M::read(state, opened, count, moment, reply),
-        Message::Close => M::close(state, opened, moment),
-        Message::Lseek { whence, offset } => M::lseek(state, opened, whence, offset, moment),
-        Message::Fstat => M::fstat(state, opened, moment, reply),
-        Message::List { after } => M::list(state, opened, after.as_slice(), moment, reply),
-        Message::Chmod { mode } => M::chmod(state, opened, mode, moment),
+        Message::Write { bytes } => {
+            return M::write(state, waits, opened, bytes.as_slice(), moment, room);
+        }
+        Message::Stat { rest } => M::stat(state, waits, side_root(target), &rest, moment, reply),
+        Message::Unlink { rest } => M::unlink(state, waits, side_root(target), &rest, moment),
+        Message::Read { count } => M::read(state, waits, opened, count, moment, reply, room),
+        Message::Close => M::close(state, waits, opened, moment),
+        Message::Lseek { whence, offset } => {
+            M::lseek(state, waits, opened, whence, offset, moment)
+        }
+        Message::Fstat => M::fstat(state, waits, opened, moment, reply),
+        Message::List { after } => M::list(state, waits, opened, after.as_slice(), moment, reply),
+        Message::Chmod { mode } => M::chmod(state, waits, opened, mode, moment),
         _ => no_function(),
     };
     Ok(given)

@@ -1,4 +1,4 @@
 -- the resources of one more user at boot
 mod BootLemmas
--- names, inodes and bytes at boot, and once a manager is attached
-mod MountLemmas
+-- what functions leave of pipes, lines, names, inodes and files
+pub mod KeptLemmas

@@ -1,10 +1,16 @@
 -- What the managers keep for the users at boot.
-use Rattle.std.specs.Prelude.{ℕ, ◌+◌, List, [], ◌∷◌, Option, Some}
+use Rattle.std.specs.Prelude.{ℕ, ◌+◌, List, [], ◌∷◌, Option, Some, None, replicate}
 use Rattle.qx_types.specs.Configuration.{Configuration}
+use Rattle.qx_types.specs.declared.limits.TheConstants.Limits.{INODES}
 use Rattle.qx_machine.specs.Parts.{Resources}
 use Rattle.qx_machine.specs.Users.{boot_part}
+use Rattle.qx_resources.specs.State.{Kept}
+
+-- the machine's resources, where there is no pipe
+abbrev pub without_pipes : Resources → Kept
+without_pipes r = record { user = r.user; mounts = r.mounts; inodes = r.inodes; names = r.names; files = r.files; pipes = replicate (INODES + 1) None }
 
 -- for the users from this one on
-abbrev pub boot_resources : Configuration → ℕ → List (List ℕ) → List (Option Resources)
+abbrev pub boot_resources : Configuration → ℕ → List (List ℕ) → List (Option Kept)
 boot_resources config user [] = []
-boot_resources config user (name ∷ names) = Some (boot_part config user).resources ∷ boot_resources config (user + 1) names
+boot_resources config user (name ∷ names) = Some (without_pipes (boot_part config user).resources) ∷ boot_resources config (user + 1) names

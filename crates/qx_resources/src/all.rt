@@ -21,10 +21,10 @@ pub struct AllResources {
 impl Model for AllResources {
     ghost use Rattle.std.specs.Coded.{codes};
     ghost use Rattle.std.specs.Prelude.{List, Option};
-    ghost use Rattle.qx_machine.specs.Parts as parts;
     ghost use Rattle.qx_names.specs.Paths.{names_code};
+    ghost use Rattle.qx_resources.specs.State.{Kept};
 
-    ghost Value = { List (Option parts.Resources) };
+    ghost Value = { List (Option Kept) };
 
     ghost coded = { Prim.hlevel (codes, names_code) };
 
@@ -35,7 +35,6 @@ impl AllResources {
     ghost use Rattle.qx_resources.specs.Lends.{lends_resources};
 
     /// The resources of the users of a configuration, at boot.
-    #[tactic(auto, using(crate::proofs::BootLemmas::boot_resources_steps))]
     pub fn boot(alloc: Global, config: &Config) -> Result<Self, NoMemory>
         ensures { IfOk result (λ all. all ≡ None ∷ boot_resources config.now 1 config.now.users) }
     {

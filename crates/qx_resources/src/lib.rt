@@ -2,9 +2,11 @@
 #![tactic(auto)]
 
 pub mod all;
+mod blocks;
 mod pipe;
 mod ram;
 pub mod resources;
+pub mod state;
 
 pub use all::AllResources;
 pub use resources::{NewMount, Resources};

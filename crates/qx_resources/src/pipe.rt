@@ -1,47 +1,81 @@
+ghost use Rattle.qx_machine.specs.Managers.{pipe_connect, pipe_io};
+
+use crate::blocks;
 use crate::resources::Resources;
+use crate::state::Told;
 use qx_attr::Reply;
 use qx_machine::{NewOpen, Opened};
+use qx_process::Room;
+use qx_queues::Queues;
 use qx_resmgr::{Connect, Done, Io, no_function};
 use qx_types::{Errno, OFlags, Whence};
 use qx_wire::Rest;
 use std::alloc::AllocError;
 
-/// The pipe manager, which has no function yet.
+/// The pipe manager.
 pub struct Pipe;
 
-impl Connect<Resources> for Pipe {
+impl Connect<Resources, Queues, Told> for Pipe {
+    ghost connect = { pipe_connect };
+
     fn open(
-        _state: &mut Resources,
-        _over: Result<NewOpen, Errno>,
-        _flags: OFlags,
-        _mode: u16,
-        _rest: &Rest<'_>,
-        _moment: u64,
+        state: &mut Resources,
+        waits: &mut Queues,
+        over: Result<NewOpen, Errno>,
+        flags: OFlags,
+        mode: u16,
+        rest: &Rest<'_>,
+        moment: u64,
     ) -> Result<Result<Done, Errno>, AllocError> {
-        Ok(no_function())
+        let over = match over {
+            Ok(over) => over,
+            Err(error) => return Ok(Err(error)),
+        };
+        let Resources {
+            user,
+            inodes,
+            names,
+            pipes,
+            ..
+        } = state;
+        let opened = waits.open(
+            pipes, inodes, names, *user, over.root, rest, flags, mode, moment,
+        )?;
+        Ok(opened.map(|block| blocks::opened(over.coid, block)))
     }
 
     fn stat(
-        _state: &mut Resources,
-        _root: Result<u32, Errno>,
-        _rest: &Rest<'_>,
+        state: &mut Resources,
+        _waits: &mut Queues,
+        root: Result<u32, Errno>,
+        rest: &Rest<'_>,
         _moment: u64,
-        _reply: &mut Reply,
+        reply: &mut Reply,
     ) -> Result<Done, Errno> {
-        no_function()
+        blocks::stat(state, root, rest, reply)
     }
 
     fn unlink(
-        _state: &mut Resources,
-        _root: Result<u32, Errno>,
-        _rest: &Rest<'_>,
-        _moment: u64,
+        state: &mut Resources,
+        waits: &mut Queues,
+        root: Result<u32, Errno>,
+        rest: &Rest<'_>,
+        moment: u64,
     ) -> Result<Done, Errno> {
-        no_function()
+        let Resources {
+            user,
+            inodes,
+            names,
+            pipes,
+            ..
+        } = state;
+        waits.unlink(pipes, inodes, names, *user, root?, rest, moment)?;
+        Ok(Done::keeps(0))
     }
 
     fn mknod(
         _state: &mut Resources,
+        _waits: &mut Queues,
         _root: Result<u32, Errno>,
         _mode: u16,
         _rest: &Rest<'_>,
@@ -51,69 +85,105 @@ impl Connect<Resources> for Pipe {
     }
 }
 
-impl Io<Resources> for Pipe {
+impl Io<Resources, Queues, Told> for Pipe {
+    ghost use Rattle.qx_resources.specs.State.{IsReady};
+
+    ghost io = { pipe_io };
+
+    ghost ready = { IsReady };
+
     fn read(
-        _state: &mut Resources,
-        _opened: Result<Opened, Errno>,
-        _count: u32,
-        _moment: u64,
+        state: &mut Resources,
+        waits: &mut Queues,
+        opened: Result<Opened, Errno>,
+        count: u32,
+        moment: u64,
         _reply: &mut Reply,
+        room: &mut Option<Room>,
     ) -> Result<Done, Errno> {
-        no_function()
+        let Resources {
+            user,
+            inodes,
+            pipes,
+            ..
+        } = state;
+        waits.read(pipes, inodes, *user, opened?, count, room, moment)?;
+        Ok(Done::NoReply)
     }
 
     fn write(
-        _state: &mut Resources,
-        _opened: Result<Opened, Errno>,
-        _bytes: &[u8],
-        _moment: u64,
+        state: &mut Resources,
+        waits: &mut Queues,
+        opened: Result<Opened, Errno>,
+        bytes: &[u8],
+        moment: u64,
+        room: &mut Option<Room>,
     ) -> Result<Result<Done, Errno>, AllocError> {
-        Ok(no_function())
+        let opened = match opened {
+            Ok(opened) => opened,
+            Err(error) => return Ok(Err(error)),
+        };
+        let Resources {
+            user,
+            inodes,
+            pipes,
+            ..
+        } = state;
+        let written = waits.write(pipes, inodes, *user, opened, bytes, room, moment);
+        Ok(written.map(|_| Done::NoReply))
     }
 
     fn close(
-        _state: &mut Resources,
-        _opened: Result<Opened, Errno>,
-        _moment: u64,
+        state: &mut Resources,
+        waits: &mut Queues,
+        opened: Result<Opened, Errno>,
+        moment: u64,
     ) -> Result<Done, Errno> {
-        no_function()
+        let opened = opened?;
+        waits.release(&mut state.pipes, &mut state.inodes, opened.number, moment)?;
+        Ok(blocks::closed(opened.coid))
     }
 
     fn lseek(
-        _state: &mut Resources,
-        _opened: Result<Opened, Errno>,
+        state: &mut Resources,
+        _waits: &mut Queues,
+        opened: Result<Opened, Errno>,
         _whence: Whence,
         _offset: i64,
         _moment: u64,
     ) -> Result<Done, Errno> {
-        no_function()
+        let status = state.pipes.seek(&state.inodes, opened?.number)?;
+        Ok(Done::keeps(status))
     }
 
     fn fstat(
-        _state: &mut Resources,
-        _opened: Result<Opened, Errno>,
+        state: &mut Resources,
+        _waits: &mut Queues,
+        opened: Result<Opened, Errno>,
         _moment: u64,
-        _reply: &mut Reply,
+        reply: &mut Reply,
     ) -> Result<Done, Errno> {
-        no_function()
+        blocks::fstat(state, opened, reply)
     }
 
     fn list(
-        _state: &mut Resources,
-        _opened: Result<Opened, Errno>,
-        _after: &[u8],
+        state: &mut Resources,
+        _waits: &mut Queues,
+        opened: Result<Opened, Errno>,
+        after: &[u8],
         _moment: u64,
-        _reply: &mut Reply,
+        reply: &mut Reply,
     ) -> Result<Done, Errno> {
-        no_function()
+        blocks::list(state, opened, after, reply)
     }
 
     fn chmod(
-        _state: &mut Resources,
-        _opened: Result<Opened, Errno>,
-        _mode: u16,
-        _moment: u64,
+        state: &mut Resources,
+        _waits: &mut Queues,
+        opened: Result<Opened, Errno>,
+        mode: u16,
+        moment: u64,
     ) -> Result<Done, Errno> {
-        no_function()
+        blocks::chmod(state, opened, mode, moment)
     }
 }

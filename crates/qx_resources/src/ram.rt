@@ -1,9 +1,13 @@
 ghost use Rattle.std.specs.Prelude.{true};
 ghost use Rattle.qx_machine.specs.Managers.{ram_connect, ram_io};
 
+use crate::blocks;
 use crate::resources::Resources;
+use crate::state::Told;
 use qx_attr::Reply;
-use qx_machine::{Effect, NewOpen, Opened};
+use qx_machine::{NewOpen, Opened};
+use qx_process::Room;
+use qx_queues::Queues;
 use qx_resmgr::{Connect, Done, Io};
 use qx_types::{Errno, OFlags, Whence};
 use qx_wire::Rest;
@@ -12,11 +16,12 @@ use std::alloc::AllocError;
 /// The RAM manager.
 pub struct Ram;
 
-impl Connect<Resources> for Ram {
+impl Connect<Resources, Queues, Told> for Ram {
     ghost connect = { ram_connect };
 
     fn open(
         state: &mut Resources,
+        _waits: &mut Queues,
         over: Result<NewOpen, Errno>,
         flags: OFlags,
         mode: u16,
@@ -30,48 +35,46 @@ impl Connect<Resources> for Ram {
         let Resources {
             user,
             inodes,
+            names,
             files,
             ..
         } = state;
-        let opened = files.connect(inodes, *user, over.root, rest, flags, mode, moment)?;
-        match opened {
-            Ok(number) => Ok(Ok(Done {
-                status: over.coid.0 as u64,
-                effect: Effect::Opens {
-                    coid: over.coid,
-                    block: number,
-                },
-            })),
-            Err(error) => Ok(Err(error)),
-        }
+        let opened = files.connect(inodes, names, *user, over.root, rest, flags, mode, moment)?;
+        Ok(opened.map(|block| blocks::opened(over.coid, block)))
     }
 
     fn stat(
         state: &mut Resources,
+        _waits: &mut Queues,
         root: Result<u32, Errno>,
         rest: &Rest<'_>,
         _moment: u64,
         reply: &mut Reply,
     ) -> Result<Done, Errno> {
-        let status = state.files.stat(&state.inodes, state.user, root?, rest)?;
-        reply.push(status.as_slice());
-        Ok(Done::keeps(0))
+        blocks::stat(state, root, rest, reply)
     }
 
     fn unlink(
         state: &mut Resources,
+        _waits: &mut Queues,
         root: Result<u32, Errno>,
         rest: &Rest<'_>,
         moment: u64,
     ) -> Result<Done, Errno> {
-        let status = state
-            .files
-            .unlink(&mut state.inodes, state.user, root?, rest, moment)?;
+        let Resources {
+            user,
+            inodes,
+            names,
+            files,
+            ..
+        } = state;
+        let status = files.unlink(inodes, names, *user, root?, rest, moment)?;
         Ok(Done::keeps(status))
     }
 
     fn mknod(
         state: &mut Resources,
+        _waits: &mut Queues,
         root: Result<u32, Errno>,
         mode: u16,
         rest: &Rest<'_>,
@@ -81,24 +84,30 @@ impl Connect<Resources> for Ram {
             Ok(root) => root,
             Err(error) => return Ok(Err(error)),
         };
-        let made = state
-            .files
-            .mkdir(&mut state.inodes, state.user, root, rest, mode, moment)?;
-        Ok(made.map(Done::keeps))
+        let Resources {
+            user,
+            inodes,
+            names,
+            ..
+        } = state;
+        let made = qx_iofunc::mkdir(inodes, names, *user, root, rest, mode, moment)?;
+        Ok(made.map(|_| Done::keeps(0)))
     }
 }
 
-impl Io<Resources> for Ram {
+impl Io<Resources, Queues, Told> for Ram {
     ghost io = { ram_io };
 
     ghost wants = { true };
 
     fn read(
         state: &mut Resources,
+        _waits: &mut Queues,
         opened: Result<Opened, Errno>,
         count: u32,
         _moment: u64,
         reply: &mut Reply,
+        _room: &mut Option<Room>,
     ) -> Result<Done, Errno> {
         let bytes = state.files.read(&mut state.inodes, opened?.number, count)?;
         reply.push(bytes);
@@ -107,9 +116,11 @@ impl Io<Resources> for Ram {
 
     fn write(
         state: &mut Resources,
+        _waits: &mut Queues,
         opened: Result<Opened, Errno>,
         bytes: &[u8],
         moment: u64,
+        _room: &mut Option<Room>,
     ) -> Result<Result<Done, Errno>, AllocError> {
         let opened = match opened {
             Ok(opened) => opened,
@@ -123,19 +134,18 @@ impl Io<Resources> for Ram {
 
     fn close(
         state: &mut Resources,
+        _waits: &mut Queues,
         opened: Result<Opened, Errno>,
         _moment: u64,
     ) -> Result<Done, Errno> {
         let opened = opened?;
-        let status = state.files.release(&mut state.inodes, opened.number)?;
-        Ok(Done {
-            status,
-            effect: Effect::Closes(opened.coid),
-        })
+        state.files.release(&mut state.inodes, opened.number)?;
+        Ok(blocks::closed(opened.coid))
     }
 
     fn lseek(
         state: &mut Resources,
+        _waits: &mut Queues,
         opened: Result<Opened, Errno>,
         whence: Whence,
         offset: i64,
@@ -149,37 +159,32 @@ impl Io<Resources> for Ram {
 
     fn fstat(
         state: &mut Resources,
+        _waits: &mut Queues,
         opened: Result<Opened, Errno>,
         _moment: u64,
         reply: &mut Reply,
     ) -> Result<Done, Errno> {
-        let status = qx_iofunc::fstat(&state.inodes, opened?.number)?;
-        reply.push(status.as_slice());
-        Ok(Done::keeps(0))
+        blocks::fstat(state, opened, reply)
     }
 
     fn list(
         state: &mut Resources,
+        _waits: &mut Queues,
         opened: Result<Opened, Errno>,
         after: &[u8],
         _moment: u64,
         reply: &mut Reply,
     ) -> Result<Done, Errno> {
-        let count = state
-            .files
-            .list(&state.inodes, opened?.number, after, reply)?;
-        Ok(Done::keeps(count))
+        blocks::list(state, opened, after, reply)
     }
 
     fn chmod(
         state: &mut Resources,
+        _waits: &mut Queues,
         opened: Result<Opened, Errno>,
         mode: u16,
         moment: u64,
     ) -> Result<Done, Errno> {
-        state
-            .files
-            .chmod(&mut state.inodes, opened?.number, moment, mode)?;
-        Ok(Done::keeps(0))
+        blocks::chmod(state, opened, mode, moment)
     }
 }

@@ -1,28 +1,36 @@
 //! What the managers keep for a user, and what messages do to it.
 
-ghost use Rattle.std.specs.Prelude.{◌≡◌, ◌<◌, IsFalse, IsOk, IfOk, OnErr, OnOk};
+ghost use Rattle.std.specs.Prelude.{◌≡◌, ◌<◌, false, true, IsFalse, IsOk, IsSome, IfOk, MatchResult, OnErr, OnOk};
 ghost use Rattle.qx_machine.specs.Attributes as attributes;
 ghost use Rattle.qx_attr.specs.Counts.{numbered};
 ghost use Rattle.qx_machine.specs.Inodes.{inode_number, new_inode};
 ghost use Rattle.qx_machine.specs.Mounting as mounting;
-ghost use Rattle.qx_machine.specs.Mounting.{with_manager_root, with_mount};
+ghost use Rattle.qx_machine.specs.Managers.{with_pipes};
 ghost use Rattle.qx_machine.specs.Performing as performing;
 ghost use Rattle.qx_machine.specs.Performing.{deed_of};
+ghost use Rattle.qx_machine.specs.PipeManager.{cancel_call};
 ghost use Rattle.qx_machine.specs.Users.{boot_part};
-ghost use Rattle.qx_names.specs.Paths.{IsUnnamed};
-ghost use Rattle.qx_resmgr.specs.Deeds.{deed_with};
+ghost use Rattle.qx_queues.specs.Piped.{thread_of};
+ghost use Rattle.qx_queues.specs.Queues.{IsReceived, Queues};
+ghost use Rattle.qx_resmgr.specs.Deeds.{Did, HasRoomAfter};
+ghost use Rattle.qx_resources.specs.Boot.{without_pipes};
 ghost use Rattle.qx_resources.specs.Memory.{IsInRanges, wants_memory};
-ghost use Rattle.qx_resources.specs.Mounts.{CanMount};
+ghost use Rattle.qx_resources.specs.Mounts.{CanMount, with_new_mount};
+ghost use Rattle.qx_resources.specs.State.{Fits, Left, state, told};
 
 use crate::pipe::Pipe;
 use crate::ram::Ram;
+use crate::state::Told;
 use qx_attr::{Inodes, Reply};
-use qx_machine::{Attribute, Kind, Opened, Over, Target};
+use qx_machine::{Attribute, Caller, Kind, Opened, Over, Target};
+use qx_names::Names;
 use qx_paths::{MountFault, Mounts, Path, read_path};
-use qx_process::Process;
+use qx_pipes::Pipes;
+use qx_process::{Process, Room};
+use qx_queues::Queues;
 use qx_ram::Files;
 use qx_resmgr::{Done, serve};
-use qx_types::{Config, Errno, Manager, NoMemory, User};
+use qx_types::{Config, Errno, Manager, NoMemory, Thread, User};
 use qx_wire::Meaning;
 use std::alloc::{AllocError, Global};
 use std::marker::Model;
@@ -30,28 +38,31 @@ use std::marker::Model;
 /// The root of a user's top.
 const TOP_INODE: u32 = 1;
 
-/// What the managers keep for a user: where they are attached, inodes and open control blocks, and files.
+/// What the managers keep for a user: where they are attached, inodes and open control blocks, the names in all mounts, files
+/// and pipes.
 #[derive(Drop)]
 pub struct Resources {
     pub(crate) user: User,
     mounts: Mounts,
     pub(crate) inodes: Inodes,
+    pub(crate) names: Names,
     pub(crate) files: Files,
+    pub(crate) pipes: Pipes,
 }
 
 impl Model for Resources {
     ghost use Rattle.std.specs.Coded.{codes};
-    ghost use Rattle.qx_machine.specs.Parts as parts;
     ghost use Rattle.qx_names.specs.Paths.{names_code};
     ghost use Rattle.qx_ram.specs.Fits.{Fits};
+    ghost use Rattle.qx_resources.specs.State.{Kept};
 
-    ghost Value = { parts.Resources };
+    ghost Value = { Kept };
 
     ghost coded = { Prim.hlevel (codes, names_code) };
 
-    ghost view = { λ r. record { user = r.user.0; mounts = r.mounts; inodes = r.inodes.inodes; files = r.files } };
+    ghost view = { λ r. record { user = r.user.0; mounts = r.mounts; inodes = r.inodes.inodes; names = r.names; files = r.files; pipes = r.pipes } };
 
-    ghost invariant = { λ r. Fits r.inodes.inodes r.files };
+    ghost invariant = { λ r. Fits r.inodes.inodes r.names r.files };
 }
 
 /// A mount that is judged and not made yet: its path, its manager, and the inode that its root will have.
@@ -72,20 +83,21 @@ impl<'a> Model for NewMount<'a> {
 
 impl Resources {
     /// A user's resources at boot.
-    #[tactic(auto, unfolding(qx_machine::specs::Users::boot_part))]
     pub fn boot(alloc: Global, config: &Config, user: User) -> Result<Self, NoMemory>
-        ensures { IfOk result (λ resources. resources ≡ (boot_part config.now user.0).resources) }
+        ensures { IfOk result (λ resources. resources ≡ without_pipes (boot_part config.now user.0).resources) }
     {
         let mut inodes = Inodes::new(alloc)?;
         inodes.reserve(1)?;
         make_root(&mut inodes, user);
-        let mut files = Files::new(alloc)?;
-        files.add_root(TOP_INODE)?;
+        let mut names = Names::new(alloc);
+        names.add_root(TOP_INODE)?;
         Ok(Resources {
             user,
             mounts: Mounts::boot(alloc, config.name_bytes(user), TOP_INODE)?,
             inodes,
-            files,
+            names,
+            files: Files::new(alloc)?,
+            pipes: Pipes::new(alloc)?,
         })
     }
 
@@ -106,7 +118,7 @@ impl Resources {
         manager: Manager,
     ) -> Result<NewMount<'a>, Errno>
         ensures can { IfOk result (λ mount. CanMount self.now mount) }
-        ensures mount { result ≡ mounting.new_mount name.now path.now manager self.now }
+        ensures mount { (queues : Queues) → result ≡ mounting.new_mount name.now path.now manager (told self.now queues) }
     {
         let path = read_path(path)?;
         if !path.is_under(name) {
@@ -126,7 +138,7 @@ impl Resources {
     /// Attaches a manager, with a root of its own.
     pub fn mount(&mut self, alloc: Global, mount: &NewMount<'_>) -> Result<(), NoMemory>
         requires can { CanMount self.old mount.now }
-        ensures ok { OnOk result (self.new ≡ with_mount mount.now self.old) }
+        ensures ok { OnOk result (self.new ≡ with_new_mount mount.now self.old) }
         ensures err { OnErr result (self.new ≡ self.old) }
     {
         self.inodes.reserve(1)?;
@@ -138,7 +150,7 @@ impl Resources {
             Err(MountFault::NoMemory) => return Err(NoMemory),
             Err(MountFault::Refused(_)) => unreachable!(),
         }
-        if name_root(&mut self.files, mount.manager, mount.root).is_err() {
+        if self.names.add_root(mount.root).is_err() {
             self.mounts.take_last();
             return Err(NoMemory);
         }
@@ -147,20 +159,27 @@ impl Resources {
     }
 
     /// Does what bytes of a process ask its manager for at a moment, by what they mean; the bytes of the reply are then in
-    /// `reply`. Only an open, a mknod and a write to the RAM manager may want memory, and only where they would be done.
+    /// `reply`, and a call that waits took `room` along. Only an open, a mknod and a write to the RAM manager may want memory,
+    /// and only where they would be done.
     pub fn perform(
         &mut self,
+        queues: &mut Queues,
         process: &Process,
+        caller: Caller,
         target: Target,
         meaning: Meaning<'_>,
         moment: u64,
         reply: &mut Reply,
+        room: &mut Option<Room>,
     ) -> Result<Result<Done, Errno>, AllocError>
         requires ranges { IsInRanges meaning }
-        ensures ok { IfOk result (λ given. deed_with self.new reply.new given ≡ deed_of self.old process.now target moment meaning.entry) }
-        ensures kept { IfOk result (λ given. OnErr given (self.new ≡ self.old)) }
-        ensures err { OnErr result (self.new ≡ self.old) }
-        ensures wanted { OnErr result (IsOk (deed_of self.old process.now target moment meaning.entry)) }
+        requires fits { Fits self.old queues.old }
+        requires received { IsReceived queues.old (thread_of self.old.user caller) }
+        requires room { IsSome room.old }
+        ensures did { IfOk result (λ given. Did state self.old queues.old self.new queues.new reply.new given (deed_of (told self.old queues.old) process.now caller target moment meaning.entry)) }
+        ensures room { IfOk result (λ given. HasRoomAfter room.new given) }
+        ensures err { OnErr result ((self.new ≡ self.old) × (queues.new ≡ queues.old) × (room.new ≡ room.old)) }
+        ensures wanted { OnErr result (IsOk (deed_of (told self.old queues.old) process.now caller target moment meaning.entry)) }
         ensures sure { IsFalse (wants_memory target.manager meaning.entry) → IsOk result }
     {
         let message = match meaning {
@@ -169,23 +188,27 @@ impl Resources {
             Meaning::Malformed => return Ok(Err(Errno::EINVAL)),
         };
         reply.clear();
-        let opened = opened_by(process, target);
+        let opened = opened_by(process, caller, target);
         match target.manager {
-            Manager::Ram => serve::<Ram, Resources>(self, target, opened, message, moment, reply),
-            Manager::Pipe => serve::<Pipe, Resources>(self, target, opened, message, moment, reply),
+            Manager::Ram => serve::<Ram, Resources, Queues, Told>(
+                self, queues, target, opened, message, moment, reply, room,
+            ),
+            Manager::Pipe => serve::<Pipe, Resources, Queues, Told>(
+                self, queues, target, opened, message, moment, reply, room,
+            ),
         }
     }
-}
 
-/// Names the root of a manager's mount, to which no path led. Where memory is short, nothing changes.
-fn name_root(files: &mut Files, manager: Manager, root: u32) -> Result<(), AllocError>
-    requires new { IsUnnamed files.old.names root }
-    ensures ok { OnOk result (files.new ≡ with_manager_root manager root files.old) }
-    ensures err { OnErr result (files.new ≡ files.old) }
-{
-    match manager {
-        Manager::Ram => files.add_root(root),
-        Manager::Pipe => Ok(()),
+    /// A thread's call is asked to unblock: if it waits in a pipe, it is answered EINTR, unless it is served as the pipe is
+    /// cleaned before, and others may be served then (Writing a Resource Manager: the unblock pulse). Tells whether it waited.
+    pub fn cancel(&mut self, queues: &mut Queues, thread: Thread, call: u64, moment: u64) -> bool
+        requires user { self.old.user ≡ thread.proc.user.0 }
+        requires fits { Fits self.old queues.old }
+        ensures { MatchResult (cancel_call (told self.old queues.old).inodes (told self.old queues.old).pipes thread.proc.num thread.tid call moment)
+            (λ given. (result ≡ true) × (told self.new queues.new ≡ with_pipes (told self.old queues.old) given) × Left self.old queues.old self.new queues.new given.answers × Fits self.new queues.new)
+            (λ outcome. (result ≡ false) × (self.new ≡ self.old) × (queues.new ≡ queues.old)) }
+    {
+        queues.cancel(&mut self.pipes, &mut self.inodes, thread, call, moment)
     }
 }
 
@@ -202,8 +225,8 @@ fn make_root(inodes: &mut Inodes, user: User)
 }
 
 /// What the connection of a message has open.
-fn opened_by(process: &Process, target: Target) -> Result<Opened, Errno>
-    ensures { result ≡ performing.opened_by process.now target }
+fn opened_by(process: &Process, caller: Caller, target: Target) -> Result<Opened, Errno>
+    ensures { result ≡ performing.opened_by process.now caller target }
 {
     let Over::Existing(coid) = target.over else {
         return Err(Errno::EINVAL);
@@ -215,7 +238,11 @@ fn opened_by(process: &Process, target: Target) -> Result<Opened, Errno>
         return Err(Errno::EBADF);
     }
     match connection.block {
-        Some(number) => Ok(Opened { coid, number }),
+        Some(number) => Ok(Opened {
+            caller,
+            coid,
+            number,
+        }),
         None => Err(Errno::EBADF),
     }
 }

@@ -1,5 +1,5 @@
 -- A client's step, by what the channel makes of it.
-use Rattle.std.proofs.Common.{◌≡◌, inl, inr, ℕ, List, false, Option, Some, None, Result, Ok, Err, slice_set, refl, ap}
+use Rattle.std.proofs.Common.{◌≡◌, inl, inr, ℕ, List, Option, Some, None, Result, Ok, Err, slice_set, refl, ap}
 use Rattle.std.specs.Prelude.{IfOk, IsErr, IsTrue, option_map}
 use Rattle.std.proofs.lemmas.Bool.{cases_Bool}
 use Rattle.qx_types.specs.Configuration.{Configuration}
@@ -17,20 +17,19 @@ use Rattle.qx_machine.specs.declared.rows.Sent.{Sent as Message}
 use Rattle.qx_machine.specs.declared.rows.State.{State}
 use Rattle.qx_machine.specs.declared.rows.State.TheVariants as state
 use Rattle.qx_machine.specs.declared.rows.ThreadRow.{ThreadRow}
-use Rattle.qx_machine.specs.Clients.{answer_in, interrupt_in, is_prio, leave, outcome_of, spawn_number, target_by}
+use Rattle.qx_machine.specs.Clients.{answer_in, is_prio, outcome_of, spawn_number, target_by}
 use Rattle.qx_machine.specs.Laws.{is_refusal}
 use Rattle.qx_machine.specs.Machine.{World, step}
-use Rattle.qx_machine.specs.Parts.{Part, Resources, thread_of}
+use Rattle.qx_machine.specs.Parts.{Resources, thread_of}
 use Rattle.qx_machine.specs.Processes.{Process}
 use Rattle.qx_machine.specs.Rows.{row_at}
 use Rattle.qx_machine.specs.Users.{client, settle}
 use Rattle.qx_process.proofs.RowLemmas.{set-row, with_row-none}
-use Rattle.qx_process.specs.Reads.{is_blocked}
 use Rattle.qx_procs.specs.Calls.{after_or, spawn_outcome, spawned, with_prio}
-use Rattle.qx_chan.specs.Calls.{answer_of}
+use Rattle.qx_chan.specs.Calls.{answer_of, queued_in}
 use Rattle.qx_chan.specs.Channel.{Channel, after_asking, after_ranking, after_send, after_spawn, after_taking, after_withdrawing}
 use Rattle.qx_chan.specs.Users.{prio_outcome_in, spawn_number_in, thread_row, IsReady}
-use Rattle.qx_steps.specs.Parts.{parts_of, world_of, SameUsers}
+use Rattle.qx_steps.specs.Parts.{parts_of, told_world, SameUsers}
 use Rattle.qx_steps.specs.Steps.{sent_to, target_in}
 use Rattle.qx_chan.proofs.RowReads.{option_cases}
 use Rattle.qx_steps.proofs.PartsLemmas.{part-none, part-there, parts-set_processes, result_cases, row_at-parts}
@@ -51,7 +50,7 @@ record There (c : Channel) (rs : List (Option Resources)) (thread : Thread) (row
 
 module _ (config : Configuration) (c : Channel) (rs : List (Option Resources)) (hands : List (Option Held)) (same : SameUsers c.users rs) where
   abbrev w : World
-  w = world_of config c rs hands
+  w = told_world config c rs hands
 
   -- a user's row with other processes
   changed : (user : ℕ) (ps after : List (Option Process)) (there : (r : Resources) × ((row_at rs user ≡ Some r) × (row_at w.parts user ≡ Some (record { processes = ps; resources = r }))))
@@ -69,7 +68,7 @@ module _ (config : Configuration) (c : Channel) (rs : List (Option Resources)) (
   -- ---- spawn
 
   pub spawn-step : (user : User) (threads : ℕ) (prio : Prio) → step w (Spawn user threads prio)
-      ≡ record { world = world_of config (after_spawn c user.0 threads prio.0) rs hands; outcome = spawn_outcome (spawn_number_in threads prio.0 (row_at c.users user.0)) }
+      ≡ record { world = told_world config (after_spawn c user.0 threads prio.0) rs hands; outcome = spawn_outcome (spawn_number_in threads prio.0 (row_at c.users user.0)) }
   unfolding step client settle
   spawn-step user threads prio = elim (option_cases (row_at c.users user.0)) [
     | inl none ↦ rw (part-none c.users rs user.0 none, with_row-none c.users user.0 (λ processes. spawned processes threads prio.0 (spawn_number processes threads prio.0)) none, none) refl
@@ -84,7 +83,7 @@ module _ (config : Configuration) (c : Channel) (rs : List (Option Resources)) (
   -- ---- take_reply and set_prio
 
   pub take_reply-step : (thread : Thread) → step w (TakeReply thread)
-      ≡ record { world = world_of config (after_taking c thread) rs hands; outcome = taken_outcome (answer_of (thread_row c.users thread)) }
+      ≡ record { world = told_world config (after_taking c thread) rs hands; outcome = taken_outcome (answer_of (thread_row c.users thread)) }
   unfolding step client settle
   take_reply-step thread = elim (option_cases (row_at c.users thread.proc.user.0)) [
     | inl none ↦ rw (part-none c.users rs thread.proc.user.0 none, none) refl
@@ -101,7 +100,7 @@ module _ (config : Configuration) (c : Channel) (rs : List (Option Resources)) (
   ]
 
   pub set_prio-step : (thread : Thread) (prio : Prio) → step w (SetPrio thread prio)
-      ≡ record { world = world_of config (after_ranking c thread prio.0) rs hands; outcome = prio_outcome_in thread.proc.num thread.tid prio.0 (row_at c.users thread.proc.user.0) }
+      ≡ record { world = told_world config (after_ranking c thread prio.0) rs hands; outcome = prio_outcome_in thread.proc.num thread.tid prio.0 (row_at c.users thread.proc.user.0) }
   unfolding step client settle
   set_prio-step thread prio = elim (option_cases (row_at c.users thread.proc.user.0)) [
     | inl none ↦ rw (part-none c.users rs thread.proc.user.0 none, with_row-none c.users thread.proc.user.0 (λ processes. after_or processes (with_prio processes thread.proc.num thread.tid prio.0)) none, none) refl
@@ -139,7 +138,7 @@ module _ (config : Configuration) (c : Channel) (rs : List (Option Resources)) (
   ]
 
   pub call-sent : (thread : Thread) (request : Request) (addressed : Addressed) → target_in w thread request ≡ Ok addressed
-      → step w (Call thread request) ≡ record { world = world_of config (after_send c thread (sent_to addressed request)) rs hands; outcome = Sent }
+      → step w (Call thread request) ≡ record { world = told_world config (after_send c thread (sent_to addressed request)) rs hands; outcome = Sent }
   unfolding step client settle
   call-sent thread request addressed is = elim (option_cases (row_at c.users thread.proc.user.0)) [
     | inl none ↦ let clash : Err WrongState ≡ Ok addressed = rw (part-none c.users rs thread.proc.user.0 none) at is in absurd (cc)
@@ -161,41 +160,49 @@ module _ (config : Configuration) (c : Channel) (rs : List (Option Resources)) (
         rw (there.1.1, its, set-row w.parts thread.proc.user.0 (record { processes = ps.0; resources = there.0 }) there.1.1) refl
   ]
 
-  interrupt-left : (thread : Thread) (row : ThreadRow) → thread_row c.users thread ≡ Some row → ((part : Part) → interrupt_in part thread row.calls row.state ≡ leave part)
-      → step w (Interrupt thread) ≡ record { world = w; outcome = Done }
-  unfolding step client settle
-  interrupt-left thread row is left =
-      let it = there_by thread row is in
-      rw (it.part, it.its, left (record { processes = it.ps; resources = it.r }), set-row w.parts thread.proc.user.0 (record { processes = it.ps; resources = it.r }) it.part) refl
+  module _ (thread : Thread) (row : ThreadRow) (it : There c rs thread row) where
+    -- a thread that waits for nothing is not asked
+    unasked-ready : row.state ≡ state.Ready → step w (Interrupt thread) ≡ record { world = told_world config (after_asking c thread) rs hands; outcome = Done }
+    unfolding step client settle
+    unasked-ready is = rw (it.part, it.user, it.its, is, set-row w.parts thread.proc.user.0 (record { processes = it.ps; resources = it.r }) it.part) refl
 
-  pub interrupt-idle : (thread : Thread) (row : ThreadRow) → thread_row c.users thread ≡ Some row → is_blocked row.state ≡ false → step w (Interrupt thread) ≡ record { world = w; outcome = Done }
-  interrupt-idle thread row there is = interrupt-left thread row there (λ part. by_state part row.state is)
-    where
-      by_state : (part : Part) (given : State) → is_blocked given ≡ false → interrupt_in part thread row.calls given ≡ leave part
-      by_state part state.Ready is = refl
-      by_state part (state.Queued sent) is = cc
-      by_state part (state.Taken sent) is = cc
-      by_state part (state.Answered answer) is = refl
+    unasked-answered : (answer : Answer) → row.state ≡ state.Answered answer → step w (Interrupt thread) ≡ record { world = told_world config (after_asking c thread) rs hands; outcome = Done }
+    unfolding step client settle
+    unasked-answered answer is = rw (it.part, it.user, it.its, is, set-row w.parts thread.proc.user.0 (record { processes = it.ps; resources = it.r }) it.part) refl
 
   module _ (thread : Thread) (row : ThreadRow) (sent : Message) (it : There c rs thread row) where
-    dismisses : row.state ≡ state.Queued sent → step w (Interrupt thread) ≡ record { world = world_of config (after_withdrawing c thread) rs hands; outcome = Done }
+    dismisses : row.state ≡ state.Queued sent → step w (Interrupt thread) ≡ record { world = told_world config (after_withdrawing c thread) rs hands; outcome = Done }
     unfolding step client settle
     dismisses is = rw (it.part, it.user, it.its, is, it.user, parts-set_processes c.users rs thread.proc.user.0 _ it.r it.resources) refl
 
-    asks : row.state ≡ state.Taken sent → step w (Interrupt thread) ≡ record { world = world_of config (after_asking c thread) rs hands; outcome = Done }
+    asks : row.state ≡ state.Taken sent → step w (Interrupt thread) ≡ record { world = told_world config (after_asking c thread) rs hands; outcome = Done }
     unfolding step client settle
     asks is = elim (cases_Bool sent.is_asked) [
       | inl asked ↦ rw (it.part, it.user, it.its, is, asked, set-row w.parts thread.proc.user.0 (record { processes = it.ps; resources = it.r }) it.part) refl
       | inr unasked ↦ rw (it.part, it.user, it.its, is, unasked, it.user, parts-set_processes c.users rs thread.proc.user.0 _ it.r it.resources) refl
     ]
 
+    asks_waiting : row.state ≡ state.Waiting sent → step w (Interrupt thread) ≡ record { world = told_world config (after_asking c thread) rs hands; outcome = Done }
+    unfolding step client settle
+    asks_waiting is = elim (cases_Bool sent.is_asked) [
+      | inl asked ↦ rw (it.part, it.user, it.its, is, asked, set-row w.parts thread.proc.user.0 (record { processes = it.ps; resources = it.r }) it.part) refl
+      | inr unasked ↦ rw (it.part, it.user, it.its, is, unasked, it.user, parts-set_processes c.users rs thread.proc.user.0 _ it.r it.resources) refl
+    ]
+
   pub interrupt-queued : (thread : Thread) (row : ThreadRow) (sent : Message) → thread_row c.users thread ≡ Some row → row.state ≡ state.Queued sent
-      → step w (Interrupt thread) ≡ record { world = world_of config (after_withdrawing c thread) rs hands; outcome = Done }
+      → step w (Interrupt thread) ≡ record { world = told_world config (after_withdrawing c thread) rs hands; outcome = Done }
   interrupt-queued thread row sent there is = dismisses thread row sent (there_by thread row there) is
 
-  pub interrupt-taken : (thread : Thread) (row : ThreadRow) (sent : Message) → thread_row c.users thread ≡ Some row → row.state ≡ state.Taken sent
-      → step w (Interrupt thread) ≡ record { world = world_of config (after_asking c thread) rs hands; outcome = Done }
-  interrupt-taken thread row sent there is = asks thread row sent (there_by thread row there) is
+  pub interrupt-unqueued : (thread : Thread) (row : ThreadRow) → thread_row c.users thread ≡ Some row → queued_in row.state ≡ None
+      → step w (Interrupt thread) ≡ record { world = told_world config (after_asking c thread) rs hands; outcome = Done }
+  interrupt-unqueued thread row there unqueued = by_state row.state refl unqueued
+    where
+      by_state : (given : State) → row.state ≡ given → queued_in given ≡ None → step w (Interrupt thread) ≡ record { world = told_world config (after_asking c thread) rs hands; outcome = Done }
+      by_state state.Ready same is = unasked-ready thread row (there_by thread row there) same
+      by_state (state.Queued sent) same is = absurd (cc)
+      by_state (state.Taken sent) same is = asks thread row sent (there_by thread row there) same
+      by_state (state.Waiting sent) same is = asks_waiting thread row sent (there_by thread row there) same
+      by_state (state.Answered answer) same is = unasked-answered thread row (there_by thread row there) answer same
 
 -- a spawn that is refused
 pub spawn-refused : (number : Result ℕ Outcome) → IsTrue (is_refusal (spawn_outcome number)) → IsErr number

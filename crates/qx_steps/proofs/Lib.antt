@@ -1,10 +1,14 @@
+-- clauses of a result
+pub mod ResultLemmas
 -- the rows of users, put together from two columns
 pub mod PartsLemmas
 -- a client's step, by what the channel makes of it
 pub mod ClientLemmas
 -- a step that mounts
 pub mod MountLemmas
--- a worker's step, by what channel and resources make of it
+-- what is done for one user, and what the others' resources are then
+pub mod ServeLemmas
+-- a worker's step
 pub mod WorkerLemmas
--- who has processes has resources still
-pub mod SameLemmas
+-- resources are still those of the channel's users
+pub mod StillLemmas

@@ -1,6 +1,6 @@
 -- A step that mounts: how it is judged, and what it comes to.
 use Rattle.std.proofs.Common.{◌≡◌, inl, inr, ℕ, zero, suc, List, [], ◌∷◌, true, false, Option, Some, None, Result, Ok, Err, refl, sym, ap, ◌∙◌}
-use Rattle.std.specs.Prelude.{IfOk, slice_set}
+use Rattle.std.specs.Prelude.{IfOk, option_map, slice_set}
 use Rattle.std.proofs.lemmas.Bool.{false≢true}
 use Rattle.qx_types.specs.Configuration.{Configuration, name_bytes}
 use Rattle.qx_types.specs.declared.errno.Errno.{Errno}
@@ -22,21 +22,16 @@ use Rattle.qx_machine.specs.Rows.{row_at, with_row}
 use Rattle.qx_machine.specs.Users.{client, settle}
 use Rattle.qx_machine.proofs.Places.{set-row_at}
 use Rattle.qx_resources.specs.Mounts as mounts
-use Rattle.qx_chan.specs.Channel.{Channel}
-use Rattle.qx_steps.specs.Parts.{part_of, parts_of, world_of}
+use Rattle.qx_resources.specs.Mounts.{with_new_mount}
+use Rattle.qx_resources.specs.State.{told, Kept}
+use Rattle.qx_chan.specs.Channel.{Channel, lists}
+use Rattle.qx_steps.specs.Parts.{part_of, parts_of, told_all, world_of}
 use Rattle.qx_steps.specs.Reads.{is_thread_ready, process_in, thread_row}
-use Rattle.qx_steps.specs.Steps.{after_mount, mount_from, mount_in, CanMount}
+use Rattle.qx_steps.specs.Steps.{after_mount, mount_from, mount_in, CanMount, IsMountable}
 use Rattle.qx_chan.proofs.RowReads.{option_cases}
-use Rattle.qx_steps.proofs.PartsLemmas.{row_at-parts}
+use Rattle.qx_steps.proofs.PartsLemmas.{mapped-put, row_at-parts, told-none, told-there}
 
 -- ---- how it is judged
-
-unready : (config : Configuration) (thread : Thread) (path : List ℕ) (manager : Manager) (row : Option Part) → is_thread_ready (thread_of thread.tid (process_in thread.proc.num row)) ≡ false → mount_from config thread path manager row ≡ Err WrongState
-unready config thread path manager None not = refl
-unready config thread path manager (Some part) not = elim (option_cases (thread_of thread.tid (row_at part.processes thread.proc.num))) [
-  | inl none ↦ rw none refl
-  | inr row ↦ let busy : is_ready row.0.state ≡ false = rw row.1 at not in rw (row.1, busy) refl
-]
 
 ready : (config : Configuration) (thread : Thread) (path : List ℕ) (manager : Manager) (part : Part) → is_thread_ready (thread_of thread.tid (row_at part.processes thread.proc.num)) ≡ true
     → mount_from config thread path manager (Some part) ≡ or_refused (new_mount (name_bytes config thread.proc.user.0) path manager part.resources)
@@ -44,9 +39,6 @@ ready config thread path manager part is = elim (option_cases (thread_of thread.
   | inl none ↦ let clash : false ≡ true = rw none at is in absurd (false≢true clash)
   | inr row ↦ let free : is_ready row.0.state ≡ true = rw row.1 at is in rw (row.1, free) refl
 ]
-
-pub unready-mount : (w : World) (thread : Thread) (path : List ℕ) (manager : Manager) → is_thread_ready (thread_row w.parts thread) ≡ false → mount_in w thread path manager ≡ Err WrongState
-unready-mount w thread path manager not = unready w.config thread path manager (row_at w.parts thread.proc.user.0) not
 
 -- a user without resources has no rows
 pub nobody-mount : (w : World) (us : List (Option (List (Option Process)))) (rs : List (Option Resources)) (thread : Thread) (path : List ℕ) (manager : Manager) → w.parts ≡ parts_of us rs → row_at rs thread.proc.user.0 ≡ None → mount_in w thread path manager ≡ Err WrongState
@@ -57,12 +49,12 @@ nobody-mount w us rs thread path manager is none =
     ])
 
 ready_part : (config : Configuration) (thread : Thread) (path : List ℕ) (manager : Manager) (ps : Option (List (Option Process))) (r : Resources) → is_thread_ready (thread_of thread.tid (process_in thread.proc.num (part_of ps (Some r)))) ≡ true
-    → (mount_from config thread path manager (part_of ps (Some r)) ≡ or_refused (new_mount (name_bytes config thread.proc.user.0) path manager r)) × ((mount : MountPoint) → mounts.CanMount r mount → CanMount (part_of ps (Some r)) mount)
+    → (mount_from config thread path manager (part_of ps (Some r)) ≡ or_refused (new_mount (name_bytes config thread.proc.user.0) path manager r)) × ((mount : MountPoint) → IsMountable r mount → CanMount (part_of ps (Some r)) mount)
 ready_part config thread path manager None r is = absurd (false≢true is)
 ready_part config thread path manager (Some ps) r is = (ready config thread path manager (record { processes = ps; resources = r }) is, λ mount can. can)
 
 pub ready-mount : (w : World) (us : List (Option (List (Option Process)))) (rs : List (Option Resources)) (thread : Thread) (path : List ℕ) (manager : Manager) (r : Resources) → w.parts ≡ parts_of us rs → row_at rs thread.proc.user.0 ≡ Some r → is_thread_ready (thread_row w.parts thread) ≡ true
-    → (mount_in w thread path manager ≡ or_refused (new_mount (name_bytes w.config thread.proc.user.0) path manager r)) × ((mount : MountPoint) → mounts.CanMount r mount → CanMount (row_at w.parts thread.proc.user.0) mount)
+    → (mount_in w thread path manager ≡ or_refused (new_mount (name_bytes w.config thread.proc.user.0) path manager r)) × ((mount : MountPoint) → IsMountable r mount → CanMount (row_at w.parts thread.proc.user.0) mount)
 ready-mount w us rs thread path manager r parts there is =
     let row : row_at w.parts thread.proc.user.0 ≡ part_of (row_at us thread.proc.user.0) (Some r) = rw (parts, row_at-parts us rs thread.proc.user.0, there) refl in
     let free : is_thread_ready (thread_of thread.tid (process_in thread.proc.num (part_of (row_at us thread.proc.user.0) (Some r)))) ≡ true = rw row at is in
@@ -110,23 +102,28 @@ parts-with_resources (Some ps ∷ us) (None ∷ rs) zero change = refl
 parts-with_resources (Some ps ∷ us) (Some r ∷ rs) zero change = refl
 parts-with_resources (u ∷ us) (r ∷ rs) (suc user) change = ap (λ parts. part_of u r ∷ parts) (parts-with_resources us rs user change)
 
-pub attached : (config : Configuration) (c : Channel) (rs : List (Option Resources)) (hands : List (Option Held)) (user : ℕ) (r : Resources) (mount : MountPoint) → row_at rs user ≡ Some r
-    → world_of config c (slice_set rs user (Some (with_mount mount r))) hands ≡ after_mount (world_of config c rs hands) user mount
-attached config c rs hands user r mount there =
-    let change : Resources → Resources = with_mount mount in
-    let row : with_row rs user change ≡ slice_set rs user (Some (change r)) = rw there refl in
-    ap (λ parts. record (world_of config c rs hands) { parts = parts }) (ap (parts_of c.users) (sym row) ∙ parts-with_resources c.users rs user change)
+-- the machine's mount is that of what is kept
+pub attached : (config : Configuration) (c : Channel) (ks : List (Option Kept)) (hands : List (Option Held)) (user : ℕ) (k : Kept) (mount : MountPoint) → row_at ks user ≡ Some k
+    → world_of config c (slice_set ks user (Some (with_new_mount mount k))) hands ≡ after_mount (world_of config c ks hands) user mount
+attached config c ks hands user k mount there =
+    let rs : List (Option Resources) = told_all c ks in
+    let r : Resources = told k (lists c) in
+    let put : told_all c (slice_set ks user (Some (with_new_mount mount k))) ≡ slice_set rs user (Some (with_mount mount r)) = mapped-put _ _ ks user (with_new_mount mount k) (λ other m is differs. refl) in
+    let row : with_row rs user (with_mount mount) ≡ slice_set rs user (Some (with_mount mount r)) = ap (λ old. slice_set rs user (option_map (with_mount mount) old)) (told-there c ks user k there) in
+    ap (λ parts. record (world_of config c ks hands) { parts = parts }) (ap (parts_of c.users) (put ∙ sym row) ∙ parts-with_resources c.users rs user (with_mount mount))
 
 unmounted : (ps : Option (List (Option Process))) (mount : MountPoint) → CanMount (part_of ps None) mount → ⊥
 unmounted None mount can = can
 unmounted (Some ps) mount can = can
 
-pub nobody-attached : (us : List (Option (List (Option Process)))) (rs : List (Option Resources)) (user : ℕ) (mount : MountPoint) → row_at rs user ≡ None → CanMount (row_at (parts_of us rs) user) mount → ⊥
-nobody-attached us rs user mount none can = unmounted (row_at us user) mount (rw (row_at-parts us rs user, none) at can)
+pub nobody-attached : (c : Channel) (ks : List (Option Kept)) (user : ℕ) (mount : MountPoint) → row_at ks user ≡ None → CanMount (row_at (parts_of c.users (told_all c ks)) user) mount → ⊥
+nobody-attached c ks user mount none can = unmounted (row_at c.users user) mount (rw (row_at-parts c.users (told_all c ks) user, told-none c ks user none) at can)
 
-can_by : (ps : Option (List (Option Process))) (r : Resources) (mount : MountPoint) → CanMount (part_of ps (Some r)) mount → mounts.CanMount r mount
+can_by : (ps : Option (List (Option Process))) (r : Resources) (mount : MountPoint) → CanMount (part_of ps (Some r)) mount → IsMountable r mount
 can_by None r mount can = absurd can
 can_by (Some ps) r mount can = can
 
-pub attached-can : (us : List (Option (List (Option Process)))) (rs : List (Option Resources)) (user : ℕ) (r : Resources) (mount : MountPoint) → row_at rs user ≡ Some r → CanMount (row_at (parts_of us rs) user) mount → mounts.CanMount r mount
-attached-can us rs user r mount there can = can_by (row_at us user) r mount (rw (row_at-parts us rs user, there) at can)
+pub attached-can : (c : Channel) (ks : List (Option Kept)) (user : ℕ) (k : Kept) (mount : MountPoint) → row_at ks user ≡ Some k → CanMount (row_at (parts_of c.users (told_all c ks)) user) mount → mounts.CanMount k mount
+attached-can c ks user k mount there can =
+    let free : IsMountable (told k (lists c)) mount = can_by (row_at c.users user) (told k (lists c)) mount (rw (row_at-parts c.users (told_all c ks) user, told-there c ks user k there) at can) in
+    record { free = free.0; next = free.1 }

@@ -1,7 +1,8 @@
--- The rows of users, put together from two columns: one row, and a change in one column.
-use Rattle.std.proofs.Common.{◌≡◌, ◌⊎◌, subst, inl, inr, ℕ, zero, suc, ◌+◌, List, [], ◌∷◌, true, false, Option, Some, None, Result, Ok, Err, length, is_some, replicate, refl, sym, ap, ◌∙◌}
+-- The rows of users, put together from two columns: one row, and a change in one column; and resources as the calls that wait tell them.
+use Rattle.std.proofs.Common.{◌≡◌, ◌⊎◌, subst, inl, inr, ℕ, zero, suc, ◌+◌, List, [], ◌∷◌, true, false, Option, Some, None, Result, Ok, Err, length, is_some, map, replicate, refl, sym, ap, ap₂, ◌∙◌, arith}
 use Rattle.std.specs.Prelude.{option_map, slice_set}
 use Rattle.qx_types.specs.Configuration.{Configuration}
+use Rattle.qx_types.specs.declared.limits.TheConstants.Limits.{INODES}
 use Rattle.qx_types.specs.declared.names.Proc.{Proc}
 use Rattle.qx_types.specs.declared.names.Thread.{Thread}
 use Rattle.qx_machine.specs.Machine.{boot, boot_parts}
@@ -9,19 +10,24 @@ use Rattle.qx_machine.specs.Parts.{Resources, thread_of}
 use Rattle.qx_machine.specs.Processes.{Process}
 use Rattle.qx_machine.specs.Rows.{row_at, with_row}
 use Rattle.qx_machine.specs.Users.{boot_part}
+use Rattle.qx_pipes.specs.Pipes.{IsListIn}
+use Rattle.qx_queues.proofs.PipedLemmas.{row_at-mapped, rows-agree}
+use Rattle.qx_queues.specs.Piped.{pipe_of_calls, ArePipesOf}
+use Rattle.qx_queues.specs.Queues.{Queues}
+use Rattle.qx_resources.specs.Boot.{boot_resources, without_pipes}
+use Rattle.qx_resources.specs.State.{told, Fits, Kept}
 use Rattle.qx_chan.proofs.RowReads.{option_cases}
-use Rattle.qx_resources.specs.Boot.{boot_resources}
-use Rattle.qx_chan.specs.Channel.{empty_channel}
+use Rattle.qx_chan.specs.Channel.{Channel, empty_channel, lists}
 use Rattle.qx_chan.specs.Users as users
 use Rattle.qx_chan.specs.Users.{no_processes}
-use Rattle.qx_steps.specs.Parts.{part_of, parts_of, world_of, SameUsers}
+use Rattle.qx_steps.specs.Parts.{part_of, parts_of, told_all, world_of, AreResourcesOf, SameUsers}
 use Rattle.qx_steps.specs.Reads.{process_of, thread_row}
 
 pub result_cases : {A E : Type 0} (r : Result A E) → ((x : A) × (r ≡ Ok x)) ⊎ ((e : E) × (r ≡ Err e))
 result_cases (Ok x) = inl (x, refl)
 result_cases (Err e) = inr (e, refl)
 
-no_resources : (processes : Option (List (Option Process))) → part_of processes None ≡ None
+pub no_resources : (processes : Option (List (Option Process))) → part_of processes None ≡ None
 no_resources None = refl
 no_resources (Some processes) = refl
 
@@ -80,26 +86,112 @@ there-with_row (row ∷ rows) zero (suc other) change = refl
 there-with_row (row ∷ rows) (suc user) zero change = refl
 there-with_row (row ∷ rows) (suc user) (suc other) change = there-with_row rows user other change
 
-pub same-with_processes : (us : List (Option (List (Option Process)))) (rs : List (Option Resources)) (user : ℕ) (change : List (Option Process) → List (Option Process)) → SameUsers us rs → SameUsers (with_row us user change) rs
+pub same-with_processes : {A : Type 0} (us : List (Option (List (Option Process)))) (rs : List (Option A)) (user : ℕ) (change : List (Option Process) → List (Option Process)) → SameUsers us rs → SameUsers (with_row us user change) rs
 same-with_processes us rs user change same other = there-with_row us user other change ∙ same other
 
 there-set : {A : Type 0} (rows : List (Option A)) (user other : ℕ) (old new : A) → row_at rows user ≡ Some old → is_some (row_at (slice_set rows user (Some new)) other) ≡ is_some (row_at rows other)
 there-set rows user other old new is = ap (λ o. is_some (row_at (slice_set rows user o) other)) (sym (ap (option_map (λ _. new)) is)) ∙ there-with_row rows user other (λ _. new)
 
-pub same-set_resources : (us : List (Option (List (Option Process)))) (rs : List (Option Resources)) (user : ℕ) (old new : Resources) → row_at rs user ≡ Some old → SameUsers us rs → SameUsers us (slice_set rs user (Some new))
+pub same-set_resources : {A : Type 0} (us : List (Option (List (Option Process)))) (rs : List (Option A)) (user : ℕ) (old new : A) → row_at rs user ≡ Some old → SameUsers us rs → SameUsers us (slice_set rs user (Some new))
 same-set_resources us rs user old new is same other = same other ∙ sym (there-set rs user other old new is)
+
+-- ---- rows that are read by one function, where one of them is put
+
+pub mapped-put : {A B : Type 0} (f g : A → B) (rows : List (Option A)) (i : ℕ) (row : A) → ((other : ℕ) (there : A) → row_at rows other ≡ Some there → ¬ (other ≡ i) → f there ≡ g there)
+    → map (option_map f) (slice_set rows i (Some row)) ≡ slice_set (map (option_map g) rows) i (Some (f row))
+mapped-put f g [] i row same = refl
+mapped-put f g (first ∷ rows) zero row same = ap (λ rest. Some (f row) ∷ rest) (rows-agree f g rows (λ other there is. same (suc other) there is (λ e. absurd (omega (arith, e)))))
+mapped-put f g (None ∷ rows) (suc i) row same = ap (λ rest. None ∷ rest) (mapped-put f g rows i row (λ other there is differs. same (suc other) there is (λ e. differs (omega (arith, e)))))
+mapped-put f g (Some first ∷ rows) (suc i) row same =
+    ap₂ (λ x rest. Some x ∷ rest) (same zero first refl (λ e. absurd (omega (arith, e)))) (mapped-put f g rows i row (λ other there is differs. same (suc other) there is (λ e. differs (omega (arith, e)))))
+
+-- a row that is there once one is put is that one, or was there before, under another number
+pub put-cases : {A : Type 0} (rows : List (Option A)) (i other : ℕ) (row there : A) → row_at (slice_set rows i (Some row)) other ≡ Some there
+    → ((other ≡ i) × (there ≡ row)) ⊎ (¬ (other ≡ i) × (row_at rows other ≡ Some there))
+put-cases [] i other row there is = absurd (cc)
+put-cases (first ∷ rows) zero zero row there is = inl (refl, cc)
+put-cases (first ∷ rows) zero (suc other) row there is = inr (λ e. absurd (omega (arith, e)), is)
+put-cases (first ∷ rows) (suc i) zero row there is = inr (λ e. absurd (omega (arith, e)), is)
+put-cases (first ∷ rows) (suc i) (suc other) row there is = elim (put-cases rows i other row there is) [
+  | inl its ↦ inl (ap suc its.0, its.1)
+  | inr before ↦ inr (λ e. before.0 (omega (arith, e)), before.1)
+]
+
+-- ---- resources, by the calls that wait
+
+there-mapped : {A B : Type 0} (f : A → B) (row : Option A) → is_some row ≡ is_some (option_map f row)
+there-mapped f None = refl
+there-mapped f (Some x) = refl
+
+module _ (c : Channel) (ks : List (Option Kept)) where
+  abbrev tell : Kept → Resources
+  tell kept = told kept (lists c)
+
+  pub row_at-told : (user : ℕ) → row_at (told_all c ks) user ≡ option_map tell (row_at ks user)
+  row_at-told user = row_at-mapped tell ks user
+
+  pub told-there : (user : ℕ) (kept : Kept) → row_at ks user ≡ Some kept → row_at (told_all c ks) user ≡ Some (told kept (lists c))
+  told-there user kept is = row_at-told user ∙ ap (option_map tell) is
+
+  pub told-none : (user : ℕ) → row_at ks user ≡ None → row_at (told_all c ks) user ≡ None
+  told-none user is = row_at-told user ∙ ap (option_map tell) is
+
+  pub same-told : AreResourcesOf c ks → SameUsers c.users (told_all c ks)
+  same-told of user = of.same user ∙ (there-mapped tell (row_at ks user) ∙ sym (ap is_some (row_at-told user)))
+
+  pub thread_row-told : (thread : Thread) → AreResourcesOf c ks → thread_row (parts_of c.users (told_all c ks)) thread ≡ users.thread_row c.users thread
+  thread_row-told thread of = thread_row-parts c.users (told_all c ks) thread (same-told of)
+
+-- a user's resources change, but not the lists of the pipes
+module _ (c : Channel) (ks : List (Option Kept)) (user : ℕ) (k l : Kept) (there : row_at ks user ≡ Some k) (number : l.user ≡ k.user) (pipes : l.pipes ≡ k.pipes) (of : AreResourcesOf c ks) where
+  -- what stood in a row before
+  record Was (other : ℕ) (m : Kept) : Type 0 where
+    before : Kept
+    stood : row_at ks other ≡ Some before
+    same_user : m.user ≡ before.user
+    same_pipes : m.pipes ≡ before.pipes
+
+  was : (other : ℕ) (m : Kept) → row_at (slice_set ks user (Some l)) other ≡ Some m → Was other m
+  was other m is = elim (put-cases ks user other l m is) [
+    | inl its ↦ record { before = k; stood = ap (row_at ks) its.0 ∙ there; same_user = ap (λ n. n.user) its.1 ∙ number; same_pipes = ap (λ n. n.pipes) its.1 ∙ pipes }
+    | inr other ↦ record { before = m; stood = other.1; same_user = refl; same_pipes = refl }
+  ]
+
+  pub still-resources : AreResourcesOf c (slice_set ks user (Some l))
+  still-resources = record {
+    same = same-set_resources c.users ks user k l there of.same;
+    own = λ other m is. let row = was other m is in row.same_user ∙ of.own other row.before row.stood;
+    fits = λ other m is.
+        let row = was other m is in
+        subst (λ n. ArePipesOf (lists c) n m.pipes) (sym row.same_user) (subst (ArePipesOf (lists c) row.before.user) (sym row.same_pipes) (of.fits other row.before row.stood));
+    apart = λ one other list m n is other_is at other_at.
+        let first = was one m is in
+        let next = was other n other_is in
+        of.apart one other list first.before next.before first.stood next.stood (subst (λ p. IsListIn p list) first.same_pipes at) (subst (λ p. IsListIn p list) next.same_pipes other_at);
+  }
 
 -- ---- at boot
 
-boot-rows : (config : Configuration) (user : ℕ) (names : List (List ℕ)) → parts_of (replicate (length names) (Some (None ∷ []))) (boot_resources config user names) ≡ boot_parts config user names
+-- where there is no pipe, nothing waits
+none-mapped : {A B : Type 0} (f : A → B) (n : ℕ) → map (option_map f) (replicate n None) ≡ replicate n None
+none-mapped f zero = refl
+none-mapped f (suc n) = ap (λ rows. None ∷ rows) (none-mapped f n)
+
+told-without_pipes : (r : Resources) (q : Queues) → r.pipes ≡ replicate (INODES + 1) None → told (without_pipes r) q ≡ r
+told-without_pipes r q none = ap (λ pipes. record r { pipes = pipes }) (none-mapped (pipe_of_calls q) (INODES + 1) ∙ sym none)
+
+boot-rows : (q : Queues) (config : Configuration) (user : ℕ) (names : List (List ℕ))
+    → parts_of (replicate (length names) (Some (None ∷ []))) (map (option_map (λ kept. told kept q)) (boot_resources config user names)) ≡ boot_parts config user names
 unfolding boot_part
-boot-rows config user [] = refl
-boot-rows config user (name ∷ names) = ap (λ parts. Some (boot_part config user) ∷ parts) (boot-rows config (user + 1) names)
+boot-rows q config user [] = refl
+boot-rows q config user (name ∷ names) =
+    ap₂ (λ r parts. Some (record { processes = None ∷ []; resources = r }) ∷ parts) (told-without_pipes (boot_part config user).resources q refl) (boot-rows q config (user + 1) names)
 
-parts-boot : (config : Configuration) (names : List (List ℕ)) → parts_of (no_processes (length names)) (None ∷ boot_resources config 1 names) ≡ None ∷ boot_parts config 1 names
-parts-boot config names = ap (λ parts. None ∷ parts) (boot-rows config 1 names)
+parts-boot : (config : Configuration) (names : List (List ℕ))
+    → parts_of (no_processes (length names)) (told_all (empty_channel (length names)) (None ∷ boot_resources config 1 names)) ≡ None ∷ boot_parts config 1 names
+parts-boot config names = ap (λ parts. None ∷ parts) (boot-rows (lists (empty_channel (length names))) config 1 names)
 
-same-boot_rows : (config : Configuration) (user : ℕ) (names : List (List ℕ)) → SameUsers (replicate (length names) (Some (None ∷ []))) (boot_resources config user names)
+same-boot_rows : (config : Configuration) (user : ℕ) (names : List (List ℕ)) → SameUsers {A = List (Option Process)} (replicate (length names) (Some (None ∷ []))) (boot_resources config user names)
 same-boot_rows config user [] other = refl
 same-boot_rows config user (name ∷ names) zero = refl
 same-boot_rows config user (name ∷ names) (suc other) = same-boot_rows config (user + 1) names other
@@ -108,8 +200,54 @@ same-at_boot : (config : Configuration) (names : List (List ℕ)) → SameUsers 
 same-at_boot config names zero = refl
 same-at_boot config names (suc other) = same-boot_rows config 1 names other
 
-pub same-boot : (config : Configuration) (count : ℕ) → count ≡ length config.users → SameUsers (no_processes count) (None ∷ boot_resources config 1 config.users)
-same-boot config count is = subst (λ n. SameUsers (no_processes n) (None ∷ boot_resources config 1 config.users)) (sym is) (same-at_boot config config.users)
+-- whose resources stand in a row at boot, and that they have no pipe
+kept_at-boot : (config : Configuration) (user : ℕ) (names : List (List ℕ)) (other : ℕ) (kept : Kept) → row_at (boot_resources config user names) other ≡ Some kept → (kept.user ≡ user + other) × (kept.pipes ≡ replicate (INODES + 1) None)
+unfolding boot_part
+kept_at-boot config user [] other kept is = absurd (cc)
+kept_at-boot config user (name ∷ names) zero kept is =
+    let its : without_pipes (boot_part config user).resources ≡ kept = cc in
+    (ap (λ k. k.user) (sym its) ∙ omega arith, ap (λ k. k.pipes) (sym its))
+kept_at-boot config user (name ∷ names) (suc other) kept is =
+    let rest = kept_at-boot config (user + 1) names other kept is in
+    (rest.0 ∙ omega arith, rest.1)
+
+row_at-replicate : {A : Type 0} (n i : ℕ) → row_at {A = A} (replicate n None) i ≡ None
+row_at-replicate zero i = refl
+row_at-replicate (suc n) zero = refl
+row_at-replicate (suc n) (suc i) = row_at-replicate n i
+
+no_row : {A : Type 0} (rows : List (Option A)) (i : ℕ) (row : A) → rows ≡ replicate (INODES + 1) None → row_at rows i ≡ Some row → ⊥
+no_row rows i row none is =
+    let clash : None ≡ Some row = sym (row_at-replicate (INODES + 1) i) ∙ (ap (λ all. row_at all i) (sym none) ∙ is) in
+    absurd (cc)
+
+no_list : (kept : Kept) (list : ℕ) → kept.pipes ≡ replicate (INODES + 1) None → IsListIn kept.pipes list → ⊥
+no_list kept list none at = no_row kept.pipes at.inode at.row none at.there
+
+kept_in-boot : (config : Configuration) (names : List (List ℕ)) (user : ℕ) (kept : Kept) → row_at (None ∷ boot_resources config 1 names) user ≡ Some kept → (kept.user ≡ user) × (kept.pipes ≡ replicate (INODES + 1) None)
+kept_in-boot config names zero kept is = absurd (cc)
+kept_in-boot config names (suc user) kept is =
+    let rest = kept_at-boot config 1 names user kept is in
+    (rest.0 ∙ omega arith, rest.1)
+
+fits-without_pipes : (kept : Kept) (q : Queues) → kept.pipes ≡ replicate (INODES + 1) None → Fits kept q
+fits-without_pipes kept q none = record {
+  there = λ list at. absurd (no_list kept list none at);
+  two = λ inode row is. absurd (no_row kept.pipes inode row none is);
+  apart = λ one other list row next is other_is own other_own. absurd (no_row kept.pipes one row none is);
+  users = λ list at. absurd (no_list kept list none at);
+}
+
+of-at_boot : (config : Configuration) (names : List (List ℕ)) → AreResourcesOf (empty_channel (length names)) (None ∷ boot_resources config 1 names)
+of-at_boot config names = record {
+  same = same-at_boot config names;
+  own = λ user kept is. (kept_in-boot config names user kept is).0;
+  fits = λ user kept is. fits-without_pipes kept (lists (empty_channel (length names))) (kept_in-boot config names user kept is).1;
+  apart = λ one other list kept next is other_is at other_at. absurd (no_list kept list (kept_in-boot config names one kept is).1 at);
+}
+
+pub of-boot : (config : Configuration) (count : ℕ) → count ≡ length config.users → AreResourcesOf (empty_channel count) (None ∷ boot_resources config 1 config.users)
+of-boot config count is = subst (λ n. AreResourcesOf (empty_channel n) (None ∷ boot_resources config 1 config.users)) (sym is) (of-at_boot config config.users)
 
 pub world-boot : (config : Configuration) → world_of config (empty_channel (length config.users)) (None ∷ boot_resources config 1 config.users) (None ∷ replicate config.workers None) ≡ boot config
 unfolding boot

@@ -1,24 +1,22 @@
 -- What a worker holds, as the work that it has to do.
-use Rattle.std.specs.Prelude.{◌≡◌, ◌≢◌, ⊤, ℕ, List, Bool, false, ◌&&◌, Option, Some, None, is_ok, if◌then◌else◌}
-use Rattle.qx_wire.specs.Reading.{meaning}
+use Rattle.std.specs.Prelude.{◌≡◌, ◌≢◌, ⊤, ℕ, List, Bool, false, Option, Some, None, if◌then◌else◌}
 use Rattle.qx_types.specs.declared.names.Thread.{Thread}
 use Rattle.qx_machine.specs.declared.rows.Held.{Held}
 use Rattle.qx_machine.specs.declared.rows.OwnItem.{OwnItem}
 use Rattle.qx_machine.specs.declared.rows.OwnItem.TheVariants as item
 use Rattle.qx_machine.specs.declared.rows.Sent.{Sent}
 use Rattle.qx_machine.specs.Machine.{World, is_worker, named_thread}
-use Rattle.qx_machine.specs.Parts.{Part, Resources}
-use Rattle.qx_machine.specs.Performing.{deed_of}
-use Rattle.qx_machine.specs.Processes.{Process}
+use Rattle.qx_machine.specs.Parts.{Part}
 use Rattle.qx_machine.specs.Rows.{row_at}
-use Rattle.qx_resources.specs.Memory.{wants_memory}
+use Rattle.qx_chan.specs.Calls.{taken_of}
+use Rattle.qx_chan.specs.Serving.{part_wants_memory}
 use Rattle.qx_steps.specs.declared.work.Work.{Work}
 use Rattle.qx_steps.specs.declared.work.Work.TheVariants as work
 use Rattle.qx_steps.specs.declared.work.WorkRef.{WorkRef}
 use Rattle.qx_steps.specs.declared.work.WorkRef.TheVariants as lent
-use Rattle.qx_steps.specs.Reads.{taken_of, thread_row}
+use Rattle.qx_steps.specs.Reads.{thread_row}
 
--- the message of an item that was received and is not answered
+-- the message of an item that was received and is not served
 abbrev pub taken_item : List (Option Part) → ℕ → OwnItem → Option Sent
 taken_item parts user (item.Message process thread) = taken_of (thread_row parts (named_thread user process thread))
 taken_item parts user (item.Unblock process thread call) = None
@@ -54,25 +52,6 @@ IsStale (Some held) given = held ≢ given
 abbrev pub IsReadFor : Option (List ℕ) → Option Work → Type 0
 IsReadFor (Some bytes) (Some held) = held ≡ work.Message bytes
 IsReadFor _ _ = ⊤
-
--- bytes that were read before are those of the message
-abbrev pub IsReadOf : Option (List ℕ) → Option Sent → Type 0
-IsReadOf (Some bytes) (Some sent) = bytes ≡ sent.bytes
-IsReadOf _ _ = ⊤
-
--- doing a received message of a process at a moment may want memory: its function may, and the message is done
-abbrev pub sent_wants_memory : Resources → Process → ℕ → Option Sent → Bool
-sent_wants_memory resources process moment None = false
-sent_wants_memory resources process moment (Some sent) =
-    wants_memory sent.target.manager (meaning sent.bytes) && is_ok (deed_of resources process sent.target moment (meaning sent.bytes))
-
-abbrev pub process_wants_memory : Resources → ℕ → ℕ → Option Process → Bool
-process_wants_memory resources thread moment None = false
-process_wants_memory resources thread moment (Some process) = sent_wants_memory resources process moment (taken_of (row_at process.threads thread))
-
-abbrev pub part_wants_memory : Thread → ℕ → Option Part → Bool
-part_wants_memory thread moment None = false
-part_wants_memory thread moment (Some part) = process_wants_memory part.resources thread.tid moment (row_at part.processes thread.proc.num)
 
 -- doing the message of a thread, which was received, may want memory
 abbrev pub thread_wants_memory : List (Option Part) → Thread → ℕ → Bool

@@ -2,13 +2,11 @@
 use Rattle.std.specs.Prelude.{ℕ, Bool, true, false, List, Option, Some, None}
 use Rattle.qx_types.specs.declared.names.Proc.{Proc}
 use Rattle.qx_types.specs.declared.names.Thread.{Thread}
-use Rattle.qx_machine.specs.declared.rows.Sent.{Sent}
 use Rattle.qx_machine.specs.declared.rows.State.{State}
 use Rattle.qx_machine.specs.declared.rows.State.TheVariants.{Answered}
 use Rattle.qx_machine.specs.declared.rows.ThreadRow.{ThreadRow}
 use Rattle.qx_machine.specs.Calls.{is_ready}
 use Rattle.qx_machine.specs.Parts.{Part, thread_of}
-use Rattle.qx_machine.specs.Performing.{taken_in}
 use Rattle.qx_machine.specs.Processes.{Process}
 use Rattle.qx_machine.specs.Rows.{row_at}
 
@@ -35,8 +33,3 @@ is_thread_answered (Some row) = is_answered row.state
 abbrev pub is_thread_ready : Option ThreadRow → Bool
 is_thread_ready None = false
 is_thread_ready (Some row) = is_ready row.state
-
--- the message that was received and is not answered
-abbrev pub taken_of : Option ThreadRow → Option Sent
-taken_of None = None
-taken_of (Some row) = taken_in row.state

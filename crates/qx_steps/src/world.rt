@@ -2,7 +2,6 @@
 
 ghost use Rattle.std.specs.Prelude.{◌≡◌, ℕ, ◌∷◌, ◌↔◌, ◌≢◌, [], None, Some, Err, IfOk, IfSome, IsOk, IsTrue, IsFalse, OnOk, OnErr, IsErrOf, length, is_some, option_map, replicate, slice_set, unwrap_or, if◌then◌else◌};
 ghost use Rattle.std.specs.Option.{option_copied};
-ghost use Rattle.qx_wire.specs.Reading as reading;
 ghost use Rattle.qx_machine.specs.Clients as clients;
 ghost use Rattle.qx_machine.specs.Laws.{is_refusal};
 ghost use Rattle.qx_machine.specs.Machine as machine;
@@ -10,23 +9,24 @@ ghost use Rattle.qx_machine.specs.Calls.{can_send, content_of};
 ghost use Rattle.qx_machine.specs.Rows.{row_at};
 ghost use Rattle.qx_process.specs.Reads.{is_thread_blocked, CanCall, CanGo};
 ghost use Rattle.qx_chan.specs.Users.{IsReady};
-ghost use Rattle.qx_resources.specs.Memory.{IsInRanges};
-ghost use Rattle.qx_steps.specs.Held.{bytes_in, hand_wants_memory, held_work, holds_wanting, taken_item, thread_wants_memory, work_now, IsReadFor, IsReadOf, IsStale};
-ghost use Rattle.qx_steps.specs.Reads.{is_thread_answered, is_thread_ready, taken_of, thread_row};
-ghost use Rattle.qx_steps.specs.Steps.{after_message, after_mount, mount_in, target_in, CanMount};
+ghost use Rattle.qx_chan.specs.Calls.{taken_of};
+ghost use Rattle.qx_chan.specs.Serving.{IsReadOf};
+ghost use Rattle.qx_steps.specs.Held.{bytes_in, hand_wants_memory, held_work, holds_wanting, taken_item, thread_wants_memory, work_now, IsReadFor, IsStale};
+ghost use Rattle.qx_steps.specs.Reads.{is_thread_answered, is_thread_ready, thread_row};
+ghost use Rattle.qx_steps.specs.Steps.{after_message, after_mount, after_pulse, mount_in, target_in, CanMount};
 
 use crate::work::{PerformFault, Work, WorkRef};
 use qx_attr::Reply;
 use qx_chan::Channel;
 use qx_machine::{Addressed, Held, OwnItem, Queued, Sent, State};
-use qx_process::{Process, places};
+use qx_process::places;
 use qx_requests::{encoded, target_by};
 use qx_resources::{AllResources, NewMount};
 use qx_types::{
-    Answer, Bytes, Config, Item, Manager, MessageBytes, NoMemory, Outcome, Prio, Proc, Request,
-    Step, Thread, User, Worker,
+    Answer, Bytes, Config, Item, Manager, NoMemory, Outcome, Prio, Proc, Request, Step, Thread,
+    User, Worker,
 };
-use qx_wire::{Meaning, Parsed, meaning};
+use qx_wire::Parsed;
 use std::alloc::{AllocError, Global};
 use std::marker::Model;
 
@@ -59,7 +59,7 @@ impl Model for World {
     ghost use Rattle.std.specs.Coded.{codes};
     ghost use Rattle.qx_names.specs.Paths.{names_code};
     ghost use Rattle.qx_machine.specs.Machine as machine;
-    ghost use Rattle.qx_steps.specs.Parts.{world_of, SameUsers};
+    ghost use Rattle.qx_steps.specs.Parts.{world_of, AreResourcesOf};
 
     ghost Value = { machine.World };
 
@@ -67,7 +67,7 @@ impl Model for World {
 
     ghost view = { λ w. world_of w.config w.channel w.resources w.hands.items };
 
-    ghost invariant = { λ w. SameUsers w.channel.users w.resources };
+    ghost invariant = { λ w. AreResourcesOf w.channel w.resources };
 }
 
 impl World {
@@ -124,8 +124,8 @@ impl World {
 
     /// Asks to unblock a thread (System Architecture: the unblock pulse; C Library Reference: `MsgSend`, EINTR). A thread
     /// whose message stands in a line is answered EINTR, and the message goes, with what its call attached. One whose
-    /// message was received stays blocked, and its manager gets an unblock pulse, once a call. `WrongState` where the
-    /// thread is not there; nothing happens where it waits for nothing.
+    /// message was received, or whose call waits in a pipe, stays blocked, and its manager gets an unblock pulse, once a
+    /// call. `WrongState` where the thread is not there; nothing happens where it waits for nothing.
     pub fn interrupt(&mut self, thread: Thread) -> Outcome
         ensures outcome { result ≡ (machine.step self.old (Step.Interrupt thread)).outcome }
         ensures world { self.new ≡ (machine.step self.old (Step.Interrupt thread)).world }
@@ -133,17 +133,12 @@ impl World {
         let Some(row) = self.channel.thread(thread) else {
             return Outcome::WrongState;
         };
-        match &row.state {
-            State::Queued(_) => {
-                self.channel.withdraw(thread);
-                Outcome::Done
-            }
-            State::Taken(_) => {
-                self.channel.ask_unblock(thread);
-                Outcome::Done
-            }
-            State::Ready | State::Answered(_) => Outcome::Done,
+        if let State::Queued(_) = row.state {
+            self.channel.withdraw(thread);
+        } else {
+            self.channel.ask_unblock(thread);
         }
+        Outcome::Done
     }
 
     /// A client's request goes as a message into its manager's line, and the thread is blocked (C Library Reference:
@@ -348,7 +343,7 @@ impl World {
         Ok(Outcome::Handled)
     }
 
-    /// Does an item that a worker holds at a moment, and empties the hand. A pulse asks for nothing yet.
+    /// Does an item that a worker holds at a moment, and empties the hand.
     fn serve(
         &mut self,
         worker: Worker,
@@ -361,14 +356,21 @@ impl World {
         ensures err { OnErr result (self.new ≡ self.old) }
         ensures sure { IsFalse (hand_wants_memory self.old (Some held) moment) → IsOk result }
     {
-        if let OwnItem::Message { process, thread } = held.item {
-            self.answer(named_thread(held.user, process, thread), read, moment)?;
+        match held.item {
+            OwnItem::Message { process, thread } => {
+                self.answer(named_thread(held.user, process, thread), read, moment)?;
+            }
+            OwnItem::Unblock {
+                process,
+                thread,
+                call,
+            } => self.cancel(named_thread(held.user, process, thread), call, moment),
         }
         places::free(&mut self.hands, worker.0 as usize);
         Ok(())
     }
 
-    /// Does what the message of a thread, which was received, asks for at a moment, and answers it.
+    /// Does what the message of a thread, which was received, asks for at a moment, and answers it, or its call waits.
     fn answer(
         &mut self,
         thread: Thread,
@@ -380,30 +382,20 @@ impl World {
         ensures err { OnErr result (self.new ≡ self.old) }
         ensures sure { IsFalse (thread_wants_memory self.old.parts thread moment) → IsOk result }
     {
-        let Some(process) = self.channel.process(thread.proc) else {
-            return Ok(());
-        };
-        let Some(sent) = taken(process, thread.tid) else {
-            return Ok(());
-        };
         let Some(resources) = self.resources.user_mut(thread.proc.user) else {
             return Ok(());
         };
-        let given = resources.perform(
-            process,
-            sent.target,
-            meaning_of(&sent.bytes, read),
-            moment,
-            &mut self.reply,
-        )?;
-        match given {
-            Ok(done) => {
-                self.channel
-                    .reply(thread, done.effect, done.status, self.reply.as_slice());
-            }
-            Err(error) => self.channel.fail(thread, error),
+        self.channel
+            .serve(resources, thread, read, moment, &mut self.reply)
+    }
+
+    /// Does what a pulse asks for at a moment, which is to unblock a thread from a call, if that waits in a pipe.
+    fn cancel(&mut self, thread: Thread, call: u64, moment: u64)
+        ensures { self.new ≡ after_pulse self.old thread call moment }
+    {
+        if let Some(resources) = self.resources.user_mut(thread.proc.user) {
+            self.channel.cancel(resources, thread, call, moment);
         }
-        Ok(())
     }
 
     /// Whether something is held that the work is not.
@@ -454,13 +446,16 @@ impl World {
         }
     }
 
-    /// Whether a thread waits for an answer: its message stands in a line, or was received. False for a thread that is
-    /// not there.
+    /// Whether a thread waits for an answer: its message stands in a line, or was received, or its call waits in a pipe.
+    /// False for a thread that is not there.
     pub fn blocked(&self, thread: Thread) -> bool
         ensures { result ≡ is_thread_blocked (thread_row self.now.parts thread) }
     {
         match self.channel.thread(thread) {
-            Some(row) => matches!(row.state, State::Queued(_) | State::Taken(_)),
+            Some(row) => matches!(
+                row.state,
+                State::Queued(_) | State::Taken(_) | State::Waiting(_)
+            ),
             None => false,
         }
     }
@@ -552,28 +547,6 @@ fn outcome_of(answer: Answer) -> Outcome
     match answer {
         Answer::Reply(status, bytes) => Outcome::Reply(status, bytes),
         Answer::Failed(error) => Outcome::Failed(error),
-    }
-}
-
-/// The message of a thread, if it was received and is not answered.
-fn taken(process: &Process, thread: u8) -> Option<&Sent>
-    ensures { option_copied result ≡ taken_of (row_at process.now.threads thread) }
-{
-    match &process.thread(thread)?.state {
-        State::Taken(sent) => Some(sent),
-        _ => None,
-    }
-}
-
-/// What the bytes of a message mean, which may have been read before.
-fn meaning_of<'a>(bytes: &'a MessageBytes, read: Option<&'a Parsed>) -> Meaning<'a>
-    requires { IfSome read (λ read. read.now ≡ bytes.now) }
-    ensures meaning { result ≡ reading.meaning bytes.now }
-    ensures ranges { IsInRanges result }
-{
-    match read {
-        Some(read) => read.meaning(),
-        None => meaning(bytes.as_slice()),
     }
 }
 

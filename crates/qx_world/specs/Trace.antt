@@ -36,7 +36,7 @@ abbrev pub IsLast : Trace → Outcome → Type 0
 IsLast trace outcome = (earlier : List Step) (e : Step) → trace.steps ≡ earlier ++ e ∷ [] → outcome ≡ (step (run trace.config earlier).world e).outcome
 
 -- in this world, a step that may be refused for want of memory: a spawn, a call and a mount that are not refused otherwise, and a
--- perform of an open, a mkdir or a write that is not answered an error
+-- perform of an open, a mkdir or a write to the RAM manager that is not answered an error
 abbrev pub wants_memory : World → Step → Bool
 wants_memory w (Spawn user threads prio) = not (is_refusal (step w (Spawn user threads prio)).outcome)
 wants_memory w (Call thread request) = not (is_refusal (step w (Call thread request)).outcome)

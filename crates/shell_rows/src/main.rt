@@ -2,18 +2,25 @@
 //!
 //! The file `stdout` has what is wanted, script after script in the order of `SCRIPTS`: a line with `==` and the script's
 //! name, the lines of its `show` and `trace`, a line with the exit status, and the report where there is one. The texts
-//! were worked out from the rules of `docs/MACHINE.md`, line by line, and not taken from the program.
+//! were worked out from the rules of `docs/MACHINE.md`, line by line, and not taken from the program. Behind them a line
+//! tells how many users there are in all scripts together: for each of them, what a `show` prints behind all lines of the
+//! script is what the user receives in the trace of the user's steps alone.
 #![tactic(auto)]
 
+mod erased;
+
+use anyhow::bail;
+use erased::users_received;
 use qx_sh::ending::report;
-use qx_sh::limit::Options;
+use qx_sh::limit::{DEFAULT_LIMIT, Options};
 use qx_sh::run::run;
+use qx_sh::streams::read_all;
 use qx_sh::watched::Watched;
 use std::fs::File;
 use std::io;
 
 /// The names of the scripts, in the order in which they are run.
-const SCRIPTS: [&str; 81] = [
+const SCRIPTS: [&str; 88] = [
     "empty",
     "first_path",
     "bad_line",
@@ -95,19 +102,42 @@ const SCRIPTS: [&str; 81] = [
     "no_such_function",
     "written_and_removed",
     "no_free_block",
+    "readers_in_turn",
+    "asked_before_it_waits",
+    "asked_before_it_waits_trace",
+    "pulse_of_an_earlier_call",
+    "full_pipe",
+    "waiting_writer",
+    "closed_pipes",
 ];
 
-fn main(rt: HostRuntime) -> io::Result<()> {
+fn main(rt: HostRuntime) -> anyhow::Result<()> {
+    let mut users: u32 = 0;
     for name in SCRIPTS {
-        run_script(&rt, name)?;
+        let script = script_of(&rt, name)?;
+        run_script(&rt, name, &script)?;
+        let Ok(Some(count)) = users_received(rt.alloc(), &script) else {
+            bail!("{name}: a user received something else, or memory is short");
+        };
+        users = users.saturating_add(u32::from(count));
     }
+    println!(rt; "{users} users received what they receive in the traces of their own steps")?;
     Ok(())
 }
 
-/// Runs a script, and prints its name, its text, its exit status and its report.
-fn run_script(rt: &HostRuntime, name: &str) -> io::Result<()> {
+/// The text of a script.
+fn script_of(rt: &HostRuntime, name: &str) -> anyhow::Result<Vec<u8>> {
     let path = format!(in rt.alloc(); "{name}.script")?;
     let mut script = File::open(rt, path.as_str())?;
+    match read_all(rt.alloc(), &mut script, DEFAULT_LIMIT) {
+        Ok(text) => Ok(text),
+        Err(_) => bail!("{name} could not be read"),
+    }
+}
+
+/// Runs a script, and prints its name, its text, its exit status and its report.
+fn run_script(rt: &HostRuntime, name: &str, script: &[u8]) -> io::Result<()> {
+    let mut script = script;
     println!(rt; "== {name}")?;
     let mut output = Watched::new(io::writer(rt));
     let end = run(rt.alloc(), &mut script, &mut output, &Options::default());

@@ -368,7 +368,7 @@ fn name_of(number: u32) -> [u8; 16] {
 }
 
 /// The letter for a number's last digit.
-fn letter(number: u32) -> u8 {
+pub fn letter(number: u32) -> u8 {
     b'a' + (number % 10) as u8
 }
 
@@ -392,14 +392,14 @@ fn seek(to: u32) -> Request {
     }
 }
 
-fn write(alloc: Global, length: u32) -> Result<Request, AllocError> {
+pub fn write(alloc: Global, length: u32) -> Result<Request, AllocError> {
     Ok(Request::Write {
         coid: COID,
         bytes: content(alloc, length)?,
     })
 }
 
-fn read(bytes: u32) -> Request {
+pub fn read(bytes: u32) -> Request {
     Request::Read {
         coid: COID,
         count: bytes,

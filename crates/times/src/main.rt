@@ -5,6 +5,7 @@ mod files;
 mod lists;
 mod messages;
 mod paths;
+mod pipes;
 mod worlds;
 
 use anyhow::bail;
@@ -33,6 +34,16 @@ fn main(rt: HostRuntime) -> anyhow::Result<()> {
                 let done = files::make_calls(alloc, calls, first, second, 10)?;
                 println!(rt; "{done}")?;
             }
+            for (calls, first, second) in [
+                ("place", 4096, 0),
+                ("late", 1, 0),
+                ("settle", 63, 0),
+                ("parts", 63, 0),
+                ("beside", 3, 20),
+            ] {
+                let done = pipes::make_calls(alloc, calls, first, second, 10)?;
+                println!(rt; "{done}")?;
+            }
         }
         [_, subject, rest @ ..] if subject.as_str() == "list" => lists::on_words(alloc, rest)?,
         [_, subject, rest @ ..] if subject.as_str() == "world" => {
@@ -51,7 +62,11 @@ fn main(rt: HostRuntime) -> anyhow::Result<()> {
             let done = files::on_words(alloc, rest)?;
             println!(rt; "{done}")?;
         }
-        _ => bail!("the first word is list, world, message, path or file"),
+        [_, subject, rest @ ..] if subject.as_str() == "pipe" => {
+            let done = pipes::on_words(alloc, rest)?;
+            println!(rt; "{done}")?;
+        }
+        _ => bail!("the first word is list, world, message, path, file or pipe"),
     }
     Ok(())
 }

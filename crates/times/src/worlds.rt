@@ -264,7 +264,7 @@ pub fn root_path(alloc: Global, user: u8) -> Result<Vec<u8>, AllocError> {
     Ok(path)
 }
 
-fn thread_at(user: u8, process: u8, tid: u8) -> Thread {
+pub fn thread_at(user: u8, process: u8, tid: u8) -> Thread {
     let proc = Proc {
         user: User(user),
         num: process,

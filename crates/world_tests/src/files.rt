@@ -11,7 +11,8 @@ use qx_world::Traced;
 use std::alloc::Global;
 use std::process::Abort;
 
-/// An open that makes a file, a write that makes it longer, a directory that is made, and a mount of RAM.
+/// An open that makes a file, a write that makes it longer, a directory that is made, a mount of RAM, and an open that makes
+/// a pipe.
 const GROWTHS: &str = "\
     spawn ann 1 10\n\
     open ann.1.1 /ann/f rwc 644\n\
@@ -26,7 +27,11 @@ const GROWTHS: &str = "\
     receive 1 ram\n\
     perform 1 7\n\
     reply ann.1.1\n\
-    mount ann.1.1 /ann/m ram\n";
+    mount ann.1.1 /ann/m ram\n\
+    mount ann.1.1 /ann/p pipe\n\
+    open ann.1.1 /ann/p/f rwc 600\n\
+    receive 1 pipe\n\
+    perform 1 8\n";
 
 #[test]
 fn a_file_is_made_at_last(rt: HostRuntime) -> Result<(), NoMemory> {
@@ -46,6 +51,11 @@ fn a_directory_is_made_at_last(rt: HostRuntime) -> Result<(), NoMemory> {
 #[test]
 fn ram_is_mounted_at_last(rt: HostRuntime) -> Result<(), NoMemory> {
     is_one_taken_at_last(&rt, rt.alloc(), GROWTHS, "mount ann.1.1 /ann/m ram")
+}
+
+#[test]
+fn a_pipe_is_made_at_last(rt: HostRuntime) -> Result<(), NoMemory> {
+    is_one_taken_at_last(&rt, rt.alloc(), GROWTHS, "perform 1 8")
 }
 
 /// The last of steps comes back while all memory is taken, though there is room for it in the trace. Nothing has changed,
@@ -100,6 +110,11 @@ fn a_mount_of_ram_comes_back_without_memory(rt: HostRuntime) -> Result<(), NoMem
     comes_back(&rt, rt.alloc(), "mount ann.1.1 /ann/m ram")
 }
 
+#[test]
+fn a_made_pipe_comes_back_without_memory(rt: HostRuntime) -> Result<(), NoMemory> {
+    comes_back(&rt, rt.alloc(), "perform 1 8")
+}
+
 /// Lines after which one process has a file of 100 bytes and the top open, another the file for reading alone.
 const OPENED: &str = "\
     spawn ann 4 10\n\
@@ -138,7 +153,7 @@ const MISTAKES: &str = "\
     open ann.1.1 /ann/g rw 000\n\
     mkdir ann.1.2 /ann/f 755\n\
     write ann.2.1 3 01020304\n\
-    open ann.2.2 /ann/p r 000\n";
+    open ann.2.2 /ann/p/g r 000\n";
 
 /// The calls are received, performed and answered.
 const USES_SERVED: &str = "\
@@ -207,16 +222,17 @@ fn serve_without_memory(
     Ok(())
 }
 
-/// Calls are served with all memory taken, once the files are open.
-fn are_served_without_memory(
+/// After the lines that come before them, calls are served with all memory taken.
+pub(crate) fn are_served_without_memory(
     rt: &impl Abort,
     alloc: Global,
+    before: &str,
     calls: &str,
     lines: &str,
     failed: u64,
 ) -> Result<(), NoMemory> {
-    let mut traced = ran(rt, alloc, OPENED)?;
-    let mut untroubled = ran(rt, alloc, OPENED)?;
+    let mut traced = ran(rt, alloc, before)?;
+    let mut untroubled = ran(rt, alloc, before)?;
     serve_without_memory(
         rt,
         alloc,
@@ -247,10 +263,10 @@ fn failures(entries: &[Entry]) -> u64 {
 
 #[test]
 fn files_are_used_while_all_memory_is_refused(rt: HostRuntime) -> Result<(), NoMemory> {
-    are_served_without_memory(&rt, rt.alloc(), USES, USES_SERVED, 0)
+    are_served_without_memory(&rt, rt.alloc(), OPENED, USES, USES_SERVED, 0)
 }
 
 #[test]
 fn errors_are_answered_while_all_memory_is_refused(rt: HostRuntime) -> Result<(), NoMemory> {
-    are_served_without_memory(&rt, rt.alloc(), MISTAKES, MISTAKES_SERVED, 4)
+    are_served_without_memory(&rt, rt.alloc(), OPENED, MISTAKES, MISTAKES_SERVED, 4)
 }

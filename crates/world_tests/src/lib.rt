@@ -2,6 +2,8 @@
 #![tactic(auto)]
 
 #[cfg(test)]
+mod crowds;
+#[cfg(test)]
 mod files;
 #[cfg(test)]
 mod memory;
@@ -9,6 +11,10 @@ mod memory;
 mod nodes;
 #[cfg(test)]
 mod paths;
+#[cfg(test)]
+mod pipes;
+#[cfg(test)]
+mod pipes_memory;
 #[cfg(test)]
 mod pulses;
 #[cfg(test)]

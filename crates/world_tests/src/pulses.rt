@@ -45,7 +45,7 @@ fn ends_in_status(traced: &Traced) -> bool {
 }
 
 /// Whether it is all the same to ann and to the world.
-fn is_all_the_same(early: &Traced, late: &Traced) -> Result<bool, NoMemory> {
+pub(crate) fn is_all_the_same(early: &Traced, late: &Traced) -> Result<bool, NoMemory> {
     Ok(is_same_world(early.world(), late.world()) && has_same_transcript(early, late, User(1))?)
 }
 

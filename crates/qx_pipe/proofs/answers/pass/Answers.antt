@@ -6,13 +6,13 @@ use Rattle.qx_lists.proofs.TableFacts.{kept_there}
 use Rattle.qx_pipe.proofs.answers.pass.Goals as goal
 use Rattle.qx_pipe.proofs.TableLemmas.{passed-is}
 
-pub give-requires-clause-there : goal.give-requires-clause-there
-give-requires-clause-there g c = c.know.ensures.there c.args.list c.args.node c.requires.waits
+pub give-filled-requires-clause-there : goal.give-filled-requires-clause-there
+give-filled-requires-clause-there g c = c.know.ensures.there c.args.list c.args.node c.requires.waits
 
 pub push_back-requires-clause-list : goal.push_back-requires-clause-list
-push_back-requires-clause-list g c = rw c.unlink.ensures.unlinked ((kept_there c.give.new.table.lists c.args.list _ c.args.answered (ap (λ lists. is_some (map.get lists c.args.answered)) c.give.ensures.lists ∙ c.requires.answered)).1)
+push_back-requires-clause-list g c = rw c.unlink.ensures.unlinked ((kept_there c.give-filled.new.table.lists c.args.list _ c.args.answered (ap (λ lists. is_some (map.get lists c.args.answered)) c.give-filled.ensures.lists ∙ c.requires.answered)).1)
 
-pub returns : goal.returns
-returns g c =
-    passed-is _ _ _ c.give.new.table _ _ _ _ _ c.requires.apart c.requires.answered c.give.ensures.lists c.give.ensures.gave
+pub returns-clause-passed : goal.returns-clause-passed
+returns-clause-passed g c =
+    passed-is _ _ _ c.give-filled.new.table _ _ _ _ _ c.requires.apart c.requires.answered c.give-filled.ensures.lists c.give-filled.ensures.gave
     (c.push_back.ensures ∙ ap (λ t. with_nodes t c.args.answered (nodes_of t c.args.answered ++ c.args.node ∷ [])) c.unlink.ensures.unlinked)

@@ -20,10 +20,10 @@ pass-requires g c =
 pub leaving-smaller : goal.leaving-smaller
 leaving-smaller g c =
     let first : IsFirst (leaves g.T.Waiter.block g.T.Waiter.gone c.leaving.table c.args.leaving) (nodes_of c.leaving.table c.args.list) c.in-Some.node = is_first _ _ _ (c.know.ensures.distinct c.args.list) (sym c.first_leaving.ensures ∙ c.in-Some.is) in
-    rw c.pass.ensures.from (omega (arith, length-without (nodes_of c.leaving.table c.args.list) c.in-Some.node (c.know.ensures.distinct c.args.list) first.there))
+    rw c.pass.ensures.passed.from (omega (arith, length-without (nodes_of c.leaving.table c.args.list) c.in-Some.node (c.know.ensures.distinct c.args.list) first.there))
 
 pub leaving-preserved : goal.leaving-preserved
-leaving-preserved g c = dismissing-turn _ _ _ _ _ _ _ _ _ _ _ _ c.requires.apart c.leaving.invariant (c.know.ensures.distinct c.args.list) (sym c.first_leaving.ensures ∙ c.in-Some.is) c.pass.ensures
+leaving-preserved g c = dismissing-turn _ _ _ _ _ _ _ _ _ _ _ _ c.requires.apart c.leaving.invariant (c.know.ensures.distinct c.args.list) (sym c.first_leaving.ensures ∙ c.in-Some.is) c.pass.ensures.passed
 
 pub returns : goal.returns
 returns g c = dismissing-end _ _ _ _ _ _ _ _ _ _ c.leaving.invariant (sym c.first_leaving.ensures ∙ c.in_default.is)

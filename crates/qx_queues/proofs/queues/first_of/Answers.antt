@@ -9,4 +9,4 @@ pub value-requires : goal.value-requires
 value-requires c = c.requires.there c.args.line.now.list c.in_ok-node.node (contains-index _ 0 _ (sym c.in_ok-node.ensures))
 
 pub returns : goal.returns
-returns c = record { first = ap Some (c.queued.ensures.entry ∙ sym (ap (λ o. unwrap_or o nobodys) c.value.ensures)) ∙ ap (option_map (entry_at c.args.table.now)) c.in_ok-node.ensures ∙ sym (slice_get-map (entry_at c.args.table.now) (nodes_in c.args.table.now c.args.line.now) 0) }
+returns c = record { first = ap Some (c.queued.ensures.entry ∙ sym (ap (λ o. (unwrap_or o nobodys).queued) c.value.ensures)) ∙ ap (option_map (entry_at c.args.table.now)) c.in_ok-node.ensures ∙ sym (slice_get-map (entry_at c.args.table.now) (nodes_in c.args.table.now c.args.line.now) 0) }

@@ -3,7 +3,7 @@ use Rattle.qx_machine.specs.Rows.{row_at}
 use Rattle.qx_queues.proofs.PresenceLemmas.{lines-process}
 use Rattle.qx_chan.specs.Users.{spawn_number_in}
 use Rattle.qx_chan.proofs.SendLemmas.{Kept-room}
-use Rattle.qx_chan.proofs.StartLemmas.{Kept-started, fresh, starts, user_within}
+use Rattle.qx_chan.proofs.StartLemmas.{Kept-started, fresh, pipes-process, starts, user_within}
 use Rattle.qx_chan.proofs.channel.Channel.start.Goals as goal
 
 pub add_process-requires-clause-fresh : goal.add_process-requires-clause-fresh
@@ -23,4 +23,4 @@ invariant_of-self-2 c =
     (Kept-started c.self.inside.users c.args.proc c.args.threads c.args.prio.0 (starts c.self.inside.users c.args.proc c.args.threads c.args.prio.0 number) c.in_ok-spawn.ensures.places _ (Kept-room _ _ _ c.self.invariant))
 
 pub returns-clause-ok : goal.returns-clause-ok
-returns-clause-ok c = rw (← c.self.view_is, c.in_ok-spawn.ensures.ok, c.add_process.ensures.added, lines-process c.reserve.new.self c.args.proc c.args.threads, c.in_ok-reserve.ensures.ok)
+returns-clause-ok c = rw (← c.self.view_is, c.in_ok-spawn.ensures.ok, c.add_process.ensures.added, lines-process c.reserve.new.self c.args.proc c.args.threads, pipes-process c.reserve.new.self c.args.proc c.args.threads, c.in_ok-reserve.ensures.ok)

@@ -18,4 +18,4 @@ returns g c =
     let length_is : c.len.result ≡ length c.args.self.now.bytes = c.len.ensures.len ∙ ap (λ k. length k.bytes) c.self.view_is in
     let wanted_is : at_node g.T.Waiter.wanted 0 c.args.table.now c.args.reader ≡ c.wanted-wanted.result = ap (λ o. unwrap_or (option_map g.T.Waiter.wanted o) 0) c.value.ensures ∙ sym c.wanted-wanted.ensures in
     let counted : c.min-count.result ≡ min (at_node g.T.Waiter.wanted 0 c.args.table.now c.args.reader) (length c.args.self.now.bytes) = c.min-count.ensures ∙ ap (λ n. min c.wanted-wanted.result n) length_is ∙ ap (λ n. min n (length c.args.self.now.bytes)) (sym wanted_is) in
-    turned-reader _ _ g.T.Waiter.wanted g.T.Waiter.bytes _ _ _ _ _ _ c.min-count.result counted c.requires.pipe (c.know.ensures.distinct _) c.know.ensures.apart c.requires.first c.requires.stand c.pass_bytes.ensures.passed c.pass_bytes.ensures.bytes
+    turned-reader _ _ g.T.Waiter.wanted g.T.Waiter.bytes _ _ _ _ _ _ c.min-count.result _ counted c.requires.pipe (c.know.ensures.distinct _) c.know.ensures.apart c.requires.first c.requires.stand c.pass_bytes.ensures.passed c.pass_bytes.ensures.bytes c.pass_bytes.ensures.filled

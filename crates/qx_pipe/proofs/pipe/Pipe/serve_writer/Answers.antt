@@ -24,4 +24,4 @@ pass-requires-clause-apart g c = rw (ap (λ k. k.writers) (c.self.view_is ∙ c.
 pub returns : goal.returns
 returns g c =
     let offered_is : c.bytes-bytes.result.now ≡ at_node g.T.Waiter.bytes [] c.args.table.now c.args.writer = c.bytes-bytes.ensures ∙ sym (ap (λ o. unwrap_or (option_map g.T.Waiter.bytes o) []) c.value.ensures) in
-    turned-writer _ _ g.T.Waiter.wanted g.T.Waiter.bytes _ _ _ _ _ _ _ offered_is c.requires.pipe (c.know.ensures.distinct _) c.know.ensures.apart c.requires.first c.requires.no_reader c.requires.fits (rw (ap (λ k. k.writers) (c.self.view_is ∙ c.append.ensures)) at c.pass.ensures) c.append.ensures
+    turned-writer _ _ g.T.Waiter.wanted g.T.Waiter.bytes _ _ _ _ _ _ _ _ offered_is c.requires.pipe (c.know.ensures.distinct _) c.know.ensures.apart c.requires.first c.requires.no_reader c.requires.fits (rw (ap (λ k. k.writers) (c.self.view_is ∙ c.append.ensures)) at c.pass.ensures.passed) c.append.ensures c.pass.ensures.filled

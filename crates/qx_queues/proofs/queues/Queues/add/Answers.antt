@@ -1,7 +1,7 @@
 use Rattle.std.proofs.Common.{◌≡◌, ◌-◌, None, map, option_map, refl, ap, arith, ◌∙◌}
 use Rattle.qx_queues.specs.Kept.{entries}
 use Rattle.qx_queues.specs.Nodes.{Message, Unblock, nodes_at}
-use Rattle.qx_queues.proofs.KeptLemmas.{Kept-made, entries-made, shown-kept}
+use Rattle.qx_queues.proofs.KeptLemmas.{Kept-made, calls-made, entries-made, shown-kept}
 use Rattle.qx_queues.proofs.NodesLemmas.{asked_at-added, half, half-first, half-second, length-with_nodes}
 use Rattle.qx_queues.proofs.PresenceLemmas.{nodes-absent, same_queues, servers-with_nodes, threads-with_nodes}
 use Rattle.qx_queues.proofs.PulseLemmas.{KnowsPulses-same}
@@ -26,8 +26,10 @@ returns c =
     let shown : map (entries c.new_node-unblock.new.table) c.self.inside.lines.items ≡ map (entries c.self.inside.table) c.self.inside.lines.items = shown-kept c.self.inside.table c.new_node-unblock.new.table c.self.inside.lines.items (λ line. entries-made c.new_node-message.new.table _ _ _ _ c.new_node-unblock.ensures.made c.new_node-unblock.ensures.was_new c.know-2.ensures.there line ∙ entries-made c.self.inside.table _ _ _ _ c.new_node-message.ensures.made c.new_node-message.ensures.was_new c.know.ensures.there line) in
     let first : c.new_node-message.new.table.room ≡ c.self.inside.table.room - 1 = ap (λ t. t.room) c.new_node-message.ensures.made in
     let second : c.new_node-unblock.new.table.room ≡ c.new_node-message.new.table.room - 1 = ap (λ t. t.room) c.new_node-unblock.ensures.made in
+    let first_calls = calls-made c.self.inside.table _ _ _ _ c.new_node-message.ensures.made c.new_node-message.ensures.was_new c.know.ensures.there c.self.inside.lines.items c.self.inside.answered c.self.invariant.1.off_lines in
+    let second_calls = calls-made c.new_node-message.new.table _ _ _ _ c.new_node-unblock.ensures.made c.new_node-unblock.ensures.was_new c.know-2.ensures.there c.self.inside.lines.items c.self.inside.answered c.self.invariant.1.off_lines in
     rw (← c.self.view_is, c.set.ensures.set) (record {
       added = same_queues
           shown
-          (threads-with_nodes _ _ _ gets) (servers-with_nodes _ _ _) (length-with_nodes _ _ _) (omega (arith, first, second));
+          (threads-with_nodes _ _ _ gets) (servers-with_nodes _ _ _) (length-with_nodes _ _ _) (omega (arith, first, second)) (second_calls.waiting ∙ first_calls.waiting) (second_calls.given ∙ first_calls.given);
     })

@@ -3,7 +3,8 @@ use Rattle.qx_lines.specs.declared.Line.{Line}
 use Rattle.qx_queues.specs.Kept.{Kept, entries}
 use Rattle.qx_queues.specs.Nodes.{Disconnect, asked_in, disconnect_at, no_process, node_of, process_at}
 use Rattle.qx_types.specs.Managers.{manager_number}
-use Rattle.qx_queues.proofs.KeptLemmas.{Kept-made, Kept-room, entries-made, shown-kept}
+use Rattle.qx_queues.proofs.BesideLemmas.{same_calls-room}
+use Rattle.qx_queues.proofs.KeptLemmas.{Kept-made, Kept-room, calls-made, entries-made, shown-kept}
 use Rattle.qx_queues.proofs.NodesLemmas.{length-with_disconnect, node_of-with_disconnect, nodes_at-with_disconnect, none_of}
 use Rattle.qx_queues.proofs.PresenceLemmas.{same_queues, server-had, servers-made, servers-nodes, started, threads-with_disconnect}
 use Rattle.qx_queues.proofs.PulseLemmas.{KnowsPulses-same}
@@ -20,7 +21,7 @@ returns-in_err-reserve-clause-had_node c = λ had.
 
 pub invariant_of-self-2 : goal.invariant_of-self-2
 invariant_of-self-2 c =
-    let kept : Kept c.reserve.new.self c.self.inside.lines.items (node_of c.self.inside.nodes) = Kept-room c.self.inside.table _ _ _ (ap (λ t. t.lists) c.in_ok-reserve.ensures.ok) (ap (λ t. t.values) c.in_ok-reserve.ensures.ok) c.self.invariant.1 in
+    let kept : Kept c.reserve.new.self c.self.inside.lines.items c.self.inside.answered (node_of c.self.inside.nodes) = Kept-room c.self.inside.table _ _ _ (ap (λ t. t.lists) c.in_ok-reserve.ensures.ok) (ap (λ t. t.values) c.in_ok-reserve.ensures.ok) c.self.invariant.1 in
     let there : process_at c.self.inside.nodes c.args.proc ≢ no_process = started _ _ (rw (← c.self.view_is) at c.requires.started) in
     let same : (line : Line) → entries c.new_node-node.new.table line ≡ entries c.self.inside.table line = λ line. entries-made c.reserve.new.self _ _ _ _ c.new_node-node.ensures.made c.new_node-node.ensures.was_new c.know.ensures.there line ∙ ap (λ t. entries t line) c.in_ok-reserve.ensures.ok in
     let gets = rw c.set_disconnect.ensures.set at c.set_disconnect.ensures.there there in (
@@ -31,7 +32,7 @@ invariant_of-self-2 c =
     )
 
 pub returns-then-is_some-clause-ok : goal.returns-then-is_some-clause-ok
-returns-then-is_some-clause-ok c = rw (← c.self.view_is) (server-had _ c.self.inside.nodes _ c.args.proc (manager_number c.args.manager) (search rules))
+returns-then-is_some-clause-ok c = rw (← c.self.view_is) (server-had _ c.self.inside.nodes _ _ _ c.args.proc (manager_number c.args.manager) (search rules))
 
 pub returns-clause-ok : goal.returns-clause-ok
 returns-clause-ok c =
@@ -41,4 +42,6 @@ returns-clause-ok c =
     let absent = servers-nodes c.self.inside.nodes c.args.proc (manager_number c.args.manager) ∙ lacked in
     let same : (line : Line) → entries c.new_node-node.new.table line ≡ entries c.self.inside.table line = λ line. entries-made c.reserve.new.self _ _ _ _ c.new_node-node.ensures.made c.new_node-node.ensures.was_new c.know.ensures.there line ∙ ap (λ t. entries t line) c.in_ok-reserve.ensures.ok in
     let room : c.new_node-node.new.table.room ≡ max c.self.inside.table.room 1 - 1 = ap (λ t. t.room) c.new_node-node.ensures.made ∙ ap (λ t. t.room - 1) c.in_ok-reserve.ensures.ok in
-    rw (← c.self.view_is, c.set_disconnect.ensures.set, absent) (same_queues (shown-kept c.self.inside.table c.new_node-node.new.table c.self.inside.lines.items same) (threads-with_disconnect c.self.inside.nodes c.args.proc (manager_number c.args.manager) _) (servers-made c.self.inside.nodes c.args.proc (manager_number c.args.manager) _ refl gets) (length-with_disconnect c.self.inside.nodes c.args.proc (manager_number c.args.manager) _) (room ∙ omega arith))
+    let reserved = same_calls-room c.self.inside.table c.reserve.new.self c.self.inside.lines.items c.self.inside.answered (ap (λ t. t.lists) c.in_ok-reserve.ensures.ok) (ap (λ t. t.values) c.in_ok-reserve.ensures.ok) in
+    let calls = calls-made c.reserve.new.self _ _ _ _ c.new_node-node.ensures.made c.new_node-node.ensures.was_new c.know.ensures.there c.self.inside.lines.items c.self.inside.answered c.self.invariant.1.off_lines in
+    rw (← c.self.view_is, c.set_disconnect.ensures.set, absent) (same_queues (shown-kept c.self.inside.table c.new_node-node.new.table c.self.inside.lines.items same) (threads-with_disconnect c.self.inside.nodes c.args.proc (manager_number c.args.manager) _) (servers-made c.self.inside.nodes c.args.proc (manager_number c.args.manager) _ refl gets) (length-with_disconnect c.self.inside.nodes c.args.proc (manager_number c.args.manager) _) (room ∙ omega arith) (calls.waiting ∙ reserved.waiting) (calls.given ∙ reserved.given))

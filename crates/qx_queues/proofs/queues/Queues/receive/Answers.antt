@@ -9,7 +9,7 @@ use Rattle.qx_queues.specs.Queues.{IsGone, pulse_call, as_message, sender, sende
 use Rattle.qx_queues.specs.Kept.{entries, entry_at, owner_in}
 use Rattle.qx_queues.specs.Nodes.{Unblock, node_of}
 use Rattle.qx_queues.proofs.EntryLemmas.{map-drop}
-use Rattle.qx_queues.proofs.KeptLemmas.{Kept-owners, Kept-taken, first-owned, gone-if, line_at-shown, shown-taken}
+use Rattle.qx_queues.proofs.KeptLemmas.{Kept-owners, Kept-taken, calls-taken, first-owned, gone-if, line_at-shown, shown-taken}
 use Rattle.qx_queues.proofs.LineLemmas.{gone-pulse}
 use Rattle.qx_queues.proofs.PresenceLemmas.{nodes-some, same_queues}
 use Rattle.qx_queues.proofs.TableLemmas.{none_some}
@@ -33,7 +33,8 @@ invariant_of-self c =
 pub returns-in_err-first-clause-rest : goal.returns-in_err-first-clause-rest
 returns-in_err-first-clause-rest c =
     let is : slice_get c.self.inside.lines.items c.number.result ≡ Some c.index_mut.result.now = slice_get_read c.self.inside.lines.items COUNT c.number.result c.index_mut.result.now (sym c.self.invariant.0) c.number.ensures.few c.index_mut.ensures.value in
-    rw (← c.self.view_is, ← c.number.ensures.number) (same_queues (shown-taken c.self.inside.table _ _ c.number.result _ _ (drop 1) _ c.self.invariant.1 is c.take_out.ensures.out (drop 1) (map-drop (entry_at c.self.inside.table) _)) refl refl refl c.take_out.ensures.out.room)
+    let calls = calls-taken c.self.inside.table _ _ c.number.result _ _ (drop 1) _ c.self.invariant.1 is c.take_out.ensures.out in
+    rw (← c.self.view_is, ← c.number.ensures.number) (same_queues (shown-taken c.self.inside.table _ _ c.number.result _ _ (drop 1) _ c.self.invariant.1 is c.take_out.ensures.out (drop 1) (map-drop (entry_at c.self.inside.table) _)) refl refl refl c.take_out.ensures.out.room calls.waiting calls.given)
 
 pub set_asked-requires : goal.set_asked-requires
 set_asked-requires c =
@@ -70,7 +71,8 @@ invariant_of-self-in_default c =
 pub returns-in-Unblock-clause-rest : goal.returns-in-Unblock-clause-rest
 returns-in-Unblock-clause-rest c =
     let is : slice_get c.self.inside.lines.items c.number.result ≡ Some c.index_mut.result.now = slice_get_read c.self.inside.lines.items COUNT c.number.result c.index_mut.result.now (sym c.self.invariant.0) c.number.ensures.few c.index_mut.ensures.value in
-    rw (← c.self.view_is, ← c.number.ensures.number) (same_queues (shown-taken c.self.inside.table _ _ c.number.result _ _ (drop 1) _ c.self.invariant.1 is c.take_out.ensures.out (drop 1) (map-drop (entry_at c.self.inside.table) _)) c.set_asked.ensures.asked.threads c.set_asked.ensures.asked.servers c.set_asked.ensures.asked.users c.take_out.ensures.out.room)
+    let calls = calls-taken c.self.inside.table _ _ c.number.result _ _ (drop 1) _ c.self.invariant.1 is c.take_out.ensures.out in
+    rw (← c.self.view_is, ← c.number.ensures.number) (same_queues (shown-taken c.self.inside.table _ _ c.number.result _ _ (drop 1) _ c.self.invariant.1 is c.take_out.ensures.out (drop 1) (map-drop (entry_at c.self.inside.table) _)) c.set_asked.ensures.asked.threads c.set_asked.ensures.asked.servers c.set_asked.ensures.asked.users c.take_out.ensures.out.room calls.waiting calls.given)
 
 pub returns-in-Unblock-clause-gone : goal.returns-in-Unblock-clause-gone
 returns-in-Unblock-clause-gone c =
@@ -81,7 +83,8 @@ returns-in-Unblock-clause-gone c =
 pub returns-in_default-clause-rest : goal.returns-in_default-clause-rest
 returns-in_default-clause-rest c =
     let is : slice_get c.self.inside.lines.items c.number.result ≡ Some c.index_mut.result.now = slice_get_read c.self.inside.lines.items COUNT c.number.result c.index_mut.result.now (sym c.self.invariant.0) c.number.ensures.few c.index_mut.ensures.value in
-    rw (← c.self.view_is, ← c.number.ensures.number) (same_queues (shown-taken c.self.inside.table _ _ c.number.result _ _ (drop 1) _ c.self.invariant.1 is c.take_out.ensures.out (drop 1) (map-drop (entry_at c.self.inside.table) _)) refl refl refl c.take_out.ensures.out.room)
+    let calls = calls-taken c.self.inside.table _ _ c.number.result _ _ (drop 1) _ c.self.invariant.1 is c.take_out.ensures.out in
+    rw (← c.self.view_is, ← c.number.ensures.number) (same_queues (shown-taken c.self.inside.table _ _ c.number.result _ _ (drop 1) _ c.self.invariant.1 is c.take_out.ensures.out (drop 1) (map-drop (entry_at c.self.inside.table) _)) refl refl refl c.take_out.ensures.out.room calls.waiting calls.given)
 
 pub returns-in_default-clause-gone : goal.returns-in_default-clause-gone
 returns-in_default-clause-gone c =

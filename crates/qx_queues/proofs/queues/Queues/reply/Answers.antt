@@ -13,7 +13,7 @@ use Rattle.qx_queues.specs.Queues.{pulse_call, unblock_call}
 use Rattle.qx_queues.specs.Kept.{entries, entry_at, is_at}
 use Rattle.qx_queues.specs.Nodes.{Unblock, asked_at, asked_in, node_of}
 use Rattle.qx_queues.proofs.EntryLemmas.{reads-call, with_line-same}
-use Rattle.qx_queues.proofs.KeptLemmas.{Kept-owners, Kept-taken, gone-own, in_line-own, line_at-shown, other-stays, other-field, pulse-leaves, shown-taken}
+use Rattle.qx_queues.proofs.KeptLemmas.{Kept-owners, Kept-taken, calls-taken, gone-own, in_line-own, line_at-shown, other-stays, other-field, pulse-leaves, shown-taken}
 use Rattle.qx_queues.proofs.NodesLemmas.{none_of}
 use Rattle.qx_queues.proofs.PresenceLemmas.{same_queues}
 use Rattle.qx_queues.proofs.PulseLemmas.{is_at-other, is_at-self, reply-none, pulses-replied}
@@ -22,19 +22,19 @@ use Rattle.qx_queues.proofs.queues.Queues.reply.Goals as goal
 pub returns-in_default-clause-replied : goal.returns-in_default-clause-replied
 returns-in_default-clause-replied c =
     let apart : is_at (manager_number c.args.manager) (asked_at c.self.inside.nodes c.args.thread) ≡ false = ap (λ o. is_at (manager_number c.args.manager) (asked_in o)) (sym c.at.ensures.own ∙ c.in_default.is) in
-    rw (← c.self.view_is) (same_queues (reply-none _ (manager_number c.args.manager) _ c.args.thread c.args.call c.self.invariant.2 apart) refl refl refl refl)
+    rw (← c.self.view_is) (same_queues (reply-none _ (manager_number c.args.manager) _ c.args.thread c.args.call c.self.invariant.2 apart) refl refl refl refl refl refl)
 
 pub returns-in_default-asked-clause-replied : goal.returns-in_default-asked-clause-replied
 returns-in_default-asked-clause-replied c =
     let asked : asked_at c.self.inside.nodes c.args.thread ≡ None = ap asked_in (sym c.at.ensures.own ∙ c.in-Some.is) ∙ ap (option_map manager_number) c.in_default-asked.is in
     let apart : is_at (manager_number c.args.manager) (asked_at c.self.inside.nodes c.args.thread) ≡ false = ap (is_at (manager_number c.args.manager)) asked in
-    rw (← c.self.view_is) (same_queues (reply-none _ (manager_number c.args.manager) _ c.args.thread c.args.call c.self.invariant.2 apart) refl refl refl refl)
+    rw (← c.self.view_is) (same_queues (reply-none _ (manager_number c.args.manager) _ c.args.thread c.args.call c.self.invariant.2 apart) refl refl refl refl refl refl)
 
 pub returns-then-number-clause-replied : goal.returns-then-number-clause-replied
 returns-then-number-clause-replied c =
     let asked : asked_at c.self.inside.nodes c.args.thread ≡ Some (manager_number c.in-Some-asked.asked) = ap asked_in (sym c.at.ensures.own ∙ c.in-Some.is) ∙ ap (option_map manager_number) c.in-Some-asked.is in
     let apart : is_at (manager_number c.args.manager) (asked_at c.self.inside.nodes c.args.thread) ≡ false = ap (is_at (manager_number c.args.manager)) asked ∙ is_at-other (manager_number c.in-Some-asked.asked) (manager_number c.args.manager) (λ same. c.if-number.true (c.number.ensures.number ∙ sym same ∙ sym c.number-2.ensures.number)) in
-    rw (← c.self.view_is) (same_queues (reply-none _ (manager_number c.args.manager) _ c.args.thread c.args.call c.self.invariant.2 apart) refl refl refl refl)
+    rw (← c.self.view_is) (same_queues (reply-none _ (manager_number c.args.manager) _ c.args.thread c.args.call c.self.invariant.2 apart) refl refl refl refl refl refl)
 
 pub asked_call-requires-clause-there : goal.asked_call-requires-clause-there
 asked_call-requires-clause-there c = c.self.invariant.1.there (Unblock c.args.thread) c.in-Some.own.unblock (ap (option_map (λ own. own.unblock)) (sym c.at.ensures.own ∙ c.in-Some.is))
@@ -45,7 +45,7 @@ asked_call-requires-clause-pulse c = (c.args.thread, c.self.invariant.1.names (U
 pub returns-then-asked_call-call-clause-replied : goal.returns-then-asked_call-call-clause-replied
 returns-then-asked_call-call-clause-replied c =
     let has : node_of c.self.inside.nodes (Unblock c.args.thread) ≡ Some c.in-Some.own.unblock = ap (option_map (λ own. own.unblock)) (sym c.at.ensures.own ∙ c.in-Some.is) in
-    rw (← c.self.view_is) (same_queues (with_line-same _ (manager_number c.args.manager) (line_without c.args.thread.proc.user.0 (item.Unblock c.args.thread.proc.num c.args.thread.tid c.args.call)) (other-stays c.self.inside.table _ _ c.args.thread c.in-Some.own.unblock c.self.invariant.1 has c.args.call c.asked_call.result (manager_number c.args.manager) c.asked_call.ensures.call c.if-asked_call-call.true)) refl refl refl refl)
+    rw (← c.self.view_is) (same_queues (with_line-same _ (manager_number c.args.manager) (line_without c.args.thread.proc.user.0 (item.Unblock c.args.thread.proc.num c.args.thread.tid c.args.call)) (other-stays c.self.inside.table _ _ c.args.thread c.in-Some.own.unblock c.self.invariant.1 has c.args.call c.asked_call.result (manager_number c.args.manager) c.asked_call.ensures.call c.if-asked_call-call.true)) refl refl refl refl refl refl)
 
 pub returns-then-asked_call-call-clause-gone : goal.returns-then-asked_call-call-clause-gone
 returns-then-asked_call-call-clause-gone c = λ is.
@@ -85,7 +85,8 @@ returns-clause-replied c =
     let names : pulse_call (entry_at c.self.inside.table c.in-Some.own.unblock).item ≡ Some c.args.call = c.asked_call.ensures.call ∙ ap Some c.if-asked_call-call.false in
     let left : map (entry_at c.self.inside.table) (without c.in-Some.own.unblock (nodes_in c.self.inside.table c.index_mut-line.result.now)) ≡ line_without c.args.thread.proc.user.0 (item.Unblock c.args.thread.proc.num c.args.thread.tid c.args.call) (entries c.self.inside.table c.index_mut-line.result.now) = pulse-leaves c.self.inside.table _ _ c.args.thread c.in-Some.own.unblock c.self.invariant.1 c.index_mut-line.result.now has c.args.call names (c.know.ensures.distinct c.index_mut-line.result.now.list) in
     let shown : map (entries c.remove.new.table) (slice_set c.self.inside.lines.items c.number-3.result c.remove.new.line) ≡ with_line (map (entries c.self.inside.table) c.self.inside.lines.items) c.number-3.result (line_without c.args.thread.proc.user.0 (item.Unblock c.args.thread.proc.num c.args.thread.tid c.args.call)) = shown-taken c.self.inside.table _ _ c.number-3.result _ _ (without c.in-Some.own.unblock) _ c.self.invariant.1 is c.remove.ensures.out (line_without c.args.thread.proc.user.0 (item.Unblock c.args.thread.proc.num c.args.thread.tid c.args.call)) left in
-    rw (← c.self.view_is, ← c.number-3.ensures.number) (same_queues shown c.set_asked.ensures.asked.threads c.set_asked.ensures.asked.servers c.set_asked.ensures.asked.users c.remove.ensures.out.room)
+    let calls = calls-taken c.self.inside.table _ _ c.number-3.result _ _ (without c.in-Some.own.unblock) _ c.self.invariant.1 is c.remove.ensures.out in
+    rw (← c.self.view_is, ← c.number-3.ensures.number) (same_queues shown c.set_asked.ensures.asked.threads c.set_asked.ensures.asked.servers c.set_asked.ensures.asked.users c.remove.ensures.out.room calls.waiting calls.given)
 
 pub returns-clause-gone : goal.returns-clause-gone
 returns-clause-gone c = λ stood.

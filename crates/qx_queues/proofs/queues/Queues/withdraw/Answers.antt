@@ -13,7 +13,7 @@ use Rattle.qx_queues.specs.Queues.{as_message, stands}
 use Rattle.qx_queues.specs.Kept.{entries, entry_at}
 use Rattle.qx_queues.specs.Nodes.{Message, node_of}
 use Rattle.qx_queues.proofs.EntryLemmas.{reads-message}
-use Rattle.qx_queues.proofs.KeptLemmas.{Kept-taken, gone-own, in_line-own, line_at-shown, message-leaves, shown-taken, stands-owned}
+use Rattle.qx_queues.proofs.KeptLemmas.{Kept-taken, calls-taken, gone-own, in_line-own, line_at-shown, message-leaves, shown-taken, stands-owned}
 use Rattle.qx_queues.proofs.PresenceLemmas.{same_queues}
 use Rattle.qx_queues.proofs.PulseLemmas.{pulses-withdrawn}
 use Rattle.qx_queues.proofs.queues.Queues.withdraw.Goals as goal
@@ -47,7 +47,8 @@ returns-clause-withdrawn c =
     let is : slice_get c.self.inside.lines.items c.number.result ≡ Some c.index_mut-line.result.now = slice_get_read c.self.inside.lines.items COUNT c.number.result c.index_mut-line.result.now (sym c.self.invariant.0) c.number.ensures.few c.index_mut-line.ensures.value in
     let has : node_of c.self.inside.nodes (Message c.args.thread) ≡ Some c.in-Some.own.message = ap (option_map (λ own. own.message)) (sym c.at.ensures.own ∙ c.in-Some.is) in
     let shown : map (entries c.remove.new.table) (slice_set c.self.inside.lines.items c.number.result c.remove.new.line) ≡ with_line (map (entries c.self.inside.table) c.self.inside.lines.items) c.number.result (line_without c.args.thread.proc.user.0 (item.Message c.args.thread.proc.num c.args.thread.tid)) = shown-taken c.self.inside.table _ _ c.number.result _ _ (without c.in-Some.own.message) _ c.self.invariant.1 is c.remove.ensures.out (line_without c.args.thread.proc.user.0 (item.Message c.args.thread.proc.num c.args.thread.tid)) (message-leaves c.self.inside.table _ _ c.args.thread c.in-Some.own.message c.self.invariant.1 c.index_mut-line.result.now has (c.know.ensures.distinct c.index_mut-line.result.now.list)) in
-    rw (← c.self.view_is, ← c.number.ensures.number) (same_queues shown refl refl refl c.remove.ensures.out.room)
+    let calls = calls-taken c.self.inside.table _ _ c.number.result _ _ (without c.in-Some.own.message) _ c.self.invariant.1 is c.remove.ensures.out in
+    rw (← c.self.view_is, ← c.number.ensures.number) (same_queues shown refl refl refl c.remove.ensures.out.room calls.waiting calls.given)
 
 pub returns-clause-gone : goal.returns-clause-gone
 returns-clause-gone c =

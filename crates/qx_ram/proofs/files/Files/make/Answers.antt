@@ -8,7 +8,7 @@ use Rattle.qx_ram.proofs.files.Files.make.Goals as goal
 
 pub invariant_of-self : goal.invariant_of-self
 invariant_of-self c =
-    let free : row_at c.self.inside.contents c.args.inode ≡ None = ap (λ (files : machine.Files). row_at files.contents c.args.inode) c.self.view_is ∙ c.requires.free in
+    let free : row_at c.self.inside.contents c.args.inode ≡ None = ap (λ (files : machine.Files). row_at files c.args.inode) c.self.view_is ∙ c.requires.free in
     record {
       summed = c.self.invariant.summed ∙ (sym (total_new c.self.inside.contents c.args.inode free) ∙ ap (sum_by size_of) (sym c.put.ensures.put));
       few = c.self.invariant.few;

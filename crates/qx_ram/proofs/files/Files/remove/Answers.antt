@@ -23,4 +23,4 @@ pub returns-in_default : goal.returns-in_default
 returns-in_default c =
     let none : row_at c.self.inside.contents c.args.inode ≡ None = sym c.in_default.ensures.bytes in
     let same : slice_set c.self.inside.contents c.args.inode None ≡ c.self.inside.contents = ap (slice_set c.self.inside.contents c.args.inode) (sym none) ∙ set-row_at c.self.inside.contents c.args.inode in
-    rw (← c.self.view_is) (λ i. record { contents = sym same i; names = c.self.inside.names })
+    rw (← c.self.view_is) (sym same)

@@ -15,7 +15,7 @@ pub write_fault-requires-clause-size : goal.write_fault-requires-clause-size
 write_fault-requires-clause-size c =
     let is : target c.args.inodes.now.inodes c.args.self.now c.args.number ≡ Ok c.in-Ok.target = sym c.in-Ok.ensures in
     let it = target_is c.args.inodes.now.inodes c.args.self.now c.args.number c.in-Ok.target is in
-    let le = size_within c.args.self.now.contents c.in-Ok.target.block.inode it.bytes it.contents_are in
+    let le = size_within c.args.self.now c.in-Ok.target.block.inode it.bytes it.contents_are in
     omega (arith, le, it.size_is)
 
 pub returns-in-Some-clause-given : goal.returns-in-Some-clause-given
@@ -41,7 +41,7 @@ returns-clause-given c =
     let it = target_is c.args.inodes.now.inodes c.args.self.now c.args.number c.in-Ok.target is in
     let new = c.args.new.now in
     let t = c.in-Ok.target in
-    let size : c.in_ok-size.size ≡ length (put it.bytes t.offset new) = c.in_ok-size.ensures.size ∙ (ap (λ (files : machine.Files). size_of (row_at files.contents t.block.inode)) c.in_ok-size.ensures.ok ∙ pasted_size c.args.inodes.now.inodes c.args.self.now c.args.number c.args.moment t it new) in
+    let size : c.in_ok-size.size ≡ length (put it.bytes t.offset new) = c.in_ok-size.ensures.size ∙ (ap (λ (files : machine.Files). size_of (row_at files t.block.inode)) c.in_ok-size.ensures.ok ∙ pasted_size c.args.inodes.now.inodes c.args.self.now c.args.number c.args.moment t it new) in
     let given = write_given c.args.inodes.now.inodes c.args.self.now c.args.number c.args.moment t c.in_ok-size.size new in
     let some : (length new == 0) ≡ false = sym c.if-is_empty.ensures in
     let none : write_fault (total_size c.args.self.now) t (length new) ≡ None = sym c.in_default.ensures in
@@ -49,18 +49,18 @@ returns-clause-given c =
     rw (all, c.in_ok-size.ensures.ok, c.set_offset.ensures.moved, c.set_attribute.ensures.set) refl
 
 pub returns-clause-fits : goal.returns-clause-fits
-returns-clause-fits c =
+returns-clause-fits c = λ names fitting.
     let is : target c.args.inodes.now.inodes c.args.self.now c.args.number ≡ Ok c.in-Ok.target = sym c.in-Ok.ensures in
     let it = target_is c.args.inodes.now.inodes c.args.self.now c.args.number c.in-Ok.target is in
     let t = c.in-Ok.target in
     let new = c.args.new.now in
     let files = pasted c.args.self.now t.block.inode t.offset new in
     let now = with_attribute c.args.inodes.now.inodes t.block.inode (resized c.in_ok-size.size c.args.moment t.attribute) in
-    let size : c.in_ok-size.size ≡ length (put it.bytes t.offset new) = c.in_ok-size.ensures.size ∙ (ap (λ (files : machine.Files). size_of (row_at files.contents t.block.inode)) c.in_ok-size.ensures.ok ∙ pasted_size c.args.inodes.now.inodes c.args.self.now c.args.number c.args.moment t it new) in
-    let sized : Fits now files =
+    let size : c.in_ok-size.size ≡ length (put it.bytes t.offset new) = c.in_ok-size.ensures.size ∙ (ap (λ (files : machine.Files). size_of (row_at files t.block.inode)) c.in_ok-size.ensures.ok ∙ pasted_size c.args.inodes.now.inodes c.args.self.now c.args.number c.args.moment t it new) in
+    let sized : Fits now names files =
     rw (pasted_is c.args.self.now t.block.inode t.offset it.bytes new it.contents_are)
-    (resized_fits c.args.inodes.now.inodes c.args.self.now t.block.inode c.in_ok-size.size c.args.moment t.attribute it.bytes (put it.bytes t.offset new) it.attribute_is it.contents_are size c.requires.fits) in
-    rw (c.set_offset.ensures.moved, c.set_attribute.ensures.set, c.in_ok-size.ensures.ok) (offset_fits now files c.args.number (t.offset + length new) sized)
+    (resized_fits c.args.inodes.now.inodes names c.args.self.now t.block.inode c.in_ok-size.size c.args.moment t.attribute it.bytes (put it.bytes t.offset new) it.attribute_is it.contents_are size fitting) in
+    rw (c.set_offset.ensures.moved, c.set_attribute.ensures.set, c.in_ok-size.ensures.ok) (offset_fits now names files c.args.number (t.offset + length new) sized)
 
 pub returns-in_err-size-clause-wanted : goal.returns-in_err-size-clause-wanted
 returns-in_err-size-clause-wanted c =

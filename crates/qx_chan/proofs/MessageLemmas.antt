@@ -1,0 +1,204 @@
+-- A received message is performed: what its thread's row and the queues tell before, and what comes of that, as in the machine.
+use Rattle.std.proofs.Common.{◌≡◌, subst, inl, inr, ℕ, List, Option, Some, None, Ok, refl, sym, ◌∙◌, ap}
+use Rattle.std.specs.Prelude.{◌&&◌, [], is_ok, option_map, slice_set}
+use Rattle.qx_types.specs.declared.names.Thread.{Thread}
+use Rattle.qx_types.specs.declared.outcome.Answer.{Answer}
+use Rattle.qx_wire.specs.declared.message.Meaning.{Meaning}
+use Rattle.qx_wire.specs.Reading.{meaning}
+use Rattle.qx_machine.specs.declared.rows.Queued.{Queued}
+use Rattle.qx_machine.specs.declared.rows.Sent.{Sent}
+use Rattle.qx_machine.specs.declared.rows.State.TheVariants.{Taken}
+use Rattle.qx_machine.specs.declared.rows.ThreadRow.{ThreadRow}
+use Rattle.qx_machine.specs.declared.rows.WaitingCall.{WaitingCall}
+use Rattle.qx_machine.specs.Machine.{lines_after}
+use Rattle.qx_machine.specs.Parts.{Part, Resources}
+use Rattle.qx_machine.specs.Performing.{Served, caller_of, deed_of, or_kept, serve_message, served_by, taken_in}
+use Rattle.qx_machine.specs.Processes.{Process, served_state, served_thread, with_thread}
+use Rattle.qx_machine.specs.Rows.{row_at, with_row}
+use Rattle.qx_process.specs.Reads.{unserved_state, unserved_thread}
+use Rattle.qx_process.proofs.RowLemmas.{set-row}
+use Rattle.qx_queues.specs.Queues.{IsReceived, Queues, caller, is_answered, waiting_in}
+use Rattle.qx_resources.specs.Memory.{wants_memory}
+use Rattle.qx_resources.specs.State as state
+use Rattle.qx_resources.specs.State.{Fits, Left, told}
+use Rattle.qx_resources.proofs.KeptLemmas.{same_left}
+use Rattle.qx_chan.specs.Calls.{taken_bytes, taken_call}
+use Rattle.qx_chan.specs.Channel.{Channel, lists}
+use Rattle.qx_chan.specs.Kept.{Kept}
+use Rattle.qx_chan.specs.Serving.{PartServed, Sends, Serves, caller_in, deed_in, part_in, part_wants_memory, process_wants_memory, row_wants_memory, sent_wants_memory}
+use Rattle.qx_chan.specs.Users.{Users, process_in, process_of, thread_row, with_thread_row}
+use Rattle.qx_chan.specs.declared.call.Call.{Call}
+use Rattle.qx_chan.proofs.AnswerLemmas.{taken-stands, taken-unwaiting}
+use Rattle.qx_chan.proofs.CallLemmas.{taken_is, waits}
+use Rattle.qx_chan.proofs.ProcessLemmas.{process_of-same, with_process-fixed, with_process-twice}
+use Rattle.qx_chan.proofs.PulseLemmas.{Serves-none, fits-lists, shown}
+use Rattle.qx_chan.proofs.RowReads.{option_cases, row_at-with_same, with_row-twice}
+use Rattle.qx_chan.proofs.WaitLemmas.{no-call}
+
+-- ---- before
+
+-- a thread whose message was received has nodes, stands in no line, and no call of it waits or is answered
+pub received-alone : (users : Users) (queues : Queues) (thread : Thread) (call : Call) → Some call ≡ taken_call (thread_row users thread) → Kept users queues → IsReceived queues thread
+received-alone users queues thread call is kept = record {
+  own = kept.threads thread ∙ (let it = waits taken_in (thread_row users thread) call is in rw it.there refl);
+  idle = λ number. kept.lines thread number ∙ taken-stands number (thread_row users thread) call is;
+  no_call = record {
+    waiting = λ list. no-call caller (λ own. own.call.call) users thread (taken-unwaiting (thread_row users thread) call is) (waiting_in queues list) (kept.waits list);
+    answered = ap (λ answers. is_answered answers thread) kept.answered;
+  };
+}
+
+-- what is read of a received message
+pub record Received (users : Users) (thread : Thread) (call : Call) : Type 0 where
+  pub processes : List (Option Process)
+  pub user : row_at users thread.proc.user.0 ≡ Some processes
+  pub process : Process
+  pub there : row_at processes thread.proc.num ≡ Some process
+  pub row : ThreadRow
+  pub at : row_at process.threads thread.tid ≡ Some row
+  pub sent : Sent
+  pub is : row.state ≡ Taken sent
+  pub call_is : record { target = sent.target; number = row.calls; is_asked = sent.is_asked } ≡ call
+
+pub received : (users : Users) (thread : Thread) (call : Call) → Some call ≡ taken_call (thread_row users thread) → Received users thread call
+received users thread call is = elim (option_cases (row_at users thread.proc.user.0)) [
+  | inl none ↦ let clash : Some call ≡ None = rw none at is in absurd (cc)
+  | inr processes ↦ elim (option_cases (row_at processes.0 thread.proc.num)) [
+    | inl none ↦ let clash : Some call ≡ None = rw (processes.1, none) at is in absurd (cc)
+    | inr process ↦
+        let it = waits taken_in (row_at process.0.threads thread.tid) call (rw (processes.1, process.1) at is) in
+        record {
+          processes = processes.0;
+          user = processes.1;
+          process = process.0;
+          there = process.1;
+          row = it.row;
+          at = it.there;
+          sent = it.sent;
+          is = taken_is it.row.state it.sent it.is;
+          call_is = λ i. record { target = sym it.target i; number = sym it.number i; is_asked = sym it.asked i };
+        }
+  ]
+]
+
+-- its process, and its bytes
+pub sends : (users : Users) (thread : Thread) (call : Call) (its : Received users thread call) → Sends users thread its.process its.sent.bytes
+sends users thread call its = record {
+  there = ap (process_in thread.proc.num) its.user ∙ its.there;
+  bytes_are = rw (its.user, its.there, its.at, its.is) refl;
+}
+
+-- what the machine serves
+pub serves-message : (part : Part) (number thread moment : ℕ) (process : Process) (row : ThreadRow) (sent : Sent) → row_at part.processes number ≡ Some process → row_at process.threads thread ≡ Some row → taken_in row.state ≡ Some sent
+    → serve_message part number thread moment ≡ Ok (served_by part (caller_of number thread row sent) sent (deed_of part.resources process (caller_of number thread row sent) sent.target moment (meaning sent.bytes)))
+serves-message part number thread moment process row sent there at is = rw (there, at, is) refl
+
+-- ---- the message is handed over
+
+-- it comes to the same as before
+pub deed-served : (k : state.Kept) (queues : Queues) (users new : Users) (thread : Thread) (call : Call) (moment : ℕ) (process found : Process) (bytes given : List ℕ) (means : Meaning) → Sends users thread process bytes
+    → new ≡ with_thread_row users thread served_thread → Some found ≡ process_of new thread.proc → Some given ≡ taken_bytes (thread_row users thread) → means ≡ meaning given
+    → deed_of (told k queues) found (caller_in thread call) call.target moment means ≡ deed_in k queues process thread call moment bytes
+deed-served k queues users new thread call moment process found bytes given means of served there read is =
+    let here : process_of (with_thread_row users thread served_thread) thread.proc ≡ Some (with_thread thread.tid served_thread process) = process_of-same users thread.proc (with_thread thread.tid served_thread) ∙ ap (option_map (with_thread thread.tid served_thread)) of.there in
+    let both : Some found ≡ Some (with_thread thread.tid served_thread process) = there ∙ ap (λ users. process_of users thread.proc) served ∙ here in
+    let its : found ≡ with_thread thread.tid served_thread process = cc in
+    let same : Some given ≡ Some bytes = read ∙ of.bytes_are in
+    let bytes_are : given ≡ bytes = cc in
+    ap (λ process. deed_of (told k queues) process (caller_in thread call) call.target moment means) its ∙ ap (deed_of (told k queues) process (caller_in thread call) call.target moment) (is ∙ ap meaning bytes_are)
+
+-- ---- memory is refused
+
+back : (row : ThreadRow) (sent : Sent) → row.state ≡ Taken sent → unserved_thread sent.bytes (served_thread row) ≡ row
+back row sent is = ap (λ s. record row { state = s }) (ap (λ s. unserved_state sent.bytes (served_state s)) is ∙ sym is)
+
+with_row-fixed : {A : Type 0} (xs : List (Option A)) (n : ℕ) (f : A → A) (x : A) → row_at xs n ≡ Some x → f x ≡ x → with_row xs n f ≡ xs
+with_row-fixed {A = A} xs n f x there same = ap (λ (o : Option A). slice_set xs n (option_map f o)) there ∙ ap (λ (y : A). slice_set xs n (Some y)) same ∙ set-row xs n x there
+
+-- a message that was handed over and is handed back changed nothing
+pub handed_back : (users new : Users) (thread : Thread) (call : Call) (bytes : List ℕ) → Some call ≡ taken_call (thread_row users thread) → Some bytes ≡ taken_bytes (thread_row users thread)
+    → new ≡ with_thread_row users thread served_thread → with_thread_row new thread (unserved_thread bytes) ≡ users
+handed_back users new thread call bytes taken read served =
+    let its = received users thread call taken in
+    let same : Some bytes ≡ Some its.sent.bytes = read ∙ (sends users thread call its).bytes_are in
+    let bytes_are : bytes ≡ its.sent.bytes = cc in
+    ap (λ bytes. with_thread_row new thread (unserved_thread bytes)) bytes_are ∙ ap (λ users. with_thread_row users thread (unserved_thread its.sent.bytes)) served
+    ∙ with_process-twice users thread.proc (with_thread thread.tid served_thread) (with_thread thread.tid (unserved_thread its.sent.bytes))
+    ∙ with_process-fixed users thread.proc (λ x. with_thread thread.tid (unserved_thread its.sent.bytes) (with_thread thread.tid served_thread x)) its.process (sends users thread call its).there
+    (ap (λ threads. record its.process { threads = threads })
+    (with_row-twice its.process.threads thread.tid served_thread (unserved_thread its.sent.bytes)
+    ∙ with_row-fixed its.process.threads thread.tid (λ x. unserved_thread its.sent.bytes (served_thread x)) its.row its.at (back its.row its.sent its.is)))
+
+-- ---- after
+
+module _ (users : Users) (queues : Queues) (k : state.Kept) (processes : List (Option Process)) (there : row_at users k.user ≡ Some processes) where
+  abbrev part : Part
+  part = record { processes = processes; resources = told k queues }
+
+  -- the part is what was served, and only the user's lists are different
+  pub Serves-left : (l : state.Kept) (d : Queues) (answers : List (WaitingCall × Answer)) (last : Users) (lines : List (List Queued)) (served : Part → Served) (s : Served) → served part ≡ s
+      → told l d ≡ s.part.resources → last ≡ with_row users k.user (λ _. s.part.processes) → lines ≡ lines_after k.user queues.lines s.changes → Left k queues l d answers → Fits l d
+      → Serves (shown users queues) (record { users = last; lines = lines; pipes = d.pipes }) k l served
+  Serves-left l d answers last lines served s is resources_are users_are lines_are left fits = record {
+    did = subst (PartServed (shown users queues) after k l served) (sym part_is) (subst Done (sym is) (
+      ap (option_map (λ processes. record { processes = processes; resources = told l d })) row_is ∙ ap (λ resources. Some (record { processes = s.part.processes; resources = resources })) resources_are,
+      users_are,
+      lines_are,
+    ));
+    user = left.user;
+    elsewhere = left.elsewhere;
+    fresh = left.fresh;
+    gone = left.gone;
+    fits = fits-lists l d (lists after) refl fits;
+  }
+    where
+      after : Channel
+      after = record { users = last; lines = lines; pipes = d.pipes }
+
+      Done : Served → Type 0
+      Done s = (part_in after l ≡ Some s.part) × (after.users ≡ with_row users k.user (λ _. s.part.processes)) × (after.lines ≡ lines_after k.user queues.lines s.changes)
+
+      part_is : part_in (shown users queues) k ≡ Some part
+      part_is = ap (option_map (λ processes. record { processes = processes; resources = told k queues })) there
+
+      row_is : row_at last l.user ≡ Some s.part.processes
+      row_is = ap (row_at last) left.user ∙ ap (λ rows. row_at rows k.user) users_are ∙ row_at-with_same users k.user (λ _. s.part.processes) ∙ ap (option_map (λ _. s.part.processes)) there
+
+-- a thread with no received message is left as it is
+module _ (users : Users) (queues : Queues) (k : state.Kept) (fits : Fits k queues) (thread : Thread) (of : k.user ≡ thread.proc.user.0) (none : taken_call (thread_row users thread) ≡ None) (moment : ℕ) where
+  abbrev served : Part → Served
+  served part = or_kept part (serve_message part thread.proc.num thread.tid moment)
+
+  kept-part : (processes : List (Option Process)) → row_at users thread.proc.user.0 ≡ Some processes → (resources : Resources)
+      → served (record { processes = processes; resources = resources }) ≡ record { part = record { processes = processes; resources = resources }; changes = [] }
+  kept-part processes there resources = elim (option_cases (row_at processes thread.proc.num)) [
+    | inl nobody ↦ rw nobody refl
+    | inr process ↦ elim (option_cases (row_at process.0.threads thread.tid)) [
+      | inl nobody ↦ rw (process.1, nobody) refl
+      | inr row ↦ elim (option_cases (taken_in row.0.state)) [
+        | inl idle ↦ rw (process.1, row.1, idle) refl
+        | inr sent ↦
+            let call : Call = record { target = sent.0.target; number = row.0.calls; is_asked = sent.0.is_asked } in
+            let clash : Some call ≡ None = rw (there, process.1, row.1, sent.1) at none in
+            absurd (cc)
+      ]
+    ]
+  ]
+
+  pub Serves-untaken : Serves (shown users queues) (shown users queues) k k (λ part. or_kept part (serve_message part thread.proc.num thread.tid moment))
+  Serves-untaken = elim (option_cases (row_at users k.user)) [
+    | inl nobody ↦ Serves-none (shown users queues) k served nobody (fits-lists k queues (lists (shown users queues)) refl fits)
+    | inr processes ↦
+        Serves-left users queues k processes.0 processes.1 k queues [] users queues.lines served (record { part = record { processes = processes.0; resources = told k queues }; changes = [] })
+        (kept-part processes.0 (ap (row_at users) (sym of) ∙ processes.1) (told k queues)) refl (sym (with_row-fixed users k.user (λ _. processes.0) processes.0 processes.1 refl)) refl (same_left k queues) fits
+  ]
+
+-- doing a received message may want memory, where its function may and the message is done
+pub received-wants : (users : Users) (queues : Queues) (k : state.Kept) (thread : Thread) (call : Call) (its : Received users thread call) → k.user ≡ thread.proc.user.0 → (moment : ℕ)
+    → part_wants_memory thread moment (part_in (shown users queues) k) ≡ (wants_memory call.target.manager (meaning its.sent.bytes) && is_ok (deed_in k queues its.process thread call moment its.sent.bytes))
+received-wants users queues k thread call its of moment =
+    ap (λ row. part_wants_memory thread moment (option_map (λ processes. record { processes = processes; resources = told k queues }) row)) (ap (row_at users) of ∙ its.user)
+    ∙ ap (process_wants_memory (told k queues) thread moment) its.there
+    ∙ ap (row_wants_memory (told k queues) its.process thread moment) its.at
+    ∙ ap (sent_wants_memory (told k queues) its.process thread its.row moment) (ap taken_in its.is)
+    ∙ ap (λ (call : Call). wants_memory call.target.manager (meaning its.sent.bytes) && is_ok (deed_in k queues its.process thread call moment its.sent.bytes)) its.call_is

@@ -1,0 +1,119 @@
+-- A message is served: its thread is answered beside the calls that waited, as in the machine.
+use Rattle.std.proofs.Common.{◌≡◌, ◌⊎◌, inl, inr, ℕ, ◌∷◌, ◌++◌, [], Bool, true, false, List, Option, Some, None, map, refl, sym, ◌∙◌, ap}
+use Rattle.std.specs.Prelude.{Ok, Err, option_map, slice_set, if◌then◌else◌}
+use Rattle.std.proofs.lemmas.List.{set-set}
+use Rattle.qx_types.specs.Managers.{manager_number, managers}
+use Rattle.qx_types.specs.declared.errno.Errno.{Errno}
+use Rattle.qx_types.specs.declared.names.Manager.{Manager}
+use Rattle.qx_types.specs.declared.names.Manager.TheVariants.{Pipe}
+use Rattle.qx_types.specs.declared.names.Proc.{Proc}
+use Rattle.qx_types.specs.declared.names.Thread.{Thread}
+use Rattle.qx_types.specs.declared.outcome.Answer.{Answer}
+use Rattle.qx_machine.specs.declared.rows.Caller.{Caller}
+use Rattle.qx_machine.specs.declared.rows.Over.{Over}
+use Rattle.qx_machine.specs.declared.rows.OwnItem.TheVariants as item
+use Rattle.qx_machine.specs.declared.rows.Queued.{Queued}
+use Rattle.qx_machine.specs.declared.rows.WaitingCall.{WaitingCall}
+use Rattle.qx_machine.specs.Functions.{Deed}
+use Rattle.qx_machine.specs.Lines.{line_at, with_line}
+use Rattle.qx_machine.specs.Machine.{line_without, lines_after}
+use Rattle.qx_machine.specs.Parts.{Part, Resources, with_process}
+use Rattle.qx_machine.specs.Performing.{after_answer, after_serving, answered_changes, own_change, with_answers}
+use Rattle.qx_machine.specs.Processes.{Process, answered_thread}
+use Rattle.qx_machine.specs.Rows.{row_at, with_row}
+use Rattle.qx_queues.specs.Piped.{users_given}
+use Rattle.qx_queues.specs.Queues.{Queues, unblock_call, with_queues_line, without_server}
+use Rattle.qx_chan.specs.Answers.{given_lines, given_users}
+use Rattle.qx_chan.specs.Calls.{taken_call}
+use Rattle.qx_chan.specs.Channel.{failed}
+use Rattle.qx_chan.specs.Kept.{Answering, attached_at, settled, settled_at}
+use Rattle.qx_chan.specs.Users.{Users, process_of, thread_row, with_process_of}
+use Rattle.qx_chan.specs.declared.call.Call.{Call}
+use Rattle.qx_chan.proofs.AnswerLemmas.{IsAnswer, Kept-answered, taken-unwaiting}
+use Rattle.qx_chan.proofs.GivenLemmas.{lines-machine, users-machine}
+use Rattle.qx_chan.proofs.RowReads.{row_at-with_same}
+use Rattle.qx_chan.proofs.SettleLemmas.{settled-fields}
+use Rattle.qx_chan.proofs.ThreadLemmas.{OneThread, one_thread}
+use Rattle.qx_chan.proofs.WaitLemmas.{no-call, waits-others}
+
+-- ---- rows
+
+-- one user's row changes, and then is another
+set-with_row : {A : Type 0} (xs : List (Option A)) (n : ℕ) (f : A → A) (x y : A) → row_at xs n ≡ Some x → slice_set (with_row xs n f) n (Some y) ≡ with_row xs n (λ _. y)
+set-with_row {A = A} xs n f x y there = set-set xs n (option_map f (row_at xs n)) (Some y) ∙ ap (λ (o : Option A). slice_set xs n (option_map (λ _. y) o)) (sym there) ∙ refl
+
+module _ (users : Users) (proc : Proc) (thread : ℕ) (over : Over) (part : Part) (there : row_at users proc.user.0 ≡ Some part.processes) where
+  -- the thread that sent a message that is done, and who waited
+  pub users-done : (deed : Deed Resources) → given_users (with_process_of users proc (after_serving thread over deed.reply)) (map (users_given proc.user.0) deed.answers)
+      ≡ with_row users proc.user.0 (λ _. (after_answer part proc.num thread over (Ok deed)).processes)
+  users-done deed =
+      let served : Part = with_process proc.num (after_serving thread over deed.reply) (record part { resources = deed.state }) in
+      users-machine (with_process_of users proc (after_serving thread over deed.reply)) proc.user.0 deed.answers served
+      (row_at-with_same users proc.user.0 (λ rows. with_row rows proc.num (after_serving thread over deed.reply)) ∙ ap (option_map (λ rows. with_row rows proc.num (after_serving thread over deed.reply))) there)
+      ∙ set-with_row users proc.user.0 (λ rows. with_row rows proc.num (after_serving thread over deed.reply)) part.processes (with_answers deed.answers served).processes there
+
+  -- the thread that sent one that is answered an error
+  pub users-refused : (error : Errno) → with_process_of users proc (failed thread error over) ≡ with_row users proc.user.0 (λ _. (after_answer part proc.num thread over (Err error)).processes)
+  users-refused error = ap (slice_set users proc.user.0) (ap (option_map (λ rows. with_row rows proc.num (failed thread error over))) there ∙ ap (option_map (λ _. with_row part.processes proc.num (failed thread error over))) (sym there))
+
+-- ---- lines
+
+module _ (user : ℕ) (manager : Manager) (answers : List (WaitingCall × Answer)) (only : (manager ≡ Pipe) ⊎ (answers ≡ [])) where
+  -- those whom the pipe manager answers are all who are answered
+  lines-others : (lines : List (List Queued)) → given_lines lines (map (users_given user) answers) ≡ lines_after user lines (answered_changes manager answers)
+  lines-others lines = elim only [
+    | inl pipe ↦ rw pipe (lines-machine user lines answers)
+    | inr none ↦ rw none refl
+  ]
+
+  -- the message is left without a reply
+  pub lines-waiting : (lines : List (List Queued)) → given_lines lines (map (users_given user) answers) ≡ lines_after user lines ([] ++ answered_changes manager answers)
+  lines-waiting lines = lines-others lines
+
+  -- or is replied to
+  pub lines-done : (lines : List (List Queued)) (caller : Caller)
+      → given_lines (with_line lines (manager_number manager) (line_without user (item.Unblock caller.process caller.thread caller.call))) (map (users_given user) answers)
+      ≡ lines_after user lines ((own_change manager caller ∷ []) ++ answered_changes manager answers)
+  lines-done lines caller = lines-others (with_line lines (manager_number manager) (line_without user (item.Unblock caller.process caller.thread caller.call)))
+
+-- ---- what stands together
+
+-- answers on their way change nothing of the disconnect nodes
+abbrev without_answers : Queues → Queues
+without_answers c = record c { answered = [] }
+
+settled_at-cleared : (proc : Proc) (process : Option Process) (manager : Manager) (c : Queues) → without_answers (settled_at proc process manager c) ≡ settled_at proc process manager (without_answers c)
+settled_at-cleared proc process manager c = by_test (attached_at (manager_number manager) process)
+  where
+    by_test : (b : Bool) → without_answers (if b then c else without_server c proc (manager_number manager)) ≡ (if b then without_answers c else without_server (without_answers c) proc (manager_number manager))
+    by_test true = refl
+    by_test false = refl
+
+settled-cleared : (proc : Proc) (process : Option Process) (all : List Manager) (c : Queues) → without_answers (settled proc process all c) ≡ settled proc process all (without_answers c)
+settled-cleared proc process [] c = refl
+settled-cleared proc process (manager ∷ all) c = settled-cleared proc process all (settled_at proc process manager c) ∙ ap (settled proc process all) (settled_at-cleared proc process manager c)
+
+module _ (users : Users) (queues : Queues) (thread : Thread) (call : Call) (is : Some call ≡ taken_call (thread_row users thread)) (answering : Answering users queues) where
+  abbrev drop_pulse : List Queued → List Queued
+  drop_pulse = line_without thread.proc.user.0 (item.Unblock thread.proc.num thread.tid call.number)
+
+  -- a received message is answered while other answers are on their way
+  pub Answering-answered : (f : Process → Process) (answer : Answer) → IsAnswer thread.tid answer f
+      → (unblock_call (line_at queues.lines (manager_number call.target.manager)) thread ≡ Some call.number → unblock_call (drop_pulse (line_at queues.lines (manager_number call.target.manager))) thread ≡ None)
+      → Answering (with_process_of users thread.proc f) (settled thread.proc (process_of (with_process_of users thread.proc f) thread.proc) managers
+      (with_queues_line queues (manager_number call.target.manager) (line_without thread.proc.user.0 (item.Unblock thread.proc.num thread.tid call.number))))
+  Answering-answered f answer answers gone = record {
+    kept = rw (settled-cleared thread.proc (process_of new thread.proc) managers changed) (Kept-answered users (without_answers queues) thread call is answering.kept f answer answers gone);
+    answered = rw (settled-fields thread.proc (process_of new thread.proc) (λ c. c.answered) (λ c number. refl) managers changed)
+        (waits-others (λ given. given.thread) (λ given. given.call) users new thread one.others queues.answered
+        (no-call (λ given. given.thread) (λ given. given.call) users thread (taken-unwaiting (thread_row users thread) call is) queues.answered answering.answered) answering.answered);
+  }
+    where
+      new : Users
+      new = with_process_of users thread.proc f
+
+      changed : Queues
+      changed = with_queues_line queues (manager_number call.target.manager) drop_pulse
+
+      one : OneThread new users thread f (answered_thread answer)
+      one = one_thread users thread f (answered_thread answer) answers.threads

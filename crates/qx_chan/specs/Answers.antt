@@ -1,0 +1,46 @@
+-- What the answers to a message that was served, and to calls that waited, make of the threads' rows and of the lines.
+use Rattle.std.specs.Prelude.{ℕ, List, [], ◌∷◌, Result, Ok, Err}
+use Rattle.qx_types.specs.Managers.{manager_number, managers}
+use Rattle.qx_types.specs.declared.errno.Errno.{Errno}
+use Rattle.qx_types.specs.declared.names.Manager.TheVariants.{Pipe}
+use Rattle.qx_types.specs.declared.names.Thread.{Thread}
+use Rattle.qx_machine.specs.declared.rows.Over.{Over}
+use Rattle.qx_machine.specs.declared.rows.OwnItem.TheVariants as item
+use Rattle.qx_machine.specs.declared.rows.Queued.{Queued}
+use Rattle.qx_machine.specs.Lines.{with_line}
+use Rattle.qx_machine.specs.Machine.{line_without}
+use Rattle.qx_machine.specs.Processes.{answered_thread}
+use Rattle.qx_queues.specs.Queues.{Queues, UsersAnswer, with_queues_line}
+use Rattle.qx_resmgr.specs.declared.functions.Done.{Done}
+use Rattle.qx_resmgr.specs.declared.functions.Done.TheVariants.{Reply, NoReply}
+use Rattle.qx_chan.specs.Channel.{failed, replied}
+use Rattle.qx_chan.specs.Kept.{settled}
+use Rattle.qx_chan.specs.Users.{Users, process_of, with_process_of, with_thread_row}
+use Rattle.qx_chan.specs.declared.call.Call.{Call}
+
+-- the thread of a message that was served is answered with what that came to, unless it is left without a reply
+abbrev pub answered_users : Users → Thread → Over → List ℕ → Result Done Errno → Users
+answered_users users thread over bytes (Ok NoReply) = users
+answered_users users thread over bytes (Ok (Reply status effect)) = with_process_of users thread.proc (replied thread.tid effect status bytes over)
+answered_users users thread over bytes (Err error) = with_process_of users thread.proc (failed thread.tid error over)
+
+-- its call has no unblock pulse any more, and its process has the disconnect nodes of what it has attached then
+abbrev pub without_pulse : Queues → Users → Thread → Call → Queues
+without_pulse queues users thread call =
+    settled thread.proc (process_of users thread.proc) managers (with_queues_line queues (manager_number call.target.manager) (line_without thread.proc.user.0 (item.Unblock thread.proc.num thread.tid call.number)))
+
+abbrev pub answered_queues : Queues → Users → Thread → Call → Result Done Errno → Queues
+answered_queues queues users thread call (Ok NoReply) = queues
+answered_queues queues users thread call (Ok (Reply status effect)) = without_pulse queues users thread call
+answered_queues queues users thread call (Err error) = without_pulse queues users thread call
+
+-- each thread whose call waited has its answer
+abbrev pub given_users : Users → List UsersAnswer → Users
+given_users users [] = users
+given_users users (first ∷ rest) = given_users (with_thread_row users first.thread (answered_thread first.answer)) rest
+
+-- and the pipe manager's line has no unblock pulse of its call
+abbrev pub given_lines : List (List Queued) → List UsersAnswer → List (List Queued)
+given_lines lines [] = lines
+given_lines lines (first ∷ rest) =
+    given_lines (with_line lines (manager_number Pipe) (line_without first.thread.proc.user.0 (item.Unblock first.thread.proc.num first.thread.tid first.call))) rest

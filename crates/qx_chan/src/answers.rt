@@ -1,0 +1,22 @@
+//! The answers to calls that waited, on their way to the threads.
+
+ghost use Rattle.std.specs.Prelude.{◌≡◌, []};
+ghost use Rattle.qx_chan.specs.Answers.{given_lines, given_users};
+ghost use Rattle.qx_chan.specs.Kept.{Answering, Kept};
+
+use crate::users::Users;
+use qx_queues::Queues;
+use qx_types::Manager;
+
+/// Gives each thread whose call waited and was answered its answer, with the room for its replies; an unblock pulse of the
+/// call is in the pipe manager's line no more (C Library Reference: `MsgReply`).
+pub fn give_answers(users: &mut Users, queues: &mut Queues)
+    ensures users { users.new ≡ given_users users.old queues.old.answered }
+    ensures queues { queues.new ≡ record queues.old { lines = given_lines queues.old.lines queues.old.answered; answered = [] } }
+    ensures kept { Answering users.old queues.old → Kept users.new queues.new }
+{
+    while let Some(taken) = queues.take_answered() {
+        users.answer(taken.thread, taken.answer, taken.room);
+        queues.reply(Manager::Pipe, taken.thread, taken.call);
+    }
+}

@@ -1,0 +1,204 @@
+//! Messages and unblock pulses, as a worker performs them.
+
+ghost use Rattle.std.specs.Prelude.{◌≡◌, ◌≤◌, List, ℕ, Some, length, IfOk, IfSome, IsFalse, IsOk, None, OnErr, OnOk};
+ghost use Rattle.std.specs.Option.{option_copied};
+ghost use Rattle.qx_types.specs.Managers.{manager_number};
+ghost use Rattle.qx_types.specs.declared.limits.TheConstants.Limits.{BODY};
+ghost use Rattle.qx_wire.specs.Reading as reading;
+ghost use Rattle.qx_machine.specs.Machine.{line_without};
+ghost use Rattle.qx_machine.specs.Performing.{or_kept, serve_message, serve_pulse};
+ghost use Rattle.qx_machine.specs.Processes as machine;
+ghost use Rattle.qx_machine.specs.Processes.{served_thread};
+ghost use Rattle.qx_machine.specs.declared.rows.OwnItem.TheVariants as item;
+ghost use Rattle.qx_queues.specs.Queues.{IsReceived, queues_line, unblock_call};
+ghost use Rattle.qx_resmgr.specs.Deeds.{Did, HasRoomAfter, IsReplied};
+ghost use Rattle.qx_resources.specs.Memory.{IsInRanges, wants_memory};
+ghost use Rattle.qx_resources.specs.State.{Fits, state};
+ghost use Rattle.qx_chan.specs.Answers.{answered_queues, answered_users};
+ghost use Rattle.qx_chan.specs.Calls.{taken_call, taken_of};
+ghost use Rattle.qx_chan.specs.Channel.{lists};
+ghost use Rattle.qx_chan.specs.Serving.{IsReadOf, Sends, Serves, caller_in, deed_in, part_in, part_wants_memory};
+ghost use Rattle.qx_chan.specs.Users.{thread_row, with_thread_row};
+
+use crate::answers::give_answers;
+use crate::call::Call;
+use crate::channel::Channel;
+use crate::servers;
+use crate::users::Users;
+use qx_attr::Reply;
+use qx_machine::Caller;
+use qx_process::Room;
+use qx_process::room::reply_bytes;
+use qx_queues::Queues;
+use qx_resmgr::Done;
+use qx_resources::Resources;
+use qx_types::{Errno, MessageBytes, Thread};
+use qx_wire::{Meaning, Parsed, meaning};
+use std::alloc::AllocError;
+
+impl Channel {
+    /// The message of a thread, which was received, is served by its manager at a moment, and answered, unless its call is to
+    /// wait; so are the calls that waited and can be answered then (Writing a Resource Manager: `dispatch_handler`; C Library
+    /// Reference: `MsgReply`, `MsgError`). An unblock pulse of a call that is answered is in its line no more. Nothing happens
+    /// to a thread with no such message. The bytes may have been read before.
+    pub fn serve(
+        &mut self,
+        resources: &mut Resources,
+        thread: Thread,
+        read: Option<&Parsed>,
+        moment: u64,
+        reply: &mut Reply,
+    ) -> Result<(), AllocError>
+        requires user { resources.old.user ≡ thread.proc.user.0 }
+        requires fits { Fits resources.old (lists self.old) }
+        requires read { IsReadOf (option_copied read) (taken_of (thread_row self.old.users thread)) }
+        ensures ok { OnOk result (Serves self.old self.new resources.old resources.new (λ part. or_kept part (serve_message part thread.proc.num thread.tid moment))) }
+        ensures err { OnErr result ((self.new ≡ self.old) × (resources.new ≡ resources.old)) }
+        ensures sure { IsFalse (part_wants_memory thread moment (part_in self.old resources.old)) → IsOk result }
+    {
+        let Some(call) = self.taken(thread) else {
+            return Ok(());
+        };
+        let (given, room) = perform(
+            &mut self.users,
+            &mut self.queues,
+            resources,
+            thread,
+            call,
+            read,
+            moment,
+            reply,
+        )?;
+        answer(
+            &mut self.users,
+            &mut self.queues,
+            thread,
+            call,
+            given,
+            reply.as_slice(),
+            room,
+        );
+        give_answers(&mut self.users, &mut self.queues);
+        Ok(())
+    }
+
+    /// A call of a thread is asked to unblock by the pulse that a worker performs: if it waits in a pipe, it is answered, and
+    /// so are others that can be then (Writing a Resource Manager: the unblock pulse).
+    pub fn cancel(&mut self, resources: &mut Resources, thread: Thread, call: u64, moment: u64)
+        requires user { resources.old.user ≡ thread.proc.user.0 }
+        requires fits { Fits resources.old (lists self.old) }
+        ensures cancelled { Serves self.old self.new resources.old resources.new (λ part. or_kept part (serve_pulse part thread.proc.num thread.tid call moment)) }
+    {
+        let Some(_) = self.users.processes(thread.proc.user) else {
+            return;
+        };
+        resources.cancel(&mut self.queues, thread, call, moment);
+        give_answers(&mut self.users, &mut self.queues);
+    }
+}
+
+/// Does what a message asks its manager for, which was received and is served by that; the room for the reply goes with a
+/// message that is left without one. Where memory is refused, the message is received as before.
+fn perform(
+    users: &mut Users,
+    queues: &mut Queues,
+    resources: &mut Resources,
+    thread: Thread,
+    call: Call,
+    read: Option<&Parsed>,
+    moment: u64,
+    reply: &mut Reply,
+) -> Result<(Result<Done, Errno>, Option<Room>), AllocError>
+    requires user { resources.old.user ≡ thread.proc.user.0 }
+    requires fits { Fits resources.old queues.old }
+    requires taken { Some call ≡ taken_call (thread_row users.old thread) }
+    requires received { IsReceived queues.old thread }
+    requires read { IsReadOf (option_copied read) (taken_of (thread_row users.old thread)) }
+    ensures served { OnOk result (users.new ≡ with_thread_row users.old thread served_thread) }
+    ensures did { (process : machine.Process) (bytes : List ℕ) → Sends users.old thread process bytes → IfOk result (λ given. Did state resources.old queues.old resources.new queues.new reply.new given.0 (deed_in resources.old queues.old process thread call moment bytes)) }
+    ensures room { IfOk result (λ given. HasRoomAfter given.1 given.0) }
+    ensures err { OnErr result ((users.new ≡ users.old) × (queues.new ≡ queues.old) × (resources.new ≡ resources.old)) }
+    ensures wanted { (process : machine.Process) (bytes : List ℕ) → Sends users.old thread process bytes → OnErr result (IsOk (deed_in resources.old queues.old process thread call moment bytes)) }
+    ensures sure { (process : machine.Process) (bytes : List ℕ) → Sends users.old thread process bytes → IsFalse (wants_memory call.target.manager (reading.meaning bytes)) → IsOk result }
+{
+    let (bytes, room) = users.hand_over(thread);
+    let mut room = Some(room);
+    let Some(process) = users.process(thread.proc) else {
+        unreachable!();
+    };
+    let given = resources.perform(
+        queues,
+        process,
+        caller(thread, call),
+        call.target,
+        meaning_of(&bytes, read),
+        moment,
+        reply,
+        &mut room,
+    );
+    match given {
+        Ok(given) => Ok((given, room)),
+        Err(error) => {
+            let Some(room) = room else {
+                unreachable!();
+            };
+            users.hand_back(thread, bytes, room);
+            Err(error)
+        }
+    }
+}
+
+/// A thread whose message was served is answered with what that came to, unless it is left without a reply: the message does
+/// what it does to the connection that it came over, a side connection goes, a new one goes with an error, and an unblock
+/// pulse of the call is in the line no more.
+fn answer(
+    users: &mut Users,
+    queues: &mut Queues,
+    thread: Thread,
+    call: Call,
+    given: Result<Done, Errno>,
+    reply: &[u8],
+    mut room: Option<Room>,
+)
+    requires fits { length reply.now ≤ BODY }
+    requires room { HasRoomAfter room given }
+    ensures users { users.new ≡ answered_users users.old thread call.target.over reply.now given }
+    ensures queues { queues.new ≡ answered_queues queues.old users.new thread call given }
+    ensures gone { IsReplied given → unblock_call (queues_line queues.old (manager_number call.target.manager)) thread ≡ Some call.number → unblock_call (line_without thread.proc.user.0 (item.Unblock thread.proc.num thread.tid call.number) (queues_line queues.old (manager_number call.target.manager))) thread ≡ None }
+{
+    let over = call.target.over;
+    match given {
+        Ok(Done::NoReply) => return,
+        Ok(Done::Reply { status, effect }) => {
+            let bytes = reply_bytes(&mut room, reply);
+            users.reply(thread, over, effect, status, bytes, room);
+        }
+        Err(error) => users.fail(thread, over, error, room),
+    }
+    queues.reply(call.target.manager, thread, call.number);
+    servers::settle(queues, users, thread.proc);
+}
+
+/// Whose message a call is.
+fn caller(thread: Thread, call: Call) -> Caller
+    ensures { result ≡ caller_in thread call }
+{
+    Caller {
+        process: thread.proc.num,
+        thread: thread.tid,
+        call: call.number,
+        is_asked: call.is_asked,
+    }
+}
+
+/// What the bytes of a message mean, which may have been read before.
+fn meaning_of<'a>(bytes: &'a MessageBytes, read: Option<&'a Parsed>) -> Meaning<'a>
+    requires { IfSome read (λ read. read.now ≡ bytes.now) }
+    ensures meaning { result ≡ reading.meaning bytes.now }
+    ensures ranges { IsInRanges result }
+{
+    match read {
+        Some(read) => read.meaning(),
+        None => meaning(bytes.as_slice()),
+    }
+}

@@ -1,0 +1,3 @@
+pub mod Lends
+pub mod Pipes
+pub mod Tell

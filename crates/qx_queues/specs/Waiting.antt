@@ -1,0 +1,99 @@
+-- What a node of the table stands for and carries.
+use Rattle.std.specs.Prelude.{ℕ, ◌==◌, Bool, false, List, [], Option, Some, None, unwrap_or}
+use Rattle.qx_types.specs.declared.names.Thread.{Thread}
+use Rattle.qx_types.specs.declared.errno.Errno.{Errno}
+use Rattle.qx_types.specs.declared.outcome.Answer.{Answer}
+use Rattle.qx_types.specs.declared.outcome.Answer.TheVariants.{Failed, Reply}
+use Rattle.qx_machine.specs.declared.rows.Queued.{Queued}
+use Rattle.qx_machine.specs.declared.rows.WaitingCall.{WaitingCall}
+use Rattle.qx_machine.specs.Machine.{rank}
+use Rattle.qx_queues.specs.Queues.{UsersAnswer, answer_to, caller}
+use Rattle.qx_queues.specs.declared.waiting.Answered as taken
+use Rattle.qx_queues.specs.declared.waiting.Slot.{Slot}
+use Rattle.qx_queues.specs.declared.waiting.Slot.TheVariants as slot
+
+-- nothing, a call that waits in a pipe, or the answer to one that waited
+pub data Load : Type 0 where
+  Nothing : Load
+  Waits : (call : WaitingCall) → Load
+  Answered : (given : UsersAnswer) → Load
+
+-- an item as it stands in a line, and what its node carries
+pub record Waiting : Type 0 where
+  pub queued : Queued
+  pub load : Load
+
+abbrev pub idle : Queued → Waiting
+idle queued = record { queued = queued; load = Nothing }
+
+-- the same item, whose node carries a call
+abbrev pub loaded : Queued → WaitingCall → Waiting
+loaded queued call = record { queued = queued; load = Waits call }
+
+-- the place of a node in a line's order
+abbrev pub rank_of : Waiting → ℕ
+rank_of waiting = rank waiting.queued
+
+abbrev pub no_call : WaitingCall
+no_call = record { process = 0; thread = 0; call = 0; block = 0; wanted = 0; bytes = [] }
+
+abbrev pub carried : Load → Option WaitingCall
+carried Nothing = None
+carried (Waits call) = Some call
+carried (Answered given) = None
+
+-- the call that waits with a node
+abbrev pub call_of : Waiting → WaitingCall
+call_of waiting = unwrap_or (carried waiting.load) no_call
+
+-- the call of that number waits
+abbrev pub waits_in : ℕ → Load → Bool
+waits_in number Nothing = false
+waits_in number (Waits call) = call.call == number
+waits_in number (Answered given) = false
+
+abbrev pub nobody : Thread
+nobody = record { proc = record { user = record { 0 = 0 }; num = 0 }; tid = 0 }
+
+abbrev pub given_in : Load → UsersAnswer
+given_in Nothing = record { thread = nobody; call = 0; answer = Reply 0 [] }
+given_in (Waits call) = record { thread = nobody; call = 0; answer = Reply 0 [] }
+given_in (Answered given) = given
+
+-- the answer that a node carries
+abbrev pub given_of : Waiting → UsersAnswer
+given_of waiting = given_in waiting.load
+
+abbrev pub caller_in : ℕ → Load → Thread
+caller_in user Nothing = nobody
+caller_in user (Waits call) = caller (record { user = user; call = call })
+caller_in user (Answered given) = given.thread
+
+-- the thread whose call a node carries, or carried until it was answered
+abbrev pub caller_of : Waiting → Thread
+caller_of waiting = caller_in waiting.queued.user.0 waiting.load
+
+abbrev pub answered_load : ℕ → Answer → Load → Load
+answered_load user answer Nothing = Nothing
+answered_load user answer (Waits call) = Answered (answer_to (record { user = user; call = call }) answer)
+answered_load user answer (Answered given) = Answered given
+
+-- a call that waits gets an answer, and no other does
+abbrev pub with_answer : Answer → Waiting → Waiting
+with_answer answer waiting = record waiting { load = answered_load waiting.queued.user.0 answer waiting.load }
+
+abbrev pub with_reply : Waiting → ℕ → List ℕ → Waiting
+with_reply waiting status bytes = with_answer (Reply status bytes) waiting
+
+abbrev pub with_error : Waiting → Errno → Waiting
+with_error waiting error = with_answer (Failed error) waiting
+
+-- to which call of which thread an answer goes, and what it is
+abbrev pub addressed_by : taken.Answered → UsersAnswer
+addressed_by taken = record { thread = taken.thread; call = taken.call; answer = taken.answer }
+
+-- what is kept in a node, seen without the rooms for replies
+abbrev pub load_of : Slot → Load
+load_of slot.Empty = Nothing
+load_of (slot.Waits call) = Waits call
+load_of (slot.Answered taken) = Answered (addressed_by taken)

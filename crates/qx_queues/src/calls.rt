@@ -1,0 +1,125 @@
+//! Calls that wait in pipes.
+
+ghost use Rattle.std.specs.Prelude.{◌≡◌, []};
+ghost use Rattle.qx_machine.specs.PipeManager.{waiting_call};
+ghost use Rattle.qx_queues.specs.Calls.{wanted_by, written_by};
+ghost use Rattle.qx_queues.specs.Queues.{caller};
+
+use qx_machine::Opened;
+use qx_process::Room;
+use qx_types::{Proc, Thread, User};
+use std::marker::Model;
+
+/// What a call does to its pipe.
+#[derive(Drop)]
+enum Work {
+    /// It reads so many bytes.
+    Read(u32),
+    /// It writes what is kept in its room.
+    Write,
+}
+
+/// A call that waits in a pipe (Writing a Resource Manager: a client to whom no reply is made yet), with the room for its
+/// reply, in which what it writes is kept until then.
+#[derive(Drop)]
+pub struct PipeCall {
+    process: u8,
+    thread: u8,
+    number: u64,
+    block: u16,
+    work: Work,
+    room: Room,
+}
+
+impl Model for PipeCall {
+    ghost use Rattle.qx_machine.specs.declared.rows.WaitingCall.{WaitingCall};
+
+    ghost Value = { WaitingCall };
+
+    ghost use Rattle.qx_queues.specs.Calls.{wanted_by, written_by};
+
+    ghost view = { λ c. record { process = c.process; thread = c.thread; call = c.number; block = c.block; wanted = wanted_by c.work; bytes = written_by c.work c.room } };
+}
+
+impl PipeCall {
+    /// A call that reads so many bytes (C Library Reference: `read`).
+    pub fn reading(opened: Opened, wanted: u32, room: Room) -> Self
+        ensures call { result ≡ waiting_call opened wanted [] }
+    {
+        PipeCall::new(opened, Work::Read(wanted), room)
+    }
+
+    /// A call that writes what is kept in its room (C Library Reference: `write`).
+    pub fn writing(opened: Opened, room: Room) -> Self
+        ensures call { result ≡ waiting_call opened 0 room }
+    {
+        PipeCall::new(opened, Work::Write, room)
+    }
+
+    fn new(opened: Opened, work: Work, room: Room) -> Self
+        ensures call { result ≡ waiting_call opened (wanted_by work) (written_by work room) }
+    {
+        let caller = opened.caller;
+        PipeCall {
+            process: caller.process,
+            thread: caller.thread,
+            number: caller.call,
+            block: opened.number,
+            work,
+            room,
+        }
+    }
+
+    /// Which thread of a user it is of.
+    pub fn thread(&self, user: User) -> Thread
+        ensures thread { result ≡ caller (record { user = user.0; call = self.now }) }
+    {
+        Thread {
+            proc: Proc {
+                user,
+                num: self.process,
+            },
+            tid: self.thread,
+        }
+    }
+
+    /// Which call of its thread it is.
+    pub fn number(&self) -> u64
+        ensures number { result ≡ self.now.call }
+    {
+        self.number
+    }
+
+    /// The number of the open control block that it works on.
+    pub fn block(&self) -> u16
+        ensures block { result ≡ self.now.block }
+    {
+        self.block
+    }
+
+    /// How many bytes it reads.
+    pub fn wanted(&self) -> u32
+        ensures wanted { result ≡ self.now.wanted }
+    {
+        match self.work {
+            Work::Read(wanted) => wanted,
+            Work::Write => 0,
+        }
+    }
+
+    /// The bytes that it writes.
+    pub fn bytes(&self) -> &[u8]
+        ensures bytes { result.now ≡ self.now.bytes }
+    {
+        match self.work {
+            Work::Read(_) => &[],
+            Work::Write => self.room.as_slice(),
+        }
+    }
+
+    /// The room for its reply, as it waits no more.
+    pub fn into_room(self) -> Room {
+        let PipeCall { room, .. } = self;
+        room
+    }
+}

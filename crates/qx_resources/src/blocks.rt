@@ -1,0 +1,96 @@
+//! What both managers do alike with what is open, and with what a path leads to.
+
+ghost use Rattle.std.specs.Prelude.{◌≡◌, ℕ, []};
+ghost use Rattle.qx_machine.specs.Functions.{function_deed};
+ghost use Rattle.qx_machine.specs.Managers.{ram_connect, ram_io};
+ghost use Rattle.qx_machine.specs.declared.rows.Effect.TheVariants.{Closes, Opens};
+ghost use Rattle.qx_queues.specs.Queues.{Queues};
+ghost use Rattle.qx_resmgr.specs.Deeds.{Did, IsReplied};
+ghost use Rattle.qx_resources.specs.State as kept;
+
+use crate::resources::Resources;
+use qx_attr::Reply;
+use qx_machine::{Effect, Opened};
+use qx_resmgr::Done;
+use qx_types::{Coid, Errno};
+use qx_wire::Rest;
+
+/// What an open came to: its connection has the block (C Library Reference: `open`).
+pub fn opened(coid: Coid, block: u16) -> Done
+    ensures { result ≡ Done.Reply coid.0 (Opens coid block) }
+{
+    Done::Reply {
+        status: coid.0 as u64,
+        effect: Effect::Opens { coid, block },
+    }
+}
+
+/// What a close came to: its connection goes (C Library Reference: `close`).
+pub fn closed(coid: Coid) -> Done
+    ensures { result ≡ Done.Reply 0 (Closes coid) }
+{
+    Done::Reply {
+        status: 0,
+        effect: Effect::Closes(coid),
+    }
+}
+
+/// Tells the status of what a path leads to (C Library Reference: `stat`).
+pub fn stat(
+    state: &Resources,
+    root: Result<u32, Errno>,
+    rest: &Rest<'_>,
+    reply: &mut Reply,
+) -> Result<Done, Errno>
+    requires empty { reply.old ≡ [] }
+    ensures did { (waits : Queues) (moment : ℕ) → kept.Fits state.now waits → Did kept.state state.now waits state.now waits reply.new result (function_deed ram_connect.stat root (λ f root. f (kept.told state.now waits) root rest.now moment)) }
+    ensures replied { IsReplied result }
+{
+    let status = qx_iofunc::stat(&state.inodes, &state.names, state.user, root?, rest)?;
+    reply.push(status.as_slice());
+    Ok(Done::keeps(0))
+}
+
+/// Tells the status of what is open (C Library Reference: `fstat`).
+pub fn fstat(
+    state: &Resources,
+    opened: Result<Opened, Errno>,
+    reply: &mut Reply,
+) -> Result<Done, Errno>
+    requires empty { reply.old ≡ [] }
+    ensures did { (waits : Queues) (moment : ℕ) → kept.Fits state.now waits → Did kept.state state.now waits state.now waits reply.new result (function_deed ram_io.fstat opened (λ f o. f (kept.told state.now waits) o moment)) }
+    ensures replied { IsReplied result }
+{
+    let status = qx_iofunc::fstat(&state.inodes, opened?.number)?;
+    reply.push(status.as_slice());
+    Ok(Done::keeps(0))
+}
+
+/// Tells the names of a directory that is open, behind one (C Library Reference: `readdir`).
+pub fn list(
+    state: &Resources,
+    opened: Result<Opened, Errno>,
+    after: &[u8],
+    reply: &mut Reply,
+) -> Result<Done, Errno>
+    requires empty { reply.old ≡ [] }
+    ensures did { (waits : Queues) (moment : ℕ) → kept.Fits state.now waits → Did kept.state state.now waits state.now waits reply.new result (function_deed ram_io.list opened (λ f o. f (kept.told state.now waits) o after.now moment)) }
+    ensures replied { IsReplied result }
+{
+    let count = qx_iofunc::list(&state.inodes, &state.names, opened?.number, after, reply)?;
+    Ok(Done::keeps(count))
+}
+
+/// Sets the mode of what is open (C Library Reference: `fchmod`).
+pub fn chmod(
+    state: &mut Resources,
+    opened: Result<Opened, Errno>,
+    mode: u16,
+    moment: u64,
+) -> Result<Done, Errno>
+    ensures did { (waits : Queues) → kept.Fits state.old waits → Did kept.state state.old waits state.new waits [] result (function_deed ram_io.chmod opened (λ f o. f (kept.told state.old waits) o mode moment)) }
+    ensures replied { IsReplied result }
+{
+    qx_iofunc::chmod(&mut state.inodes, opened?.number, moment, mode)?;
+    Ok(Done::keeps(0))
+}

@@ -1,0 +1,33 @@
+//! What the managers keep for a user, as their tables of functions see it.
+
+use crate::resources::Resources;
+use qx_queues::Queues;
+use qx_resmgr::State;
+use std::marker::Model;
+
+/// A user's resources as the machine has them: what the managers' tables of functions work on. It stands in contracts alone.
+pub struct Told;
+
+impl Model for Told {
+    ghost use Rattle.std.specs.Coded.{codes};
+    ghost use Rattle.std.specs.Prelude.{[]};
+    ghost use Rattle.qx_machine.specs.Mounting.{new_resources};
+    ghost use Rattle.qx_machine.specs.Parts as parts;
+    ghost use Rattle.qx_names.specs.Paths.{names_code};
+
+    ghost Value = { parts.Resources };
+
+    ghost coded = { Prim.hlevel (codes, names_code) };
+
+    ghost view = { λ _. new_resources 0 [] };
+}
+
+impl State<Queues, Told> for Resources {
+    ghost use Rattle.qx_resources.specs.State as state;
+
+    ghost told = { state.told };
+
+    ghost fits = { state.Fits };
+
+    ghost left = { state.Left };
+}
