@@ -137,7 +137,15 @@ impl Home {
     /// Makes a directory of a mode as user 1, and gives its inode.
     pub fn mkdir(&mut self, path: &[u8], mode: u16) -> Result<Result<u32, Errno>, AllocError> {
         let rest = Rest::new(path);
-        qx_iofunc::mkdir(&mut self.inodes, &mut self.names, User(1), 1, &rest, mode, 9)
+        qx_iofunc::mkdir(
+            &mut self.inodes,
+            &mut self.names,
+            User(1),
+            1,
+            &rest,
+            mode,
+            9,
+        )
     }
 
     /// Takes a name away as user 1.

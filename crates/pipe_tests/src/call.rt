@@ -2,6 +2,7 @@
 ghost use Rattle.std.specs.Prelude.{Err, Ok, Some, slice_get};
 
 use qx_types::{Errno, Waiter};
+use std::array;
 
 /// How many bytes each writer has.
 pub const OFFERED: usize = 63;
@@ -18,12 +19,12 @@ pub struct Call {
 }
 
 impl Call {
-    /// A call that reads so many bytes over a block, or writes 63 of the same byte.
-    pub fn new(number: u32, wanted: usize, byte: u8, block: usize) -> Call {
+    /// A call that reads so many bytes over a block, or writes 63 bytes, each greater by one than that before.
+    pub fn new(number: u32, wanted: usize, first: u8, block: usize) -> Call {
         Call {
             number,
             wanted,
-            bytes: [byte; 63],
+            bytes: array::from_fn(|i| first.wrapping_add(i as u8)),
             block,
             gone: false,
             answer: None,

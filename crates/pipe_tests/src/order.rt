@@ -15,12 +15,16 @@ fn takes(scene: &mut Scene, number: u32, answer: Result<(u64, Option<u8>), Errno
 }
 
 /// Writes 63 bytes and reads each of them by itself; whether each came, once and in its turn.
-fn goes_round(scene: &mut Scene, byte: u8) -> Result<bool, Fail> {
-    scene.write(Call::new(0, 0, byte, 0), PLAIN)?;
+fn goes_round(scene: &mut Scene, first: u8) -> Result<bool, Fail> {
+    scene.write(Call::new(0, 0, first, 0), PLAIN)?;
     let mut good = takes(scene, 0, Ok((OFFERED as u64, None)));
     for number in 0..OFFERED as u32 {
         scene.read(Call::new(number, 1, 0, 0), PLAIN)?;
-        good &= takes(scene, number, Ok((1, Some(byte))));
+        good &= takes(
+            scene,
+            number,
+            Ok((1, Some(first.wrapping_add(number as u8)))),
+        );
     }
     Ok(good)
 }
@@ -49,8 +53,8 @@ fn one_write_serves_63_readers_in_order(rt: HostRuntime) -> Result<(), Fail> {
     assert!(rt; scene.take().is_none());
     scene.write(Call::new(63, 0, 7, 0), PLAIN)?;
     assert!(rt; takes(&mut scene, 63, Ok((63, None))));
-    for number in 0..63 {
-        assert!(rt; takes(&mut scene, number, Ok((1, Some(7)))));
+    for number in 0..63u32 {
+        assert!(rt; takes(&mut scene, number, Ok((1, Some(7 + number as u8)))));
     }
     assert!(rt; scene.take().is_none());
     Ok(())

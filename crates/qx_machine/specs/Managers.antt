@@ -1,11 +1,9 @@
 -- The two managers, each as its tables of functions (Writing a Resource Manager: resmgr_connect_funcs_t, resmgr_io_funcs_t).
-use Rattle.std.specs.Prelude.{ℕ, List, [], Option, Some, None, Result, Ok, Err, length}
+use Rattle.std.specs.Prelude.{ℕ, List, [], Option, Some, None, Result, Ok, length}
 use Rattle.qx_types.specs.declared.errno.Errno.{Errno}
-use Rattle.qx_types.specs.declared.flags.OFlags.{OFlags}
 use Rattle.qx_types.specs.declared.names.Manager.{Manager}
 use Rattle.qx_types.specs.declared.names.Manager.TheVariants.{Ram, Pipe}
 use Rattle.qx_wire.specs.declared.message.Message.{Message}
-use Rattle.qx_machine.specs.declared.rows.Effect.{Effect}
 use Rattle.qx_machine.specs.declared.rows.Effect.TheVariants.{Keeps, Opens, Closes}
 use Rattle.qx_machine.specs.declared.rows.NewOpen.{NewOpen}
 use Rattle.qx_machine.specs.declared.rows.Opened.{Opened}

@@ -1,6 +1,6 @@
 -- What either manager does to what a path leads to, and to what is open, as far as inodes and names go (C Library Reference: open, mkdir,
 -- unlink, stat, fstat, readdir, chmod). That a name is taken from an empty directory by unlink, and how a listing is cut, is this profile.
-use Rattle.std.specs.Prelude.{ℕ, Bool, ◌&&◌, ◌||◌, ◌==◌, not, true, false, List, [], Option, Some, None, Result, Ok, is_some, if◌then◌else◌}
+use Rattle.std.specs.Prelude.{ℕ, Bool, ◌&&◌, ◌||◌, ◌==◌, not, true, false, List, [], Option, Some, None, Result, Ok, is_some}
 use Rattle.std.specs.FinMap.{insert, remove}
 use Rattle.qx_types.specs.declared.errno.Errno.{Errno}
 use Rattle.qx_types.specs.declared.errno.Errno.TheVariants.{EACCES, EBADF, EBUSY, EEXIST, EISDIR, ENOENT, ENOTDIR, ENOTEMPTY, EPERM}

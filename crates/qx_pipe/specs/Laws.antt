@@ -1,5 +1,6 @@
--- What a reader of `settle` asks of it.
-use Rattle.std.specs.Prelude.{◌≡◌, ◌⊎◌, ℕ, ◌+◌, ◌<◌, List, [], ◌∷◌, ◌++◌, length, take, drop, map}
+-- What a reader asks of the calls on a pipe.
+use Rattle.std.specs.Prelude.{Bool, ◌≡◌, ◌⊎◌, ℕ, ◌+◌, ◌<◌, List, [], ◌∷◌, ◌++◌, length, take, drop, map}
+use Rattle.std.specs.List.{count_by}
 use Rattle.qx_types.specs.declared.outcome.Answer.{Answer}
 use Rattle.qx_types.specs.declared.outcome.Answer.TheVariants.{Reply, Failed}
 use Rattle.qx_types.specs.declared.limits.TheConstants.Limits.{PIPE}
@@ -39,6 +40,18 @@ module _ {W : Type 0} where
     pub writers : after.pipe.writers ≡ drop written p.writers
     pub whom : IsMerge (take read p.readers) (take written p.writers) (map (λ a. a.0) after.answers)
     pub bytes : handed_out after.answers ++ after.pipe.bytes ≡ p.bytes ++ brought offered (take written p.writers)
+
+  -- how many of those who wait are such
+  abbrev pub waiting_of : (W → Bool) → Pipe W → ℕ
+  waiting_of which p = count_by which p.readers + count_by which p.writers
+
+  -- how many of the answers are to such
+  abbrev pub answers_to : (W → Bool) → List (W × Answer) → ℕ
+  answers_to which answers = count_by (λ a. which a.0) answers
+
+  -- each of those who waited was answered once or waits on: nobody is answered twice, answered and left waiting, or lost
+  abbrev pub AnswersOnce : Pipe W → After W → Type 0
+  AnswersOnce p after = (which : W → Bool) → answers_to which after.answers + waiting_of which after.pipe ≡ waiting_of which p
 
   -- no reader waits beside bytes, and no first writer whose bytes fit
   abbrev pub IsSettled : (W → List ℕ) → Pipe W → Type 0

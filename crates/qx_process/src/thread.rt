@@ -101,11 +101,13 @@ impl ThreadCell {
         let Some(room) = self.room.take() else {
             unreachable!();
         };
-        let State::Taken(Sent {
-            target,
-            is_asked,
-            bytes,
-        }) = mem::replace(&mut self.row.state, State::Ready)
+        let State::Taken(
+            Sent {
+                target,
+                is_asked,
+                bytes,
+            },
+        ) = mem::replace(&mut self.row.state, State::Ready)
         else {
             unreachable!();
         };

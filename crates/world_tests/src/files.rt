@@ -182,7 +182,7 @@ const USES_SERVED: &str = "\
     perform 1 12\n\
     reply ann.2.4\n";
 
-/// The mistakes are received, performed and answered.
+/// The mistakes are received, performed and answered, and each thread calls again.
 const MISTAKES_SERVED: &str = "\
     receive 1 ram\n\
     perform 1 5\n\
@@ -195,7 +195,11 @@ const MISTAKES_SERVED: &str = "\
     reply ann.2.1\n\
     receive 1 pipe\n\
     perform 1 8\n\
-    reply ann.2.2\n";
+    reply ann.2.2\n\
+    fstat ann.1.1 3\n\
+    fstat ann.1.2 3\n\
+    fstat ann.2.1 3\n\
+    fstat ann.2.2 3\n";
 
 /// These calls wait, with room for the steps that serve them.
 fn send(rt: &impl Abort, alloc: Global, traced: &mut Traced, calls: &str) -> Result<(), NoMemory> {

@@ -10,6 +10,7 @@ const READS: &str = "\
     write ann.1.2 3 01020304\n\
     read ann.1.3 3 4\n";
 
+/// They are, and the one that was interrupted calls again.
 const READS_SERVED: &str = "\
     receive 1 pipe\n\
     perform 1 5\n\
@@ -22,7 +23,8 @@ const READS_SERVED: &str = "\
     interrupt ann.1.3\n\
     receive 2 pipe\n\
     perform 2 8\n\
-    reply ann.1.3\n";
+    reply ann.1.3\n\
+    read ann.1.3 3 4\n";
 
 #[test]
 fn reads_are_served_while_all_memory_is_refused(rt: HostRuntime) -> Result<(), NoMemory> {
