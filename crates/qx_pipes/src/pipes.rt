@@ -1,4 +1,4 @@
-ghost use Rattle.std.specs.Prelude.{◌==◌, ◌≡◌, ◌≢◌, ◌<◌, ◌+◌, ℕ, [], false, true, None, Some, Ok, IfOk, IfSome, IsOk, MatchResult, OnErr, length, position, replicate, slice_set};
+ghost use Rattle.std.specs.Prelude.{◌==◌, ◌≡◌, ◌≢◌, ◌<◌, ◌+◌, ℕ, [], false, true, None, Some, Ok, IfOk, IfSome, IsOk, IsTrue, MatchResult, OnErr, length, position, replicate, slice_set};
 ghost use Rattle.std.specs.Borrow.{sem};
 ghost use Rattle.std.specs.Option.{option_copied_mut};
 ghost use Rattle.qx_iofunc.specs.Fits.{Fits};
@@ -311,11 +311,13 @@ impl Pipes {
     }
 
     /// An unblock of a message: if it waits in a pipe, it is answered EINTR, unless it is served as the pipe is cleaned before,
-    /// and others may be served then (Writing a Resource Manager: the unblock pulse). Tells whether it waited.
+    /// and others may be served then (Writing a Resource Manager: the unblock pulse). Tells whether it waited. Where it waits
+    /// over the open control block of that number, no other pipe is looked at.
     pub fn cancel<T: Waiter>(
         &mut self,
         inodes: &mut Inodes,
         table: &mut Table<T>,
+        number: u16,
         node: usize,
         moment: u64,
         answered: usize,
@@ -325,7 +327,7 @@ impl Pipes {
             (λ given. (result ≡ true) × PipesBecame T.replied T.failed table.old table.new self.old self.new inodes.new.inodes answered given)
             (λ outcome. (result ≡ false) × Unchanged table.old table.new self.old self.new inodes.old.inodes inodes.new.inodes) }
     {
-        let Some(inode) = holder(self.rows.as_slice(), table, node) else {
+        let Some(inode) = holder(self.rows.as_slice(), inodes, table, number, node) else {
             return false;
         };
         let inode = inode as u32;
@@ -367,20 +369,43 @@ impl Pipes {
     }
 }
 
-/// The first pipe in which a message waits.
-fn holder<T: Waiter>(pipes: &[Option<Pipe>], table: &Table<T>, node: usize) -> Option<usize>
+/// The first pipe in which a message waits; that which a block has open is looked at before all others.
+fn holder<T: Waiter>(
+    pipes: &[Option<Pipe>],
+    inodes: &Inodes,
+    table: &Table<T>,
+    number: u16,
+    node: usize,
+) -> Option<usize>
     requires { (answered : ℕ) × IsPipesOf table.now pipes.now answered }
     ensures first { result ≡ position (machine.holds (λ one. one == node)) (pipes_in table.now pipes.now) }
     ensures within { IfSome result (λ inode. inode < length pipes.now) }
 {
+    if let Some(block) = inodes.block(number) {
+        if holds(pipes, table, block.inode as usize, node) {
+            return Some(block.inode as usize);
+        }
+    }
     'pipes: for inode in 0..pipes.len() {
-        if let Some(pipe) = &pipes[inode] {
-            if pipe.holds(table, node) {
-                return Some(inode);
-            }
+        if holds(pipes, table, inode, node) {
+            return Some(inode);
         }
     }
     None
+}
+
+/// Whether a message waits in the pipe of an inode.
+fn holds<T: Waiter>(pipes: &[Option<Pipe>], table: &Table<T>, inode: usize, node: usize) -> bool
+    requires { (answered : ℕ) × IsPipesOf table.now pipes.now answered }
+    ensures holds { result ≡ machine.holds (λ one. one == node) (row_at (pipes_in table.now pipes.now) inode) }
+    ensures only { IsTrue result → position (machine.holds (λ one. one == node)) (pipes_in table.now pipes.now) ≡ Some inode }
+    ensures within { IsTrue result → inode < length pipes.now }
+{
+    table.know();
+    match places::row(pipes, inode) {
+        Some(pipe) => pipe.holds(table, node),
+        None => false,
+    }
 }
 
 /// How a message over a block is done.

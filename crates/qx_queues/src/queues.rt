@@ -1,7 +1,7 @@
 //! The managers' lines, the lists of pipes and the list of answered nodes over one table, in which the nodes of all users'
 //! threads and server connections stand.
 
-ghost use Rattle.std.specs.Prelude.{◌≡◌, ℕ, ◌-◌, ◌*◌, ◌<◌, ◌≤◌, true, false, option_map, length, drop, slice_get, max, IfErr, IfOk, IsOk, OnOk, OnErr, IfSome, IsSome, IsTrue, MatchResult, None, Some};
+ghost use Rattle.std.specs.Prelude.{◌≡◌, ℕ, ◌-◌, ◌*◌, ◌<◌, ◌≤◌, true, false, option_map, length, drop, slice_get, is_some, max, IfErr, IfOk, IsOk, OnOk, OnErr, IfSome, IsSome, IsTrue, MatchResult, None, Some};
 ghost use Rattle.std.specs.FinMap as maps;
 ghost use Rattle.qx_types.specs.Managers.{manager_number};
 ghost use Rattle.qx_types.specs.declared.limits.TheConstants.Limits.{PRIORITY, PROCESSES, THREADS, TRANSFER};
@@ -376,10 +376,10 @@ impl Queues {
             return false;
         };
         let node = own.message;
-        if !waits(&self.table, node, call) {
+        let Some(block) = waits(&self.table, node, call) else {
             return false;
-        }
-        let waited = pipes.cancel(inodes, &mut self.table, node, moment, self.answered);
+        };
+        let waited = pipes.cancel(inodes, &mut self.table, block, node, moment, self.answered);
         self.table.know();
         waited
     }
@@ -604,10 +604,10 @@ fn caller_thread(user: User, caller: Caller) -> Thread
     }
 }
 
-/// Whether the call of a number waits with a node.
-fn waits(table: &Table<Waiting>, node: usize, number: u64) -> bool
+/// Over which open control block the call of a number waits with a node, if it does.
+fn waits(table: &Table<Waiting>, node: usize, number: u64) -> Option<u16>
     requires there { ContainsNode table.now node }
-    ensures waits { result ≡ waits_in number (waiting_at table.now node).load }
+    ensures waits { is_some result ≡ waits_in number (waiting_at table.now node).load }
 {
     table.value(node).waits(number)
 }

@@ -1,13 +1,13 @@
 //! What the nodes of the table stand for and carry.
 
-ghost use Rattle.std.specs.Prelude.{◌≡◌, ◌≤◌, MatchResult, false, length, true};
+ghost use Rattle.std.specs.Prelude.{◌≡◌, ◌≤◌, IfSome, MatchResult, false, is_some, length, true};
 ghost use Rattle.std.specs.Option.{option_copied};
 ghost use Rattle.std.specs.Result.{ForOk};
 ghost use Rattle.qx_types.specs.declared.limits.TheConstants.Limits.{PRIORITY, TRANSFER};
 ghost use Rattle.qx_types.specs.declared.outcome.Answer.TheVariants as answer;
 ghost use Rattle.qx_queues.specs.Kept.{HasLoad};
 ghost use Rattle.qx_queues.specs.Queues.{answer_to};
-ghost use Rattle.qx_queues.specs.Waiting.{addressed_by, carried, given_of, idle, waits_in};
+ghost use Rattle.qx_queues.specs.Waiting.{addressed_by, call_of, carried, given_of, idle, waits_in};
 ghost use Rattle.qx_queues.specs.Waiting as words;
 
 use crate::calls::PipeCall;
@@ -105,13 +105,14 @@ impl Waiting {
         self.slot = Slot::Waits(call);
     }
 
-    /// Whether the call of a number waits with the node.
-    pub fn waits(&self, number: u64) -> bool
-        ensures waits { result ≡ waits_in number self.now.load }
+    /// Over which open control block the call of a number waits with the node, if it does.
+    pub fn waits(&self, number: u64) -> Option<u16>
+        ensures waits { is_some result ≡ waits_in number self.now.load }
+        ensures block { IfSome result (λ block. block ≡ (call_of self.now).block) }
     {
         match &self.slot {
-            Slot::Waits(call) => call.number() == number,
-            _ => false,
+            Slot::Waits(call) if call.number() == number => Some(call.block()),
+            _ => None,
         }
     }
 
