@@ -108,35 +108,17 @@ fn in_parts(alloc: Global, readers: u32, rounds: u32) -> anyhow::Result<u64> {
     Ok(replies)
 }
 
-/// A thread writes and reads one byte in each round, and is interrupted as it waits for one more, beside so many other pipes
-/// of its user, at most 63, and so many other processes whose four threads wait: of the first 15 in the same mount, of the
-/// others in mounts of other users.
+/// A thread writes and reads one byte in each round, beside so many other pipes of its process, at most 63, and so many
+/// other processes whose four threads wait: of the first 15 in the same mount, of the others in mounts of other users.
 fn beside(alloc: Global, pipes: u32, processes: u32, rounds: u32) -> anyhow::Result<u64> {
-    let mut world = crowd(alloc, processes / 16 + 1, 0)?;
-    open(alloc, &mut world, thread_at(1, 2, 1), OTHER)?;
+    let mut world = crowd(alloc, processes / 16 + 1, 1)?;
     for (number, _) in (1..=63).zip(0..pipes) {
-        open(alloc, &mut world, thread_at(1, 2, 1), number)?;
+        open(alloc, &mut world, thread_at(1, 1, 1), number)?;
     }
-    open(alloc, &mut world, thread_at(1, 1, 1), PIPE)?;
     for (number, _) in (1..=255).zip(0..processes) {
         let_wait(alloc, &mut world, number)?;
     }
-    let mut replies: u64 = 0;
-    for _ in 0..rounds {
-        replies = replies.saturating_add(write_and_read(alloc, &mut world, 1, 1)?);
-        replies = replies.saturating_add(interrupted(&mut world));
-    }
-    Ok(replies)
-}
-
-/// The first user's first thread waits for a byte and is interrupted. Tells how many replies that is, none.
-fn interrupted(world: &mut World) -> u64 {
-    let thread = thread_at(1, 1, 1);
-    serve(world, thread, &read(1));
-    let _ = world.interrupt(thread);
-    let _ = world.receive(WORKER, Manager::Pipe);
-    let _ = world.perform_held(WORKER, 6);
-    taken(world, thread)
+    Ok(write_and_read(alloc, &mut world, 1, rounds)?)
 }
 
 /// The threads of a process, which is one of 16 of each user, open a pipe and wait there.
