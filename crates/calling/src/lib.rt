@@ -41,6 +41,3 @@ fn store(traced: &mut Traced, step: Step) -> Result<(), NoMemory>
         Err(_) => Err(NoMemory),
     }
 }
-
-#[cfg(test)]
-mod tests;

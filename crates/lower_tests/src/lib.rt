@@ -1,20 +1,17 @@
-//! Tests of the crates below the channel through their public calls: types, tables of nodes, lines, a thread's
-//! room for its replies, a user's processes.
+//! Tests of the crates below the channel through their public calls, of what no script can tell: messages that were spelled
+//! by hand, what is made with memory and what is refused without it, a thread's room for its replies, ended processes that
+//! wait in a pipe, and a manager that is not the machine's.
 #![tactic(auto)]
 
 #[cfg(test)]
-mod config;
-#[cfg(test)]
-mod copies;
-#[cfg(test)]
-mod lines;
+mod made;
 #[cfg(test)]
 mod memory;
 #[cfg(test)]
-mod nodes;
+mod null;
 #[cfg(test)]
-mod processes;
+mod pipes;
 #[cfg(test)]
 mod rooms;
 #[cfg(test)]
-mod tables;
+mod spellings;

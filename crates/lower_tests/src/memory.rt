@@ -1,45 +1,62 @@
-//! With all memory taken, the nodes that were reserved are made, and all else is refused.
+//! Memory that is refused, one request of it after another.
 
+use crate::made::{THINGS, Thing, is_made};
 use all_memory::take_all_memory;
-use qx_lists::Table;
-use std::alloc::{AllocError, AllocFailed, Global};
+use qx_types::NoMemory;
+use qx_wire::{BorrowedBytes, Message, encode, in_ranges};
+use std::alloc::{AllocError, Global};
 use std::test::Fail;
 
-/// Makes so many nodes.
-fn make_nodes(table: &mut Table<u32>, count: u32) -> Result<(), AllocFailed<u32>> {
-    for value in 0..count {
-        table.new_node(value)?;
+#[test]
+fn all_is_made_with_memory(rt: HostRuntime) -> Result<(), Fail> {
+    for thing in THINGS {
+        assert!(rt; is_made(rt.alloc(), thing) == Ok(true), "{thing:?}");
     }
     Ok(())
 }
 
-/// Whether the next node, whose value comes back, more room and the first list are refused.
-fn refuses_more(table: &mut Table<u32>) -> bool {
-    match table.new_node(100) {
-        Ok(_) => false,
-        Err(failed) => {
-            failed.value == 100 && table.reserve(1).is_err() && table.add_list().is_err()
-        }
-    }
-}
+/// More than there are pieces of memory.
+const MORE: u32 = 1 << 20;
 
-/// With all memory taken, makes the nodes that were reserved, and tells whether all else is refused.
-fn makes_only_what_was_reserved(alloc: Global, table: &mut Table<u32>) -> Result<bool, Fail> {
-    let pieces = take_all_memory(alloc)?;
-    make_nodes(table, 100)?;
-    let refused = refuses_more(table);
-    let byte: Result<Vec<u8>, AllocError> = Vec::with_capacity(alloc, 1);
-    drop(pieces);
-    Ok(refused && byte.is_err())
+/// Makes a thing without memory, and then with one piece of it more at each time, the smallest first. Whether it is refused
+/// at first, and once it is made it is as it should be.
+fn is_made_at_last(alloc: Global, thing: Thing) -> Result<bool, AllocError> {
+    let mut pieces = take_all_memory(alloc)?;
+    let mut made = is_made(alloc, thing);
+    let is_refused = made.is_err();
+    for _ in 0..MORE {
+        if made.is_ok() || pieces.pop().is_none() {
+            break;
+        }
+        made = is_made(alloc, thing);
+    }
+    Ok(is_refused && made == Ok(true))
 }
 
 #[test]
-fn what_was_reserved_needs_no_memory(rt: HostRuntime) -> Result<(), Fail> {
-    let mut table = Table::new(rt.alloc());
-    table.reserve(100)?;
-    assert!(rt; makes_only_what_was_reserved(rt.alloc(), &mut table)?);
-    table.reserve(1)?;
-    table.add_list()?;
-    make_nodes(&mut table, 1)?;
+fn each_request_is_refused_in_turn(rt: HostRuntime) -> Result<(), Fail> {
+    for thing in THINGS {
+        assert!(rt; is_made_at_last(rt.alloc(), thing)?, "{thing:?}");
+    }
+    Ok(())
+}
+
+/// How many bytes spell a WRITE of these.
+fn spelled(alloc: Global, bytes: &[u8]) -> Result<usize, NoMemory> {
+    let bytes = BorrowedBytes::new(bytes);
+    let message = Message::Write { bytes };
+    if !in_ranges(&message) {
+        return Ok(0);
+    }
+    Ok(encode(alloc, &message)?.as_slice().len())
+}
+
+#[test]
+fn encodes_40_bytes_without_memory(rt: HostRuntime) -> Result<(), Fail> {
+    let taken = take_all_memory(rt.alloc())?;
+    let few = spelled(rt.alloc(), &[7; 32]);
+    let more = spelled(rt.alloc(), &[7; 33]);
+    drop(taken);
+    assert!(rt; few == Ok(40) && more == Err(NoMemory));
     Ok(())
 }

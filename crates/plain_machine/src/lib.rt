@@ -3,11 +3,12 @@
 
 mod rows;
 mod serving;
+pub mod steps;
 
-use plain_files::Files;
-use plain_messages::{Reading, read, write};
-use plain_paths::{Mount, Mounts, judge_form, text_of};
-use plain_pipes::Answers;
+use plain_rules::files::Files;
+use plain_rules::messages::{Reading, read, write};
+use plain_rules::paths::{Mount, Mounts, judge_form, text_of};
+use plain_rules::pipes::Answers;
 use qx_types::{
     Answer, Bytes, Coid, Config, Errno, Item, Manager, Outcome, Prio, Proc, Request, Step, Thread,
     User, Worker,
@@ -18,7 +19,6 @@ use std::alloc::{AllocError, Global};
 
 /// All rows of all users, one vector for each kind. Server connections have none: nothing shows them, and no user has
 /// more processes than the most of them.
-#[derive(Drop)]
 pub struct Plain {
     alloc: Global,
     config: Config,
@@ -30,6 +30,24 @@ pub struct Plain {
     ram: Vec<Queued>,
     pipe: Vec<Queued>,
     hands: Vec<(Worker, Post)>,
+}
+
+/// As it would be derived; but what drops the rows at an exit is proved with one call there.
+impl Drop for Plain {
+    fn drop(self) {
+        let Plain {
+            alloc: _,
+            config: _,
+            processes: _,
+            threads: _,
+            connections: _,
+            mounts: _,
+            files: _,
+            ram: _,
+            pipe: _,
+            hands: _,
+        } = self;
+    }
 }
 
 /// What a worker holds: the bytes of a message, or a pulse.

@@ -5,7 +5,7 @@ use std::alloc::AllocError;
 
 /// What a message goes over: a connection that its call made, one that was there, or one for the message alone, which
 /// has no number and no row.
-#[derive(Clone, Copy, Debug, PartialEq, Eq)]
+#[derive(Clone, Copy)]
 pub enum Over {
     New(Coid),
     Existing(Coid),
@@ -13,7 +13,7 @@ pub enum Over {
 }
 
 /// A message on its way. Where a path named its mount, the inode of the mount's root stands beside it.
-#[derive(Debug, Drop)]
+#[derive(Drop)]
 pub struct Sent {
     pub manager: Manager,
     pub over: Over,
@@ -24,7 +24,7 @@ pub struct Sent {
 }
 
 /// What a thread is doing. One that waits in a pipe has no message any more.
-#[derive(Debug, Drop)]
+#[derive(Drop)]
 pub enum State {
     Ready,
     Queued(Sent),
@@ -53,7 +53,7 @@ pub struct Connection {
 
 /// What stands in a line and a worker holds: a thread's message, or the pulse to unblock a thread from its call of that
 /// number.
-#[derive(Clone, Copy, Debug, PartialEq, Eq)]
+#[derive(Clone, Copy, PartialEq, Eq)]
 pub enum Post {
     Message(Thread),
     Unblock(Thread, u64),

@@ -2,9 +2,9 @@
 
 use crate::Plain;
 use crate::rows::{Over, Sent};
-use plain_files::{Fault, Place};
-use plain_messages::{Kind, Reading, from_place, number_at, read};
-use plain_pipes::Caller;
+use plain_rules::files::{Fault, Place};
+use plain_rules::messages::{Kind, Reading, from_place, number_at, read};
+use plain_rules::pipes::Caller;
 use qx_types::{Answer, Coid, Errno, Manager, MessageBytes, OFlags, Proc, Thread};
 use std::alloc::AllocError;
 
@@ -80,7 +80,7 @@ impl Plain {
             is_asked: sent.is_asked,
         };
         let bytes = sent.bytes.as_slice();
-        let answers = if kind == Kind::Read {
+        let answers = if matches!(kind, Kind::Read) {
             let count = usize::from(number_at(bytes, BODY));
             self.files.read_pipe(caller, count, moment)?
         } else {
@@ -120,7 +120,11 @@ impl Plain {
             return Err(Fault::Refused(Errno::EINVAL));
         };
         let bytes = sent.bytes.as_slice();
-        let rest = if kind == Kind::Mknod { REST } else { BODY };
+        let rest = if matches!(kind, Kind::Mknod) {
+            REST
+        } else {
+            BODY
+        };
         let place = Place {
             user: proc.user,
             manager: sent.manager,

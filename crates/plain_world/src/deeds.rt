@@ -1,7 +1,7 @@
 //! What a step does beside its outcome, and what a performed message is answered.
 
 use plain_machine::{Plain, Post, Row, Sent, State};
-use plain_messages::{Kind, Reading, read};
+use plain_rules::messages::{Kind, Reading, read};
 use qx_types::{Answer, Errno, Manager, Request, Step, Thread, Worker};
 
 /// What a step does, in two words.

@@ -6,8 +6,8 @@ mod tally;
 
 use anyhow::bail;
 use deeds::{answer_deed, deed, performed, waited_deed};
+use plain_machine::steps::{Dice, next_step};
 use plain_machine::{Held, Plain, State};
-use plain_steps::{Dice, next_step};
 use qx_types::{
     Bytes, Config, Manager, MessageBytes, NoMemory, Outcome, Proc, Step, Thread, User, Worker,
 };

@@ -8,7 +8,7 @@ use qx_words::words::lines;
 use std::alloc::Global;
 
 /// A script that was read.
-#[derive(Debug, Drop)]
+#[derive(Drop)]
 pub enum Script {
     /// The number of the first bad line.
     Bad(u64),

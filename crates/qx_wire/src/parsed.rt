@@ -9,7 +9,7 @@ use qx_types::MessageBytes;
 use std::marker::Model;
 
 /// The bytes of a message together with what they mean; contracts see the bytes.
-#[derive(Debug, Drop)]
+#[derive(Drop)]
 pub struct Parsed {
     bytes: MessageBytes,
     is_malformed: bool,

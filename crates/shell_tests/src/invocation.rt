@@ -10,13 +10,8 @@ use std::test::Fail;
 
 /// Whether the shell, on these words or the error for which they could not be had, ends the script with status 0 and
 /// its text, or with another status, no text and this line on the errors.
-fn ends_with(
-    alloc: Global,
-    words: io::Result<Vec<&str>>,
-    mut script: &[u8],
-    status: u8,
-    told: &[u8],
-) -> bool {
+fn ends_with(alloc: Global, words: io::Result<Vec<&str>>, status: u8, told: &[u8]) -> bool {
+    let mut script = SCRIPT;
     let mut output = kept(alloc);
     let mut errors = kept(alloc);
     let given = invoke(alloc, words, &mut script, &mut output, &mut errors);
@@ -29,7 +24,7 @@ fn ends_with(
 /// Whether the shell ends the script so with this limit.
 fn ends_within(alloc: Global, limit: &str, status: u8, told: &[u8]) -> Result<bool, AllocError> {
     let words = vec![in alloc; "qnxsh", "--limit", limit]?;
-    Ok(ends_with(alloc, Ok(words), SCRIPT, status, told))
+    Ok(ends_with(alloc, Ok(words), status, told))
 }
 
 #[test]
@@ -40,17 +35,9 @@ fn ends_by_the_limit(rt: HostRuntime) -> Result<(), Fail> {
     Ok(())
 }
 
-#[test]
-fn ends_with_status_3_at_a_bad_line(rt: HostRuntime) -> Result<(), Fail> {
-    let words = vec![in rt.alloc(); "qnxsh"]?;
-    let script = b"user ann\nspawn ann 1 10\nshow ann\nshow bob";
-    assert!(rt; ends_with(rt.alloc(), Ok(words), script, 3, b"qnxsh: line 4\n"));
-    Ok(())
-}
-
 /// Whether the shell ends so where the words could not be had.
 fn ends_at(alloc: Global, error: ErrorKind, status: u8, told: &[u8]) -> bool {
-    ends_with(alloc, Err(io::Error::from(error)), SCRIPT, status, told)
+    ends_with(alloc, Err(io::Error::from(error)), status, told)
 }
 
 #[test]

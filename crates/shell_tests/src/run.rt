@@ -27,7 +27,9 @@ fn ends_with_reads(
 }
 
 #[test]
-fn ends_with_input_at_each_read_that_fails(rt: HostRuntime) {
+fn reads_one_byte_at_a_time(rt: HostRuntime) {
+    let reads = SCRIPT.len() + 1;
+    assert!(rt; ends_with_reads(rt.alloc(), reads, ErrorKind::Other, &End::Done, SHOWN));
     for error in [ErrorKind::Other, ErrorKind::Interrupted] {
         for reads in 0..SCRIPT.len() + 1 {
             assert!(rt;
@@ -36,13 +38,6 @@ fn ends_with_input_at_each_read_that_fails(rt: HostRuntime) {
             );
         }
     }
-}
-
-#[test]
-fn reads_one_byte_at_a_time(rt: HostRuntime) {
-    let reads = SCRIPT.len() + 1;
-    let error = ErrorKind::Other;
-    assert!(rt; ends_with_reads(rt.alloc(), reads, error, &End::Done, SHOWN));
 }
 
 /// Whether the script ends so with this writer, which then has failed exactly if the script is not done.
@@ -60,7 +55,8 @@ fn ends_with_writes(alloc: Global, writes: usize, error: Option<ErrorKind>, end:
 }
 
 #[test]
-fn ends_with_output_at_each_write_that_fails(rt: HostRuntime) {
+fn writes_one_byte_at_a_time(rt: HostRuntime) {
+    assert!(rt; ends_with_writes(rt.alloc(), SHOWN.len(), None, &End::Done));
     for error in [Some(ErrorKind::Other), Some(ErrorKind::Interrupted), None] {
         for writes in 0..SHOWN.len() {
             assert!(rt;
@@ -69,11 +65,6 @@ fn ends_with_output_at_each_write_that_fails(rt: HostRuntime) {
             );
         }
     }
-}
-
-#[test]
-fn writes_one_byte_at_a_time(rt: HostRuntime) {
-    assert!(rt; ends_with_writes(rt.alloc(), SHOWN.len(), None, &End::Done));
 }
 
 #[test]

@@ -1,72 +1,60 @@
-//! Does one thing so many times: a clock outside measures it. With no words it does a little of each.
+//! Does one thing so many times, for a count of instructions from outside. With no words it does a little of each.
+//!
+//! The words are `script`, a file and the rounds; or `line`, `encode` or `read`, a count and the rounds.
 #![tactic(auto)]
 
-mod files;
-mod lists;
-mod messages;
-mod paths;
-mod pipes;
-mod worlds;
+mod calls;
+mod script;
 
 use anyhow::bail;
-use std::env;
+use std::{env, fs};
+
+/// The scripts that are played with no words.
+const SCRIPTS: [&str; 15] = [
+    "append", "beside", "closed", "do_fstat", "late", "line", "lookup", "make", "parts", "read",
+    "settle", "spawn", "stat", "waiting", "whole",
+];
+
+/// The calls that are made with no words, and the counts.
+const CALLS: [(&str, usize); 3] = [("line", 10), ("encode", 20), ("read", 20)];
 
 fn main(rt: HostRuntime) -> anyhow::Result<()> {
-    let alloc = rt.alloc();
-    let words: Vec<String> = env::args(&rt)?.collect(alloc)?;
+    let words: Vec<String> = env::args(&rt)?.collect(rt.alloc())?;
     match words.as_slice() {
-        [_] => {
-            lists::make_calls(alloc, "put", 10, 10)?;
-            let answered = worlds::take_steps(alloc, "line", 4, 200, 1000)?;
-            println!(rt; "{answered}")?;
-            let closed = worlds::take_steps(alloc, "closed", 1, 64, 2)?;
-            println!(rt; "{closed}")?;
-            let bytes = messages::make_calls(alloc, "read", "open", 20, 1000)?;
-            println!(rt; "{bytes}")?;
-            let components = paths::make_calls(alloc, "resolve", 16, 8, 20, 1000)?;
-            println!(rt; "{components}")?;
-            for (calls, first, second) in [
-                ("whole", 16, 0),
-                ("open", 8, 100),
-                ("parts", 100, 50),
-                ("beside", 4, 10),
-            ] {
-                let done = files::make_calls(alloc, calls, first, second, 10)?;
-                println!(rt; "{done}")?;
-            }
-            for (calls, first, second) in [
-                ("place", 4096, 0),
-                ("late", 1, 0),
-                ("settle", 63, 0),
-                ("parts", 63, 0),
-                ("beside", 3, 20),
-            ] {
-                let done = pipes::make_calls(alloc, calls, first, second, 10)?;
-                println!(rt; "{done}")?;
-            }
+        [_, kind, file, rounds] if kind.as_str() == "script" => {
+            let answers = played(&rt, file.as_str(), rounds.parse()?)?;
+            println!(rt; "{answers}")?;
         }
-        [_, subject, rest @ ..] if subject.as_str() == "list" => lists::on_words(alloc, rest)?,
-        [_, subject, rest @ ..] if subject.as_str() == "world" => {
-            let answered = worlds::on_words(alloc, rest)?;
-            println!(rt; "{answered}")?;
+        [_, calls, count, rounds] => {
+            let total = calls::make_calls(rt.alloc(), calls, count.parse()?, rounds.parse()?)?;
+            println!(rt; "{total}")?;
         }
-        [_, subject, rest @ ..] if subject.as_str() == "message" => {
-            let bytes = messages::on_words(alloc, rest)?;
-            println!(rt; "{bytes}")?;
-        }
-        [_, subject, rest @ ..] if subject.as_str() == "path" => {
-            let components = paths::on_words(alloc, rest)?;
-            println!(rt; "{components}")?;
-        }
-        [_, subject, rest @ ..] if subject.as_str() == "file" => {
-            let done = files::on_words(alloc, rest)?;
-            println!(rt; "{done}")?;
-        }
-        [_, subject, rest @ ..] if subject.as_str() == "pipe" => {
-            let done = pipes::on_words(alloc, rest)?;
-            println!(rt; "{done}")?;
-        }
-        _ => bail!("the first word is list, world, message, path, file or pipe"),
+        [_] => try_each(&rt)?,
+        _ => bail!("give what to do, a file or a count, and the rounds"),
     }
     Ok(())
+}
+
+/// Plays ten rounds of each script and of each kind of calls, and prints how much that was.
+fn try_each(rt: &HostRuntime) -> anyhow::Result<()> {
+    for (calls, count) in CALLS {
+        let total = calls::make_calls(rt.alloc(), calls, count, 10)?;
+        println!(rt; "{calls} {total}")?;
+    }
+    for name in SCRIPTS {
+        let file = format!(in rt.alloc(); "{name}.script")?;
+        let answers = played(rt, file.as_str(), 10)?;
+        println!(rt; "{name} {answers}")?;
+    }
+    Ok(())
+}
+
+/// Plays the rounds of the script in a file.
+fn played(rt: &HostRuntime, file: &str, rounds: u32) -> anyhow::Result<u64> {
+    let text = fs::read(rt, file)?;
+    match script::play_script(rt.alloc(), text.as_slice(), rounds) {
+        Ok(Some(answers)) => Ok(answers),
+        Ok(None) => bail!("a line is bad"),
+        Err(_) => bail!("out of memory"),
+    }
 }

@@ -2,22 +2,16 @@
 #![tactic(auto)]
 
 #[cfg(test)]
-mod crowds;
-#[cfg(test)]
-mod files;
+mod asked;
 #[cfg(test)]
 mod memory;
 #[cfg(test)]
 mod nodes;
 #[cfg(test)]
-mod paths;
-#[cfg(test)]
-mod pipes;
-#[cfg(test)]
-mod pipes_memory;
-#[cfg(test)]
-mod pulses;
+mod reads;
 #[cfg(test)]
 mod same;
 #[cfg(test)]
 mod script;
+#[cfg(test)]
+mod served;

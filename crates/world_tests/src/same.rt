@@ -1,9 +1,14 @@
 //! Whether two traces are the same, as far as can be seen of them.
 
-use crate::paths::first_thread;
 use qx_machine::{Entry, Seen};
-use qx_types::{Manager, NoMemory, User, Worker};
+use qx_types::{Manager, NoMemory, Proc, Thread, User, Worker};
 use qx_world::{Traced, WorkRef, World};
+
+/// The first thread of a user's first process.
+pub(crate) fn first_thread(user: User) -> Thread {
+    let proc = Proc { user, num: 1 };
+    Thread { proc, tid: 1 }
+}
 
 /// Whether the stored steps with their outcomes, what each worker holds, which users' first threads are answered and
 /// blocked, how many items wait in each line, and each user's transcript are the same.
@@ -29,7 +34,7 @@ fn is_same_entry(one: &Entry, other: &Entry) -> bool {
     one.step == other.step && one.outcome == other.outcome
 }
 
-pub(crate) fn is_same_world(one: &World, other: &World) -> bool {
+fn is_same_world(one: &World, other: &World) -> bool {
     has_same_worker(one, other, Worker(1))
         && has_same_worker(one, other, Worker(2))
         && has_same_thread(one, other, User(1))
@@ -58,11 +63,7 @@ fn has_same_thread(one: &World, other: &World, user: User) -> bool {
 }
 
 /// Whether a user's processes received the same.
-pub(crate) fn has_same_transcript(
-    one: &Traced,
-    other: &Traced,
-    user: User,
-) -> Result<bool, NoMemory> {
+fn has_same_transcript(one: &Traced, other: &Traced, user: User) -> Result<bool, NoMemory> {
     let received = one.transcript(user)?;
     let other = other.transcript(user)?;
     Ok(is_same_received(&received, &other))

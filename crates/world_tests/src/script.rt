@@ -10,30 +10,25 @@ use std::process::Abort;
 const USERS: &str = "user ann\nuser bob\nworkers 2\n";
 
 /// The users' lines and these, read.
-fn read(alloc: Global, lines: &str) -> Result<Script, NoMemory> {
+fn read(rt: &impl Abort, alloc: Global, lines: &str) -> Result<(Config, Vec<Command>), NoMemory> {
     let mut text = Vec::new(alloc);
     text.extend_from_slice(USERS.as_bytes())?;
     text.extend_from_slice(lines.as_bytes())?;
-    parse(alloc, &text)
+    match parse(alloc, &text)? {
+        Script::Good(config, commands) => Ok((config, commands)),
+        Script::Bad(line) => panic!(rt; "line {line} is bad"),
+    }
 }
 
 /// Two users, ann and bob, and two workers.
 pub(crate) fn config(rt: &impl Abort, alloc: Global) -> Result<Config, NoMemory> {
-    match read(alloc, "")? {
-        Script::Good(config, _) => Ok(config),
-        Script::Bad(_) => panic!(rt; "a bad line"),
-    }
+    let (config, _) = read(rt, alloc, "")?;
+    Ok(config)
 }
 
 /// The steps of lines of which each takes one.
 pub(crate) fn steps(rt: &impl Abort, alloc: Global, lines: &str) -> Result<Vec<Step>, NoMemory> {
-    match read(alloc, lines)? {
-        Script::Good(_, commands) => steps_of(rt, alloc, commands),
-        Script::Bad(_) => panic!(rt; "a bad line"),
-    }
-}
-
-fn steps_of(rt: &impl Abort, alloc: Global, commands: Vec<Command>) -> Result<Vec<Step>, NoMemory> {
+    let (_, commands) = read(rt, alloc, lines)?;
     let mut steps = Vec::new(alloc);
     for command in commands {
         match command {
@@ -67,29 +62,17 @@ pub(crate) fn run(
     store_all(traced, &steps)
 }
 
-/// A trace that took steps, with no room for one more where they are four or more.
-pub(crate) fn filled(rt: &impl Abort, alloc: Global, steps: &[Step]) -> Result<Traced, NoMemory> {
-    let mut traced = booted(rt, alloc)?;
-    fill(&mut traced, steps)?;
-    Ok(traced)
-}
-
-fn fill(traced: &mut Traced, steps: &[Step]) -> Result<(), NoMemory> {
-    traced.reserve(steps.len())?;
-    store_all(traced, steps)
-}
-
 /// Takes a copy of each step. That of one with no path wants no memory.
 pub(crate) fn store_all(traced: &mut Traced, steps: &[Step]) -> Result<(), NoMemory> {
     for step in steps {
-        store(traced, step.clone()?)?;
+        store(traced, step)?;
     }
     Ok(())
 }
 
-/// Takes a step.
-pub(crate) fn store(traced: &mut Traced, step: Step) -> Result<(), NoMemory> {
-    match traced.store(step) {
+/// Takes a copy of a step.
+pub(crate) fn store(traced: &mut Traced, step: &Step) -> Result<(), NoMemory> {
+    match traced.store(step.clone()?) {
         Ok(()) => Ok(()),
         Err(_) => Err(NoMemory),
     }

@@ -1,0 +1,156 @@
+//! What takes memory: each thing made as it should be, wherever memory is had.
+
+use qx_lists::Table;
+use qx_paths::{MountFault, Mounts, read_path};
+use qx_procs::Processes;
+use qx_types::{Answer, Bytes, Config, Manager, MessageBytes, NoMemory, Outcome, Prio, User};
+use qx_wire::{Message, Rest, encode, in_ranges};
+use std::alloc::{AllocError, Global};
+
+/// Things that take memory.
+#[derive(Clone, Copy, Debug)]
+pub enum Thing {
+    Text,
+    Received,
+    Names,
+    Answered,
+    Given,
+    Spelled,
+    Joined,
+    Mounted,
+    Spawned,
+    Linked,
+}
+
+/// All of them.
+pub const THINGS: [Thing; 10] = [
+    Thing::Text,
+    Thing::Received,
+    Thing::Names,
+    Thing::Answered,
+    Thing::Given,
+    Thing::Spelled,
+    Thing::Joined,
+    Thing::Mounted,
+    Thing::Spawned,
+    Thing::Linked,
+];
+
+/// Makes a thing, and tells whether it is as it should be.
+pub fn is_made(alloc: Global, thing: Thing) -> Result<bool, NoMemory> {
+    match thing {
+        Thing::Text => text(alloc),
+        Thing::Received => received(alloc),
+        Thing::Names => names(alloc),
+        Thing::Answered => answered(alloc),
+        Thing::Given => given(alloc),
+        Thing::Spelled => spelled(alloc),
+        Thing::Joined => joined(alloc),
+        Thing::Mounted => mounted(alloc),
+        Thing::Spawned => spawned(alloc),
+        Thing::Linked => linked(alloc),
+    }
+}
+
+/// Whether a copy equals the value that it is of.
+fn is_copied<T: Clone + PartialEq + Drop>(value: T) -> Result<bool, NoMemory> {
+    Ok(value.clone()? == value)
+}
+
+/// A path, taken out of its vector and put back.
+fn path(alloc: Global) -> Result<Bytes, AllocError> {
+    Ok(Bytes::from_vec(Bytes::from_slice(alloc, b"/tmp/log")?.into_vec()))
+}
+
+fn text(alloc: Global) -> Result<bool, NoMemory> {
+    Ok(path(alloc)?.as_slice() == b"/tmp/log".as_slice() && is_copied(path(alloc)?)?)
+}
+
+/// The bytes of a reply, more than stand in a value, in two parts.
+fn reply(alloc: Global) -> Result<MessageBytes, AllocError> {
+    let mut bytes = MessageBytes::from_vec(vec![in alloc; 7; MessageBytes::INLINE]?);
+    bytes.extend_from_slice(&[7])?;
+    Ok(bytes)
+}
+
+fn received(alloc: Global) -> Result<bool, NoMemory> {
+    let whole = vec![in alloc; 7; MessageBytes::INLINE + 1]?;
+    Ok(reply(alloc)? == MessageBytes::from_vec(whole))
+}
+
+/// A configuration of ann, bob and three workers; none where it is refused.
+fn config(alloc: Global) -> Result<Option<Config>, AllocError> {
+    let mut names = Vec::new(alloc);
+    for name in ["ann", "bob"] {
+        names.push(Bytes::from_slice(alloc, name.as_bytes())?)?;
+    }
+    Ok(Config::new(names, 3))
+}
+
+/// Whether the configuration is that one.
+fn is_of_ann_and_bob(config: &Config) -> bool {
+    config.workers() == 3
+        && config.user_count() == 2
+        && config.names().len() == 2
+        && config.name_bytes(User(1)) == b"ann".as_slice()
+        && config.name_bytes(User(2)) == b"bob".as_slice()
+        && config.name(User(3)).is_none()
+}
+
+fn names(alloc: Global) -> Result<bool, NoMemory> {
+    match config(alloc)? {
+        Some(config) => Ok(is_of_ann_and_bob(&config.clone()?)),
+        None => Ok(false),
+    }
+}
+
+fn answered(alloc: Global) -> Result<bool, NoMemory> {
+    is_copied(Answer::Reply(4, reply(alloc)?))
+}
+
+fn given(alloc: Global) -> Result<bool, NoMemory> {
+    is_copied(Outcome::Reply(4, reply(alloc)?))
+}
+
+/// A name of 40 bytes.
+const NAME: [u8; 40] = [b'n'; 40];
+
+fn spelled(alloc: Global) -> Result<bool, NoMemory> {
+    let rest = Rest::new(&NAME);
+    let message = Message::Stat { rest };
+    if !in_ranges(&message) {
+        return Ok(false);
+    }
+    Ok(encode(alloc, &message)?.as_slice().get(8..) == Some(NAME.as_slice()))
+}
+
+fn joined(alloc: Global) -> Result<bool, NoMemory> {
+    match read_path(b"//ann//x/") {
+        Ok(path) => Ok(path.joined(alloc)?.as_slice() == b"ann/x".as_slice()),
+        Err(_) => Ok(false),
+    }
+}
+
+fn mounted(alloc: Global) -> Result<bool, NoMemory> {
+    let mut mounts = Mounts::boot(alloc, b"ann", 1)?;
+    let Ok(path) = read_path(b"/ann/one/two") else {
+        return Ok(false);
+    };
+    match mounts.add(alloc, &path, Manager::Pipe, 2) {
+        Ok(()) => Ok(mounts.len() == 2 && mounts.get(1).is_some()),
+        Err(MountFault::Refused(_)) => Ok(false),
+        Err(MountFault::NoMemory) => Err(NoMemory),
+    }
+}
+
+fn spawned(alloc: Global) -> Result<bool, NoMemory> {
+    Ok(Processes::new(alloc)?.spawn(2, Prio(10))? == Outcome::Spawned(1))
+}
+
+fn linked(alloc: Global) -> Result<bool, NoMemory> {
+    let mut table = Table::new(alloc);
+    table.reserve(2)?;
+    table.add_list()?;
+    let node = table.new_node('a')?;
+    Ok(table.free_node(node) == 'a')
+}

@@ -1,0 +1,166 @@
+//! The null manager, which is not the machine's, served as those are: nothing is ever read from it, and what is written to
+//! it is gone.
+
+use all_memory::take_all_memory;
+use null_manager::{Blocks, Null};
+use qx_attr::Reply;
+use qx_machine::{Caller, Effect, Over, Target};
+use qx_process::Room;
+use qx_resmgr::{Done, serve};
+use qx_types::{Coid, Errno, Manager, NoMemory, OFlags, Prio};
+use qx_wire::{BorrowedBytes, Message, Rest, in_ranges};
+use std::alloc::{AllocError, Global};
+use std::process::Abort;
+use std::test::Fail;
+
+const THREE: Coid = Coid(3);
+
+/// Whose messages these are.
+const CALLER: Caller = Caller {
+    process: 0,
+    thread: 0,
+    call: 1,
+    is_asked: false,
+};
+
+/// What a message asks.
+#[derive(Clone, Copy, Debug)]
+enum Ask {
+    Open(&'static str),
+    Write(&'static str),
+    Read,
+    Close,
+    Fstat,
+}
+
+/// The status of a reply without bytes, and what becomes of the connection; or an error.
+type Given = Result<(u64, Effect), Errno>;
+
+/// The connection gets the block 1.
+const OPENS: Effect = Effect::Opens {
+    coid: THREE,
+    block: 1,
+};
+
+/// Messages in turn over connection 3, and what each comes to.
+const MESSAGES: [(Over, Ask, Given); 9] = [
+    (Over::New(THREE), Ask::Open("name"), Err(Errno::ENOENT)),
+    (Over::Existing(THREE), Ask::Open(""), Err(Errno::EINVAL)),
+    (Over::Existing(THREE), Ask::Fstat, Err(Errno::ENOSYS)),
+    (Over::Existing(THREE), Ask::Close, Err(Errno::EBADF)),
+    (Over::New(THREE), Ask::Open(""), Ok((3, OPENS))),
+    (
+        Over::Existing(THREE),
+        Ask::Write("abc"),
+        Ok((3, Effect::Keeps)),
+    ),
+    (Over::Existing(THREE), Ask::Read, Ok((0, Effect::Keeps))),
+    (
+        Over::Existing(THREE),
+        Ask::Close,
+        Ok((0, Effect::Closes(THREE))),
+    ),
+    (Over::Existing(THREE), Ask::Read, Err(Errno::EBADF)),
+];
+
+/// A reply without bytes.
+fn replied(given: (u64, Effect)) -> (Done, usize) {
+    let (status, effect) = given;
+    (Done::Reply { status, effect }, 0)
+}
+
+/// The message that asks so.
+fn message(ask: Ask) -> Message<'static> {
+    match ask {
+        Ask::Open(rest) => Message::Open {
+            flags: OFlags::READ,
+            mode: 0,
+            rest: Rest::new(rest.as_bytes()),
+        },
+        Ask::Write(bytes) => Message::Write {
+            bytes: BorrowedBytes::new(bytes.as_bytes()),
+        },
+        Ask::Read => Message::Read { count: 3 },
+        Ask::Close => Message::Close,
+        Ask::Fstat => Message::Fstat,
+    }
+}
+
+/// The manager at work: what is open, the bytes of its reply, and the memory for a later one.
+struct Bench {
+    blocks: Blocks,
+    reply: Reply,
+    room: Option<Room>,
+}
+
+/// As it would be derived; but what drops a bench at an exit is proved with one call there.
+impl Drop for Bench {
+    fn drop(self) {
+        let Bench {
+            blocks: _,
+            reply: _,
+            room: _,
+        } = self;
+    }
+}
+
+impl Bench {
+    fn new(alloc: Global) -> Result<Bench, NoMemory> {
+        Ok(Bench {
+            blocks: Blocks::new(alloc)?,
+            reply: Reply::new(alloc)?,
+            room: Some(Room::new(alloc)?),
+        })
+    }
+
+    /// What a message comes to at a mount whose root is the inode 5, with the number of its reply's bytes.
+    fn served(
+        &mut self,
+        rt: &impl Abort,
+        over: Over,
+        ask: Ask,
+    ) -> Result<Result<(Done, usize), Errno>, AllocError> {
+        let message = message(ask);
+        assert!(rt; in_ranges(&message) && self.room.is_some());
+        let opened = self.blocks.opened(CALLER, THREE, 1);
+        let target = Target {
+            manager: Manager::Ram,
+            root: Some(5),
+            over,
+            prio: Prio(10),
+        };
+        self.reply.clear();
+        let given = serve::<Null, Blocks, (), Blocks>(
+            &mut self.blocks,
+            &mut (),
+            target,
+            opened,
+            message,
+            7,
+            &mut self.reply,
+            &mut self.room,
+        )?;
+        Ok(given.map(|done| (done, self.reply.as_slice().len())))
+    }
+}
+
+/// Whether an open is refused while there is no memory.
+fn is_open_refused(rt: &impl Abort, alloc: Global, bench: &mut Bench) -> Result<bool, AllocError> {
+    let taken = take_all_memory(alloc)?;
+    let given = bench.served(rt, Over::New(THREE), Ask::Open(""));
+    drop(taken);
+    Ok(given.is_err())
+}
+
+#[test]
+fn what_is_written_is_gone(rt: HostRuntime) -> Result<(), Fail> {
+    let mut bench = Bench::new(rt.alloc())?;
+    assert!(rt; is_open_refused(&rt, rt.alloc(), &mut bench)?);
+    for (over, ask, given) in MESSAGES {
+        assert!(rt;
+            bench.served(&rt, over, ask) == Ok(given.map(replied)),
+            "{ask:?}"
+        );
+    }
+    Ok(())
+}

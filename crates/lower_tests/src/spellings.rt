@@ -1,0 +1,123 @@
+//! Messages that were spelled by hand from the table of `docs/FORMATS.md`.
+
+use hex::FromHexError;
+use qx_types::{MessageBytes, NoMemory};
+use qx_wire::{Meaning, Parsed, encode};
+use std::alloc::{AllocError, Global};
+use std::test::Fail;
+
+/// Bytes in hexadecimal digits, and what they mean: one of each type and subtype, the last and the first behind the last of
+/// what fields may have, and what is no message.
+const SPELLINGS: &[(&str, &str)] = &[
+    (
+        "00010100070000000500a401612f62",
+        "Open { flags: OFlags(5), mode: 420, rest: Rest { bytes: [97, 47, 98] } }",
+    ),
+    ("000102000100000078", "Stat { rest: Rest { bytes: [120] } }"),
+    (
+        "00010300020000006f6b",
+        "Unlink { rest: Rest { bytes: [111, 107] } }",
+    ),
+    (
+        "00010400050000000200ed0164",
+        "Mknod { mode: 493, rest: Rest { bytes: [100] } }",
+    ),
+    ("010100000400000003000000", "Read { count: 3 }"),
+    (
+        "0201000003000000686900",
+        "Write { bytes: BorrowedBytes { bytes: [104, 105, 0] } }",
+    ),
+    ("0301000000000000", "Close"),
+    ("04010000020000000500", "Dup { old: Coid(5) }"),
+    (
+        "05010000080000000700000000000000",
+        "Lseek { whence: Set, offset: 7 }",
+    ),
+    (
+        "0501010008000000ffffffffffffffff",
+        "Lseek { whence: Current, offset: -1 }",
+    ),
+    (
+        "05010200080000000001000000000000",
+        "Lseek { whence: End, offset: 256 }",
+    ),
+    ("0601000000000000", "Fstat"),
+    (
+        "0701000000000000",
+        "List { after: BorrowedBytes { bytes: [] } }",
+    ),
+    (
+        "070100000100000061",
+        "List { after: BorrowedBytes { bytes: [97] } }",
+    ),
+    ("08010000020000008001", "Chmod { mode: 384 }"),
+    (
+        "0901000006000000010203000000",
+        "Notify { action: Poll, conditions: Conds(1), code: 2, value: 3 }",
+    ),
+    (
+        "0901010006000000037fffffff0f",
+        "Notify { action: PollArm, conditions: Conds(3), code: 127, value: 268435455 }",
+    ),
+    (
+        "0901020006000000020000010000",
+        "Notify { action: TranArm, conditions: Conds(2), code: 0, value: 256 }",
+    ),
+    ("010100000400000000100000", "Read { count: 4096 }"),
+    ("010100000400000001100000", "Malformed"),
+    ("04010000020000004200", "Dup { old: Coid(66) }"),
+    ("04010000020000004300", "Malformed"),
+    ("04010000020000000301", "Malformed"),
+    ("0801000002000000ff01", "Chmod { mode: 511 }"),
+    ("08010000020000000002", "Malformed"),
+    ("0901000006000000018000000000", "Malformed"),
+    ("0901000006000000010000000010", "Malformed"),
+    ("0901000006000000040000000000", "Malformed"),
+    ("00010100040000000400ff01", "Malformed"),
+    ("000101000400000081000000", "Malformed"),
+    ("00010400050000000100ed0164", "Malformed"),
+    ("0001020002000000782f", "Malformed"),
+    ("00010200020000002e2e", "Malformed"),
+    ("0701000003000000612f62", "Malformed"),
+    ("", "Malformed"),
+    ("010203", "Malformed"),
+    ("030100000100000000", "Malformed"),
+    ("e703000000000000", "Unknown"),
+    ("0a0100000a00000003050700000000000000", "Unknown"),
+];
+
+/// The bytes of hexadecimal digits.
+fn from_hex(alloc: Global, digits: &str) -> Result<MessageBytes, Fail> {
+    match hex::decode(alloc, digits) {
+        Ok(bytes) => Ok(MessageBytes::from_vec(bytes)),
+        Err(FromHexError::OutOfMemory) => Err(Fail::from(AllocError)),
+        Err(_) => Err(Fail::new("no hexadecimal digits")),
+    }
+}
+
+/// Whether the bytes mean what is printed so.
+fn is_meant(alloc: Global, parsed: &Parsed, expected: &str) -> Result<bool, AllocError> {
+    let printed = match parsed.meaning() {
+        Meaning::Known(message) => format!(in alloc; "{message:?}")?,
+        meaning => format!(in alloc; "{meaning:?}")?,
+    };
+    Ok(printed.as_str() == expected)
+}
+
+/// Whether the message that they mean, if they mean one, is encoded to the same bytes.
+fn is_encoded_again(alloc: Global, parsed: &Parsed) -> Result<bool, NoMemory> {
+    match parsed.meaning() {
+        Meaning::Known(message) => Ok(encode(alloc, &message)? == *parsed.bytes()),
+        _ => Ok(true),
+    }
+}
+
+#[test]
+fn messages_are_spelled_so(rt: HostRuntime) -> Result<(), Fail> {
+    for (digits, meaning) in SPELLINGS {
+        let parsed = Parsed::read(from_hex(rt.alloc(), digits)?);
+        assert!(rt; is_meant(rt.alloc(), &parsed, meaning)?, "{digits}");
+        assert!(rt; is_encoded_again(rt.alloc(), &parsed)?, "{digits}");
+    }
+    Ok(())
+}

@@ -1,0 +1,12 @@
+//! A fixed pseudo-random sequence of steps, chosen by what the plain rows hold. Some are wrong.
+
+mod choice;
+mod dice;
+mod paths;
+mod pipes;
+mod raws;
+mod requests;
+mod texts;
+
+pub use choice::next_step;
+pub use dice::Dice;

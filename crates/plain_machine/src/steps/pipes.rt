@@ -1,0 +1,127 @@
+//! Pseudo-random requests of pipes: some wait, some serve those who wait, and some close what they wait on.
+
+use crate::steps::dice::Dice;
+use crate::steps::paths::next_path;
+use crate::steps::raws::next_raw;
+use crate::steps::requests::{next_bytes, next_count, next_directory_mode, next_mode, next_using};
+use crate::{Plain, State};
+use qx_types::{Bytes, OFlags, Proc, Request};
+use std::alloc::{AllocError, Global};
+
+/// A request of a process over a connection to a pipe mount, if it has one there, or of a path there. Where a thread of
+/// it waits, many are to close one, to read all that stands or to write a few bytes.
+pub fn next_piping(
+    alloc: Global,
+    dice: &mut Dice,
+    plain: &Plain,
+    proc: Proc,
+) -> Result<Request, AllocError> {
+    let Some(coid) = plain.pipe_connection(proc, usize::from(dice.below(3))) else {
+        return open_pipe(alloc, dice, plain, proc);
+    };
+    if has_waiting(plain, proc) {
+        match dice.below(8) {
+            0..=2 => return Ok(Request::Close { coid }),
+            3 | 4 => return Ok(Request::Read { coid, count: 4_096 }),
+            5 | 6 => {
+                let bytes = Bytes::from_slice(alloc, b"woken")?;
+                return Ok(Request::Write { coid, bytes });
+            }
+            _ => {}
+        }
+    }
+    match dice.below(16) {
+        0 | 1 => open_pipe(alloc, dice, plain, proc),
+        2 | 3 => at_pipe(alloc, dice, plain, proc),
+        4..=6 => next_using(alloc, dice, coid),
+        7 => Ok(Request::Chmod {
+            coid,
+            mode: next_directory_mode(dice),
+        }),
+        8 => Ok(Request::Raw {
+            coid,
+            bytes: next_raw(alloc, dice)?,
+        }),
+        9 => Ok(Request::Close { coid }),
+        10..=12 => Ok(Request::Read {
+            coid,
+            count: next_count(dice),
+        }),
+        _ => Ok(Request::Write {
+            coid,
+            bytes: next_bytes(alloc, dice)?,
+        }),
+    }
+}
+
+/// Whether a thread of a process waits in a pipe.
+pub fn has_waiting(plain: &Plain, proc: Proc) -> bool {
+    plain.threads().iter().any(|row| row.thread.proc == proc
+        && matches!(&row.state, State::Waiting { .. }))
+}
+
+fn open_pipe(
+    alloc: Global,
+    dice: &mut Dice,
+    plain: &Plain,
+    proc: Proc,
+) -> Result<Request, AllocError> {
+    Ok(Request::OpenPath {
+        path: pipe_path(alloc, dice, plain, proc)?,
+        flags: pipe_flags(dice),
+        mode: next_mode(dice),
+    })
+}
+
+/// A request that looks at a path of a pipe mount.
+fn at_pipe(
+    alloc: Global,
+    dice: &mut Dice,
+    plain: &Plain,
+    proc: Proc,
+) -> Result<Request, AllocError> {
+    let path = pipe_path(alloc, dice, plain, proc)?;
+    match dice.below(8) {
+        0..=3 => Ok(Request::StatPath { path }),
+        4..=6 => Ok(Request::Unlink { path }),
+        _ => Ok(Request::Mkdir { path, mode: 0o700 }),
+    }
+}
+
+/// The path of a pipe of the process in one of its user's pipe mounts, now and then of one for all processes, of the mount
+/// or of what is below a pipe.
+fn pipe_path(
+    alloc: Global,
+    dice: &mut Dice,
+    plain: &Plain,
+    proc: Proc,
+) -> Result<Bytes, AllocError> {
+    let Some(mount) = plain.pipe_mount(proc.user, usize::from(dice.below(3))) else {
+        return next_path(alloc, dice, proc.user);
+    };
+    let mut path = Vec::from_slice(alloc, mount.as_slice())?;
+    match dice.below(16) {
+        0 | 1 => {}
+        2 => path.extend_from_slice(b"/a/b")?,
+        3..=5 => path.extend_from_slice(b"/a")?,
+        _ => path.extend_from_slice(&[b'/', b'a'.saturating_add(proc.num)])?,
+    }
+    Ok(Bytes::from_vec(path))
+}
+
+/// For one side more often than for both, nearly always to make what is not there, and now and then not to wait.
+fn pipe_flags(dice: &mut Dice) -> OFlags {
+    let access = match dice.below(8) {
+        0 | 1 => OFlags::READ,
+        2 | 3 => OFlags::WRITE,
+        _ => OFlags::READ | OFlags::WRITE,
+    };
+    let more = match dice.below(16) {
+        0 => OFlags(0),
+        1 => OFlags::CREAT | OFlags::EXCL,
+        2 => OFlags::CREAT | OFlags::TRUNC,
+        3 | 4 => OFlags::CREAT | OFlags::NONBLOCK,
+        _ => OFlags::CREAT,
+    };
+    access | more
+}

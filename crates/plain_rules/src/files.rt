@@ -1,0 +1,11 @@
+//! The rules of files, directories and pipes once more, over plain vectors: a row for each path that leads somewhere,
+//! one for each inode and one for each open block, of all users.
+
+mod fault;
+mod opened;
+mod pipes;
+mod rows;
+mod walk;
+
+pub use fault::Fault;
+pub use rows::{Files, Place};

@@ -1,0 +1,117 @@
+//! What is asked of pipes: read, write, the freeing of a block and the unblock of a call.
+
+use crate::files::fault::Fault;
+use crate::files::rows::{Block, Content, Files, Inode};
+use crate::pipes::{Answers, Caller, Given};
+use qx_types::{Errno, OFlags, Thread, User};
+use std::alloc::AllocError;
+
+impl Files {
+    /// At most so many bytes of a pipe.
+    pub fn read_pipe(
+        &mut self,
+        caller: Caller,
+        count: usize,
+        moment: u64,
+    ) -> Result<Answers, Fault> {
+        let user = caller.thread.proc.user;
+        let (opened, _) = self.opened(user, caller.block)?;
+        if !opened.has(OFlags::READ) {
+            return Err(Fault::Refused(Errno::EBADF));
+        }
+        let has_writer = self.is_open(user, opened.inode, OFlags::WRITE);
+        if let Some(inode) = self.inode_mut(user, opened.inode)
+            && let Content::Pipe(pipe) = &mut inode.content
+        {
+            let given = pipe.read(caller, count, has_writer, refusal(&opened, &caller))?;
+            return Ok(inode.settled(given, moment));
+        }
+        Err(Fault::Refused(Errno::EISDIR))
+    }
+
+    /// Writes all of these bytes to a pipe.
+    pub fn write_pipe(
+        &mut self,
+        caller: Caller,
+        bytes: &[u8],
+        moment: u64,
+    ) -> Result<Answers, Fault> {
+        let user = caller.thread.proc.user;
+        let (opened, _) = self.opened(user, caller.block)?;
+        let has_reader = self.is_open(user, opened.inode, OFlags::READ);
+        if opened.has(OFlags::WRITE)
+            && let Some(inode) = self.inode_mut(user, opened.inode)
+            && let Content::Pipe(pipe) = &mut inode.content
+        {
+            let given = pipe.write(caller, bytes, has_reader, refusal(&opened, &caller))?;
+            return Ok(inode.settled(given, moment));
+        }
+        Err(Fault::Refused(Errno::EBADF))
+    }
+
+    /// A block of an inode went.
+    pub fn release(
+        &mut self,
+        user: User,
+        number: u16,
+        block: u16,
+        moment: u64,
+    ) -> Result<Answers, AllocError> {
+        let has_reader = self.is_open(user, number, OFlags::READ);
+        let has_writer = self.is_open(user, number, OFlags::WRITE);
+        if let Some(inode) = self.inode_mut(user, number)
+            && let Content::Pipe(pipe) = &mut inode.content
+        {
+            let given = pipe.release(block, has_reader, has_writer)?;
+            return Ok(inode.settled(given, moment));
+        }
+        Ok(Vec::new(self.alloc))
+    }
+
+    /// The call of a thread is interrupted, if it waits in a pipe.
+    pub fn unblock(
+        &mut self,
+        thread: Thread,
+        call: u64,
+        moment: u64,
+    ) -> Result<Answers, AllocError> {
+        for inode in self.inodes.iter_mut() {
+            if let Content::Pipe(pipe) = &mut inode.content {
+                let given = pipe.unblock(thread, call)?;
+                let answers = inode.settled(given, moment);
+                if !answers.is_empty() {
+                    return Ok(answers);
+                }
+            }
+        }
+        Ok(Vec::new(self.alloc))
+    }
+
+    /// Whether a block of an inode was opened with this flag.
+    fn is_open(&self, user: User, number: u16, flag: OFlags) -> bool {
+        self.blocks.iter().any(|block| block.user == user
+            && block.inode == number
+            && block.has(flag))
+    }
+}
+
+impl Inode {
+    /// Who is answered, once bytes that went into a pipe are marked by the moment.
+    fn settled(&mut self, given: Given, moment: u64) -> Answers {
+        if given.is_written {
+            self.touch(moment);
+        }
+        given.answers
+    }
+}
+
+/// Why a call may not wait, if it may not.
+fn refusal(opened: &Block, caller: &Caller) -> Option<Errno> {
+    if opened.has(OFlags::NONBLOCK) {
+        Some(Errno::EAGAIN)
+    } else if caller.is_asked {
+        Some(Errno::EINTR)
+    } else {
+        None
+    }
+}

@@ -1,0 +1,273 @@
+//! The rows, and how they are found.
+
+use crate::pipes::Pipe;
+use qx_types::{Bytes, Errno, Manager, OFlags, User};
+use std::alloc::{AllocError, Global};
+
+/// Where a message to a path leads: the user, the manager and the inode of the mount's root, and the rest of the path;
+/// and the moment at which it is performed.
+#[derive(Clone, Copy)]
+pub struct Place<'a> {
+    pub user: User,
+    pub manager: Manager,
+    pub root: u16,
+    pub path: &'a [u8],
+    pub moment: u64,
+}
+
+/// What an inode is, with the bytes of a file.
+#[derive(Drop)]
+pub enum Content {
+    File(Vec<u8>),
+    Directory,
+    Pipe(Pipe),
+}
+
+/// A file, a directory or a pipe of a user.
+#[derive(Drop)]
+pub struct Inode {
+    pub user: User,
+    pub number: u16,
+    pub content: Content,
+    pub mode: u16,
+    pub is_named: bool,
+    pub written: u64,
+    pub changed: u64,
+}
+
+/// A path of a mount that leads to an inode, with one slash between each two names.
+#[derive(Drop)]
+pub struct Name {
+    pub user: User,
+    pub root: u16,
+    pub path: Bytes,
+    pub inode: u16,
+}
+
+/// An open block.
+#[derive(Clone, Copy)]
+pub struct Block {
+    pub user: User,
+    pub number: u16,
+    pub inode: u16,
+    pub flags: OFlags,
+    pub offset: u64,
+}
+
+impl Block {
+    /// Whether it was opened with this flag.
+    pub fn has(&self, flag: OFlags) -> bool {
+        has(self.flags, flag)
+    }
+}
+
+/// All files, directories and pipes, paths to them, and open blocks.
+#[derive(Drop)]
+pub struct Files {
+    pub alloc: Global,
+    pub inodes: Vec<Inode>,
+    pub names: Vec<Name>,
+    pub blocks: Vec<Block>,
+}
+
+impl Files {
+    /// No file, directory, pipe or block.
+    pub fn new(alloc: Global) -> Files {
+        Files {
+            alloc,
+            inodes: Vec::new(alloc),
+            names: Vec::new(alloc),
+            blocks: Vec::new(alloc),
+        }
+    }
+
+    /// Makes the root of a mount, at moment 0, under the number of a free inode.
+    pub fn add_root(&mut self, user: User, number: u16) -> Result<(), AllocError> {
+        self.add_inode(user, number, Content::Directory, 0o700, 0)
+    }
+
+    /// Makes a file, a directory or a pipe without a path.
+    pub fn add_inode(
+        &mut self,
+        user: User,
+        number: u16,
+        content: Content,
+        mode: u16,
+        moment: u64,
+    ) -> Result<(), AllocError> {
+        self.inodes.push(Inode {
+            user,
+            number,
+            content,
+            mode,
+            is_named: true,
+            written: moment,
+            changed: moment,
+        })?;
+        Ok(())
+    }
+
+    /// Makes an open block at the beginning.
+    pub fn add_block(
+        &mut self,
+        user: User,
+        number: u16,
+        inode: u16,
+        flags: OFlags,
+    ) -> Result<(), AllocError> {
+        self.blocks.push(Block {
+            user,
+            number,
+            inode,
+            flags,
+            offset: 0,
+        })?;
+        Ok(())
+    }
+
+    /// The lowest number that no inode of the user has.
+    pub fn free_inode(&self, user: User) -> Result<u16, Errno> {
+        match (1..=1_024).find(|number| self.inode(user, *number).is_none()) {
+            Some(number) => Ok(number),
+            None => Err(Errno::ENOSPC),
+        }
+    }
+
+    /// The lowest number that no block of the user has.
+    pub fn free_block(&self, user: User) -> Result<u16, Errno> {
+        match (1..=256).find(|number| self.block(user, *number).is_none()) {
+            Some(number) => Ok(number),
+            None => Err(Errno::ENFILE),
+        }
+    }
+
+    /// How many blocks a user has.
+    pub fn block_count(&self, user: User) -> usize {
+        self.blocks
+            .iter()
+            .filter(|block| block.user == user)
+            .count()
+    }
+
+    /// The offset of a block for writing.
+    pub fn write_offset(&self, user: User, number: u16) -> Option<u64> {
+        let block = self.block(user, number)?;
+        if block.has(OFlags::WRITE) {
+            Some(block.offset)
+        } else {
+            None
+        }
+    }
+
+    pub fn inode(&self, user: User, number: u16) -> Option<&Inode> {
+        self.inodes
+            .iter()
+            .find(|inode| inode.user == user && inode.number == number)
+    }
+
+    pub fn inode_mut(&mut self, user: User, number: u16) -> Option<&mut Inode> {
+        self.inodes
+            .iter_mut()
+            .find(|inode| inode.user == user && inode.number == number)
+    }
+
+    pub fn block(&self, user: User, number: u16) -> Option<&Block> {
+        self.blocks
+            .iter()
+            .find(|block| block.user == user && block.number == number)
+    }
+
+    pub fn block_mut(&mut self, user: User, number: u16) -> Option<&mut Block> {
+        self.blocks
+            .iter_mut()
+            .find(|block| block.user == user && block.number == number)
+    }
+
+    /// An inode goes, with what it holds, if no path leads to it and no block is open.
+    pub fn let_go(&mut self, user: User, number: u16) {
+        let is_open = self
+            .blocks
+            .iter()
+            .any(|block| block.user == user && block.inode == number);
+        if !is_open {
+            self.inodes.retain(|inode| inode.user != user
+                || inode.number != number
+                || inode.is_named);
+        }
+    }
+
+    /// The sum of the sizes of a user's files.
+    pub fn total(&self, user: User) -> usize {
+        let mut total: usize = 0;
+        for inode in self.inodes.iter() {
+            if inode.user == user
+                && let Content::File(bytes) = &inode.content
+            {
+                total = total.saturating_add(bytes.len());
+            }
+        }
+        total
+    }
+}
+
+impl Inode {
+    pub fn is_directory(&self) -> bool {
+        matches!(&self.content, Content::Directory)
+    }
+
+    /// How many bytes it holds: a directory none.
+    pub fn size(&self) -> usize {
+        match &self.content {
+            Content::File(bytes) => bytes.len(),
+            Content::Directory => 0,
+            Content::Pipe(pipe) => pipe.len(),
+        }
+    }
+
+    /// The number of its kind in a status.
+    fn kind(&self) -> u8 {
+        match &self.content {
+            Content::File(_) => 1,
+            Content::Directory => 2,
+            Content::Pipe(_) => 3,
+        }
+    }
+
+    /// Whether its owner may do what needs this bit. All that is a user's is asked for by that user alone.
+    pub fn allows(&self, bit: u16) -> bool {
+        self.mode & bit != 0
+    }
+
+    /// Inode, kind, mode, links, owner, size and both times.
+    pub fn status(&self) -> [u8; 40] {
+        let mut bytes = [0; 40];
+        bytes[0..2].copy_from_slice(&self.number.to_le_bytes());
+        bytes[4] = self.kind();
+        bytes[6..8].copy_from_slice(&self.mode.to_le_bytes());
+        bytes[8] = u8::from(self.is_named);
+        bytes[12] = self.user.0;
+        bytes[16..24].copy_from_slice(&(self.size() as u64).to_le_bytes());
+        bytes[24..32].copy_from_slice(&self.written.to_le_bytes());
+        bytes[32..40].copy_from_slice(&self.changed.to_le_bytes());
+        bytes
+    }
+
+    /// A file loses its bytes.
+    pub fn empty(&mut self, moment: u64) {
+        if let Content::File(bytes) = &mut self.content {
+            bytes.clear();
+            self.touch(moment);
+        }
+    }
+
+    /// What it holds, or what is in it, is another from this moment on.
+    pub fn touch(&mut self, moment: u64) {
+        self.written = moment;
+        self.changed = moment;
+    }
+}
+
+/// Whether a flag is among others.
+pub fn has(flags: OFlags, flag: OFlags) -> bool {
+    flags.0 & flag.0 != 0
+}

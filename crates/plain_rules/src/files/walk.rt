@@ -1,0 +1,232 @@
+//! What is asked of paths: open, stat, unlink and mkdir.
+
+use crate::files::fault::Fault;
+use crate::files::rows::{Content, Files, Name, Place, has};
+use crate::pipes::Pipe;
+use qx_types::{Bytes, Errno, Manager, OFlags, User};
+use std::alloc::AllocError;
+
+/// Bits of the owner: to read, to write or make and remove names, and to look names up.
+const READ: u16 = 0o400;
+
+const WRITE: u16 = 0o200;
+
+const SEARCH: u16 = 0o100;
+
+/// Where a walk ends: the directory of the last name, and what is there.
+#[derive(Clone, Copy)]
+struct End {
+    parent: u16,
+    inode: Option<u16>,
+}
+
+impl Files {
+    /// Opens what a path leads to, or makes a file or a pipe. Answers the number of the block.
+    pub fn open(&mut self, place: &Place<'_>, flags: OFlags, mode: u16) -> Result<u16, Fault> {
+        if place.path.is_empty() {
+            return self.open_inode(place, place.root, flags);
+        }
+        let end = self.walk(place)?;
+        match end.inode {
+            Some(inode) => self.open_inode(place, inode, flags),
+            None => self.open_new(place, end.parent, flags, mode),
+        }
+    }
+
+    fn open_inode(&mut self, place: &Place<'_>, number: u16, flags: OFlags) -> Result<u16, Fault> {
+        let user = place.user;
+        self.judge_open(user, number, flags)?;
+        let block = self.free_block(user)?;
+        if has(flags, OFlags::TRUNC)
+            && has(flags, OFlags::WRITE)
+            && let Some(inode) = self.inode_mut(user, number)
+        {
+            inode.empty(place.moment);
+        }
+        self.add_block(user, block, number, flags)?;
+        Ok(block)
+    }
+
+    /// Whether what is there may be opened so.
+    fn judge_open(&self, user: User, number: u16, flags: OFlags) -> Result<(), Errno> {
+        if has(flags, OFlags::CREAT) && has(flags, OFlags::EXCL) {
+            return Err(Errno::EEXIST);
+        }
+        let Some(inode) = self.inode(user, number) else {
+            return Err(Errno::ENOENT);
+        };
+        if inode.is_directory() && has(flags, OFlags::WRITE) {
+            return Err(Errno::EISDIR);
+        }
+        if has(flags, OFlags::READ) && !inode.allows(READ) {
+            return Err(Errno::EACCES);
+        }
+        if has(flags, OFlags::WRITE) && !inode.allows(WRITE) {
+            return Err(Errno::EACCES);
+        }
+        Ok(())
+    }
+
+    /// Makes a file or a pipe where none is, and opens it whatever its mode.
+    fn open_new(
+        &mut self,
+        place: &Place<'_>,
+        parent: u16,
+        flags: OFlags,
+        mode: u16,
+    ) -> Result<u16, Fault> {
+        if !has(flags, OFlags::CREAT) {
+            return Err(Fault::Refused(Errno::ENOENT));
+        }
+        self.judge_parent(place.user, parent)?;
+        let block = self.free_block(place.user)?;
+        let number = self.free_inode(place.user)?;
+        let content = match place.manager {
+            Manager::Ram => Content::File(Vec::new(self.alloc)),
+            Manager::Pipe => Content::Pipe(Pipe::new(self.alloc)),
+        };
+        self.add_inode(place.user, number, content, mode, place.moment)?;
+        self.add_name(place, parent, number)?;
+        self.add_block(place.user, block, number, flags)?;
+        Ok(block)
+    }
+
+    /// Makes a directory.
+    pub fn mkdir(&mut self, place: &Place<'_>, mode: u16) -> Result<(), Fault> {
+        if place.path.is_empty() {
+            return Err(Fault::Refused(Errno::EEXIST));
+        }
+        let end = self.walk(place)?;
+        if end.inode.is_some() {
+            return Err(Fault::Refused(Errno::EEXIST));
+        }
+        self.judge_parent(place.user, end.parent)?;
+        let number = self.free_inode(place.user)?;
+        self.add_inode(place.user, number, Content::Directory, mode, place.moment)?;
+        self.add_name(place, end.parent, number)?;
+        Ok(())
+    }
+
+    /// Removes the name of a file, of an empty directory or of a pipe.
+    pub fn unlink(&mut self, place: &Place<'_>) -> Result<(), Errno> {
+        if place.path.is_empty() {
+            return Err(Errno::EBUSY);
+        }
+        let end = self.walk(place)?;
+        let Some(number) = end.inode else {
+            return Err(Errno::ENOENT);
+        };
+        self.judge_parent(place.user, end.parent)?;
+        if self.names.iter().any(|name| is_of_mount(name, place)
+            && name_in(name, place.path).is_some())
+        {
+            return Err(Errno::ENOTEMPTY);
+        }
+        self.names.retain(|name| !is_of_mount(name, place) || name.path.as_slice() != place.path);
+        self.touch(place, end.parent);
+        if let Some(inode) = self.inode_mut(place.user, number) {
+            inode.is_named = false;
+            inode.changed = place.moment;
+        }
+        self.let_go(place.user, number);
+        Ok(())
+    }
+
+    /// The status of what a path leads to.
+    pub fn stat(&self, place: &Place<'_>) -> Result<[u8; 40], Errno> {
+        let number = if place.path.is_empty() {
+            Some(place.root)
+        } else {
+            self.walk(place)?.inode
+        };
+        match self.inode(place.user, number.ok_or(Errno::ENOENT)?) {
+            Some(inode) => Ok(inode.status()),
+            None => Err(Errno::ENOENT),
+        }
+    }
+
+    /// Looks up one name after the other, from the mount's root on.
+    fn walk(&self, place: &Place<'_>) -> Result<End, Errno> {
+        let mut parent = place.root;
+        for (end, byte) in place.path.iter().enumerate() {
+            if *byte == b'/' {
+                let path = place.path.get(..end).unwrap_or(&[]);
+                match self.look_up(place, parent, path)? {
+                    Some(inode) => parent = inode,
+                    None => return Err(Errno::ENOENT),
+                }
+            }
+        }
+        Ok(End {
+            parent,
+            inode: self.look_up(place, parent, place.path)?,
+        })
+    }
+
+    /// Where a path leads whose last name is looked up in this directory.
+    fn look_up(
+        &self,
+        place: &Place<'_>,
+        directory: u16,
+        path: &[u8],
+    ) -> Result<Option<u16>, Errno> {
+        match self.inode(place.user, directory) {
+            Some(inode) if !inode.is_directory() => Err(Errno::ENOTDIR),
+            Some(inode) if !inode.allows(SEARCH) => Err(Errno::EACCES),
+            _ => Ok(
+                self.names
+                    .iter()
+                    .find(|name| is_of_mount(name, place) && name.path.as_slice() == path)
+                    .map(|name| name.inode),
+            ),
+        }
+    }
+
+    /// Whether names may be made in a directory, and removed from it.
+    fn judge_parent(&self, user: User, parent: u16) -> Result<(), Errno> {
+        match self.inode(user, parent) {
+            Some(inode) if inode.allows(WRITE) => Ok(()),
+            _ => Err(Errno::EACCES),
+        }
+    }
+
+    /// A path leads to an inode from now on.
+    fn add_name(&mut self, place: &Place<'_>, parent: u16, inode: u16) -> Result<(), AllocError> {
+        let path = Bytes::from_slice(self.alloc, place.path)?;
+        self.names.push(Name {
+            user: place.user,
+            root: place.root,
+            path,
+            inode,
+        })?;
+        self.touch(place, parent);
+        Ok(())
+    }
+
+    /// The names in a directory changed.
+    fn touch(&mut self, place: &Place<'_>, directory: u16) {
+        if let Some(inode) = self.inode_mut(place.user, directory) {
+            inode.touch(place.moment);
+        }
+    }
+}
+
+/// Whether the path of a row is one of the mount to which a place is.
+fn is_of_mount(name: &Name, place: &Place<'_>) -> bool {
+    name.user == place.user && name.root == place.root
+}
+
+/// The last name of a row's path, where all before it is this path.
+pub fn name_in<'a>(name: &'a Name, directory: &[u8]) -> Option<&'a [u8]> {
+    let path = name.path.as_slice();
+    let last = if directory.is_empty() {
+        path
+    } else {
+        path.strip_prefix(directory)?.strip_prefix(b"/")?
+    };
+    if last.contains(&b'/') {
+        None
+    } else {
+        Some(last)
+    }
+}

@@ -1,0 +1,19 @@
+//! A request, taken from its call to its answer by `calling`.
+
+use crate::same::first_thread;
+use crate::script::ran;
+use calling::ask;
+use qx_types::{Bytes, MessageBytes, NoMemory, OFlags, Outcome, Request, User};
+
+#[test]
+fn opens_the_root(rt: HostRuntime) -> Result<(), NoMemory> {
+    let mut traced = ran(&rt, rt.alloc(), "spawn ann 1 10\n")?;
+    let open = Request::OpenPath {
+        path: Bytes::from_slice(rt.alloc(), b"/ann")?,
+        flags: OFlags::READ,
+        mode: 0,
+    };
+    let answer = ask(&mut traced, first_thread(User(1)), open, 5)?;
+    assert!(rt; answer == Outcome::Reply(3, MessageBytes::inline(rt.alloc(), b"")));
+    Ok(())
+}

@@ -1,0 +1,177 @@
+//! What a script does not ask a trace and a world for.
+
+use crate::same::first_thread;
+use crate::script::{booted, config, ran, run};
+use qx_machine::Entry;
+use qx_types::{
+    Bytes, Errno, Item, Manager, MessageBytes, NoMemory, OFlags, Outcome, Prio, Request, Step,
+    User, Worker,
+};
+use qx_wire::Parsed;
+use qx_world::{PerformFault, Traced, Work, WorkRef, World};
+use std::alloc::Global;
+use std::process::Abort;
+
+const RAM_WORKER: Worker = Worker(1);
+
+/// Steps of which none finds anything.
+const NOTHING_FOUND: &str = "\
+    receive 1 ram\n\
+    reply ann.1.1\n\
+    receive 1 ram\n";
+
+fn finds_nothing(entry: &Entry) -> bool {
+    matches!(&entry.outcome, Outcome::Idle | Outcome::WrongState)
+}
+
+#[test]
+fn stores_in_reserved_room(rt: HostRuntime) -> Result<(), NoMemory> {
+    let mut traced = booted(&rt, rt.alloc())?;
+    traced.reserve(3)?;
+    run(&rt, rt.alloc(), &mut traced, NOTHING_FOUND)?;
+    assert_eq!(rt; traced.entries().len(), 3);
+    assert!(rt; traced.entries().iter().all(finds_nothing));
+    Ok(())
+}
+
+/// A worker receives an open.
+const RECEIVED: &str = "\
+    spawn ann 1 10\n\
+    open ann.1.1 /ann r 000\n\
+    receive 1 ram\n";
+
+/// A message of these bytes, read.
+fn message(bytes: MessageBytes) -> Work {
+    Work::Message(Parsed::read(bytes))
+}
+
+/// The message that the worker holds, read from a copy of its bytes.
+fn held(world: &World) -> Result<Option<Work>, NoMemory> {
+    match world.held(RAM_WORKER) {
+        Some(WorkRef::Message(bytes)) => Ok(Some(message(bytes.clone()?))),
+        Some(WorkRef::Pulse) | None => Ok(None),
+    }
+}
+
+/// Whether the work is another than what is held.
+fn is_stale(traced: &mut Traced, work: &Work) -> bool {
+    match traced.perform(RAM_WORKER, work, 5) {
+        Err(PerformFault::Stale) => true,
+        Ok(_) | Err(PerformFault::NoMemory) => false,
+    }
+}
+
+/// Whether the work is held and is performed.
+fn is_performed(traced: &mut Traced, work: &Work) -> bool {
+    match traced.perform(RAM_WORKER, work, 5) {
+        Ok(Outcome::Handled) => true,
+        _ => false,
+    }
+}
+
+/// A message of no bytes and a pulse are stale, and the message that is held is performed.
+fn perform_what_is_held(
+    rt: &impl Abort,
+    alloc: Global,
+    traced: &mut Traced,
+) -> Result<(), NoMemory> {
+    let ann = first_thread(User(1));
+    assert!(rt; traced.world().blocked(ann));
+    let Some(held) = held(traced.world())? else {
+        panic!(rt; "no message is held");
+    };
+    assert!(rt;
+        is_stale(traced, &message(MessageBytes::inline(alloc, b"")))
+            && is_stale(traced, &Work::Pulse)
+    );
+    assert_eq!(rt; traced.entries().len(), 3);
+    assert!(rt; is_performed(traced, &held));
+    assert!(rt; traced.world().answered(ann));
+    assert_eq!(rt; traced.config().user_count(), 2);
+    Ok(())
+}
+
+#[test]
+fn performs_what_is_held(rt: HostRuntime) -> Result<(), NoMemory> {
+    let mut traced = ran(&rt, rt.alloc(), RECEIVED)?;
+    perform_what_is_held(&rt, rt.alloc(), &mut traced)
+}
+
+/// Bob's process is started and opens the root.
+fn call_alone(rt: &impl Abort, alloc: Global, world: &mut World) -> Result<(), NoMemory> {
+    let bob = first_thread(User(2));
+    let request = Request::OpenPath {
+        path: Bytes::from_slice(alloc, b"/bob")?,
+        flags: OFlags::READ,
+        mode: 0,
+    };
+    assert!(rt; matches!(&world.spawn(User(2), 1, Prio(10))?, Outcome::Spawned(1)));
+    assert!(rt; matches!(&world.call(bob, &request)?, Outcome::Sent));
+    Ok(())
+}
+
+/// The receive of the worker.
+const RECEIVE: Step = Step::Receive {
+    worker: RAM_WORKER,
+    manager: Manager::Ram,
+};
+
+/// Whether a worker took the message of a user's first thread.
+fn took(outcome: &Outcome, user: User) -> bool {
+    match outcome {
+        Outcome::Took(Item::Message(thread)) => *thread == first_thread(user),
+        _ => false,
+    }
+}
+
+/// Whether an outcome is the reply of an open: connection 3, and no bytes.
+fn opens_third(outcome: &Outcome) -> bool {
+    match outcome {
+        Outcome::Reply(3, content) => content.as_slice().is_empty(),
+        _ => false,
+    }
+}
+
+/// Bob's call is served and answered, and nothing is held afterwards.
+fn serve_alone(rt: &impl Abort, world: &mut World) -> Result<(), NoMemory> {
+    assert_eq!(rt; world.waiting(Manager::Ram), 1);
+    assert!(rt; world.owner(&RECEIVE) == Some(User(2)));
+    assert!(rt; took(&world.receive(RAM_WORKER, Manager::Ram), User(2)));
+    assert!(rt; matches!(&world.perform_held(RAM_WORKER, 5)?, Outcome::Handled));
+    assert!(rt; opens_third(&world.take_reply(first_thread(User(2)))));
+    assert!(rt;
+        matches!(
+            &world.perform(RAM_WORKER, &Work::Pulse, 6),
+            Ok(Outcome::Nothing)
+        )
+    );
+    Ok(())
+}
+
+/// The pipe manager is attached below bob's name, once, and the priority of bob's thread is set.
+fn mount_alone(rt: &impl Abort, alloc: Global, world: &mut World) -> Result<(), NoMemory> {
+    let bob = first_thread(User(2));
+    let path = Bytes::from_slice(alloc, b"/bob/p")?;
+    assert!(rt; matches!(&world.mount(bob, &path, Manager::Pipe)?, Outcome::Done));
+    assert!(rt;
+        matches!(
+            &world.mount(bob, &path, Manager::Ram)?,
+            Outcome::Refused(Errno::EEXIST)
+        )
+    );
+    assert!(rt; matches!(&world.set_prio(bob, Prio(20)), Outcome::Done));
+    Ok(())
+}
+
+/// Each step of a world alone.
+fn run_alone(rt: &impl Abort, alloc: Global, world: &mut World) -> Result<(), NoMemory> {
+    call_alone(rt, alloc, world)?;
+    serve_alone(rt, world)?;
+    mount_alone(rt, alloc, world)
+}
+
+#[test]
+fn runs_a_world_alone(rt: HostRuntime) -> Result<(), NoMemory> {
+    let mut world = World::new(rt.alloc(), config(&rt, rt.alloc())?)?;
+    run_alone(&rt, rt.alloc(), &mut world)
+}

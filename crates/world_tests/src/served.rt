@@ -1,0 +1,245 @@
+//! Steps that want no memory, taken while all memory is refused.
+
+use crate::same::is_same;
+use crate::script::{ran, run, steps, store_all};
+use all_memory::take_all_memory;
+use qx_machine::Entry;
+use qx_types::{NoMemory, Outcome, Step};
+use qx_world::Traced;
+use std::alloc::{AllocError, Global};
+use std::process::Abort;
+
+/// Lines after which a reply of ann waits to be taken, her second thread is ready, and an open of bob is to be received.
+pub(crate) const CALLED: &str = "\
+    spawn ann 2 10\n\
+    spawn bob 1 10\n\
+    open ann.1.1 /ann r 000\n\
+    receive 1 ram\nperform 1 5\nreply ann.1.1\n\
+    fstat ann.1.1 3\n\
+    receive 1 ram\nperform 1 6\n\
+    open bob.1.1 /bob r 000\n";
+
+/// Lines whose steps want no memory.
+const SURE: &str = "\
+    reply ann.1.1\n\
+    prio ann.1.1 20\n\
+    receive 1 ram\n";
+
+/// Interrupts of a thread that is answered, of one that is ready, and of one whose message waits.
+const INTERRUPTS: &str = "\
+    interrupt ann.1.1\n\
+    interrupt ann.1.2\n\
+    interrupt bob.1.1\n";
+
+/// Interrupts of a thread whose message was received, and of the same one when its manager was asked.
+const RECEIVED_INTERRUPTS: &str = "\
+    receive 1 ram\n\
+    interrupt bob.1.1\n\
+    interrupt bob.1.1\n";
+
+/// Lines after which one process has a file of 100 bytes and the top open, another the file for reading alone.
+const FILES: &str = "\
+    spawn ann 4 10\n\
+    spawn ann 4 10\n\
+    mount ann.1.1 /ann/p pipe\n\
+    open ann.1.1 /ann/f rwc 644\n\
+    receive 1 ram\nperform 1 1\nreply ann.1.1\n\
+    open ann.1.1 /ann r 000\n\
+    receive 1 ram\nperform 1 2\nreply ann.1.1\n\
+    open ann.2.1 /ann/f r 000\n\
+    receive 1 ram\nperform 1 3\nreply ann.2.1\n\
+    fill ann.1.1 3 100 07\n\
+    receive 1 ram\nperform 1 4\nreply ann.1.1\n";
+
+/// Calls that are then sent, one from each thread, to be done.
+const USES: &str = "\
+    seek ann.1.1 3 set 0\n\
+    read ann.1.2 3 100\n\
+    list ann.1.3 4\n\
+    chmod ann.1.4 3 600\n\
+    stat ann.2.1 /ann/f\n\
+    fstat ann.2.2 3\n\
+    unlink ann.2.3 /ann/f\n\
+    close ann.2.4 3\n";
+
+/// The calls are received, performed and answered.
+const USES_SERVED: &str = "\
+    receive 1 ram\nperform 1 5\nreply ann.1.1\n\
+    receive 1 ram\nperform 1 6\nreply ann.1.2\n\
+    receive 1 ram\nperform 1 7\nreply ann.1.3\n\
+    receive 1 ram\nperform 1 8\nreply ann.1.4\n\
+    receive 1 ram\nperform 1 9\nreply ann.2.1\n\
+    receive 1 ram\nperform 1 10\nreply ann.2.2\n\
+    receive 1 ram\nperform 1 11\nreply ann.2.3\n\
+    receive 1 ram\nperform 1 12\nreply ann.2.4\n";
+
+/// Calls that are then sent, to be answered errors: three to the RAM manager and one to the pipe manager.
+const MISTAKES: &str = "\
+    open ann.1.1 /ann/g rw 000\n\
+    mkdir ann.1.2 /ann/f 755\n\
+    write ann.2.1 3 01020304\n\
+    open ann.2.2 /ann/p/g r 000\n";
+
+/// The mistakes are received, performed and answered, and each thread calls again.
+const MISTAKES_SERVED: &str = "\
+    receive 1 ram\nperform 1 5\nreply ann.1.1\n\
+    receive 1 ram\nperform 1 6\nreply ann.1.2\n\
+    receive 1 ram\nperform 1 7\nreply ann.2.1\n\
+    receive 1 pipe\nperform 1 8\nreply ann.2.2\n\
+    fstat ann.1.1 3\n\
+    fstat ann.1.2 3\n\
+    fstat ann.2.1 3\n\
+    fstat ann.2.2 3\n";
+
+/// Lines after which ann has an empty pipe open, for both sides.
+const PIPE: &str = "\
+    spawn ann 4 10\n\
+    mount ann.1.1 /ann/p pipe\n\
+    open ann.1.1 /ann/p/f rwc 600\n\
+    receive 1 pipe\nperform 1 1\nreply ann.1.1\n";
+
+/// A read that is to wait, the write that serves it, and a read that is to be interrupted.
+const READS: &str = "\
+    read ann.1.1 3 4\n\
+    write ann.1.2 3 01020304\n\
+    read ann.1.3 3 4\n";
+
+/// They are, and the one that was interrupted calls again.
+const READS_SERVED: &str = "\
+    receive 1 pipe\nperform 1 5\n\
+    receive 1 pipe\nperform 1 6\nreply ann.1.1\n\
+    reply ann.1.2\n\
+    receive 1 pipe\nperform 1 7\n\
+    interrupt ann.1.3\n\
+    receive 2 pipe\nperform 2 8\nreply ann.1.3\n\
+    read ann.1.3 3 4\n";
+
+/// A write that fills the pipe, one that is to wait, one that is to be interrupted, and a read of all that stands.
+const WRITES: &str = "\
+    fill ann.1.1 3 4096 07\n\
+    write ann.1.2 3 01020304\n\
+    fill ann.1.3 3 100 07\n\
+    read ann.1.4 3 4096\n";
+
+const WRITES_SERVED: &str = "\
+    receive 1 pipe\nperform 1 5\nreply ann.1.1\n\
+    receive 1 pipe\nperform 1 6\n\
+    receive 1 pipe\nperform 1 7\n\
+    interrupt ann.1.3\n\
+    receive 1 pipe\n\
+    receive 2 pipe\nperform 2 8\nreply ann.1.3\n\
+    perform 1 9\n\
+    reply ann.1.4\n\
+    reply ann.1.2\n";
+
+/// Two reads that are to wait, and a close of what they wait on.
+const CLOSES: &str = "\
+    read ann.1.1 3 4\n\
+    read ann.1.2 3 4\n\
+    close ann.1.3 3\n";
+
+const CLOSES_SERVED: &str = "\
+    receive 1 pipe\nperform 1 5\n\
+    receive 1 pipe\nperform 1 6\n\
+    receive 1 pipe\nperform 1 7\nreply ann.1.1\n\
+    reply ann.1.2\n\
+    reply ann.1.3\n";
+
+/// Lines that come before, calls that are sent then, lines whose steps are taken with all memory taken, and how many of all
+/// these steps come to a failure.
+const CASES: [(&str, &str, &str, u64); 8] = [
+    (CALLED, "", SURE, 0),
+    (CALLED, "", INTERRUPTS, 0),
+    (CALLED, "", RECEIVED_INTERRUPTS, 0),
+    (FILES, USES, USES_SERVED, 0),
+    (FILES, MISTAKES, MISTAKES_SERVED, 4),
+    (PIPE, READS, READS_SERVED, 1),
+    (PIPE, WRITES, WRITES_SERVED, 1),
+    (PIPE, CLOSES, CLOSES_SERVED, 2),
+];
+
+/// The calls wait, with room for the steps that serve them.
+fn sent(rt: &impl Abort, alloc: Global, before: &str, calls: &str) -> Result<Traced, NoMemory> {
+    let mut traced = ran(rt, alloc, before)?;
+    run(rt, alloc, &mut traced, calls)?;
+    traced.reserve(24)?;
+    Ok(traced)
+}
+
+fn is_byte_refused(alloc: Global) -> bool {
+    let byte: Result<Vec<u8>, AllocError> = Vec::with_capacity(alloc, 1);
+    byte.is_err()
+}
+
+/// With all memory taken, whether a byte is refused and steps are stored. They may give memory back.
+fn stores_without_memory(
+    alloc: Global,
+    traced: &mut Traced,
+    steps: &[Step],
+) -> Result<bool, AllocError> {
+    let pieces = take_all_memory(alloc)?;
+    let stored = is_byte_refused(alloc) && store_all(traced, steps).is_ok();
+    drop(pieces);
+    Ok(stored)
+}
+
+/// Whether a step came to an error, or to nothing at all.
+fn is_failure(outcome: &Outcome) -> bool {
+    matches!(
+        outcome,
+        Outcome::Refused(_)
+            | Outcome::Failed(_)
+            | Outcome::WrongState
+            | Outcome::Idle
+            | Outcome::Busy
+            | Outcome::Nothing
+    )
+}
+
+fn failures(entries: &[Entry]) -> u64 {
+    let mut failures: u64 = 0;
+    for entry in entries {
+        if is_failure(&entry.outcome) {
+            failures = failures.saturating_add(1);
+        }
+    }
+    failures
+}
+
+/// Steps are stored with all memory taken. Then all is as in a run without trouble, and so many of the steps came to a
+/// failure.
+fn serve_without_memory(
+    rt: &impl Abort,
+    alloc: Global,
+    traced: &mut Traced,
+    untroubled: &mut Traced,
+    steps: &[Step],
+    failed: u64,
+) -> Result<(), NoMemory> {
+    assert!(rt; stores_without_memory(alloc, traced, steps)?);
+    store_all(untroubled, steps)?;
+    assert!(rt; is_same(traced, untroubled)?);
+    assert!(rt; failures(traced.entries()) == failed);
+    Ok(())
+}
+
+/// A case is served with all memory taken.
+fn is_served(
+    rt: &impl Abort,
+    alloc: Global,
+    case: (&str, &str, &str, u64),
+) -> Result<(), NoMemory> {
+    let (before, calls, lines, failed) = case;
+    let steps = steps(rt, alloc, lines)?;
+    let mut traced = sent(rt, alloc, before, calls)?;
+    let mut untroubled = sent(rt, alloc, before, calls)?;
+    serve_without_memory(rt, alloc, &mut traced, &mut untroubled, &steps, failed)
+}
+
+#[test]
+fn calls_are_served_while_all_memory_is_refused(rt: HostRuntime) -> Result<(), NoMemory> {
+    for case in CASES {
+        is_served(&rt, rt.alloc(), case)?;
+    }
+    Ok(())
+}
