@@ -13,7 +13,7 @@ const PLACES: usize = MessageBytes::INLINE;
 
 /// Bytes of a message or of its answer, which contracts see as a list of numbers: at most 40 stand inline, more in a
 /// vector.
-#[derive(Drop)]
+#[derive(Debug, Drop)]
 pub struct MessageBytes {
     items: SmallVec<u8, PLACES>,
 }

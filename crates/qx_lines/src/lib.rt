@@ -12,7 +12,7 @@ use qx_types::{Prio, Ranked};
 use std::alloc::AllocError;
 
 /// A priority line over lists of a table. Each call is handed the table that the line was made in.
-#[derive(Drop)]
+#[derive(Debug, Drop)]
 pub struct Line {
     list: usize,
     len: usize,

@@ -3,7 +3,7 @@ use qx_types::{Actor, Answer, Coid, Manager, MessageBytes, OFlags, Outcome, Prio
 use qx_wire::{BorrowedBytes, Message};
 
 /// What a call sends (C Library Reference: `MsgSend`): a message of the table, or bytes as they are.
-#[derive(Drop)]
+#[derive(Debug, Drop)]
 pub enum Content<'a> {
     Spelled(Message<'a>),
     Raw(BorrowedBytes<'a>),
@@ -31,7 +31,7 @@ pub struct Target {
 
 /// Where a call's message goes, and what the call's path has behind the prefix of its mount; a call that names no path
 /// has nothing there.
-#[derive(Drop)]
+#[derive(Debug, Drop)]
 pub struct Addressed<'a> {
     pub target: Target,
     pub rest: Path<'a>,
@@ -39,7 +39,7 @@ pub struct Addressed<'a> {
 
 /// A message: its bytes, and what its channel keeps beside them: where it went, and whether it was asked to unblock its
 /// thread.
-#[derive(Drop, PartialEq, Eq)]
+#[derive(Debug, Drop, PartialEq, Eq)]
 pub struct Sent {
     pub target: Target,
     pub is_asked: bool,
@@ -47,7 +47,7 @@ pub struct Sent {
 }
 
 /// What a thread is doing (System Architecture: the SEND-blocked and REPLY-blocked states).
-#[derive(Drop)]
+#[derive(Debug, Drop)]
 pub enum State {
     Ready,
     /// Its message stands in a line.
@@ -61,7 +61,7 @@ pub enum State {
 }
 
 /// A thread: its state, its priority and how many calls it has made.
-#[derive(Drop)]
+#[derive(Debug, Drop)]
 pub struct ThreadRow {
     pub state: State,
     pub prio: Prio,
@@ -113,7 +113,7 @@ pub struct Opened {
 /// A call that waits in a pipe (Writing a Resource Manager: a client to whom no reply is made yet): of which thread, over
 /// which open control block, how many bytes it reads, and which it writes. Its message's bytes are here and not with the
 /// thread.
-#[derive(Drop, PartialEq, Eq)]
+#[derive(Debug, Drop, PartialEq, Eq)]
 pub struct WaitingCall {
     pub process: u8,
     pub thread: u8,
@@ -212,14 +212,14 @@ pub struct Held {
 }
 
 /// A step that was taken, with its outcome.
-#[derive(Drop)]
+#[derive(Debug, Drop)]
 pub struct Entry {
     pub step: Step,
     pub outcome: Outcome,
 }
 
 /// What a client step of a user gave, and to whom.
-#[derive(Drop)]
+#[derive(Debug, Drop)]
 pub struct Seen {
     pub actor: Actor,
     pub outcome: Outcome,

@@ -8,7 +8,7 @@ use std::marker::Model;
 
 /// A manager, the components at which it is attached, and the inode of the mount's root (C Library Reference:
 /// `resmgr_attach`, whose handle is the root's attribute).
-#[derive(Drop)]
+#[derive(Debug, Drop)]
 pub struct Mount {
     prefix: Vec<Bytes>,
     manager: Manager,

@@ -35,7 +35,7 @@ impl From<NoMemory> for MountFault {
 
 /// The mounts of one user, at most 8. A mount's number is its place, from 0, and stays (System Architecture: pathname
 /// management, the prefix tree; that each user has mounts of their own is this profile).
-#[derive(Drop)]
+#[derive(Debug, Drop)]
 pub struct Mounts {
     rows: Vec<Mount>,
 }

@@ -11,7 +11,7 @@ use std::marker::Model;
 
 /// A path that was read, which contracts see as its components, or what such a path has behind its first components. The
 /// bytes stand elsewhere (System Architecture: pathname management; that a path has no `.` and no `..` is this profile).
-#[derive(Drop)]
+#[derive(Debug, Drop)]
 pub struct Path<'a> {
     bytes: &'a [u8],
 }
@@ -30,7 +30,7 @@ impl<'a> Model for Path<'a> {
 }
 
 /// The components that a walk has before it, the next one first.
-#[derive(Drop)]
+#[derive(Debug, Drop)]
 pub struct Components<'a> {
     left: &'a [u8],
 }

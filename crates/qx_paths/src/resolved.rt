@@ -2,7 +2,7 @@ use crate::path::Path;
 use qx_types::Manager;
 
 /// Where a path leads: a mount, and what the path has behind the mount's prefix. It borrows from the bytes of the path.
-#[derive(Drop)]
+#[derive(Debug, Drop)]
 pub struct Resolved<'a> {
     /// The mount's place among its user's mounts, from 0.
     pub number: usize,

@@ -1,7 +1,7 @@
 use qx_types::{Request, Step, Thread, User};
 
 /// What one line of a script asks for.
-#[derive(Drop)]
+#[derive(Debug, Drop)]
 pub enum Command {
     /// Takes a step.
     Take(Step),

@@ -11,7 +11,7 @@ use std::alloc::Global;
 use std::marker::Model;
 
 /// What the lines of a script say so far.
-#[derive(Drop)]
+#[derive(Debug, Drop)]
 pub struct Reading {
     users: Users,
     workers: Option<u8>,

@@ -8,7 +8,7 @@ use qx_words::words::lines;
 use std::alloc::Global;
 
 /// A script that was read.
-#[derive(Drop)]
+#[derive(Debug, Drop)]
 pub enum Script {
     /// The number of the first bad line.
     Bad(u64),

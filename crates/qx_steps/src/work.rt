@@ -7,7 +7,7 @@ use qx_wire::Parsed;
 use thiserror::Error;
 
 /// What a worker is to do with the item that it holds.
-#[derive(Drop)]
+#[derive(Debug, Drop)]
 pub enum Work {
     /// A message, whose bytes were read.
     Message(Parsed),
@@ -27,7 +27,7 @@ impl Work {
 }
 
 /// What a worker holds, lent.
-#[derive(Clone, Copy)]
+#[derive(Clone, Copy, Debug)]
 pub enum WorkRef<'a> {
     /// The bytes of a message.
     Message(&'a MessageBytes),

@@ -11,7 +11,7 @@ use std::alloc::AllocError;
 use std::marker::Model;
 
 /// Who uses the system and how many workers serve it. Users are numbered from 1 in the order of their names.
-#[derive(Drop)]
+#[derive(Debug, Drop)]
 pub struct Config {
     names: Vec<Bytes>,
     workers: u8,

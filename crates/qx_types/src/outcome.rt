@@ -6,7 +6,7 @@ use qx_bytes::MessageBytes;
 use std::alloc::AllocError;
 
 /// What a server answers to a message (C Library Reference: `MsgReply`, `MsgError`).
-#[derive(Drop, PartialEq, Eq)]
+#[derive(Debug, Drop, PartialEq, Eq)]
 pub enum Answer {
     /// The status and the bytes of the reply.
     Reply(u64, MessageBytes),
@@ -14,7 +14,7 @@ pub enum Answer {
 }
 
 /// What a step gives to whoever takes it.
-#[derive(Drop, PartialEq, Eq)]
+#[derive(Debug, Drop, PartialEq, Eq)]
 pub enum Outcome {
     /// The number of the new process.
     Spawned(u8),

@@ -8,7 +8,7 @@ use std::alloc::AllocError;
 
 /// What a client asks of a resource manager. The ranges of the fields are those of the messages (`docs/FORMATS.md`); a
 /// path is judged as a path, and a connection by whether it is there.
-#[derive(Drop, PartialEq, Eq)]
+#[derive(Debug, Drop, PartialEq, Eq)]
 pub enum Request {
     /// Opens a name (C Library Reference: `open`). The mode has at most the bits 0777.
     OpenPath {

@@ -7,7 +7,7 @@ use qx_bytes::Bytes;
 use std::alloc::AllocError;
 
 /// One step of the system, taken by a client or by a worker.
-#[derive(Drop, PartialEq, Eq)]
+#[derive(Debug, Drop, PartialEq, Eq)]
 pub enum Step {
     /// Starts a process of so many threads, each of that priority.
     Spawn {

@@ -3,7 +3,7 @@ ghost use Rattle.std.specs.Prelude.{◌≡◌};
 use std::marker::Model;
 
 /// Bytes that stand elsewhere, which contracts see as a list of numbers.
-#[derive(Drop)]
+#[derive(Debug, Drop)]
 pub struct BorrowedBytes<'a> {
     bytes: &'a [u8],
 }

@@ -5,7 +5,7 @@ use qx_types::{Coid, Conds, NotifyAction, OFlags, Whence};
 /// What a client tells a manager. Its texts and bytes stand in the bytes that it was read from. The names beside are
 /// those of QNX's messages (Writing a Resource Manager: connect messages, I/O messages); fields and ranges are this
 /// profile (`docs/FORMATS.md`), and `in_ranges` judges them.
-#[derive(Drop)]
+#[derive(Debug, Drop)]
 pub enum Message<'a> {
     /// Opens a name (`_IO_CONNECT`, subtype `_IO_CONNECT_OPEN`). The mode has at most the bits 0777.
     Open {
@@ -67,7 +67,7 @@ pub enum Message<'a> {
 }
 
 /// What bytes mean.
-#[derive(Drop)]
+#[derive(Debug, Drop)]
 pub enum Meaning<'a> {
     /// The message that they spell.
     Known(Message<'a>),

@@ -9,7 +9,7 @@ use qx_types::MessageBytes;
 use std::marker::Model;
 
 /// The bytes of a message together with what they mean; contracts see the bytes.
-#[derive(Drop)]
+#[derive(Debug, Drop)]
 pub struct Parsed {
     bytes: MessageBytes,
     is_malformed: bool,

@@ -9,7 +9,7 @@ use std::marker::Model;
 /// What a path has behind its mount, which contracts see as its components. The bytes stand elsewhere: the components
 /// with one `/` between each two, none for the mount's root (Writing a Resource Manager: the path of a connect message;
 /// that only components are taken is this profile).
-#[derive(Drop)]
+#[derive(Debug, Drop)]
 pub struct Rest<'a> {
     bytes: &'a [u8],
 }
@@ -24,7 +24,7 @@ impl<'a> Model for Rest<'a> {
 }
 
 /// The components of a rest that a walk has before it, the next one first.
-#[derive(Drop)]
+#[derive(Debug, Drop)]
 pub struct Components<'a> {
     left: Option<&'a [u8]>,
 }

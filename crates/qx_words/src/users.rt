@@ -10,7 +10,7 @@ use std::alloc::Global;
 use std::marker::Model;
 
 /// The names of users, as many as a configuration may have, in the order of their numbers, which begin at 1.
-#[derive(Drop)]
+#[derive(Debug, Drop)]
 pub struct Users {
     names: Vec<Bytes>,
 }

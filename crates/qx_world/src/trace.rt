@@ -17,21 +17,14 @@ use qx_machine::{Entry, Seen, laws};
 use qx_steps::{PerformFault, Work, World};
 use qx_types::{Config, NoMemory, Outcome, Step, User, Worker};
 use std::alloc::{AllocError, Global};
-use std::fmt;
 use std::marker::Model;
 use thiserror::Error;
 
 /// A step that was not stored, for want of memory. Nothing changed.
-#[derive(Drop, Error)]
+#[derive(Debug, Drop, Error)]
 #[error("out of memory")]
 pub struct Unstored {
     pub step: Step,
-}
-
-impl fmt::Debug for Unstored {
-    fn fmt<W: fmt::Write>(&self, f: &mut fmt::Formatter<W>) -> fmt::Result {
-        f.write_str("Unstored")
-    }
 }
 
 /// A world with the steps that it took from boot, each with its outcome.
