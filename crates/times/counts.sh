@@ -1,9 +1,11 @@
 #!/usr/bin/env bash
 # Counts the instructions of each round that docs/BENCH.md tells of, after `rt run`: a line for each, with its words. A round
-# is the difference of two runs with different rounds, over the difference.
+# is the difference of two runs with different rounds, over the difference. The C library is told not to clear or copy blocks
+# by the one instruction that is counted once for each byte, which it uses on some processors.
 set -euo pipefail
 cd "$(dirname "${BASH_SOURCE[0]}")"
 
+export GLIBC_TUNABLES=glibc.cpu.x86_rep_stosb_threshold=1000000:glibc.cpu.x86_rep_movsb_threshold=1000000
 file=$(mktemp)
 trap 'rm -f "$file"' EXIT
 

@@ -73,15 +73,6 @@ keyed-without old new keys n key keyed is updates = record {
   apart = λ a b other at_a at_b. keyed.apart a b other (still old new keys n key a other keyed is at_a).1 (still old new keys n key b other keyed is at_b).1;
 }
 
-pub keyed-with : (old : Slab Ocb) (keys : List (Option ℕ)) (n key : ℕ) (value : Ocb) → IsKeyed old keys → row_at keys n ≡ Some key → IsKeyed (with_value old key value) keys
-keyed-with old keys n key value keyed is = record {
-  there = λ m other there. elim (cases_eq other key) [
-    | inl same ↦ some_same (get (with_value old key value) other) (Some value) (ap (get (with_value old key value)) same ∙ (Updates-with_value old key value (keyed.there n key is)).changed) refl
-    | inr differs ↦ some_same (get (with_value old key value) other) (get old other) ((Updates-with_value old key value (keyed.there n key is)).others other differs) (keyed.there m other there)
-  ];
-  apart = keyed.apart;
-}
-
 -- ---- a key is new
 
 -- what stands in a table is the new key, at one place, or stood there before
@@ -143,6 +134,14 @@ module _ (old new : Slab Ocb) (keys : List (Option ℕ)) (n key : ℕ) (value : 
   rows-put =
       rows_by_test (nat_lt n (length keys)) ∙
       ap (λ count. if nat_lt n count then slice_set (rows_of old keys) n (Some value) else rows_of old keys ++ Some value ∷ []) (sym (length-rows (value_at old) keys))
+
+-- where there is no block, there is no key
+pub nothing-held : (values : Slab Ocb) (keys : List (Option ℕ)) (n : ℕ) → IsKeyed values keys → row_at (rows_of values keys) n ≡ None → row_at keys n ≡ None
+nothing-held values keys n keyed none = by_place (row_at keys n) refl
+  where
+    by_place : (place : Option ℕ) → row_at keys n ≡ place → row_at keys n ≡ None
+    by_place None e = e
+    by_place (Some key) e = absurd (no_value (get values key) (ap (value_at values) (sym e) ∙ (sym (row-of values keys n) ∙ none)) (keyed.there n key e))
 
 -- no block is there to be changed
 pub nothing-there : (values : Slab Ocb) (keys : List (Option ℕ)) (n : ℕ) → row_at keys n ≡ None → row_at (rows_of values keys) n ≡ None

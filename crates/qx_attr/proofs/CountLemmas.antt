@@ -42,32 +42,29 @@ within_table (y ∷ xs) (suc n) x e = let rest = within_table xs n x e in omega 
 read_row : {A : Type 0} (xs : List (Option A)) (n : ℕ) → row_at xs n ≡ get_or xs n None
 read_row xs n = unwrap_or-slice_get xs n None
 
-module _ (p : Option Ocb → Bool) (none : p None ≡ false) where
-  weight : Option Ocb → ℕ
-  weight row = one (p row)
-
-  by_test : (blocks : List (Option Ocb)) (n : ℕ) (block : Ocb) → row_at blocks n ≡ None → (test : Bool) → ltb n (length blocks) ≡ test → count_by p (if test then slice_set blocks n (Some block) else blocks ++ Some block ∷ []) ≡ count_by p blocks + one (p (Some block))
-  by_test blocks n block free true inside =
-      let set = sum_by-set (λ row. one (p row)) blocks n (Some block) None (ltb-true n (length blocks) inside) in
-      let was : one (p (get_or blocks n None)) ≡ 0 = ap (λ row. one (p row)) (sym (read_row blocks n) ∙ free) ∙ ap one none in
+module _ {A : Type 0} (p : Option A → Bool) (none : p None ≡ false) where
+  by_test : (rows : List (Option A)) (n : ℕ) (row : A) → row_at rows n ≡ None → (test : Bool) → ltb n (length rows) ≡ test → count_by p (if test then slice_set rows n (Some row) else rows ++ Some row ∷ []) ≡ count_by p rows + one (p (Some row))
+  by_test rows n row free true inside =
+      let set = sum_by-set (λ place. one (p place)) rows n (Some row) None (ltb-true n (length rows) inside) in
+      let was : one (p (get_or rows n None)) ≡ 0 = ap (λ place. one (p place)) (sym (read_row rows n) ∙ free) ∙ ap one none in
       omega (arith, set, was)
-  by_test blocks n block free false beyond = sum_by-append (λ row. one (p row)) blocks (Some block ∷ []) ∙ ap (λ k. count_by p blocks + k) (omega arith)
+  by_test rows n row free false beyond = sum_by-append (λ place. one (p place)) rows (Some row ∷ []) ∙ ap (λ k. count_by p rows + k) (omega arith)
 
-  pub count-put : (blocks : List (Option Ocb)) (n : ℕ) (block : Ocb) → row_at blocks n ≡ None → count_by p (put_row blocks n block) ≡ count_by p blocks + one (p (Some block))
-  count-put blocks n block free = by_test blocks n block free (ltb n (length blocks)) refl
+  pub count-put : (rows : List (Option A)) (n : ℕ) (row : A) → row_at rows n ≡ None → count_by p (put_row rows n row) ≡ count_by p rows + one (p (Some row))
+  count-put rows n row free = by_test rows n row free (ltb n (length rows)) refl
 
-  pub count-free : (blocks : List (Option Ocb)) (n : ℕ) (block : Ocb) → row_at blocks n ≡ Some block → count_by p (slice_set blocks n None) + one (p (Some block)) ≡ count_by p blocks
-  count-free blocks n block is =
-      let set = sum_by-set (λ row. one (p row)) blocks n None None (within_table blocks n block is) in
-      let was : one (p (get_or blocks n None)) ≡ one (p (Some block)) = ap (λ row. one (p row)) (sym (read_row blocks n) ∙ is) in
+  pub count-free : (rows : List (Option A)) (n : ℕ) (row : A) → row_at rows n ≡ Some row → count_by p (slice_set rows n None) + one (p (Some row)) ≡ count_by p rows
+  count-free rows n row is =
+      let set = sum_by-set (λ place. one (p place)) rows n None None (within_table rows n row is) in
+      let was : one (p (get_or rows n None)) ≡ one (p (Some row)) = ap (λ place. one (p place)) (sym (read_row rows n) ∙ is) in
       let no : one (p None) ≡ 0 = ap one none in
       omega (arith, set, was, no)
 
-  pub count-same : (blocks : List (Option Ocb)) (n : ℕ) (block now : Ocb) → row_at blocks n ≡ Some block → p (Some now) ≡ p (Some block) → count_by p (slice_set blocks n (Some now)) ≡ count_by p blocks
-  count-same blocks n block now is same =
-      let set = sum_by-set (λ row. one (p row)) blocks n (Some now) None (within_table blocks n block is) in
-      let was : one (p (get_or blocks n None)) ≡ one (p (Some block)) = ap (λ row. one (p row)) (sym (read_row blocks n) ∙ is) in
-      let kept : one (p (Some now)) ≡ one (p (Some block)) = ap one same in
+  pub count-same : (rows : List (Option A)) (n : ℕ) (row now : A) → row_at rows n ≡ Some row → p (Some now) ≡ p (Some row) → count_by p (slice_set rows n (Some now)) ≡ count_by p rows
+  count-same rows n row now is same =
+      let set = sum_by-set (λ place. one (p place)) rows n (Some now) None (within_table rows n row is) in
+      let was : one (p (get_or rows n None)) ≡ one (p (Some row)) = ap (λ place. one (p place)) (sym (read_row rows n) ∙ is) in
+      let kept : one (p (Some now)) ≡ one (p (Some row)) = ap one same in
       omega (arith, set, was, kept)
 
 pub row-set_same : {A : Type 0} (xs : List (Option A)) (n : ℕ) (x y : A) → row_at xs n ≡ Some x → row_at (slice_set xs n (Some y)) n ≡ Some y

@@ -19,8 +19,8 @@ pub struct Blocks {
 }
 
 impl Model for Blocks {
-    ghost use Rattle.std.specs.Prelude.{◌+◌, ◌≤◌, vec_len, vec_capacity};
-    ghost use Rattle.slab.specs.Slab.{HasRoomFor};
+    ghost use Rattle.std.specs.Prelude.{◌≡◌, ◌+◌, ◌≤◌, count_by, is_some, vec_len, vec_capacity};
+    ghost use Rattle.slab.specs.Slab.{HasRoomFor, slab_len};
     ghost use Rattle.qx_attr.specs.Blocks.{IsKeyed, Table, rows_of};
 
     ghost Value = { Table };
@@ -29,6 +29,7 @@ impl Model for Blocks {
 
     ghost invariant = { λ b. record {
       keyed : IsKeyed b.values b.keys.items;
+      held : slab_len b.values ≡ count_by is_some b.keys.items;
       numbers : vec_len b.keys + b.room ≤ vec_capacity b.keys;
       slots : HasRoomFor b.values b.room;
     } };
@@ -68,17 +69,24 @@ impl Blocks {
         ensures err { OnErr result (self.new ≡ self.old) }
         ensures had_room { count ≤ self.old.room → IsOk result }
     {
-        if count > self.room {
-            self.keys.reserve(count)?;
-            self.values.reserve(count)?;
-            self.room = count;
-        }
+        self.keys.reserve(count)?;
+        self.values.reserve(count)?;
+        self.room = self.room.max(count);
         Ok(())
+    }
+
+    /// Gives up the room for one.
+    pub fn give_up_room(&mut self)
+        requires room { 0 < self.old.room }
+        ensures room { self.new ≡ record self.old { room = self.old.room - 1 } }
+    {
+        self.room -= 1;
     }
 
     /// Puts a block under a free number, for which there is room.
     pub fn put(&mut self, number: usize, block: Ocb)
         requires room { 0 < self.old.room }
+        requires free { row_at self.old.rows number ≡ None }
         ensures row { self.new ≡ record { rows = put_row self.old.rows number block; room = self.old.room - 1 } }
     {
         let key = self.values.insert_reserved(block);

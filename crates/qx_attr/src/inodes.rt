@@ -24,9 +24,8 @@ use std::marker::Model;
 #[derive(Drop)]
 pub struct Inodes {
     attrs: Vec<Option<Attr>>,
+    // Their room is that for inodes too.
     blocks: Blocks,
-    // How many more of each can be made with no memory.
-    room: usize,
 }
 
 impl Model for Inodes {
@@ -38,14 +37,13 @@ impl Model for Inodes {
 
     ghost view = { λ i. record {
       inodes = record { attributes = map attribute_of i.attrs.items; blocks = i.blocks.rows };
-      room = i.room;
+      room = i.blocks.room;
     } };
 
     ghost invariant = { λ i. record {
       counted : AreCounted i.attrs.items i.blocks.rows;
       few : length i.blocks.rows ≤ BLOCKS + 1;
-      numbers : vec_len i.attrs + i.room ≤ vec_capacity i.attrs;
-      slots : i.room ≤ i.blocks.room;
+      numbers : vec_len i.attrs + i.blocks.room ≤ vec_capacity i.attrs;
     } };
 }
 
@@ -57,7 +55,6 @@ impl Inodes {
         Ok(Inodes {
             attrs: places::empty(alloc)?,
             blocks: Blocks::new(alloc)?,
-            room: 0,
         })
     }
 
@@ -110,12 +107,8 @@ impl Inodes {
         ensures err { OnErr result (self.new ≡ self.old) }
         ensures had_room { count ≤ self.old.room → IsOk result }
     {
-        if count > self.room {
-            self.attrs.reserve(count)?;
-            self.blocks.reserve(count)?;
-            self.room = count;
-        }
-        Ok(())
+        self.attrs.reserve(count)?;
+        self.blocks.reserve(count)
     }
 
     /// The number of the next inode, the lowest free one, or ENOSPC.
@@ -158,6 +151,7 @@ impl Inodes {
         ensures room { IfOk result (λ given. OnOk given (self.new.room ≡ self.old.room - 1)) }
         ensures kept { IfOk result (λ given. OnErr given (self.new ≡ self.old)) }
         ensures err { OnErr result (self.new ≡ self.old) }
+        ensures judged { OnErr result (IsOk (machine.new_inode self.old.inodes attribute)) }
         ensures sure { 0 < self.old.room → IsOk result }
     {
         match self.inode_number() {
@@ -182,6 +176,7 @@ impl Inodes {
         ensures room { IfOk result (λ given. OnOk given (self.new.room ≡ self.old.room - 1)) }
         ensures kept { IfOk result (λ given. OnErr given (self.new ≡ self.old)) }
         ensures err { OnErr result (self.new ≡ self.old) }
+        ensures judged { OnErr result (IsOk (machine.open_block self.old.inodes inode flags)) }
         ensures sure { 0 < self.old.room → IsOk result }
     {
         match self.block_number() {
@@ -278,7 +273,7 @@ impl Inodes {
         ensures { self.new ≡ record { inodes = record self.old.inodes { attributes = put_row self.old.inodes.attributes number attribute }; room = self.old.room - 1 } }
     {
         places::put_reserved(&mut self.attrs, number as usize, Attr::new(attribute));
-        self.room -= 1;
+        self.blocks.give_up_room();
     }
 
     /// Puts an open control block under a free number, for which there is room, and counts it.
@@ -294,6 +289,5 @@ impl Inodes {
         };
         self.blocks.put(number as usize, block);
         self.attrs[block.inode as usize] = Some(attr.counted(block.flags));
-        self.room -= 1;
     }
 }

@@ -1,26 +1,27 @@
 ghost use Rattle.std.specs.Prelude.{◌≡◌, ◌+◌, ◌≤◌, ◌++◌, [], IfOk, length};
 ghost use Rattle.qx_types.specs.declared.limits.TheConstants.Limits.{BODY};
 
+use arrayvec::ArrayVec;
 use qx_types::Limits;
 use std::alloc::{AllocError, Global};
 use std::marker::Model;
+
+/// A place for each byte that a reply may have.
+const PLACES: usize = Limits::BODY;
 
 /// The bytes of a reply while a function writes them, with room for as many as a reply may have: made once, and then
 /// used for each message (Writing a Resource Manager: the message buffer of `resmgr_context_t`).
 #[derive(Drop)]
 pub struct Reply {
-    bytes: Vec<u8>,
+    bytes: Box<ArrayVec<u8, PLACES>>,
 }
 
 impl Model for Reply {
-    ghost use Rattle.std.specs.Prelude.{◌≤◌, List, ℕ, vec_capacity, vec_len};
-    ghost use Rattle.qx_types.specs.declared.limits.TheConstants.Limits.{BODY};
+    ghost use Rattle.std.specs.Prelude.{List, ℕ};
 
     ghost Value = { List ℕ };
 
-    ghost view = { λ r. r.bytes.items };
-
-    ghost invariant = { λ r. (BODY ≤ vec_capacity r.bytes) × (vec_len r.bytes ≤ BODY) };
+    ghost view = { λ r. r.bytes.value.items };
 }
 
 impl Reply {
@@ -29,7 +30,7 @@ impl Reply {
         ensures none { IfOk result (λ reply. reply ≡ []) }
     {
         Ok(Reply {
-            bytes: Vec::with_capacity(alloc, Limits::BODY)?,
+            bytes: Box::new(alloc, ArrayVec::new())?,
         })
     }
 
@@ -45,7 +46,7 @@ impl Reply {
         requires room { length self.old + length bytes.now ≤ BODY }
         ensures behind { self.new ≡ self.old ++ bytes.now }
     {
-        match self.bytes.extend_from_slice(bytes) {
+        match self.bytes.try_extend_from_slice(bytes) {
             Ok(()) => {}
             Err(_) => unreachable!(),
         }

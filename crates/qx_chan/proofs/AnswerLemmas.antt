@@ -19,7 +19,8 @@ use Rattle.qx_machine.specs.Machine.{line_without}
 use Rattle.qx_machine.specs.Performing.{taken_in}
 use Rattle.qx_machine.specs.Processes.{Process, after_effect, after_error, after_reply, answered_thread, served_thread, with_thread}
 use Rattle.qx_machine.specs.Rows.{with_row}
-use Rattle.qx_queues.specs.Queues.{Queues, stands, unblock_call, with_queues_line}
+use Rattle.qx_queues.specs.Queues.{stands, unblock_call}
+use Rattle.qx_shared.specs.Shared.{Shared, with_shared_line}
 use Rattle.qx_queues.proofs.LineLemmas.{call-replied_other, call-withdrawn, replied-none, stands-replied, stands-withdrawn_other}
 use Rattle.qx_chan.specs.Calls.{queued_call, taken_call}
 use Rattle.qx_chan.specs.Channel.{failed, replied}
@@ -81,7 +82,7 @@ pub answered_row : (answer : Answer) (row : Option ThreadRow) (number : ℕ) →
 answered_row answer None number = refl
 answered_row answer (Some row) number = refl
 
-module _ (users : Users) (queues : Queues) (thread : Thread) (f : Process → Process) (answer : Answer) (answers : IsAnswer thread.tid answer f) (kept : Kept users queues)
+module _ (users : Users) (queues : Shared) (thread : Thread) (f : Process → Process) (answer : Answer) (answers : IsAnswer thread.tid answer f) (kept : Kept users queues)
     (manager : Manager) (change : List Queued → List Queued) where
   abbrev new : Users
   new = with_process_of users thread.proc f
@@ -115,10 +116,10 @@ module _ (users : Users) (queues : Queues) (thread : Thread) (f : Process → Pr
       waits = waits-told users new queues thread f (answered_thread answer) one kept (no-wait (thread_row users thread) (option_map (answered_thread answer) (thread_row users thread)) left.unwaiting);
     }
 
-    pub Kept-left : Kept new (settled thread.proc (process_of new thread.proc) managers (with_queues_line queues number change))
-    Kept-left = Kept-settled new (with_queues_line queues number change) thread.proc
+    pub Kept-left : Kept new (settled thread.proc (process_of new thread.proc) managers (with_shared_line queues number change))
+    Kept-left = Kept-settled new (with_shared_line queues number change) thread.proc
         (Unsettled-changed users new queues thread f (answered_thread answer) one kept manager change own
-        (with_queues_line queues number change) refl refl refl refl (λ t. refl) (λ other at differs. refl)
+        (with_shared_line queues number change) refl refl refl refl (λ t. refl) (λ other at differs. refl)
         (λ m is. kept.servers thread.proc m ∙ as_before (manager_number m) (process_of users thread.proc) is))
       where
         as_before : (at : ℕ) (o : Option Process) → attached_at at (option_map f o) ≡ true → attached_at at o ≡ true
@@ -127,7 +128,7 @@ module _ (users : Users) (queues : Queues) (thread : Thread) (f : Process → Pr
 
 -- ---- a queued message goes
 
-module _ (users : Users) (queues : Queues) (thread : Thread) (call : Call) (is : Some call ≡ queued_call (thread_row users thread)) (kept : Kept users queues) where
+module _ (users : Users) (queues : Shared) (thread : Thread) (call : Call) (is : Some call ≡ queued_call (thread_row users thread)) (kept : Kept users queues) where
   abbrev its_line : ℕ
   its_line = manager_number call.target.manager
 
@@ -139,7 +140,7 @@ module _ (users : Users) (queues : Queues) (thread : Thread) (call : Call) (is :
 
   pub Kept-withdrawn : (f : Process → Process) (answer : Answer) → IsAnswer thread.tid answer f → stands (drop_message (line_at queues.lines its_line)) thread ≡ false
       → Kept (with_process_of users thread.proc f) (settled thread.proc (process_of (with_process_of users thread.proc f) thread.proc) managers
-      (with_queues_line queues (manager_number call.target.manager) (line_without thread.proc.user.0 (item.Message thread.proc.num thread.tid))))
+      (with_shared_line queues (manager_number call.target.manager) (line_without thread.proc.user.0 (item.Message thread.proc.num thread.tid))))
   Kept-withdrawn f answer answers gone = Kept-left users queues thread f answer answers kept call.target.manager drop_message
       (record {
         own_line = record {
@@ -188,7 +189,7 @@ taken-unwaiting row call is other =
     let it = waits taken_in row call is in
     rw (it.there, taken_is it.row.state it.sent it.is) refl
 
-module _ (users : Users) (queues : Queues) (thread : Thread) (call : Call) (is : Some call ≡ taken_call (thread_row users thread)) (kept : Kept users queues) where
+module _ (users : Users) (queues : Shared) (thread : Thread) (call : Call) (is : Some call ≡ taken_call (thread_row users thread)) (kept : Kept users queues) where
   abbrev call_line : ℕ
   call_line = manager_number call.target.manager
 
@@ -198,7 +199,7 @@ module _ (users : Users) (queues : Queues) (thread : Thread) (call : Call) (is :
   pub Kept-answered : (f : Process → Process) (answer : Answer) → IsAnswer thread.tid answer f
       → (unblock_call (line_at queues.lines call_line) thread ≡ Some call.number → unblock_call (drop_pulse (line_at queues.lines call_line)) thread ≡ None)
       → Kept (with_process_of users thread.proc f) (settled thread.proc (process_of (with_process_of users thread.proc f) thread.proc) managers
-      (with_queues_line queues (manager_number call.target.manager) (line_without thread.proc.user.0 (item.Unblock thread.proc.num thread.tid call.number))))
+      (with_shared_line queues (manager_number call.target.manager) (line_without thread.proc.user.0 (item.Unblock thread.proc.num thread.tid call.number))))
   Kept-answered f answer answers gone = Kept-left users queues thread f answer answers kept call.target.manager drop_pulse
       (record {
         own_line = record {

@@ -11,7 +11,8 @@ use Rattle.qx_machine.specs.declared.rows.ThreadRow.{ThreadRow}
 use Rattle.qx_machine.specs.Lines.{into, line_at}
 use Rattle.qx_machine.specs.Machine.{rank}
 use Rattle.qx_machine.specs.Processes.{asked_state, asked_thread, with_thread}
-use Rattle.qx_queues.specs.Queues.{Queues, unblock_call, unblock_of, with_queues_line}
+use Rattle.qx_queues.specs.Queues.{unblock_call, unblock_of}
+use Rattle.qx_shared.specs.Shared.{Shared, with_shared_line}
 use Rattle.qx_queues.proofs.EntryLemmas.{is_same_thread-differs, is_same_thread-self}
 use Rattle.qx_queues.proofs.LineLemmas.{call-asked, stands-asked}
 use Rattle.qx_chan.specs.Calls.{unasked_call, unasked_in}
@@ -40,7 +41,7 @@ asked-waits (Some row) call is = by_state row.state is
     by_state (Waiting sent) is = is
     by_state (Answered answer) is = is
 
-module _ (users : Users) (queues : Queues) (thread : Thread) (call : Call) (unasked : Some call ≡ unasked_call (thread_row users thread)) (kept : Kept users queues) where
+module _ (users : Users) (queues : Shared) (thread : Thread) (call : Call) (unasked : Some call ≡ unasked_call (thread_row users thread)) (kept : Kept users queues) where
   abbrev number : ℕ
   number = manager_number call.target.manager
 
@@ -103,5 +104,5 @@ module _ (users : Users) (queues : Queues) (thread : Thread) (call : Call) (unas
     waits = waits-told users (with_thread_row users thread asked_thread) queues thread (with_thread thread.tid asked_thread) asked_thread one kept (asked-waits (thread_row users thread));
   }
 
-  pub Kept-asked : Kept (with_thread_row users thread asked_thread) (with_queues_line queues (manager_number call.target.manager) (λ line. into rank line (unblock_of thread call.number call.target.prio.0)))
+  pub Kept-asked : Kept (with_thread_row users thread asked_thread) (with_shared_line queues (manager_number call.target.manager) (λ line. into rank line (unblock_of thread call.number call.target.prio.0)))
   Kept-asked = Kept-changed users (with_thread_row users thread asked_thread) queues thread (with_thread thread.tid asked_thread) asked_thread one kept call.target.manager change own (λ x at. refl)

@@ -1,18 +1,14 @@
 -- The call that a thread waits for, and what its row and the lines then say.
 use Rattle.std.proofs.Common.{◌≡◌, ◌⊎◌, inl, inr, eq-eqb, true, false, Option, Some, None, refl, sym, ◌∙◌, ap}
-use Rattle.std.specs.Prelude.{Bool, IsSome, if◌then◌else◌}
+use Rattle.std.specs.Prelude.{Bool, if◌then◌else◌}
 use Rattle.qx_types.specs.Managers.{manager_number}
-use Rattle.qx_types.specs.declared.names.Thread.{Thread}
 use Rattle.qx_machine.specs.declared.rows.Sent.{Sent}
 use Rattle.qx_machine.specs.declared.rows.State.{State}
 use Rattle.qx_machine.specs.declared.rows.State.TheVariants.{Answered, Queued, Ready, Taken, Waiting}
 use Rattle.qx_machine.specs.declared.rows.ThreadRow.{ThreadRow}
-use Rattle.qx_machine.specs.Lines.{line_at}
 use Rattle.qx_machine.specs.Performing.{taken_in}
-use Rattle.qx_queues.specs.Queues.{Queues, stands}
-use Rattle.qx_chan.specs.Calls.{call_of, queued_call, queued_in, taken_bytes, taken_call, unasked_in}
-use Rattle.qx_chan.specs.Kept.{Kept, stands_at}
-use Rattle.qx_chan.specs.Users.{Users, thread_row}
+use Rattle.qx_chan.specs.Calls.{call_of, queued_call, queued_in, unasked_in}
+use Rattle.qx_chan.specs.Kept.{stands_at}
 use Rattle.qx_chan.specs.declared.call.Call.{Call}
 use Rattle.qx_chan.proofs.RowReads.{option_cases}
 
@@ -61,12 +57,6 @@ unasked_is (Answered answer) sent is = cc
 unasked_is (Taken other) sent is = let its = unless_asked other.is_asked other sent refl is in (inl (ap Taken its.0), its.1)
 unasked_is (Waiting other) sent is = let its = unless_asked other.is_asked other sent refl is in (inr (ap Waiting its.0), its.1)
 
--- a message that was received and is not served has its bytes
-pub taken-bytes : (place : Option ThreadRow) (call : Call) → Some call ≡ taken_call place → IsSome (taken_bytes place)
-taken-bytes place call is =
-    let it = waits taken_in place call is in
-    rw (it.there, taken_is it.row.state it.sent it.is) refl
-
 -- its message stands in the line that it went to
 at_target : (place : Option ThreadRow) (row : ThreadRow) (sent : Sent) → place ≡ Some row → row.state ≡ Queued sent → stands_at (manager_number sent.target.manager) place ≡ true
 at_target place row sent there is = rw (there, is) (eq-eqb (manager_number sent.target.manager) (manager_number sent.target.manager) refl)
@@ -75,6 +65,3 @@ pub queued-at_target : (place : Option ThreadRow) (call : Call) → Some call �
 queued-at_target place call is =
     let it = waits queued_in place call is in
     ap (λ target. stands_at (manager_number target.manager) place) it.target ∙ at_target place it.row it.sent it.there (queued_is it.row.state it.sent it.is)
-
-pub queued-stands : (users : Users) (queues : Queues) (thread : Thread) (call : Call) → Some call ≡ queued_call (thread_row users thread) → Kept users queues → stands (line_at queues.lines (manager_number call.target.manager)) thread ≡ true
-queued-stands users queues thread call is kept = kept.lines thread (manager_number call.target.manager) ∙ queued-at_target (thread_row users thread) call is

@@ -20,8 +20,9 @@ use Rattle.qx_machine.specs.Performing.{answered_changes, with_answer, with_answ
 use Rattle.qx_machine.specs.Processes.{Process, answered_thread, with_thread}
 use Rattle.qx_machine.specs.Rows.{row_at, with_row}
 use Rattle.qx_process.proofs.RowLemmas.{set-row}
-use Rattle.qx_queues.specs.Piped.{users_given}
-use Rattle.qx_queues.specs.Queues.{HasNoCall, Queues, UsersAnswer, caller, has_call, unblock_call, waiting_in, with_queues_line}
+use Rattle.qx_shared.specs.Shared.{users_given}
+use Rattle.qx_queues.specs.Queues.{UsersAnswer, caller, has_call, unblock_call}
+use Rattle.qx_shared.specs.Shared.{HasNoCall, Shared, waiting_in, with_shared_line}
 use Rattle.qx_queues.proofs.LineLemmas.{call-replied_other, replied-none, stands-replied}
 use Rattle.qx_chan.specs.Answers.{given_lines, given_users}
 use Rattle.qx_chan.specs.Kept.{Answering, IsAwaited, Kept, asked_at, is_asked_at, is_queued_at, is_waiting_for, stands_at, waits_for}
@@ -65,7 +66,7 @@ waiting-pulse number other call (Some row) is asked = by_state row.state is aske
 
 -- ---- one answer
 
-module _ (users : Users) (queues : Queues) (to : UsersAnswer) (is : IsAwaited users to) (kept : Kept users queues)
+module _ (users : Users) (queues : Shared) (to : UsersAnswer) (is : IsAwaited users to) (kept : Kept users queues)
     (none : (list : ℕ) → has_call (waiting_in queues list) to.thread ≡ false) where
   abbrev new : Users
   new = with_thread_row users to.thread (answered_thread to.answer)
@@ -105,7 +106,7 @@ module _ (users : Users) (queues : Queues) (to : UsersAnswer) (is : IsAwaited us
       waits = λ list. waits-others caller (λ own. own.call.call) users new to.thread one.others (waiting_in queues list) (none list) (kept.waits list);
     }
 
-    pub Kept-given : Kept (with_thread_row users to.thread (answered_thread to.answer)) (with_queues_line queues (manager_number Pipe) (line_without to.thread.proc.user.0 (item.Unblock to.thread.proc.num to.thread.tid to.call)))
+    pub Kept-given : Kept (with_thread_row users to.thread (answered_thread to.answer)) (with_shared_line queues (manager_number Pipe) (line_without to.thread.proc.user.0 (item.Unblock to.thread.proc.num to.thread.tid to.call)))
     Kept-given = Kept-changed users new queues to.thread (with_thread to.thread.tid (answered_thread to.answer)) (answered_thread to.answer) one kept Pipe drop_pulse told (λ x at. refl)
 
 -- ---- all answers, the first and then the others
@@ -123,10 +124,10 @@ lines-first lines (first ∷ rest) to is =
     let same : to ≡ first = cc in
     ap (λ (t : UsersAnswer). given_lines (with_line lines (manager_number Pipe) (line_without t.thread.proc.user.0 (item.Unblock t.thread.proc.num t.thread.tid t.call))) rest) same
 
-module _ (users : Users) (queues : Queues) where
+module _ (users : Users) (queues : Shared) where
   -- the queues without the first answer, and without the unblock pulse of its call
-  abbrev after_reply : List UsersAnswer → UsersAnswer → Queues
-  after_reply answered to = with_queues_line (record queues { answered = drop 1 answered }) (manager_number Pipe) (line_without to.thread.proc.user.0 (item.Unblock to.thread.proc.num to.thread.tid to.call))
+  abbrev after_reply : List UsersAnswer → UsersAnswer → Shared
+  after_reply answered to = with_shared_line (record queues { answered = drop 1 answered }) (manager_number Pipe) (line_without to.thread.proc.user.0 (item.Unblock to.thread.proc.num to.thread.tid to.call))
 
   -- no unblock pulse of the call is left
   abbrev Gone : UsersAnswer → Type 0
@@ -147,7 +148,7 @@ module _ (users : Users) (queues : Queues) where
 
   pub Answering-first : Answering users queues → (to : UsersAnswer) → Some to ≡ slice_get queues.answered 0 → HasNoCall (record queues { answered = drop 1 queues.answered }) to.thread
       → (unblock_call (line_at queues.lines (manager_number Pipe)) to.thread ≡ Some to.call → unblock_call (line_without to.thread.proc.user.0 (item.Unblock to.thread.proc.num to.thread.tid to.call) (line_at queues.lines (manager_number Pipe))) to.thread ≡ None)
-      → Answering (with_thread_row users to.thread (answered_thread to.answer)) (with_queues_line (record queues { answered = drop 1 queues.answered }) (manager_number Pipe) (line_without to.thread.proc.user.0 (item.Unblock to.thread.proc.num to.thread.tid to.call)))
+      → Answering (with_thread_row users to.thread (answered_thread to.answer)) (with_shared_line (record queues { answered = drop 1 queues.answered }) (manager_number Pipe) (line_without to.thread.proc.user.0 (item.Unblock to.thread.proc.num to.thread.tid to.call)))
   Answering-first answering = by_first queues.answered answering.kept answering.answered
 
 -- ---- the machine gives the same answers to a user's calls

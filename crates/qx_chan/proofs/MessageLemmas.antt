@@ -1,15 +1,14 @@
 -- A received message is performed: what its thread's row and the queues tell before, and what comes of that, as in the machine.
-use Rattle.std.proofs.Common.{◌≡◌, subst, inl, inr, ℕ, List, Option, Some, None, Ok, refl, sym, ◌∙◌, ap}
-use Rattle.std.specs.Prelude.{◌&&◌, [], is_ok, option_map, slice_set}
+use Rattle.std.proofs.Common.{◌≡◌, subst, inl, inr, ℕ, List, Option, Some, None, Ok, Err, refl, sym, ◌∙◌, ap}
+use Rattle.std.specs.Prelude.{◌&&◌, [], IsSome, Result, is_ok, option_map, slice_set}
+use Rattle.qx_types.specs.declared.errno.Errno.{Errno}
 use Rattle.qx_types.specs.declared.names.Thread.{Thread}
-use Rattle.qx_types.specs.declared.outcome.Answer.{Answer}
 use Rattle.qx_wire.specs.declared.message.Meaning.{Meaning}
 use Rattle.qx_wire.specs.Reading.{meaning}
 use Rattle.qx_machine.specs.declared.rows.Queued.{Queued}
 use Rattle.qx_machine.specs.declared.rows.Sent.{Sent}
 use Rattle.qx_machine.specs.declared.rows.State.TheVariants.{Taken}
 use Rattle.qx_machine.specs.declared.rows.ThreadRow.{ThreadRow}
-use Rattle.qx_machine.specs.declared.rows.WaitingCall.{WaitingCall}
 use Rattle.qx_machine.specs.Machine.{lines_after}
 use Rattle.qx_machine.specs.Parts.{Part, Resources}
 use Rattle.qx_machine.specs.Performing.{Served, caller_of, deed_of, or_kept, serve_message, served_by, taken_in}
@@ -17,13 +16,17 @@ use Rattle.qx_machine.specs.Processes.{Process, served_state, served_thread, wit
 use Rattle.qx_machine.specs.Rows.{row_at, with_row}
 use Rattle.qx_process.specs.Reads.{unserved_state, unserved_thread}
 use Rattle.qx_process.proofs.RowLemmas.{set-row}
-use Rattle.qx_queues.specs.Queues.{IsReceived, Queues, caller, is_answered, waiting_in}
+use Rattle.qx_queues.specs.Queues.{caller, is_answered}
+use Rattle.qx_shared.specs.Shared.{IsReceived, Shared, waiting_in}
+use Rattle.qx_resmgr.specs.Deeds.{HasRoomAfter, IsReplied}
+use Rattle.qx_resmgr.specs.declared.functions.Done.{Done}
+use Rattle.qx_resmgr.specs.declared.functions.Done.TheVariants.{NoReply, Reply}
 use Rattle.qx_resources.specs.Memory.{wants_memory}
 use Rattle.qx_resources.specs.State as state
-use Rattle.qx_resources.specs.State.{Fits, Left, told}
-use Rattle.qx_resources.proofs.KeptLemmas.{same_left}
+use Rattle.qx_resources.specs.State.{told}
+use Rattle.qx_resources.proofs.KeptLemmas.{none_shared}
 use Rattle.qx_chan.specs.Calls.{taken_bytes, taken_call}
-use Rattle.qx_chan.specs.Channel.{Channel, lists}
+use Rattle.qx_chan.specs.Channel.{Channel}
 use Rattle.qx_chan.specs.Kept.{Kept}
 use Rattle.qx_chan.specs.Serving.{PartServed, Sends, Serves, caller_in, deed_in, part_in, part_wants_memory, process_wants_memory, row_wants_memory, sent_wants_memory}
 use Rattle.qx_chan.specs.Users.{Users, process_in, process_of, thread_row, with_thread_row}
@@ -31,14 +34,14 @@ use Rattle.qx_chan.specs.declared.call.Call.{Call}
 use Rattle.qx_chan.proofs.AnswerLemmas.{taken-stands, taken-unwaiting}
 use Rattle.qx_chan.proofs.CallLemmas.{taken_is, waits}
 use Rattle.qx_chan.proofs.ProcessLemmas.{process_of-same, with_process-fixed, with_process-twice}
-use Rattle.qx_chan.proofs.PulseLemmas.{Serves-none, fits-lists, shown}
-use Rattle.qx_chan.proofs.RowReads.{option_cases, row_at-with_same, with_row-twice}
+use Rattle.qx_chan.proofs.PulseLemmas.{Serves-none, shown}
+use Rattle.qx_chan.proofs.RowReads.{option_cases, with_row-twice}
 use Rattle.qx_chan.proofs.WaitLemmas.{no-call}
 
 -- ---- before
 
 -- a thread whose message was received has nodes, stands in no line, and no call of it waits or is answered
-pub received-alone : (users : Users) (queues : Queues) (thread : Thread) (call : Call) → Some call ≡ taken_call (thread_row users thread) → Kept users queues → IsReceived queues thread
+pub received-alone : (users : Users) (queues : Shared) (thread : Thread) (call : Call) → Some call ≡ taken_call (thread_row users thread) → Kept users queues → IsReceived queues thread
 received-alone users queues thread call is kept = record {
   own = kept.threads thread ∙ (let it = waits taken_in (thread_row users thread) call is in rw it.there refl);
   idle = λ number. kept.lines thread number ∙ taken-stands number (thread_row users thread) call is;
@@ -96,7 +99,7 @@ serves-message part number thread moment process row sent there at is = rw (ther
 -- ---- the message is handed over
 
 -- it comes to the same as before
-pub deed-served : (k : state.Kept) (queues : Queues) (users new : Users) (thread : Thread) (call : Call) (moment : ℕ) (process found : Process) (bytes given : List ℕ) (means : Meaning) → Sends users thread process bytes
+pub deed-served : (k : state.Kept) (queues : Shared) (users new : Users) (thread : Thread) (call : Call) (moment : ℕ) (process found : Process) (bytes given : List ℕ) (means : Meaning) → Sends users thread process bytes
     → new ≡ with_thread_row users thread served_thread → Some found ≡ process_of new thread.proc → Some given ≡ taken_bytes (thread_row users thread) → means ≡ meaning given
     → deed_of (told k queues) found (caller_in thread call) call.target moment means ≡ deed_in k queues process thread call moment bytes
 deed-served k queues users new thread call moment process found bytes given means of served there read is =
@@ -131,41 +134,29 @@ handed_back users new thread call bytes taken read served =
 
 -- ---- after
 
-module _ (users : Users) (queues : Queues) (k : state.Kept) (processes : List (Option Process)) (there : row_at users k.user ≡ Some processes) where
+module _ (users : Users) (queues : Shared) (k : state.Kept) (processes : List (Option Process)) (there : row_at users k.user ≡ Some processes) where
   abbrev part : Part
   part = record { processes = processes; resources = told k queues }
 
-  -- the part is what was served, and only the user's lists are different
-  pub Serves-left : (l : state.Kept) (d : Queues) (answers : List (WaitingCall × Answer)) (last : Users) (lines : List (List Queued)) (served : Part → Served) (s : Served) → served part ≡ s
-      → told l d ≡ s.part.resources → last ≡ with_row users k.user (λ _. s.part.processes) → lines ≡ lines_after k.user queues.lines s.changes → Left k queues l d answers → Fits l d
+  -- the part is what was served
+  pub Serves-left : (l : state.Kept) (d : Shared) (last : Users) (lines : List (List Queued)) (served : Part → Served) (s : Served) → served part ≡ s
+      → told l d ≡ s.part.resources → last ≡ with_row users k.user (λ _. s.part.processes) → lines ≡ lines_after k.user queues.lines s.changes → d.pipes ≡ slice_set queues.pipes k.user s.part.resources.pipes → l.user ≡ k.user
       → Serves (shown users queues) (record { users = last; lines = lines; pipes = d.pipes }) k l served
-  Serves-left l d answers last lines served s is resources_are users_are lines_are left fits = record {
-    did = subst (PartServed (shown users queues) after k l served) (sym part_is) (subst Done (sym is) (
-      ap (option_map (λ processes. record { processes = processes; resources = told l d })) row_is ∙ ap (λ resources. Some (record { processes = s.part.processes; resources = resources })) resources_are,
-      users_are,
-      lines_are,
-    ));
-    user = left.user;
-    elsewhere = left.elsewhere;
-    fresh = left.fresh;
-    gone = left.gone;
-    fits = fits-lists l d (lists after) refl fits;
+  Serves-left l d last lines served s is resources_are users_are lines_are pipes_are same = record {
+    did = subst (PartServed (shown users queues) (record { users = last; lines = lines; pipes = d.pipes }) k l served) (sym part_is) (subst Done (sym is) (λ i. record { users = users_are i; lines = lines_are i; pipes = pipes_are i }, resources_are));
+    user = same;
   }
     where
-      after : Channel
-      after = record { users = last; lines = lines; pipes = d.pipes }
-
       Done : Served → Type 0
-      Done s = (part_in after l ≡ Some s.part) × (after.users ≡ with_row users k.user (λ _. s.part.processes)) × (after.lines ≡ lines_after k.user queues.lines s.changes)
+      Done s =
+          (◌≡◌ {A = Channel} (record { users = last; lines = lines; pipes = d.pipes }) (record { users = with_row users k.user (λ _. s.part.processes); lines = lines_after k.user queues.lines s.changes; pipes = slice_set queues.pipes k.user s.part.resources.pipes }))
+          × (told l d ≡ s.part.resources)
 
       part_is : part_in (shown users queues) k ≡ Some part
       part_is = ap (option_map (λ processes. record { processes = processes; resources = told k queues })) there
 
-      row_is : row_at last l.user ≡ Some s.part.processes
-      row_is = ap (row_at last) left.user ∙ ap (λ rows. row_at rows k.user) users_are ∙ row_at-with_same users k.user (λ _. s.part.processes) ∙ ap (option_map (λ _. s.part.processes)) there
-
 -- a thread with no received message is left as it is
-module _ (users : Users) (queues : Queues) (k : state.Kept) (fits : Fits k queues) (thread : Thread) (of : k.user ≡ thread.proc.user.0) (none : taken_call (thread_row users thread) ≡ None) (moment : ℕ) where
+module _ (users : Users) (queues : Shared) (k : state.Kept) (thread : Thread) (of : k.user ≡ thread.proc.user.0) (none : taken_call (thread_row users thread) ≡ None) (moment : ℕ) where
   abbrev served : Part → Served
   served part = or_kept part (serve_message part thread.proc.num thread.tid moment)
 
@@ -187,14 +178,14 @@ module _ (users : Users) (queues : Queues) (k : state.Kept) (fits : Fits k queue
 
   pub Serves-untaken : Serves (shown users queues) (shown users queues) k k (λ part. or_kept part (serve_message part thread.proc.num thread.tid moment))
   Serves-untaken = elim (option_cases (row_at users k.user)) [
-    | inl nobody ↦ Serves-none (shown users queues) k served nobody (fits-lists k queues (lists (shown users queues)) refl fits)
+    | inl nobody ↦ Serves-none (shown users queues) k served nobody
     | inr processes ↦
-        Serves-left users queues k processes.0 processes.1 k queues [] users queues.lines served (record { part = record { processes = processes.0; resources = told k queues }; changes = [] })
-        (kept-part processes.0 (ap (row_at users) (sym of) ∙ processes.1) (told k queues)) refl (sym (with_row-fixed users k.user (λ _. processes.0) processes.0 processes.1 refl)) refl (same_left k queues) fits
+        Serves-left users queues k processes.0 processes.1 k queues users queues.lines served (record { part = record { processes = processes.0; resources = told k queues }; changes = [] })
+        (kept-part processes.0 (ap (row_at users) (sym of) ∙ processes.1) (told k queues)) refl (sym (with_row-fixed users k.user (λ _. processes.0) processes.0 processes.1 refl)) refl (ap (λ q. q.pipes) (none_shared k queues)) refl
   ]
 
 -- doing a received message may want memory, where its function may and the message is done
-pub received-wants : (users : Users) (queues : Queues) (k : state.Kept) (thread : Thread) (call : Call) (its : Received users thread call) → k.user ≡ thread.proc.user.0 → (moment : ℕ)
+pub received-wants : (users : Users) (queues : Shared) (k : state.Kept) (thread : Thread) (call : Call) (its : Received users thread call) → k.user ≡ thread.proc.user.0 → (moment : ℕ)
     → part_wants_memory thread moment (part_in (shown users queues) k) ≡ (wants_memory call.target.manager (meaning its.sent.bytes) && is_ok (deed_in k queues its.process thread call moment its.sent.bytes))
 received-wants users queues k thread call its of moment =
     ap (λ row. part_wants_memory thread moment (option_map (λ processes. record { processes = processes; resources = told k queues }) row)) (ap (row_at users) of ∙ its.user)
@@ -202,3 +193,9 @@ received-wants users queues k thread call its of moment =
     ∙ ap (row_wants_memory (told k queues) its.process thread moment) its.at
     ∙ ap (sent_wants_memory (told k queues) its.process thread its.row moment) (ap taken_in its.is)
     ∙ ap (λ (call : Call). wants_memory call.target.manager (meaning its.sent.bytes) && is_ok (deed_in k queues its.process thread call moment its.sent.bytes)) its.call_is
+
+-- the room for a reply is there still, where there is a reply
+pub room-there : {R : Type 0} (before room : Option R) (given : Result Done Errno) → IsSome before → HasRoomAfter before room given → IsReplied given → IsSome room
+room-there before room (Ok NoReply) some left replied = absurd replied
+room-there before room (Ok (Reply status effect)) some left replied = rw left some
+room-there before room (Err error) some left replied = rw left some

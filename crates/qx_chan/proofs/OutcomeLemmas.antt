@@ -3,7 +3,7 @@
 use Rattle.std.proofs.Common.{◌≡◌, ◌⊎◌, subst, inl, inr, ℕ, ◌∷◌, ◌++◌, [], true, false, List, Option, Some, None, Result, Ok, Err, map, refl, sym, ◌∙◌, ap}
 use Rattle.std.specs.List.{AllByRecursion}
 use Rattle.std.proofs.lemmas.Bool.{eq-eqb}
-use Rattle.std.specs.Prelude.{if◌then◌else◌, is_some, option_map}
+use Rattle.std.specs.Prelude.{if◌then◌else◌, is_some, option_map, slice_set}
 use Rattle.qx_types.specs.Managers.{manager_number, managers}
 use Rattle.qx_types.specs.declared.errno.Errno.{Errno}
 use Rattle.qx_types.specs.declared.names.Manager.{Manager}
@@ -27,14 +27,14 @@ use Rattle.qx_machine.specs.Performing.{Served, after_answer, after_serving, ans
 use Rattle.qx_machine.specs.Processes.{served_state, served_thread, with_thread}
 use Rattle.qx_machine.specs.Rows.{row_at, with_row}
 use Rattle.qx_machine.proofs.Waiters.{InDeed, InPipes, deed-keeps, deed-keeps_replied, ram_deed-alone}
-use Rattle.qx_queues.specs.Piped.{ArePipesOf, calls_in, users_given}
-use Rattle.qx_queues.specs.Queues.{Queues, unblock_call, with_queues_line}
+use Rattle.qx_shared.specs.Shared.{users_given}
+use Rattle.qx_queues.specs.Queues.{unblock_call}
+use Rattle.qx_shared.specs.Shared.{Shared, with_shared_line}
 use Rattle.qx_resmgr.specs.Deeds.{Did, IsReplied}
 use Rattle.qx_resmgr.specs.declared.functions.Done.{Done}
 use Rattle.qx_resmgr.specs.declared.functions.Done.TheVariants.{NoReply, Reply}
 use Rattle.qx_resources.specs.State as state
-use Rattle.qx_resources.specs.State.{Fits, Left, told}
-use Rattle.qx_resources.proofs.KeptLemmas.{same_left}
+use Rattle.qx_resources.specs.State.{told}
 use Rattle.qx_chan.specs.Answers.{answered_queues, answered_users, given_lines, given_users, without_pulse}
 use Rattle.qx_chan.specs.Calls.{taken_call}
 use Rattle.qx_chan.specs.Channel.{Channel, failed, replied}
@@ -45,14 +45,14 @@ use Rattle.qx_chan.specs.declared.call.Call.{Call}
 use Rattle.qx_chan.proofs.AnswerLemmas.{fails, replies, reply_served, fail_served}
 use Rattle.qx_chan.proofs.GivenLemmas.{resources-machine}
 use Rattle.qx_chan.proofs.MessageLemmas.{Received, Serves-left, received, serves-message}
-use Rattle.qx_chan.proofs.PulseLemmas.{shown}
+use Rattle.qx_chan.proofs.PulseLemmas.{Left, left-from, left-same, shown}
 use Rattle.qx_chan.proofs.ServeLemmas.{Answering-left, Waits, waits-before}
-use Rattle.qx_chan.proofs.ServedLemmas.{Answering-answered, lines-done, lines-waiting, users-done, users-refused}
+use Rattle.qx_chan.proofs.ServedLemmas.{Answering-answered, lines-done, lines-others, users-done, users-refused}
 use Rattle.qx_chan.proofs.SettleLemmas.{settled-fields}
 use Rattle.qx_chan.proofs.ThreadLemmas.{Kept-thread, one_thread}
 
 -- the channel once answers that are on their way are given
-abbrev pub given_all : Users → Queues → Channel
+abbrev pub given_all : Users → Shared → Channel
 given_all users queues = record { users = given_users users queues.answered; lines = given_lines queues.lines queues.answered; pipes = queues.pipes }
 
 -- ---- a message that is served stands in no line, is asked as it was, and its thread waits
@@ -94,7 +94,7 @@ pipe_or_ram : (manager : Manager) → (manager ≡ Pipe) ⊎ (manager ≡ Ram)
 pipe_or_ram Pipe = inl refl
 pipe_or_ram Ram = inr refl
 
-module _ (users : Users) (queues : Queues) (thread : Thread) (call : Call) (taken : Some call ≡ taken_call (thread_row users thread)) (kept : Kept users queues) where
+module _ (users : Users) (queues : Shared) (thread : Thread) (call : Call) (taken : Some call ≡ taken_call (thread_row users thread)) (kept : Kept users queues) where
   abbrev its : Received users thread call
   its = received users thread call taken
 
@@ -108,7 +108,7 @@ module _ (users : Users) (queues : Queues) (thread : Thread) (call : Call) (take
   drop_pulse = line_without user (item.Unblock thread.proc.num thread.tid call.number)
 
   -- no unblock pulse of the call is left
-  abbrev Gone : Queues → Type 0
+  abbrev Gone : Shared → Type 0
   Gone d = unblock_call (line_at d.lines (manager_number manager)) thread ≡ Some call.number → unblock_call (drop_pulse (line_at d.lines (manager_number manager))) thread ≡ None
 
   -- ---- the message is served
@@ -129,7 +129,7 @@ module _ (users : Users) (queues : Queues) (thread : Thread) (call : Call) (take
           ∙ ap (option_map served_thread) (ap (λ processes. thread_of thread.tid (process_in thread.proc.num processes)) its.user ∙ ap (thread_of thread.tid) its.there ∙ its.at)
           ∙ ap (λ (s : State). Some (record its.row { state = served_state s })) its.is
 
-  module _ (k l : state.Kept) (d : Queues) (of : k.user ≡ user) (fits : Fits k queues) (moment : ℕ) where
+  module _ (k l : state.Kept) (d : Shared) (of : k.user ≡ user) (moment : ℕ) where
     abbrev part : Part
     part = record { processes = its.processes; resources = told k queues }
 
@@ -157,75 +157,75 @@ module _ (users : Users) (queues : Queues) (thread : Thread) (call : Call) (take
       | inr ram ↦ inr (ram_deed-alone (told k queues) its.process (caller_in thread call) call.target moment (meaning its.sent.bytes) done is ram).answers
     ]
 
-    module _ (answers : List (WaitingCall × Answer)) (left : Left k queues l d answers) (fits_after : Fits l d) where
+    module _ (answers : List (WaitingCall × Answer)) (left : Left k queues l d answers) where
       answered_are : d.answered ≡ map (users_given user) answers
-      answered_are = left.answered ∙ ap (λ before. before ++ map (users_given k.user) answers) kept.answered ∙ ap (λ u. map (users_given u) answers) of
+      answered_are = ap (λ q. q.answered) left.shared ∙ ap (λ before. before ++ map (users_given k.user) answers) kept.answered ∙ ap (λ u. map (users_given u) answers) of
 
       lines_are : d.lines ≡ queues.lines
-      lines_are = ap (λ q. q.lines) left.rest
+      lines_are = ap (λ q. q.lines) left.shared
 
       -- where the rows of those who wait, or whose answers are on their way, tell so
-      on_their_way : (rows : Users) → Kept rows queues → InPipes (Waits rows k.user) (calls_in d l.pipes) → AllByRecursion (λ answer. Waits rows k.user answer.0) answers → Answering rows d
+      on_their_way : (rows : Users) → Kept rows queues → InPipes (Waits rows k.user) (told l d).pipes → AllByRecursion (λ answer. Waits rows k.user answer.0) answers → Answering rows d
       on_their_way rows kept pipes given =
-          Answering-left rows k.user queues d k.pipes l.pipes answers kept left.answered left.elsewhere left.gone left.rest (subst (λ u. ArePipesOf d u l.pipes) left.user fits_after) pipes given
+          Answering-left rows k.user queues d (told l d).pipes answers kept left.shared pipes given
 
       -- once the answers are given, all is as in the machine
-      serves : (r : Result (Deed Resources) Errno) → deed ≡ r → told l d ≡ (served_by r).part.resources → (rows : Users) (after : Queues) → after.answered ≡ d.answered → after.pipes ≡ d.pipes
+      serves : (r : Result (Deed Resources) Errno) → deed ≡ r → told l d ≡ (served_by r).part.resources → (rows : Users) (after : Shared) → after.answered ≡ d.answered → after.pipes ≡ d.pipes
           → given_users rows (map (users_given user) answers) ≡ with_row users user (λ _. (served_by r).part.processes)
           → given_lines after.lines (map (users_given user) answers) ≡ lines_after user queues.lines (served_by r).changes
           → Serves (shown users queues) (given_all rows after) k l served
       serves r is told_is rows after answered pipes rows_are given_are =
           subst (λ p. Serves (shown users queues) (record { users = given_users rows after.answered; lines = given_lines after.lines after.answered; pipes = p }) k l served) (sym pipes)
-          (Serves-left users queues k its.processes (ap (row_at users) of ∙ its.user) l d answers (given_users rows after.answered) (given_lines after.lines after.answered) served (served_by r)
+          (Serves-left users queues k its.processes (ap (row_at users) of ∙ its.user) l d (given_users rows after.answered) (given_lines after.lines after.answered) served (served_by r)
           (served_is ∙ ap served_by is) told_is
           (ap (given_users rows) (answered ∙ answered_are) ∙ rows_are ∙ ap (λ u. with_row users u (λ _. (served_by r).part.processes)) (sym of))
           (ap (given_lines after.lines) (answered ∙ answered_are) ∙ given_are ∙ ap (λ u. lines_after u queues.lines (served_by r).changes) (sym of))
-          left fits_after)
+          (ap (λ q. q.pipes) left.shared ∙ ap (λ r. slice_set queues.pipes k.user r.pipes) told_is) left.user)
 
       -- the thread is answered
       module _ (rows : Users) where
-        abbrev after : Queues
+        abbrev after : Shared
         after = without_pulse d rows thread call
 
         after-answered : after.answered ≡ d.answered
-        after-answered = settled-fields thread.proc (process_of rows thread.proc) (λ c. c.answered) (λ c number. refl) managers (with_queues_line d (manager_number manager) drop_pulse)
+        after-answered = settled-fields thread.proc (process_of rows thread.proc) (λ c. c.answered) (λ c number. refl) managers (with_shared_line d (manager_number manager) drop_pulse)
 
         after-pipes : after.pipes ≡ d.pipes
-        after-pipes = settled-fields thread.proc (process_of rows thread.proc) (λ c. c.pipes) (λ c number. refl) managers (with_queues_line d (manager_number manager) drop_pulse)
+        after-pipes = settled-fields thread.proc (process_of rows thread.proc) (λ c. c.pipes) (λ c number. refl) managers (with_shared_line d (manager_number manager) drop_pulse)
 
         after-lines : after.lines ≡ with_line queues.lines (manager_number manager) drop_pulse
         after-lines =
-            settled-fields thread.proc (process_of rows thread.proc) (λ c. c.lines) (λ c number. refl) managers (with_queues_line d (manager_number manager) drop_pulse)
+            settled-fields thread.proc (process_of rows thread.proc) (λ c. c.lines) (λ c number. refl) managers (with_shared_line d (manager_number manager) drop_pulse)
             ∙ ap (λ lines. with_line lines (manager_number manager) drop_pulse) lines_are
 
     -- ---- it is replied to
 
     module _ (status : ℕ) (bytes : List ℕ) (effect : Effect) (done : Deed Resources) (is : deed ≡ Ok done) (reply_is : Some (record { status = status; bytes = bytes; effect = effect }) ≡ done.reply)
-        (told_is : told l d ≡ done.state) (left : Left k queues l d done.answers) (fits_after : Fits l d) (gone : Gone d) where
+        (told_is : told l d ≡ done.state) (left : Left k queues l d done.answers) (gone : Gone d) where
       abbrev replied_users : Users
       replied_users = with_process_of users thread.proc (replied thread.tid effect status bytes call.target.over)
 
       replied-answering : Answering replied_users (without_pulse d replied_users thread call)
       replied-answering =
           let keeps : InDeed (Waits users k.user) done =
-          deed-keeps_replied (told k queues) its.process (caller_in thread call) call.target moment (meaning its.sent.bytes) done is (Waits users k.user) (waits-before users k.user queues k.pipes fits kept.waits)
+          deed-keeps_replied (told k queues) its.process (caller_in thread call) call.target moment (meaning its.sent.bytes) done is (Waits users k.user) (waits-before users k.user queues kept.waits)
           (record { status = status; bytes = bytes; effect = effect }) (sym reply_is) in
           Answering-answered users d thread call taken
-          (on_their_way done.answers left fits_after users kept (subst (InPipes (Waits users k.user)) (sym (ap (λ r. r.pipes) told_is)) keeps.pipes) keeps.answers)
+          (on_their_way done.answers left users kept (subst (InPipes (Waits users k.user)) (sym (ap (λ r. r.pipes) told_is)) keeps.pipes) keeps.answers)
           (replied thread.tid effect status bytes call.target.over) (answer.Reply status bytes) (replies thread.tid effect status bytes call.target.over) gone
 
       replied-serves : Serves (shown users queues) (given_all replied_users (without_pulse d replied_users thread call)) k l served
       replied-serves =
-          serves done.answers left fits_after (Ok done) is (told_is ∙ sym (resources-machine done.answers _)) replied_users (without_pulse d replied_users thread call)
-          (after-answered done.answers left fits_after replied_users) (after-pipes done.answers left fits_after replied_users)
+          serves done.answers left (Ok done) is (told_is ∙ sym (resources-machine done.answers _)) replied_users (without_pulse d replied_users thread call)
+          (after-answered done.answers left replied_users) (after-pipes done.answers left replied_users)
           (ap (λ r. given_users (with_process_of users thread.proc (after_serving thread.tid call.target.over r)) (map (users_given user) done.answers)) reply_is ∙ users-done users thread.proc thread.tid call.target.over part its.user done)
-          (ap (λ lines. given_lines lines (map (users_given user) done.answers)) (after-lines done.answers left fits_after replied_users)
+          (ap (λ lines. given_lines lines (map (users_given user) done.answers)) (after-lines done.answers left replied_users)
           ∙ lines-done user manager done.answers (only done is) queues.lines (caller_in thread call)
           ∙ ap (λ r. lines_after user queues.lines ((if is_some r then own_change manager (caller_in thread call) ∷ [] else []) ++ answered_changes manager done.answers)) reply_is)
 
     -- ---- it is left without a reply
 
-    module _ (done : Deed Resources) (is : deed ≡ Ok done) (reply_is : None ≡ done.reply) (told_is : told l d ≡ done.state) (left : Left k queues l d done.answers) (fits_after : Fits l d) where
+    module _ (done : Deed Resources) (is : deed ≡ Ok done) (reply_is : None ≡ done.reply) (told_is : told l d ≡ done.state) (left : Left k queues l d done.answers) where
       -- that the pipe manager alone does
       piped : manager ≡ Pipe
       piped = elim (pipe_or_ram manager) [
@@ -239,65 +239,65 @@ module _ (users : Users) (queues : Queues) (thread : Thread) (call : Call) (take
       waiting-answering : Answering served_users d
       waiting-answering =
           let keeps : InDeed (Waits served_users k.user) done =
-          deed-keeps (told k queues) its.process (caller_in thread call) call.target moment (meaning its.sent.bytes) done is (Waits served_users k.user) (waits-before served_users k.user queues k.pipes fits Kept-served.waits)
+          deed-keeps (told k queues) its.process (caller_in thread call) call.target moment (meaning its.sent.bytes) done is (Waits served_users k.user) (waits-before served_users k.user queues Kept-served.waits)
           (λ block wanted bytes. ap (λ u. waits_for call.number (thread_row served_users (record { proc = record { user = record { 0 = u }; num = thread.proc.num }; tid = thread.tid }))) of ∙ own-waits piped) in
-          on_their_way done.answers left fits_after served_users Kept-served (subst (InPipes (Waits served_users k.user)) (sym (ap (λ r. r.pipes) told_is)) keeps.pipes) keeps.answers
+          on_their_way done.answers left served_users Kept-served (subst (InPipes (Waits served_users k.user)) (sym (ap (λ r. r.pipes) told_is)) keeps.pipes) keeps.answers
 
       waiting-serves : Serves (shown users queues) (given_all served_users d) k l served
       waiting-serves =
-          serves done.answers left fits_after (Ok done) is (told_is ∙ sym (resources-machine done.answers _)) served_users d refl refl
+          serves done.answers left (Ok done) is (told_is ∙ sym (resources-machine done.answers _)) served_users d refl refl
           (ap (λ r. given_users (with_process_of users thread.proc (after_serving thread.tid call.target.over r)) (map (users_given user) done.answers)) reply_is ∙ users-done users thread.proc thread.tid call.target.over part its.user done)
-          (ap (λ lines. given_lines lines (map (users_given user) done.answers)) (lines_are done.answers left fits_after)
-          ∙ lines-waiting user manager done.answers (only done is) queues.lines
+          (ap (λ lines. given_lines lines (map (users_given user) done.answers)) (lines_are done.answers left)
+          ∙ lines-others user manager done.answers (only done is) queues.lines
           ∙ ap (λ r. lines_after user queues.lines ((if is_some r then own_change manager (caller_in thread call) ∷ [] else []) ++ answered_changes manager done.answers)) reply_is)
 
   -- ---- it is refused, and nothing of the resources or the queues is different
 
-  module _ (k : state.Kept) (of : k.user ≡ user) (fits : Fits k queues) (moment : ℕ) (error : Errno) (is : deed k k queues of fits moment ≡ Err error) (gone : Gone queues) where
+  module _ (k : state.Kept) (of : k.user ≡ user) (moment : ℕ) (error : Errno) (is : deed k k queues of moment ≡ Err error) (gone : Gone queues) where
     abbrev refused_users : Users
     refused_users = with_process_of users thread.proc (failed thread.tid error call.target.over)
 
     refused-answering : Answering refused_users (without_pulse queues refused_users thread call)
     refused-answering = Answering-answered users queues thread call taken
-        (on_their_way k k queues of fits moment [] (same_left k queues) fits users kept (waits-before users k.user queues k.pipes fits kept.waits) tt)
+        (on_their_way k k queues of moment [] (left-same k queues) users kept (waits-before users k.user queues kept.waits) tt)
         (failed thread.tid error call.target.over) (answer.Failed error) (fails thread.tid error call.target.over) gone
 
-    refused-serves : Serves (shown users queues) (given_all refused_users (without_pulse queues refused_users thread call)) k k (served k k queues of fits moment)
+    refused-serves : Serves (shown users queues) (given_all refused_users (without_pulse queues refused_users thread call)) k k (served k k queues of moment)
     refused-serves =
-        serves k k queues of fits moment [] (same_left k queues) fits (Err error) is refl refused_users (without_pulse queues refused_users thread call)
-        (after-answered k k queues of fits moment [] (same_left k queues) fits refused_users) (after-pipes k k queues of fits moment [] (same_left k queues) fits refused_users)
-        (users-refused users thread.proc thread.tid call.target.over (part k k queues of fits moment) its.user error)
-        (after-lines k k queues of fits moment [] (same_left k queues) fits refused_users ∙ lines-done user manager [] (inr refl) queues.lines (caller_in thread call))
+        serves k k queues of moment [] (left-same k queues) (Err error) is refl refused_users (without_pulse queues refused_users thread call)
+        (after-answered k k queues of moment [] (left-same k queues) refused_users) (after-pipes k k queues of moment [] (left-same k queues) refused_users)
+        (users-refused users thread.proc thread.tid call.target.over (part k k queues of moment) its.user error)
+        (after-lines k k queues of moment [] (left-same k queues) refused_users ∙ lines-done user manager [] (inr refl) queues.lines (caller_in thread call))
 
   -- ---- whatever it comes to
 
-  abbrev After : Users → Queues → state.Kept → state.Kept → (Part → Served) → Type 0
+  abbrev After : Users → Shared → state.Kept → state.Kept → (Part → Served) → Type 0
   After rows after k l served = Answering rows after × Serves (shown users queues) (given_all rows after) k l served
 
   -- the rows and the queues once the message is answered, unless it is left without a reply
-  abbrev Outcome : state.Kept → state.Kept → Queues → ℕ → List ℕ → Result Done Errno → Type 0
+  abbrev Outcome : state.Kept → state.Kept → Shared → ℕ → List ℕ → Result Done Errno → Type 0
   Outcome k l d moment bytes given =
       After (answered_users served_users thread call.target.over bytes given) (answered_queues d (answered_users served_users thread call.target.over bytes given) thread call given) k l
       (λ part. or_kept part (serve_message part thread.proc.num thread.tid moment))
 
-  pub outcome : (k l : state.Kept) (d : Queues) (of : k.user ≡ thread.proc.user.0) (fits : Fits k queues) (moment : ℕ) (bytes : List ℕ) (given : Result Done Errno) (r : Result (Deed Resources) Errno) → deed k l d of fits moment ≡ r
+  pub outcome : (k l : state.Kept) (d : Shared) (of : k.user ≡ thread.proc.user.0) (moment : ℕ) (bytes : List ℕ) (given : Result Done Errno) (r : Result (Deed Resources) Errno) → deed k l d of moment ≡ r
       → Did state.state k queues l d bytes given r → (IsReplied given → Gone d) → Outcome k l d moment bytes given
-  outcome k l d of fits moment bytes (Ok (Reply status effect)) (Ok done) is did gone =
-      subst (λ rows. After rows (without_pulse d rows thread call) k l (served k l d of fits moment)) (sym (reply_served users thread effect status bytes call.target.over)) (
-        replied-answering k l d of fits moment status bytes effect done is did.0 did.1 did.2 did.3 (gone tt),
-        replied-serves k l d of fits moment status bytes effect done is did.0 did.1 did.2 did.3 (gone tt),
+  outcome k l d of moment bytes (Ok (Reply status effect)) (Ok done) is did gone =
+      subst (λ rows. After rows (without_pulse d rows thread call) k l (served k l d of moment)) (sym (reply_served users thread effect status bytes call.target.over)) (
+        replied-answering k l d of moment status bytes effect done is did.0 did.1 (left-from k queues l d done did.1 did.2 did.3) (gone tt),
+        replied-serves k l d of moment status bytes effect done is did.0 did.1 (left-from k queues l d done did.1 did.2 did.3) (gone tt),
       )
-  outcome k l d of fits moment bytes (Ok NoReply) (Ok done) is did gone = (
-    waiting-answering k l d of fits moment done is did.0 did.1 did.2 did.3,
-    waiting-serves k l d of fits moment done is did.0 did.1 did.2 did.3,
+  outcome k l d of moment bytes (Ok NoReply) (Ok done) is did gone = (
+    waiting-answering k l d of moment done is did.0 did.1 (left-from k queues l d done did.1 did.2 did.3),
+    waiting-serves k l d of moment done is did.0 did.1 (left-from k queues l d done did.1 did.2 did.3),
   )
-  outcome k l d of fits moment bytes (Err error) (Err meant) is did gone =
+  outcome k l d of moment bytes (Err error) (Err meant) is did gone =
       subst (λ (l : state.Kept). Outcome k l d moment bytes (Err error)) (sym did.1)
       (subst (λ d. Outcome k k d moment bytes (Err error)) (sym did.2)
-      (subst (λ rows. After rows (without_pulse queues rows thread call) k k (served k k queues of fits moment)) (sym (fail_served users thread error call.target.over)) (
-        refused-answering k of fits moment error (is ∙ ap Err (sym did.0)) (subst Gone did.2 (gone tt)),
-        refused-serves k of fits moment error (is ∙ ap Err (sym did.0)) (subst Gone did.2 (gone tt)),
+      (subst (λ rows. After rows (without_pulse queues rows thread call) k k (served k k queues of moment)) (sym (fail_served users thread error call.target.over)) (
+        refused-answering k of moment error (is ∙ ap Err (sym did.0)) (subst Gone did.2 (gone tt)),
+        refused-serves k of moment error (is ∙ ap Err (sym did.0)) (subst Gone did.2 (gone tt)),
       )))
-  outcome k l d of fits moment bytes (Ok (Reply status effect)) (Err error) is did gone = absurd did
-  outcome k l d of fits moment bytes (Ok NoReply) (Err error) is did gone = absurd did
-  outcome k l d of fits moment bytes (Err error) (Ok done) is did gone = absurd did
+  outcome k l d of moment bytes (Ok (Reply status effect)) (Err error) is did gone = absurd did
+  outcome k l d of moment bytes (Ok NoReply) (Err error) is did gone = absurd did
+  outcome k l d of moment bytes (Err error) (Ok done) is did gone = absurd did

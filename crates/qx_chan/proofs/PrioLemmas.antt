@@ -1,7 +1,5 @@
 -- A thread takes its answer, or gets another priority: its message stands where it stood.
 use Rattle.std.proofs.Common.{◌≡◌, ◌⊎◌, inl, inr, ℕ, false, List, Option, Some, None, refl, sym, ◌∙◌}
-use Rattle.std.specs.FinMap as maps
-use Rattle.std.specs.Ordering.{nat_cmp}
 use Rattle.std.specs.Prelude.{MatchOption, option_map, slice_set}
 use Rattle.std.proofs.lemmas.Bool.{cases_Bool}
 use Rattle.qx_types.specs.declared.names.Thread.{Thread}
@@ -14,7 +12,9 @@ use Rattle.qx_machine.specs.Processes.{Process, ranked_thread, ready_thread, wit
 use Rattle.qx_machine.specs.Rows.{row_at, with_row}
 use Rattle.qx_process.proofs.RowLemmas.{set-row}
 use Rattle.qx_procs.specs.Calls.{after_or, with_prio}
-use Rattle.qx_queues.specs.Queues.{Queues, UsersCall}
+use Rattle.qx_machine.specs.PipeManager.{Pipes}
+use Rattle.qx_machine.specs.declared.rows.WaitingCall.{WaitingCall}
+use Rattle.qx_shared.specs.Shared.{Shared}
 use Rattle.qx_machine.specs.declared.rows.Queued.{Queued as Item}
 use Rattle.qx_chan.specs.Channel.{Channel, after_taking}
 use Rattle.qx_chan.specs.Kept.{Kept, asked_at, is_asked_at, is_queued_at, is_waiting_for, stands_at, waits_for}
@@ -46,7 +46,7 @@ answered_unwaiting (Waiting sent) given is call calls = let clash : None ≡ Som
 answered_unwaiting (Answered answer) given is call calls = refl
 
 -- a row that was lent to take its answer
-module _ (users : Users) (queues : Queues) (thread : Thread) (row after : ThreadRow) (there : Some row ≡ thread_row users thread) (kept : Kept users queues) where
+module _ (users : Users) (queues : Shared) (thread : Thread) (row after : ThreadRow) (there : Some row ≡ thread_row users thread) (kept : Kept users queues) where
   stays : after ≡ row → Kept (with_thread_row users thread (λ _. after)) queues
   stays same = Kept-thread users queues thread (λ _. after) kept (λ at. rw (← there, same) refl) (λ at call. rw (← there, same) refl) (λ call is. rw (← there, same) (rw (← there) at is))
 
@@ -61,7 +61,7 @@ module _ (users : Users) (queues : Queues) (thread : Thread) (row after : Thread
   Kept-answer (Some given) is same = readies given is same
 
 -- the channel's value then
-pub after_answer : (users : Users) (lines : List (List Item)) (pipes : maps.FinMap nat_cmp (List UsersCall)) (thread : Thread) (row after : ThreadRow) (result : Option Answer) → Some row ≡ thread_row users thread → result ≡ answer_in row.state → MatchOption result (after ≡ row) (λ _. after ≡ ready_thread row)
+pub after_answer : (users : Users) (lines : List (List Item)) (pipes : List (Pipes WaitingCall)) (thread : Thread) (row after : ThreadRow) (result : Option Answer) → Some row ≡ thread_row users thread → result ≡ answer_in row.state → MatchOption result (after ≡ row) (λ _. after ≡ ready_thread row)
     → ◌≡◌ {A = Channel} (record { users = with_thread_row users thread (λ _. after); lines = lines; pipes = pipes }) (after_taking (record { users = users; lines = lines; pipes = pipes }) thread)
 after_answer users lines pipes thread row after None there is same =
     rw (same, with_thread-same users thread row (sym there), ← there, ← is) refl
@@ -93,7 +93,7 @@ still_waits : (prio call : ℕ) (o : Option ThreadRow) → waits_for call (optio
 still_waits prio call None = refl
 still_waits prio call (Some row) = refl
 
-pub Kept-ranked : (users : Users) (queues : Queues) (thread : Thread) (prio : ℕ) (rows : List (Option Process)) → Some rows ≡ row_at users thread.proc.user.0 → Kept users queues
+pub Kept-ranked : (users : Users) (queues : Shared) (thread : Thread) (prio : ℕ) (rows : List (Option Process)) → Some rows ≡ row_at users thread.proc.user.0 → Kept users queues
     → Kept (slice_set users thread.proc.user.0 (Some (after_or rows (with_prio rows thread.proc.num thread.tid prio)))) queues
 Kept-ranked users queues thread prio rows there kept = elim (ranked rows thread.proc.num thread.tid prio) [
   | inl same ↦ rw (same, set-row users thread.proc.user.0 rows (sym there)) kept

@@ -1,5 +1,5 @@
 -- Rows, lines and nodes stand together still as a line's first item is received.
-use Rattle.std.proofs.Common.{◌≡◌, ◌≢◌, subst, ℕ, zero, suc, ◌∷◌, [], true, false, List, Option, Some, None, drop, slice_get, refl, sym, ◌∙◌, ap}
+use Rattle.std.proofs.Common.{◌≡◌, ◌≢◌, subst, ℕ, ◌∷◌, [], true, false, List, Option, Some, None, drop, slice_get, refl, sym, ◌∙◌, ap}
 use Rattle.std.specs.Prelude.{option_map}
 use Rattle.std.proofs.lemmas.Bool.{eqb-true}
 use Rattle.qx_types.specs.Managers.{manager_number}
@@ -11,9 +11,10 @@ use Rattle.qx_machine.specs.declared.rows.Queued.{Queued}
 use Rattle.qx_machine.specs.declared.rows.State.{State}
 use Rattle.qx_machine.specs.declared.rows.State.TheVariants as state
 use Rattle.qx_machine.specs.declared.rows.ThreadRow.{ThreadRow}
-use Rattle.qx_machine.specs.Lines.{line_at, with_line}
+use Rattle.qx_machine.specs.Lines.{line_at}
 use Rattle.qx_machine.specs.Processes.{taken_state, taken_thread, with_thread}
-use Rattle.qx_queues.specs.Queues.{Queues, IsGone, sender, sender_of, stands, unblock_call, with_queues_line}
+use Rattle.qx_queues.specs.Queues.{IsGone, sender, sender_of, stands, unblock_call}
+use Rattle.qx_shared.specs.Shared.{Shared, with_shared_line}
 use Rattle.qx_chan.specs.Channel.{with_taken}
 use Rattle.qx_chan.specs.Users.{Users, thread_row, with_thread_row}
 use Rattle.qx_chan.specs.Kept.{Kept, asked_at, is_asked_at, is_queued_at, is_waiting_for, stands_at, waits_for}
@@ -26,16 +27,6 @@ use Rattle.qx_chan.proofs.WaitLemmas.{no-wait}
 pub first_of-line : (line : List Queued) (first : Queued) → Some first ≡ slice_get line 0 → line ≡ first ∷ drop 1 line
 first_of-line [] first is = cc
 first_of-line (other ∷ line) first is = let same : first ≡ other = cc in rw same refl
-
--- no line loses an item where it is empty
-pub empty_line : {A : Type 0} (lines : List (List A)) (number : ℕ) → line_at lines number ≡ [] → with_line lines number (drop 1) ≡ lines
-empty_line [] number is = refl
-empty_line (line ∷ lines) zero is = rw is refl
-empty_line (line ∷ lines) (suc number) is = ap (λ rest. line ∷ rest) (empty_line lines number is)
-
-pub none_first : (line : List Queued) → None ≡ slice_get line 0 → line ≡ []
-none_first [] is = refl
-none_first (first ∷ line) is = let clash : None ≡ Some first = is in absurd (cc)
 
 -- a thread whose message stands somewhere, and stands no more once it is taken
 gone_from : (row : Option ThreadRow) (number at : ℕ) → stands_at number row ≡ true → stands_at at (option_map taken_thread row) ≡ false
@@ -84,7 +75,7 @@ queued-unwaiting (Some row) number is call = by_state row.state is
     by_state (state.Waiting sent) is = let clash : false ≡ true = is in absurd (cc)
     by_state (state.Answered answer) is = refl
 
-module _ (users : Users) (queues : Queues) (manager : Manager) (user : ℕ) (prio : ℕ) (rest : List Queued) (kept : Kept users queues) where
+module _ (users : Users) (queues : Shared) (manager : Manager) (user : ℕ) (prio : ℕ) (rest : List Queued) (kept : Kept users queues) where
   abbrev number : ℕ
   number = manager_number manager
 
@@ -121,7 +112,7 @@ module _ (users : Users) (queues : Queues) (manager : Manager) (user : ℕ) (pri
         none : (at call : ℕ) → unblock_call (line_at queues.lines at) thread ≡ Some call → ⊥
         none at call is = queued-unasked (thread_row users thread) number stood at call (kept.pulses thread at call is)
 
-    message-taken : Kept (with_thread_row users thread taken_thread) (with_queues_line queues number (drop 1))
+    message-taken : Kept (with_thread_row users thread taken_thread) (with_shared_line queues number (drop 1))
     message-taken = Kept-changed users (with_thread_row users thread taken_thread) queues thread (with_thread tid taken_thread) taken_thread one kept manager (drop 1) own (λ x at. refl)
 
   -- an unblock pulse, which changes no row
@@ -145,21 +136,21 @@ module _ (users : Users) (queues : Queues) (manager : Manager) (user : ℕ) (pri
       waits = kept.waits;
     }
 
-    pulse-taken : Kept users (with_queues_line queues number (drop 1))
+    pulse-taken : Kept users (with_shared_line queues number (drop 1))
     pulse-taken = Kept-changed users users queues asked (λ x. x) (λ row. row) (no_thread users asked) kept manager (drop 1) pulse_own (λ x at. refl)
 
-pub Kept-taken : (users : Users) (queues : Queues) (manager : Manager) (first : Queued) (rest : List Queued) → line_at queues.lines (manager_number manager) ≡ first ∷ rest → IsGone first rest → Kept users queues
-    → Kept (with_taken users (sender first) first.item) (with_queues_line queues (manager_number manager) (drop 1))
+pub Kept-taken : (users : Users) (queues : Shared) (manager : Manager) (first : Queued) (rest : List Queued) → line_at queues.lines (manager_number manager) ≡ first ∷ rest → IsGone first rest → Kept users queues
+    → Kept (with_taken users (sender first) first.item) (with_shared_line queues (manager_number manager) (drop 1))
 Kept-taken users queues manager first rest line gone kept = by_item first.item line gone
   where
     by_item : (own : OwnItem) → line_at queues.lines (manager_number manager) ≡ record { user = first.user; item = own; prio = first.prio } ∷ rest → IsGone (record { user = first.user; item = own; prio = first.prio }) rest
-        → Kept (with_taken users (sender_of first.user.0 own) own) (with_queues_line queues (manager_number manager) (drop 1))
+        → Kept (with_taken users (sender_of first.user.0 own) own) (with_shared_line queues (manager_number manager) (drop 1))
     by_item (item.Message process tid) is gone = message-taken users queues manager first.user.0 first.prio.0 rest kept process tid is gone
     by_item (item.Unblock process tid call) is gone = pulse-taken users queues manager first.user.0 first.prio.0 rest kept process tid call is gone
 
 -- by what the first item is
-module _ (users : Users) (queues : Queues) (manager : Manager) (first : Queued) (own : OwnItem) (is : first.item ≡ own)
+module _ (users : Users) (queues : Shared) (manager : Manager) (first : Queued) (own : OwnItem) (is : first.item ≡ own)
     (at_front : Some first ≡ slice_get (line_at queues.lines (manager_number manager)) 0) (gone : IsGone first (drop 1 (line_at queues.lines (manager_number manager)))) (kept : Kept users queues) where
-  pub Kept-received : Kept (with_taken users (sender_of first.user.0 own) own) (with_queues_line queues (manager_number manager) (drop 1))
-  Kept-received = subst (λ its. Kept (with_taken users (sender_of first.user.0 its) its) (with_queues_line queues (manager_number manager) (drop 1))) is
+  pub Kept-received : Kept (with_taken users (sender_of first.user.0 own) own) (with_shared_line queues (manager_number manager) (drop 1))
+  Kept-received = subst (λ its. Kept (with_taken users (sender_of first.user.0 its) its) (with_shared_line queues (manager_number manager) (drop 1))) is
       (Kept-taken users queues manager first (drop 1 (line_at queues.lines (manager_number manager))) (first_of-line _ first at_front) gone kept)

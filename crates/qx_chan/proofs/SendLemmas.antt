@@ -1,5 +1,5 @@
 -- Rows, lines and nodes stand together still as a message goes out.
-use Rattle.std.proofs.Common.{◌≡◌, ◌≢◌, ◌≤◌, inl, inr, eq-eqb, ℕ, ◌||◌, true, false, List, Option, Some, None, is_some, refl, sym, ◌∙◌, ap, arith}
+use Rattle.std.proofs.Common.{◌≡◌, ◌≢◌, inl, inr, eq-eqb, ℕ, ◌||◌, true, false, List, Option, Some, None, is_some, refl, sym, ◌∙◌, ap}
 use Rattle.std.specs.Prelude.{option_map}
 use Rattle.std.proofs.lemmas.Bool.{cases_Bool, cond_both}
 use Rattle.qx_types.specs.Managers.{manager_number}
@@ -14,7 +14,8 @@ use Rattle.qx_machine.specs.Lines.{into, line_at}
 use Rattle.qx_machine.specs.Machine.{rank}
 use Rattle.qx_machine.specs.Processes.{Process, queued_thread, with_queued, with_thread}
 use Rattle.qx_machine.specs.Servers.{is_numbered}
-use Rattle.qx_queues.specs.Queues.{HasNoCall, Queues, caller, has_server, has_thread, is_answered, message_of, stands, unblock_call, waiting_in, with_queues_line, with_server}
+use Rattle.qx_queues.specs.Queues.{caller, is_answered, message_of, stands, unblock_call}
+use Rattle.qx_shared.specs.Shared.{HasNoCall, Shared, has_server, has_thread, waiting_in, with_server, with_shared_line}
 use Rattle.qx_chan.specs.Users.{IsReady, Users, process_of, thread_row, with_process_of}
 use Rattle.qx_chan.specs.Kept.{Kept, asked_at, attached_at, attaches, is_queued_at, stands_at, waits_for, with_attached, with_room}
 use Rattle.qx_queues.proofs.EntryLemmas.{is_same_thread-differs, is_same_thread-self, or_false, or_true}
@@ -44,36 +45,30 @@ ready-unwaiting None ready call = absurd ready
 ready-unwaiting (Some row) ready call = rw ready refl
 
 -- its process has a thread with nodes
-pub has-sender : (users : Users) (queues : Queues) (thread : Thread) → IsReady (thread_row users thread) → Kept users queues → has_thread queues thread ≡ true
+pub has-sender : (users : Users) (queues : Shared) (thread : Thread) → IsReady (thread_row users thread) → Kept users queues → has_thread queues thread ≡ true
 has-sender users queues thread ready kept = kept.threads thread ∙ ready-there (thread_row users thread) ready
 
 -- and stands in no line
-pub waits-nowhere : (users : Users) (queues : Queues) (thread : Thread) → IsReady (thread_row users thread) → Kept users queues → (number : ℕ) → stands (line_at queues.lines number) thread ≡ false
+pub waits-nowhere : (users : Users) (queues : Shared) (thread : Thread) → IsReady (thread_row users thread) → Kept users queues → (number : ℕ) → stands (line_at queues.lines number) thread ≡ false
 waits-nowhere users queues thread ready kept number = kept.lines thread number ∙ ready-waits (thread_row users thread) ready number
 
 -- and waits in no pipe
-pub calls-nowhere : (users : Users) (queues : Queues) (thread : Thread) → IsReady (thread_row users thread) → Kept users queues → HasNoCall queues thread
+pub calls-nowhere : (users : Users) (queues : Shared) (thread : Thread) → IsReady (thread_row users thread) → Kept users queues → HasNoCall queues thread
 calls-nowhere users queues thread ready kept = record {
   waiting = λ list. no-call caller (λ own. own.call.call) users thread (ready-unwaiting (thread_row users thread) ready) (waiting_in queues list) (kept.waits list);
   answered = ap (λ answers. is_answered answers thread) kept.answered;
 }
 
 -- room changes nothing else
-pub Kept-room : (users : Users) (queues : Queues) (room : ℕ) → Kept users queues → Kept users (record queues { room = room })
+pub Kept-room : (users : Users) (queues : Shared) (room : ℕ) → Kept users queues → Kept users (record queues { room = room })
 Kept-room users queues room kept = record { users = kept.users; managers = kept.managers; threads = kept.threads; lines = kept.lines; pulses = kept.pulses; servers = kept.servers; waits = kept.waits; answered = kept.answered }
 
-pub Kept-with_room : (users : Users) (queues : Queues) (over : Over) → Kept users queues → Kept users (with_room over queues)
-Kept-with_room users queues over kept = cond_both {A = Queues} (attaches over) _ _ (λ q. Kept users q) (λ does. Kept-room users queues _ kept) (λ not. kept)
-
-pub room-with_room : (queues : Queues) (over : Over) → attaches over ≡ true → 1 ≤ (with_room over queues).room
-room-with_room queues over does = rw does (omega arith)
-
-pub lines-with_room : (queues : Queues) (over : Over) → (with_room over queues).lines ≡ queues.lines
-lines-with_room queues over = cond_both {A = Queues} (attaches over) _ _ (λ q. q.lines ≡ queues.lines) (λ does. refl) (λ not. refl)
+pub Kept-with_room : (users : Users) (queues : Shared) (over : Over) → Kept users queues → Kept users (with_room over queues)
+Kept-with_room users queues over kept = cond_both {A = Shared} (attaches over) _ _ (λ q. Kept users q) (λ does. Kept-room users queues _ kept) (λ not. kept)
 
 -- the disconnect node of what a message goes over
 
-module _ (c : Queues) (proc : Proc) (manager : Manager) where
+module _ (c : Shared) (proc : Proc) (manager : Manager) where
   has-with_server-other : (other : Proc) (at : ℕ) → other ≢ proc → has_server (with_server c proc (manager_number manager)) other at ≡ has_server c other at
   has-with_server-other other at differs =
       has-server c.servers proc (manager_number manager) other at ∙ rw (is_same_server-differs proc other (manager_number manager) at (λ same. absurd (differs same))) (or_false (has_server c other at))
@@ -83,7 +78,7 @@ module _ (c : Queues) (proc : Proc) (manager : Manager) where
 
 -- a process whose thread was ready, and whose message goes out
 
-module _ (users : Users) (queues : Queues) (thread : Thread) (sent : Sent) (ready : IsReady (thread_row users thread)) (kept : Kept users queues) where
+module _ (users : Users) (queues : Shared) (thread : Thread) (sent : Sent) (ready : IsReady (thread_row users thread)) (kept : Kept users queues) where
   abbrev number : ℕ
   number = manager_number sent.target.manager
 
@@ -96,8 +91,8 @@ module _ (users : Users) (queues : Queues) (thread : Thread) (sent : Sent) (read
   abbrev change : List Queued → List Queued
   change line = into rank line (message_of thread sent.target.prio.0)
 
-  abbrev queues_sent : Queues
-  queues_sent = with_queues_line queues number change
+  abbrev queues_sent : Shared
+  queues_sent = with_shared_line queues number change
 
   one : OneThread new users thread f (queued_thread sent)
   one = one_thread users thread f (queued_thread sent) (λ x. threads-connected thread.tid sent.target.manager sent.target.over (with_thread thread.tid (queued_thread sent) x))
@@ -137,7 +132,7 @@ module _ (users : Users) (queues : Queues) (thread : Thread) (sent : Sent) (read
 
   pub Kept-sent : Kept (with_process_of users thread.proc (with_queued thread.tid sent))
       (with_attached thread.proc (process_of (with_process_of users thread.proc (with_queued thread.tid sent)) thread.proc) sent.target
-      (with_queues_line queues (manager_number sent.target.manager) (λ line. into rank line (message_of thread sent.target.prio.0))))
+      (with_shared_line queues (manager_number sent.target.manager) (λ line. into rank line (message_of thread sent.target.prio.0))))
   Kept-sent = elim (cases_Bool (attaches sent.target.over)) [
     | inr not ↦ rw not (Kept-changed users new queues thread f (queued_thread sent) one kept sent.target.manager change own
         (λ x at. attached-existing thread.tid sent.target.manager sent.target.over (with_thread thread.tid (queued_thread sent) x) at not))

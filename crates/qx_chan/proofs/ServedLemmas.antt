@@ -21,8 +21,9 @@ use Rattle.qx_machine.specs.Parts.{Part, Resources, with_process}
 use Rattle.qx_machine.specs.Performing.{after_answer, after_serving, answered_changes, own_change, with_answers}
 use Rattle.qx_machine.specs.Processes.{Process, answered_thread}
 use Rattle.qx_machine.specs.Rows.{row_at, with_row}
-use Rattle.qx_queues.specs.Piped.{users_given}
-use Rattle.qx_queues.specs.Queues.{Queues, unblock_call, with_queues_line, without_server}
+use Rattle.qx_shared.specs.Shared.{users_given}
+use Rattle.qx_queues.specs.Queues.{unblock_call}
+use Rattle.qx_shared.specs.Shared.{Shared, with_shared_line, without_server}
 use Rattle.qx_chan.specs.Answers.{given_lines, given_users}
 use Rattle.qx_chan.specs.Calls.{taken_call}
 use Rattle.qx_chan.specs.Channel.{failed}
@@ -60,17 +61,13 @@ module _ (users : Users) (proc : Proc) (thread : ℕ) (over : Over) (part : Part
 
 module _ (user : ℕ) (manager : Manager) (answers : List (WaitingCall × Answer)) (only : (manager ≡ Pipe) ⊎ (answers ≡ [])) where
   -- those whom the pipe manager answers are all who are answered
-  lines-others : (lines : List (List Queued)) → given_lines lines (map (users_given user) answers) ≡ lines_after user lines (answered_changes manager answers)
+  pub lines-others : (lines : List (List Queued)) → given_lines lines (map (users_given user) answers) ≡ lines_after user lines (answered_changes manager answers)
   lines-others lines = elim only [
     | inl pipe ↦ rw pipe (lines-machine user lines answers)
     | inr none ↦ rw none refl
   ]
 
-  -- the message is left without a reply
-  pub lines-waiting : (lines : List (List Queued)) → given_lines lines (map (users_given user) answers) ≡ lines_after user lines ([] ++ answered_changes manager answers)
-  lines-waiting lines = lines-others lines
-
-  -- or is replied to
+  -- where the message is replied to
   pub lines-done : (lines : List (List Queued)) (caller : Caller)
       → given_lines (with_line lines (manager_number manager) (line_without user (item.Unblock caller.process caller.thread caller.call))) (map (users_given user) answers)
       ≡ lines_after user lines ((own_change manager caller ∷ []) ++ answered_changes manager answers)
@@ -79,21 +76,21 @@ module _ (user : ℕ) (manager : Manager) (answers : List (WaitingCall × Answer
 -- ---- what stands together
 
 -- answers on their way change nothing of the disconnect nodes
-abbrev without_answers : Queues → Queues
+abbrev without_answers : Shared → Shared
 without_answers c = record c { answered = [] }
 
-settled_at-cleared : (proc : Proc) (process : Option Process) (manager : Manager) (c : Queues) → without_answers (settled_at proc process manager c) ≡ settled_at proc process manager (without_answers c)
+settled_at-cleared : (proc : Proc) (process : Option Process) (manager : Manager) (c : Shared) → without_answers (settled_at proc process manager c) ≡ settled_at proc process manager (without_answers c)
 settled_at-cleared proc process manager c = by_test (attached_at (manager_number manager) process)
   where
     by_test : (b : Bool) → without_answers (if b then c else without_server c proc (manager_number manager)) ≡ (if b then without_answers c else without_server (without_answers c) proc (manager_number manager))
     by_test true = refl
     by_test false = refl
 
-settled-cleared : (proc : Proc) (process : Option Process) (all : List Manager) (c : Queues) → without_answers (settled proc process all c) ≡ settled proc process all (without_answers c)
+settled-cleared : (proc : Proc) (process : Option Process) (all : List Manager) (c : Shared) → without_answers (settled proc process all c) ≡ settled proc process all (without_answers c)
 settled-cleared proc process [] c = refl
 settled-cleared proc process (manager ∷ all) c = settled-cleared proc process all (settled_at proc process manager c) ∙ ap (settled proc process all) (settled_at-cleared proc process manager c)
 
-module _ (users : Users) (queues : Queues) (thread : Thread) (call : Call) (is : Some call ≡ taken_call (thread_row users thread)) (answering : Answering users queues) where
+module _ (users : Users) (queues : Shared) (thread : Thread) (call : Call) (is : Some call ≡ taken_call (thread_row users thread)) (answering : Answering users queues) where
   abbrev drop_pulse : List Queued → List Queued
   drop_pulse = line_without thread.proc.user.0 (item.Unblock thread.proc.num thread.tid call.number)
 
@@ -101,7 +98,7 @@ module _ (users : Users) (queues : Queues) (thread : Thread) (call : Call) (is :
   pub Answering-answered : (f : Process → Process) (answer : Answer) → IsAnswer thread.tid answer f
       → (unblock_call (line_at queues.lines (manager_number call.target.manager)) thread ≡ Some call.number → unblock_call (drop_pulse (line_at queues.lines (manager_number call.target.manager))) thread ≡ None)
       → Answering (with_process_of users thread.proc f) (settled thread.proc (process_of (with_process_of users thread.proc f) thread.proc) managers
-      (with_queues_line queues (manager_number call.target.manager) (line_without thread.proc.user.0 (item.Unblock thread.proc.num thread.tid call.number))))
+      (with_shared_line queues (manager_number call.target.manager) (line_without thread.proc.user.0 (item.Unblock thread.proc.num thread.tid call.number))))
   Answering-answered f answer answers gone = record {
     kept = rw (settled-cleared thread.proc (process_of new thread.proc) managers changed) (Kept-answered users (without_answers queues) thread call is answering.kept f answer answers gone);
     answered = rw (settled-fields thread.proc (process_of new thread.proc) (λ c. c.answered) (λ c number. refl) managers changed)
@@ -112,8 +109,8 @@ module _ (users : Users) (queues : Queues) (thread : Thread) (call : Call) (is :
       new : Users
       new = with_process_of users thread.proc f
 
-      changed : Queues
-      changed = with_queues_line queues (manager_number call.target.manager) drop_pulse
+      changed : Shared
+      changed = with_shared_line queues (manager_number call.target.manager) drop_pulse
 
       one : OneThread new users thread f (answered_thread answer)
       one = one_thread users thread f (answered_thread answer) answers.threads

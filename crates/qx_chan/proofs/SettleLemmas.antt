@@ -1,9 +1,7 @@
 -- Disconnect nodes are settled by what is attached: rows, lines and nodes stand together once they are.
 use Rattle.std.proofs.Common.{◌≡◌, ◌≢◌, subst, inl, inr, ◌+◌, add-one, ℕ, zero, suc, ◌∷◌, [], ◌||◌, ◌&&◌, not, take, Bool, true, false, List, Option, Some, slice_get, length, is_some, refl, sym, ◌∙◌, ap}
 use Rattle.std.specs.FinSet as set
-use Rattle.std.specs.FinMap as maps
 use Rattle.std.specs.List.{AllByRecursion, list_any}
-use Rattle.std.specs.Prelude.{unwrap_or}
 use Rattle.std.proofs.lemmas.Bool.{cases_Bool, cond_both, eqb-true}
 use Rattle.qx_types.specs.Managers.{manager_number, managers}
 use Rattle.qx_types.specs.declared.names.Manager.{Manager}
@@ -13,7 +11,8 @@ use Rattle.qx_types.specs.declared.names.Thread.{Thread}
 use Rattle.qx_machine.specs.Lines.{line_at}
 use Rattle.qx_machine.specs.Processes.{Process}
 use Rattle.qx_machine.specs.Servers.{is_numbered}
-use Rattle.qx_queues.specs.Queues.{Queues, has_server, has_thread, stands, unblock_call, waiting_in, without_server}
+use Rattle.qx_queues.specs.Queues.{stands, unblock_call}
+use Rattle.qx_shared.specs.Shared.{Shared, has_server, has_thread, waiting_in, without_server, waiting_at}
 use Rattle.qx_chan.specs.Users.{Users, process_of, thread_row}
 use Rattle.qx_chan.specs.Kept.{IsWaiting, Kept, asked_at, attached_at, settled, settled_at, settled_number, stands_at}
 use Rattle.qx_queues.proofs.EntryLemmas.{or_true}
@@ -28,27 +27,27 @@ and_true false = refl
 -- disconnect nodes that go
 
 module _ (proc : Proc) (process : Option Process) where
-  settled_at-fields : {A : Type 0} (read : Queues → A) (manager : Manager) (c : Queues) → read (without_server c proc (manager_number manager)) ≡ read c → read (settled_at proc process manager c) ≡ read c
-  settled_at-fields read manager c same = cond_both {A = Queues} (attached_at (manager_number manager) process) _ _ (λ d. read d ≡ read c) (λ attached. refl) (λ gone. same)
+  settled_at-fields : {A : Type 0} (read : Shared → A) (manager : Manager) (c : Shared) → read (without_server c proc (manager_number manager)) ≡ read c → read (settled_at proc process manager c) ≡ read c
+  settled_at-fields read manager c same = cond_both {A = Shared} (attached_at (manager_number manager) process) _ _ (λ d. read d ≡ read c) (λ attached. refl) (λ gone. same)
 
-  pub settled-fields : {A : Type 0} (read : Queues → A) → ((c : Queues) (number : ℕ) → read (without_server c proc number) ≡ read c) → (ms : List Manager) (c : Queues) → read (settled proc process ms c) ≡ read c
+  pub settled-fields : {A : Type 0} (read : Shared → A) → ((c : Shared) (number : ℕ) → read (without_server c proc number) ≡ read c) → (ms : List Manager) (c : Shared) → read (settled proc process ms c) ≡ read c
   settled-fields read same [] c = refl
   settled-fields read same (m ∷ ms) c = settled-fields read same ms (settled_at proc process m c) ∙ settled_at-fields read m c (same c (manager_number m))
 
-  has-settled-other : (other : Proc) (at : ℕ) → other ≢ proc → (ms : List Manager) (c : Queues) → has_server (settled proc process ms c) other at ≡ has_server c other at
+  has-settled-other : (other : Proc) (at : ℕ) → other ≢ proc → (ms : List Manager) (c : Shared) → has_server (settled proc process ms c) other at ≡ has_server c other at
   has-settled-other other at differs [] c = refl
   has-settled-other other at differs (m ∷ ms) c =
       has-settled-other other at differs ms (settled_at proc process m c)
       ∙ settled_at-fields (λ d. has_server d other at) m c
       (has-removed c.servers proc (manager_number m) other at ∙ rw (is_same_server-differs proc other (manager_number m) at (λ same. absurd (differs same))) (and_true (has_server c other at)))
 
-  has-settled_at-self : (m : Manager) (c : Queues) (k : ℕ) → has_server (settled_at proc process m c) proc k ≡ (has_server c proc k && (attached_at (manager_number m) process || not (is_numbered k m)))
+  has-settled_at-self : (m : Manager) (c : Shared) (k : ℕ) → has_server (settled_at proc process m c) proc k ≡ (has_server c proc k && (attached_at (manager_number m) process || not (is_numbered k m)))
   has-settled_at-self m c k = elim (cases_Bool (attached_at (manager_number m) process)) [
     | inl attached ↦ rw attached (sym (and_true (has_server c proc k)))
     | inr gone ↦ rw gone (has-removed c.servers proc (manager_number m) proc k ∙ rw (same_server-self proc (manager_number m) k) refl)
   ]
 
-  has-settled-self : (ms : List Manager) (c : Queues) (k : ℕ) → has_server (settled proc process ms c) proc k ≡ (has_server c proc k && (attached_at k process || not (list_any (is_numbered k) ms)))
+  has-settled-self : (ms : List Manager) (c : Shared) (k : ℕ) → has_server (settled proc process ms c) proc k ≡ (has_server c proc k && (attached_at k process || not (list_any (is_numbered k) ms)))
   has-settled-self [] c k = sym (rw (or_true (attached_at k process)) (and_true (has_server c proc k)))
   has-settled-self (m ∷ ms) c k = has-settled-self ms (settled_at proc process m c) k ∙ ap (λ b. b && (attached_at k process || not (list_any (is_numbered k) ms))) (has-settled_at-self m c k) ∙ elim (cases_Bool (is_numbered k m)) [
     | inl same ↦
@@ -68,8 +67,8 @@ module _ (proc : Proc) (process : Option Process) where
       unless false a b = refl
 
 -- rows, lines and nodes stand together, but that a process may have disconnect nodes where nothing of it is attached
-pub record Unsettled (processes : Users) (queues : Queues) (proc : Proc) : Type 0 where
-  pub users : queues.users ≡ length processes
+pub record Unsettled (processes : Users) (queues : Shared) (proc : Proc) : Type 0 where
+  pub users : length queues.pipes ≡ length processes
   pub managers : length queues.lines ≡ COUNT
   pub threads : (thread : Thread) → has_thread queues thread ≡ is_some (thread_row processes thread)
   pub lines : (thread : Thread) (number : ℕ) → stands (line_at queues.lines number) thread ≡ stands_at number (thread_row processes thread)
@@ -79,7 +78,7 @@ pub record Unsettled (processes : Users) (queues : Queues) (proc : Proc) : Type 
   pub waits : (list : ℕ) → AllByRecursion (IsWaiting processes) (waiting_in queues list)
   pub answered : queues.answered ≡ []
 
-module _ (users : Users) (queues : Queues) (proc : Proc) (unsettled : Unsettled users queues proc) where
+module _ (users : Users) (queues : Shared) (proc : Proc) (unsettled : Unsettled users queues proc) where
   kept_if : (had has : Bool) → (has ≡ true → had ≡ true) → (had && (has || false)) ≡ has
   kept_if true true less = refl
   kept_if true false less = refl
@@ -91,7 +90,7 @@ module _ (users : Users) (queues : Queues) (proc : Proc) (unsettled : Unsettled 
 
   pub Kept-settled : Kept users (settled proc (process_of users proc) managers queues)
   Kept-settled = record {
-    users = settled-fields proc (process_of users proc) (λ c. c.users) (λ c number. refl) managers queues ∙ unsettled.users;
+    users = settled-fields proc (process_of users proc) (λ c. length c.pipes) (λ c number. refl) managers queues ∙ unsettled.users;
     managers = ap length lines_stay ∙ unsettled.managers;
     threads = λ t. ap (λ s. set.contains s t) (settled-fields proc (process_of users proc) (λ c. c.threads) (λ c number. refl) managers queues) ∙ unsettled.threads t;
     lines = λ t k. ap (λ lines. stands (line_at lines k) t) lines_stay ∙ unsettled.lines t k;
@@ -101,17 +100,17 @@ module _ (users : Users) (queues : Queues) (proc : Proc) (unsettled : Unsettled 
       | inl same ↦ rw same (has-settled-self proc (process_of users proc) managers queues (manager_number m)
           ∙ rw (is_listed m) (kept_if (has_server queues proc (manager_number m)) (attached_at (manager_number m) (process_of users proc)) (unsettled.attached m)))
     ];
-    waits = λ list. subst (λ p. AllByRecursion (IsWaiting users) (unwrap_or (maps.get p list) [])) (sym (settled-fields proc (process_of users proc) (λ c. c.pipes) (λ c number. refl) managers queues)) (unsettled.waits list);
+    waits = λ list. subst (λ p. AllByRecursion (IsWaiting users) (waiting_at p list)) (sym (settled-fields proc (process_of users proc) (λ c. c.pipes) (λ c number. refl) managers queues)) (unsettled.waits list);
     answered = settled-fields proc (process_of users proc) (λ c. c.answered) (λ c number. refl) managers queues ∙ unsettled.answered;
   }
 
 -- one manager more
 
-settled-suc : (proc : Proc) (process : Option Process) (ms : List Manager) (n : ℕ) (c : Queues) → settled proc process (take (suc n) ms) c ≡ settled_number proc process (slice_get ms n) (settled proc process (take n ms) c)
+settled-suc : (proc : Proc) (process : Option Process) (ms : List Manager) (n : ℕ) (c : Shared) → settled proc process (take (suc n) ms) c ≡ settled_number proc process (slice_get ms n) (settled proc process (take n ms) c)
 settled-suc proc process [] zero c = refl
 settled-suc proc process [] (suc n) c = refl
 settled-suc proc process (m ∷ ms) zero c = refl
 settled-suc proc process (m ∷ ms) (suc n) c = settled-suc proc process ms n (settled_at proc process m c)
 
-pub settled-next : (proc : Proc) (process : Option Process) (ms : List Manager) (n : ℕ) (c : Queues) → settled proc process (take (n + 1) ms) c ≡ settled_number proc process (slice_get ms n) (settled proc process (take n ms) c)
+pub settled-next : (proc : Proc) (process : Option Process) (ms : List Manager) (n : ℕ) (c : Shared) → settled proc process (take (n + 1) ms) c ≡ settled_number proc process (slice_get ms n) (settled proc process (take n ms) c)
 settled-next proc process ms n c = rw (add-one n) (settled-suc proc process ms n c)

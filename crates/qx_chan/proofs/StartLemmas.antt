@@ -1,10 +1,7 @@
 -- Rows, lines and nodes stand together still as a process starts, and at boot.
-use Rattle.std.proofs.Common.{eq-eqb, subst, ◌≡◌, ◌≢◌, inl, inr, ℕ, zero, suc, ◌<◌, ◌≤◌, ◌∷◌, [], ◌&&◌, add-one, nat_le, Bool, true, false, List, Option, Some, None, Ok, Err, replicate, length, is_some, refl, sym, ◌∙◌, ap, arith}
-use Rattle.std.specs.FinMap as maps
+use Rattle.std.proofs.Common.{eq-eqb, subst, ◌≡◌, ◌≢◌, inl, inr, ℕ, zero, suc, ◌+◌, ◌<◌, ◌≤◌, ◌∷◌, [], get_or, map, ◌&&◌, add-one, nat_le, Bool, true, false, List, Option, Some, None, Ok, Err, replicate, length, is_some, refl, sym, ◌∙◌, ap, arith}
 use Rattle.std.specs.FinSet as set
 use Rattle.std.specs.List.{AllByRecursion}
-use Rattle.std.specs.Ordering.{nat_cmp}
-use Rattle.std.specs.Prelude.{unwrap_or}
 use Rattle.std.proofs.lemmas.Bool.{cases_Bool, cases_lt}
 use Rattle.std.proofs.lemmas.Bool.Decides.{eqb_tells, nat_tests}
 use Rattle.std.proofs.lemmas.List.{get_or-replicate, length-replicate}
@@ -25,8 +22,12 @@ use Rattle.qx_machine.specs.Processes.{Process, new_process, new_thread}
 use Rattle.qx_machine.specs.Rows.{row_at, lowest_from, put_row, with_row}
 use Rattle.qx_machine.proofs.Places.{lowest_from_free}
 use Rattle.qx_procs.specs.Calls.{spawned}
-use Rattle.qx_queues.specs.Queues.{Queues, has_thread, is_thread_of, no_queues, stands, unblock_call, waiting_in, thread_cmp, server_cmp, with_process}
-use Rattle.qx_queues.proofs.PresenceLemmas.{has-process, lines-process, servers-process, users-process}
+use Rattle.qx_queues.specs.Queues.{is_thread_of, stands, unblock_call, thread_cmp, server_cmp}
+use Rattle.qx_shared.specs.Shared.{Shared, has_thread, nothing_shared, waiting_in, with_process, waiting_at, waiting_calls}
+use Rattle.qx_machine.specs.declared.rows.WaitingCall.{WaitingCall}
+use Rattle.qx_machine.specs.PipeManager.{no_pipes}
+use Rattle.qx_types.specs.declared.limits.TheConstants.Limits.{INODES}
+use Rattle.qx_shared.proofs.PresenceLemmas.{has-process, lines-process, servers-process}
 use Rattle.qx_chan.specs.Channel.{Channel, after_spawn}
 use Rattle.qx_chan.specs.Users.{HasPlace, Users, no_processes, process_in, process_of, spawn_number_in, thread_row}
 use Rattle.qx_process.proofs.RowLemmas.{row_at-get_or, set-row, with_row-none}
@@ -104,11 +105,11 @@ new_is threads (suc k) x = elim (cases_lt k threads) [
 
 -- what waits and is answered stays as a process gets its nodes
 
-pub pipes-process : (c : Queues) (proc : Proc) (threads : ℕ) → (with_process c proc threads).pipes ≡ c.pipes
+pub pipes-process : (c : Shared) (proc : Proc) (threads : ℕ) → (with_process c proc threads).pipes ≡ c.pipes
 pipes-process c proc zero = refl
 pipes-process c proc (suc threads) = pipes-process c proc threads
 
-answered-process : (c : Queues) (proc : Proc) (threads : ℕ) → (with_process c proc threads).answered ≡ c.answered
+answered-process : (c : Shared) (proc : Proc) (threads : ℕ) → (with_process c proc threads).answered ≡ c.answered
 answered-process c proc zero = refl
 answered-process c proc (suc threads) = answered-process c proc threads
 
@@ -133,10 +134,10 @@ module _ (users : Users) (proc : Proc) (threads prio : ℕ) (begun : Starts user
   old_none = rw (begun.row, begun.facts.lowest) (lowest_from_free 1 begun.processes)
 
   -- no thread of it has nodes
-  pub fresh : (queues : Queues) → Kept users queues → (tid : ℕ) → has_thread queues (record { proc = proc; tid = tid }) ≡ false
+  pub fresh : (queues : Shared) → Kept users queues → (tid : ℕ) → has_thread queues (record { proc = proc; tid = tid }) ≡ false
   fresh queues kept tid = kept.threads (record { proc = proc; tid = tid }) ∙ ap (λ o. is_some (thread_of tid o)) old_none
 
-  pub user_within : (queues : Queues) → Kept users queues → proc.user.0 < queues.users
+  pub user_within : (queues : Shared) → Kept users queues → proc.user.0 < length queues.pipes
   user_within queues kept = rw kept.users (row_within users proc.user.0 begun.processes begun.row)
 
   module _ (place : HasPlace (row_at users proc.user.0)) where
@@ -159,9 +160,9 @@ module _ (users : Users) (proc : Proc) (threads prio : ℕ) (begun : Starts user
         some_same : (one other : List (Option Process)) → Some one ≡ Some other → one ≡ other
         some_same one other is = cc
 
-    pub Kept-started : (queues : Queues) → Kept users queues → Kept (with_row users proc.user.0 (λ processes. spawned processes threads prio (spawn_number processes threads prio))) (with_process queues proc threads)
+    pub Kept-started : (queues : Shared) → Kept users queues → Kept (with_row users proc.user.0 (λ processes. spawned processes threads prio (spawn_number processes threads prio))) (with_process queues proc threads)
     Kept-started queues kept = record {
-      users = users-process queues proc threads ∙ kept.users ∙ sym (length-with_row users proc.user.0 started);
+      users = ap length (pipes-process queues proc threads) ∙ kept.users ∙ sym (length-with_row users proc.user.0 started);
       managers = ap length (lines-process queues proc threads) ∙ kept.managers;
       threads = λ other. has-process queues proc threads other ∙ elim (same_proc other.proc proc) [
         | inr differs ↦ rw (not_of other differs) (or_false (has_thread queues other) ∙ kept.threads other ∙ ap (λ o. is_some (thread_of other.tid o)) (sym (elsewhere other.proc differs)))
@@ -181,7 +182,7 @@ module _ (users : Users) (proc : Proc) (threads prio : ℕ) (begun : Starts user
         | inr differs ↦ ap (attached_at (manager_number manager)) (sym (elsewhere other differs))
         | inl same ↦ rw (same, old_none, here) (sym (new_attached threads prio manager))
       ];
-      waits = λ list. subst (λ p. AllByRecursion (IsWaiting new) (unwrap_or (maps.get p list) [])) (sym (pipes-process queues proc threads)) (waits-all users new still (waiting_in queues list) (kept.waits list));
+      waits = λ list. subst (λ p. AllByRecursion (IsWaiting new) (waiting_at p list)) (sym (pipes-process queues proc threads)) (waits-all users new still (waiting_in queues list) (kept.waits list));
       answered = answered-process queues proc threads ∙ kept.answered;
     }
       where
@@ -233,14 +234,26 @@ no_line zero number thread = refl
 no_line (suc count) zero thread = refl
 no_line (suc count) (suc number) thread = no_line count number thread
 
-pub Kept-empty : (users : ℕ) → Kept (no_processes users) (no_queues users)
+get_same : {A : Type 0} (n i : ℕ) (x : A) → get_or (replicate n x) i x ≡ x
+get_same zero i x = refl
+get_same (suc n) zero x = refl
+get_same (suc n) (suc i) x = get_same n i x
+
+no_calls : (n : ℕ) → waiting_calls (replicate n None) ≡ []
+no_calls zero = refl
+no_calls (suc n) = no_calls n
+
+none_waits : (n user : ℕ) → waiting_at (replicate n no_pipes) user ≡ []
+none_waits n user = ap (λ pipes. map (λ (call : WaitingCall). record { user = user; call = call }) (waiting_calls pipes)) (get_same n user no_pipes) ∙ ap (map (λ (call : WaitingCall). record { user = user; call = call })) (no_calls (INODES + 1))
+
+pub Kept-empty : (users : ℕ) → Kept (no_processes users) (nothing_shared users)
 Kept-empty users = record {
-  users = add-one users ∙ ap suc (sym (length-replicate users (Some no_rows)));
+  users = length-replicate (users + 1) no_pipes ∙ add-one users ∙ ap suc (sym (length-replicate users (Some no_rows)));
   managers = refl;
   threads = λ thread. set.contains-empty thread_cmp thread ∙ sym (ap (λ o. is_some (thread_of thread.tid o)) (none_at_boot users thread.proc));
   lines = λ thread number. no_line COUNT number thread ∙ sym (ap (λ o. stands_at number (thread_of thread.tid o)) (none_at_boot users thread.proc));
   pulses = λ thread number call is. let clash : None ≡ Some call = sym (no_pulse COUNT number thread) ∙ is in absurd (cc);
   servers = λ proc manager. set.contains-empty server_cmp (proc, manager_number manager) ∙ sym (ap (attached_at (manager_number manager)) (none_at_boot users proc));
-  waits = λ list. subst (λ o. AllByRecursion (IsWaiting (no_processes users)) (unwrap_or o [])) (sym (maps.get-empty nat_cmp list)) tt;
+  waits = λ user. subst (AllByRecursion (IsWaiting (no_processes users))) (sym (none_waits (users + 1) user)) tt;
   answered = refl;
 }

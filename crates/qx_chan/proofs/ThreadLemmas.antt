@@ -1,8 +1,7 @@
 -- One thread's row changes, and its process with it, and one line: when rows, lines and nodes stand together still.
-use Rattle.std.proofs.Common.{◌≡◌, ◌≢◌, subst, inl, inr, ℕ, ◌<◌, List, [], true, Option, Some, None, length, is_some, refl, sym, ◌∙◌, ap}
-use Rattle.std.specs.FinMap as maps
+use Rattle.std.proofs.Common.{◌≡◌, ◌≢◌, subst, inl, inr, ℕ, ◌<◌, List, true, Option, Some, None, length, is_some, refl, sym, ◌∙◌, ap}
 use Rattle.std.specs.List.{AllByRecursion}
-use Rattle.std.specs.Prelude.{option_map, unwrap_or}
+use Rattle.std.specs.Prelude.{option_map}
 use Rattle.std.proofs.lemmas.Bool.{cases_eq}
 use Rattle.std.proofs.lemmas.List.{length-set}
 use Rattle.qx_types.specs.Managers.{manager_number}
@@ -15,7 +14,8 @@ use Rattle.qx_machine.specs.Lines.{line_at, with_line}
 use Rattle.qx_machine.specs.Parts.{thread_of}
 use Rattle.qx_machine.specs.Processes.{Process, with_thread}
 use Rattle.qx_machine.specs.Rows.{with_row}
-use Rattle.qx_queues.specs.Queues.{Queues, has_server, has_thread, stands, unblock_call, waiting_in}
+use Rattle.qx_queues.specs.Queues.{stands, unblock_call}
+use Rattle.qx_shared.specs.Shared.{Shared, has_server, has_thread, waiting_in, waiting_at}
 use Rattle.qx_chan.specs.Users.{Users, process_of, thread_row, with_process_of, with_thread_row}
 use Rattle.qx_chan.specs.Kept.{IsWaiting, Kept, asked_at, attached_at, stands_at, waits_for}
 use Rattle.qx_queues.proofs.EntryLemmas.{line_at-other, line_at-same}
@@ -82,7 +82,7 @@ no_thread users thread = record {
 }
 
 -- a call that waits does so still, where the thread whose row changes does
-module _ (users new : Users) (queues : Queues) (thread : Thread) (f : Process → Process) (g : ThreadRow → ThreadRow) (one : OneThread new users thread f g) (kept : Kept users queues)
+module _ (users new : Users) (queues : Shared) (thread : Thread) (f : Process → Process) (g : ThreadRow → ThreadRow) (one : OneThread new users thread f g) (kept : Kept users queues)
     (wait : (call : ℕ) → waits_for call (thread_row users thread) ≡ true → waits_for call (option_map g (thread_row users thread)) ≡ true) where
   waits-one : (other : Thread) (call : ℕ) → waits_for call (thread_row users other) ≡ true → waits_for call (thread_row new other) ≡ true
   waits-one other call is = elim (same_or_not other thread) [
@@ -96,7 +96,7 @@ module _ (users new : Users) (queues : Queues) (thread : Thread) (f : Process �
   waits-told list = waits-all users new waits-one (waiting_in queues list) (kept.waits list)
 
 -- a thread whose message stands where it stood, and is asked as it was
-module _ (users : Users) (queues : Queues) (thread : Thread) (g : ThreadRow → ThreadRow) (kept : Kept users queues)
+module _ (users : Users) (queues : Shared) (thread : Thread) (g : ThreadRow → ThreadRow) (kept : Kept users queues)
     (stand : (at : ℕ) → stands_at at (option_map g (thread_row users thread)) ≡ stands_at at (thread_row users thread))
     (pulse : (at call : ℕ) → asked_at at call (option_map g (thread_row users thread)) ≡ asked_at at call (thread_row users thread))
     (wait : (call : ℕ) → waits_for call (thread_row users thread) ≡ true → waits_for call (option_map g (thread_row users thread)) ≡ true) where
@@ -133,7 +133,7 @@ pub record OwnLine (new old : List Queued) (thread : Thread) : Type 0 where
   pub stand : (other : Thread) → other ≢ thread → stands new other ≡ stands old other
   pub calls : (other : Thread) → other ≢ thread → unblock_call new other ≡ unblock_call old other
 
-module _ (users new : Users) (queues : Queues) (thread : Thread) (f : Process → Process) (g : ThreadRow → ThreadRow)
+module _ (users new : Users) (queues : Shared) (thread : Thread) (f : Process → Process) (g : ThreadRow → ThreadRow)
     (one : OneThread new users thread f g) (kept : Kept users queues) (manager : Manager) (change : List Queued → List Queued) where
   abbrev number : ℕ
   number = manager_number manager
@@ -217,7 +217,7 @@ module _ (users new : Users) (queues : Queues) (thread : Thread) (f : Process �
         as_before at (Some x) = same x at
 
     -- where the process has the disconnect nodes of all that is attached, and others what they had
-    pub Unsettled-changed : (after : Queues) → after.lines ≡ lines_after → after.users ≡ queues.users → after.pipes ≡ queues.pipes → after.answered ≡ queues.answered → ((t : Thread) → has_thread after t ≡ has_thread queues t)
+    pub Unsettled-changed : (after : Shared) → after.lines ≡ lines_after → length after.pipes ≡ length queues.pipes → after.pipes ≡ queues.pipes → after.answered ≡ queues.answered → ((t : Thread) → has_thread after t ≡ has_thread queues t)
         → ((other : Proc) (at : ℕ) → other ≢ thread.proc → has_server after other at ≡ has_server queues other at)
         → ((m : Manager) → attached_at (manager_number m) (option_map f (process_of users thread.proc)) ≡ true → has_server after thread.proc (manager_number m) ≡ true)
         → Unsettled new after thread.proc
@@ -229,6 +229,6 @@ module _ (users new : Users) (queues : Queues) (thread : Thread) (f : Process �
       pulses = λ t at call is. pulses_told t at call (ap (λ l. unblock_call (line_at l at) t) (sym lines) ∙ is);
       others = λ other m differs. others other (manager_number m) differs ∙ kept.servers other m ∙ ap (attached_at (manager_number m)) (sym (one.elsewhere other differs));
       attached = λ m is. attached m (ap (attached_at (manager_number m)) (sym one.here) ∙ is);
-      waits = λ list. subst (λ p. AllByRecursion (IsWaiting new) (unwrap_or (maps.get p list) [])) (sym pipes) (own.waits list);
+      waits = λ list. subst (λ p. AllByRecursion (IsWaiting new) (waiting_at p list)) (sym pipes) (own.waits list);
       answered = answered ∙ kept.answered;
     }

@@ -10,7 +10,8 @@ use Rattle.qx_machine.specs.declared.rows.Queued.{Queued}
 use Rattle.qx_machine.specs.Lines.{with_line}
 use Rattle.qx_machine.specs.Machine.{line_without}
 use Rattle.qx_machine.specs.Processes.{answered_thread}
-use Rattle.qx_queues.specs.Queues.{Queues, UsersAnswer, with_queues_line}
+use Rattle.qx_queues.specs.Queues.{UsersAnswer}
+use Rattle.qx_shared.specs.Shared.{Shared, with_shared_line}
 use Rattle.qx_resmgr.specs.declared.functions.Done.{Done}
 use Rattle.qx_resmgr.specs.declared.functions.Done.TheVariants.{Reply, NoReply}
 use Rattle.qx_chan.specs.Channel.{failed, replied}
@@ -25,11 +26,11 @@ answered_users users thread over bytes (Ok (Reply status effect)) = with_process
 answered_users users thread over bytes (Err error) = with_process_of users thread.proc (failed thread.tid error over)
 
 -- its call has no unblock pulse any more, and its process has the disconnect nodes of what it has attached then
-abbrev pub without_pulse : Queues → Users → Thread → Call → Queues
+abbrev pub without_pulse : Shared → Users → Thread → Call → Shared
 without_pulse queues users thread call =
-    settled thread.proc (process_of users thread.proc) managers (with_queues_line queues (manager_number call.target.manager) (line_without thread.proc.user.0 (item.Unblock thread.proc.num thread.tid call.number)))
+    settled thread.proc (process_of users thread.proc) managers (with_shared_line queues (manager_number call.target.manager) (line_without thread.proc.user.0 (item.Unblock thread.proc.num thread.tid call.number)))
 
-abbrev pub answered_queues : Queues → Users → Thread → Call → Result Done Errno → Queues
+abbrev pub answered_queues : Shared → Users → Thread → Call → Result Done Errno → Shared
 answered_queues queues users thread call (Ok NoReply) = queues
 answered_queues queues users thread call (Ok (Reply status effect)) = without_pulse queues users thread call
 answered_queues queues users thread call (Err error) = without_pulse queues users thread call

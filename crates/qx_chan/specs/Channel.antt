@@ -1,8 +1,5 @@
 -- What contracts see of a channel, and what its calls make of it.
-use Rattle.std.specs.Prelude.{ℕ, [], List, Option, Some, None, drop, replicate, slice_get}
-use Rattle.std.specs.Coded.{Coded, coded_ℕ, coded_list}
-use Rattle.std.specs.FinMap as maps
-use Rattle.std.specs.Ordering.{nat_cmp}
+use Rattle.std.specs.Prelude.{ℕ, ◌+◌, [], List, Option, Some, None, drop, replicate, slice_get}
 use Rattle.qx_types.specs.Managers.{manager_number}
 use Rattle.qx_types.specs.declared.errno.Errno.{Errno}
 use Rattle.qx_types.specs.declared.errno.Errno.TheVariants.{EINTR}
@@ -21,30 +18,29 @@ use Rattle.qx_machine.specs.Clients.{spawn_number}
 use Rattle.qx_machine.specs.Lines.{into, line_at, with_line}
 use Rattle.qx_machine.specs.Machine.{line_without, rank}
 use Rattle.qx_machine.specs.Processes.{Process, after_effect, after_error, after_reply, answered_thread, asked_thread, ready_thread, taken_thread, with_queued, with_thread}
+use Rattle.qx_machine.specs.PipeManager.{Pipes, no_pipes}
 use Rattle.qx_machine.specs.Rows.{with_row}
+use Rattle.qx_machine.specs.declared.rows.WaitingCall.{WaitingCall}
 use Rattle.qx_procs.specs.Calls.{after_or, spawned, with_prio}
-use Rattle.qx_queues.specs.Queues.{Queues, UsersCall, call_code, message_of, no_queues, sender, unblock_of}
+use Rattle.qx_queues.specs.Queues.{message_of, sender, unblock_of}
+use Rattle.qx_shared.specs.Shared.{Shared, nothing_shared}
 use Rattle.qx_chan.specs.Calls.{answer_of, queued_call, unasked_call}
 use Rattle.qx_chan.specs.declared.call.Call.{Call}
 use Rattle.qx_chan.specs.Users.{Users, no_processes, thread_row, with_process_of, with_thread_row}
 
--- the processes of all users, both numbered from 1, the lines under their managers' numbers, and who waits in each list of a pipe, in order
+-- the processes of all users, both numbered from 1, the lines under their managers' numbers, and the pipes of each user
 pub record Channel : Type 0 where
   pub users : Users
   pub lines : List (List Queued)
-  pub pipes : maps.FinMap nat_cmp (List UsersCall)
+  pub pipes : List (Pipes WaitingCall)
 
--- how the lists of pipes are stored
-abbrev pub lists_code : Coded (maps.FinMap nat_cmp (List UsersCall))
-lists_code = maps.code coded_ℕ (coded_list call_code)
-
--- queues with the channel's lists of pipes, and nothing else
-abbrev pub lists : Channel → Queues
-lists c = record (no_queues 0) { pipes = c.pipes }
+-- a share with the channel's pipes, and nothing else
+abbrev pub lists : Channel → Shared
+lists c = record (nothing_shared 0) { pipes = c.pipes }
 
 -- users from 1 to this many with no process, empty lines, and no pipe
 abbrev pub empty_channel : ℕ → Channel
-empty_channel users = record { users = no_processes users; lines = replicate COUNT []; pipes = maps.empty }
+empty_channel users = record { users = no_processes users; lines = replicate COUNT []; pipes = replicate (users + 1) no_pipes }
 
 -- a manager's line
 abbrev pub channel_line : Channel → Manager → List Queued

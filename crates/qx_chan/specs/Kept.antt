@@ -16,7 +16,8 @@ use Rattle.qx_machine.specs.declared.rows.ThreadRow.{ThreadRow}
 use Rattle.qx_machine.specs.Lines.{line_at}
 use Rattle.qx_machine.specs.Processes.{Process}
 use Rattle.qx_machine.specs.Servers.{is_attached}
-use Rattle.qx_queues.specs.Queues.{Queues, UsersAnswer, UsersCall, caller, has_server, has_thread, stands, unblock_call, waiting_in, with_server, without_server}
+use Rattle.qx_queues.specs.Queues.{UsersAnswer, UsersCall, caller, stands, unblock_call}
+use Rattle.qx_shared.specs.Shared.{Shared, has_server, has_thread, waiting_in, with_server, without_server}
 use Rattle.qx_chan.specs.Users.{Users, process_of, thread_row}
 
 -- the message of a thread in this state stands in the line of that number
@@ -63,18 +64,18 @@ attached_at number (Some process) = is_attached number process.connections proce
 -- a thread has nodes exactly if it is there, its message stands in a line exactly if its row says so, an unblock pulse only while its
 -- call is asked for, and its call in a pipe only while it waits for the answer; no answer is on its way; and a process has the disconnect
 -- node of its server connection at a manager exactly while something of it is attached there
-pub record Kept (processes : Users) (queues : Queues) : Type 0 where
-  pub users : queues.users ≡ length processes
+pub record Kept (processes : Users) (queues : Shared) : Type 0 where
+  pub users : length queues.pipes ≡ length processes
   pub managers : length queues.lines ≡ COUNT
   pub threads : (thread : Thread) → has_thread queues thread ≡ is_some (thread_row processes thread)
   pub lines : (thread : Thread) (number : ℕ) → stands (line_at queues.lines number) thread ≡ stands_at number (thread_row processes thread)
   pub pulses : (thread : Thread) (number call : ℕ) → unblock_call (line_at queues.lines number) thread ≡ Some call → asked_at number call (thread_row processes thread) ≡ true
   pub servers : (proc : Proc) (manager : Manager) → has_server queues proc (manager_number manager) ≡ attached_at (manager_number manager) (process_of processes proc)
-  pub waits : (list : ℕ) → AllByRecursion (IsWaiting processes) (waiting_in queues list)
+  pub waits : (user : ℕ) → AllByRecursion (IsWaiting processes) (waiting_in queues user)
   pub answered : queues.answered ≡ []
 
 -- all of that, but that answers are on their way: each is to a call whose thread waits for it
-pub record Answering (processes : Users) (queues : Queues) : Type 0 where
+pub record Answering (processes : Users) (queues : Shared) : Type 0 where
   pub kept : Kept processes (record queues { answered = [] })
   pub answered : AllByRecursion (IsAwaited processes) queues.answered
 
@@ -84,23 +85,23 @@ attaches (Existing coid) = false
 attaches _ = true
 
 -- a process keeps its disconnect node at a manager if something of it is attached there
-abbrev pub settled_at : Proc → Option Process → Manager → Queues → Queues
+abbrev pub settled_at : Proc → Option Process → Manager → Shared → Shared
 settled_at proc process manager queues = if attached_at (manager_number manager) process then queues else without_server queues proc (manager_number manager)
 
 -- at the manager of a number, if there is one
-abbrev pub settled_number : Proc → Option Process → Option Manager → Queues → Queues
+abbrev pub settled_number : Proc → Option Process → Option Manager → Shared → Shared
 settled_number proc process None queues = queues
 settled_number proc process (Some manager) queues = settled_at proc process manager queues
 
 -- at each of these managers
-abbrev pub settled : Proc → Option Process → List Manager → Queues → Queues
+abbrev pub settled : Proc → Option Process → List Manager → Shared → Shared
 settled proc process [] queues = queues
 settled proc process (manager ∷ managers) queues = settled proc process managers (settled_at proc process manager queues)
 
 -- the disconnect nodes of a process once its call has attached what its message goes over
-abbrev pub with_attached : Proc → Option Process → Target → Queues → Queues
+abbrev pub with_attached : Proc → Option Process → Target → Shared → Shared
 with_attached proc process target queues = if attaches target.over then settled proc process managers (with_server queues proc (manager_number target.manager)) else queues
 
 -- room for the disconnect node of what a message goes over
-abbrev pub with_room : Over → Queues → Queues
+abbrev pub with_room : Over → Shared → Shared
 with_room over queues = if attaches over then record queues { room = max queues.room 2 } else queues

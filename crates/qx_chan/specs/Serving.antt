@@ -1,6 +1,5 @@
 -- What serving a message or an unblock pulse makes of a channel and of its user's resources.
-use Rattle.std.specs.Prelude.{◌≡◌, ⊤, ℕ, List, Bool, false, ◌&&◌, Option, Some, None, Result, is_ok, option_map}
-use Rattle.std.specs.FinMap as maps
+use Rattle.std.specs.Prelude.{◌≡◌, ⊤, ℕ, List, Bool, false, ◌&&◌, Option, Some, None, Result, is_ok, option_map, slice_set}
 use Rattle.qx_types.specs.declared.errno.Errno.{Errno}
 use Rattle.qx_types.specs.declared.names.Thread.{Thread}
 use Rattle.qx_wire.specs.Reading.{meaning}
@@ -13,10 +12,9 @@ use Rattle.qx_machine.specs.Parts.{Part, Resources}
 use Rattle.qx_machine.specs.Performing.{Served, caller_of, deed_of, taken_in}
 use Rattle.qx_machine.specs.Processes.{Process}
 use Rattle.qx_machine.specs.Rows.{row_at, with_row}
-use Rattle.qx_pipes.specs.Pipes.{IsListIn}
-use Rattle.qx_queues.specs.Queues.{Queues}
+use Rattle.qx_shared.specs.Shared.{Shared}
 use Rattle.qx_resources.specs.Memory.{wants_memory}
-use Rattle.qx_resources.specs.State.{told, Fits, Kept}
+use Rattle.qx_resources.specs.State.{told, Kept}
 use Rattle.qx_chan.specs.Calls.{taken_bytes}
 use Rattle.qx_chan.specs.Channel.{Channel, lists}
 use Rattle.qx_chan.specs.Users.{Users, process_of, thread_row}
@@ -37,7 +35,7 @@ abbrev pub caller_in : Thread → Call → Caller
 caller_in thread call = record { process = thread.proc.num; thread = thread.tid; call = call.number; is_asked = call.is_asked }
 
 -- what these bytes of a process come to
-abbrev pub deed_in : Kept → Queues → Process → Thread → Call → ℕ → List ℕ → Result (Deed Resources) Errno
+abbrev pub deed_in : Kept → Shared → Process → Thread → Call → ℕ → List ℕ → Result (Deed Resources) Errno
 deed_in resources queues process thread call moment bytes = deed_of (told resources queues) process (caller_in thread call) call.target moment (meaning bytes)
 
 -- a user's part of the machine, where the user has processes
@@ -45,23 +43,21 @@ abbrev pub part_in : Channel → Kept → Option Part
 part_in c k = option_map (λ processes. record { processes = processes; resources = told k (lists c) }) (row_at c.users k.user)
 
 module _ (c d : Channel) (k l : Kept) (served : Part → Served) where
-  -- the user's part and the lines became that, and no other user's processes are different
+  -- the user's part and the lines became that, and nothing else is different
   abbrev pub PartServed : Option Part → Type 0
   PartServed None = (d ≡ c) × (l ≡ k)
   PartServed (Some part) =
-      (part_in d l ≡ Some (served part).part)
-      × (d.users ≡ with_row c.users k.user (λ _. (served part).part.processes))
-      × (d.lines ≡ lines_after k.user c.lines (served part).changes)
+      (d ≡ record {
+        users = with_row c.users k.user (λ _. (served part).part.processes);
+        lines = lines_after k.user c.lines (served part).changes;
+        pipes = slice_set c.pipes k.user (served part).part.resources.pipes;
+      })
+      × (told l (lists d) ≡ (served part).part.resources)
 
-  -- that is done for a user whose processes are there, and only lists of the user's own pipes are different: those of new pipes were not
-  -- there, and those of pipes that went are not there any more
+  -- that is done for a user whose processes are there
   pub record Serves : Type 0 where
     pub did : PartServed (part_in c k)
     pub user : l.user ≡ k.user
-    pub elsewhere : (list : ℕ) → ¬ (IsListIn k.pipes list) → ¬ (IsListIn l.pipes list) → maps.get d.pipes list ≡ maps.get c.pipes list
-    pub fresh : (list : ℕ) → ¬ (IsListIn k.pipes list) → IsListIn l.pipes list → maps.get c.pipes list ≡ None
-    pub gone : (list : ℕ) → IsListIn k.pipes list → ¬ (IsListIn l.pipes list) → maps.get d.pipes list ≡ None
-    pub fits : Fits l (lists d)
 
 -- doing a received message of a process at a moment may want memory: its function may, and the message is done
 abbrev pub sent_wants_memory : Resources → Process → Thread → ThreadRow → ℕ → Option Sent → Bool

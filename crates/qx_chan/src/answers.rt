@@ -5,12 +5,12 @@ ghost use Rattle.qx_chan.specs.Answers.{given_lines, given_users};
 ghost use Rattle.qx_chan.specs.Kept.{Answering, Kept};
 
 use crate::users::Users;
-use qx_queues::Queues;
+use qx_shared::Shared;
 use qx_types::Manager;
 
 /// Gives each thread whose call waited and was answered its answer, with the room for its replies; an unblock pulse of the
 /// call is in the pipe manager's line no more (C Library Reference: `MsgReply`).
-pub fn give_answers(users: &mut Users, queues: &mut Queues)
+pub fn give_answers(users: &mut Users, queues: &mut Shared)
     ensures users { users.new ≡ given_users users.old queues.old.answered }
     ensures queues { queues.new ≡ record queues.old { lines = given_lines queues.old.lines queues.old.answered; answered = [] } }
     ensures kept { Answering users.old queues.old → Kept users.new queues.new }

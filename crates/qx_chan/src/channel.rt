@@ -16,7 +16,7 @@ use crate::users::Users;
 use qx_machine::{OwnItem, Queued, Sent, ThreadRow};
 use qx_process::Process;
 use qx_procs::Processes;
-use qx_queues::Queues;
+use qx_shared::Shared;
 use qx_types::{Answer, Errno, Manager, Outcome, Prio, Proc, Thread, User};
 use std::alloc::{AllocError, Global};
 use std::marker::Model;
@@ -26,18 +26,17 @@ use std::marker::Model;
 #[derive(Drop)]
 pub struct Channel {
     pub(crate) users: Users,
-    pub(crate) queues: Queues,
+    pub(crate) queues: Shared,
 }
 
 impl Model for Channel {
     ghost use Rattle.std.specs.Coded.{codes};
     ghost use Rattle.qx_chan.specs.Channel as words;
-    ghost use Rattle.qx_chan.specs.Channel.{lists_code};
     ghost use Rattle.qx_chan.specs.Kept.{Kept};
 
     ghost Value = { words.Channel };
 
-    ghost coded = { Prim.hlevel (codes, lists_code) };
+    ghost coded = { Prim.hlevel codes };
 
     ghost view = { λ c. record { users = c.users; lines = c.queues.lines; pipes = c.queues.pipes } };
 
@@ -50,7 +49,7 @@ impl Channel {
         requires few { users < 256 }
         ensures empty { IfOk result (λ channel. channel ≡ empty_channel users) }
     {
-        let queues = Queues::new(alloc, users)?;
+        let queues = Shared::new(alloc, users)?;
         let users = Users::new(alloc, users)?;
         Ok(Channel { users, queues })
     }

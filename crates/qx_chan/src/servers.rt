@@ -2,18 +2,18 @@
 
 ghost use Rattle.std.specs.Prelude.{◌≡◌, ◌≤◌, slice_get, IsTrue, OnOk, OnErr};
 ghost use Rattle.qx_types.specs.Managers.{manager_number, managers};
-ghost use Rattle.qx_queues.specs.Queues.{HasThread};
+ghost use Rattle.qx_shared.specs.Shared.{HasThread};
 ghost use Rattle.qx_chan.specs.Kept.{attached_at, attaches, settled, settled_number, with_attached, with_room};
 ghost use Rattle.qx_chan.specs.Users.{process_of};
 
 use crate::users::Users;
 use qx_machine::{Over, Target};
-use qx_queues::Queues;
+use qx_shared::Shared;
 use qx_types::{Manager, Proc};
 use std::alloc::AllocError;
 
 /// Makes room for the disconnect node of what a message goes over.
-pub fn reserve(queues: &mut Queues, over: Over) -> Result<(), AllocError>
+pub fn reserve(queues: &mut Shared, over: Over) -> Result<(), AllocError>
     ensures ok { OnOk result (queues.new ≡ with_room over queues.old) }
     ensures err { OnErr result (queues.new ≡ queues.old) }
 {
@@ -25,7 +25,7 @@ pub fn reserve(queues: &mut Queues, over: Over) -> Result<(), AllocError>
 
 /// A process has the disconnect nodes of what it has attached, once its call has attached what the message goes over. There
 /// is room for one.
-pub fn attach(queues: &mut Queues, users: &Users, proc: Proc, target: Target)
+pub fn attach(queues: &mut Shared, users: &Users, proc: Proc, target: Target)
     requires started { HasThread queues.old proc }
     requires room { IsTrue (attaches target.over) → 1 ≤ queues.old.room }
     ensures attached { queues.new ≡ with_attached proc (process_of users.now proc) target queues.old }
@@ -40,7 +40,7 @@ pub fn attach(queues: &mut Queues, users: &Users, proc: Proc, target: Target)
 }
 
 /// A process keeps the disconnect nodes of the managers where something of it is attached, and no other.
-pub fn settle(queues: &mut Queues, users: &Users, proc: Proc)
+pub fn settle(queues: &mut Shared, users: &Users, proc: Proc)
     ensures settled { queues.new ≡ settled proc (process_of users.now proc) managers queues.old }
 {
     for number in 0..Manager::COUNT {
@@ -49,7 +49,7 @@ pub fn settle(queues: &mut Queues, users: &Users, proc: Proc)
 }
 
 /// The disconnect node at the manager of a number stays if something of the process is attached there.
-fn settle_at(queues: &mut Queues, users: &Users, proc: Proc, number: usize)
+fn settle_at(queues: &mut Shared, users: &Users, proc: Proc, number: usize)
     ensures settled { queues.new ≡ settled_number proc (process_of users.now proc) (slice_get managers number) queues.old }
 {
     let Some(manager) = Manager::of_number(number) else {

@@ -1,6 +1,6 @@
 //! Messages and unblock pulses, as a worker performs them.
 
-ghost use Rattle.std.specs.Prelude.{◌≡◌, ◌≤◌, List, ℕ, Some, length, IfOk, IfSome, IsFalse, IsOk, None, OnErr, OnOk};
+ghost use Rattle.std.specs.Prelude.{◌≡◌, ◌≤◌, List, ℕ, Some, length, IfOk, IfSome, IsFalse, IsOk, IsSome, None, OnErr, OnOk};
 ghost use Rattle.std.specs.Option.{option_copied};
 ghost use Rattle.qx_types.specs.Managers.{manager_number};
 ghost use Rattle.qx_types.specs.declared.limits.TheConstants.Limits.{BODY};
@@ -10,13 +10,13 @@ ghost use Rattle.qx_machine.specs.Performing.{or_kept, serve_message, serve_puls
 ghost use Rattle.qx_machine.specs.Processes as machine;
 ghost use Rattle.qx_machine.specs.Processes.{served_thread};
 ghost use Rattle.qx_machine.specs.declared.rows.OwnItem.TheVariants as item;
-ghost use Rattle.qx_queues.specs.Queues.{IsReceived, queues_line, unblock_call};
-ghost use Rattle.qx_resmgr.specs.Deeds.{Did, HasRoomAfter, IsReplied};
+ghost use Rattle.qx_queues.specs.Queues.{unblock_call};
+ghost use Rattle.qx_shared.specs.Shared.{IsReceived, shared_line};
+ghost use Rattle.qx_resmgr.specs.Deeds.{Did, IsReplied};
 ghost use Rattle.qx_resources.specs.Memory.{IsInRanges, wants_memory};
 ghost use Rattle.qx_resources.specs.State.{Fits, state};
 ghost use Rattle.qx_chan.specs.Answers.{answered_queues, answered_users};
 ghost use Rattle.qx_chan.specs.Calls.{taken_call, taken_of};
-ghost use Rattle.qx_chan.specs.Channel.{lists};
 ghost use Rattle.qx_chan.specs.Serving.{IsReadOf, Sends, Serves, caller_in, deed_in, part_in, part_wants_memory};
 ghost use Rattle.qx_chan.specs.Users.{thread_row, with_thread_row};
 
@@ -29,9 +29,9 @@ use qx_attr::Reply;
 use qx_machine::Caller;
 use qx_process::Room;
 use qx_process::room::reply_bytes;
-use qx_queues::Queues;
 use qx_resmgr::Done;
 use qx_resources::Resources;
+use qx_shared::Shared;
 use qx_types::{Errno, MessageBytes, Thread};
 use qx_wire::{Meaning, Parsed, meaning};
 use std::alloc::AllocError;
@@ -50,7 +50,6 @@ impl Channel {
         reply: &mut Reply,
     ) -> Result<(), AllocError>
         requires user { resources.old.user ≡ thread.proc.user.0 }
-        requires fits { Fits resources.old (lists self.old) }
         requires read { IsReadOf (option_copied read) (taken_of (thread_row self.old.users thread)) }
         ensures ok { OnOk result (Serves self.old self.new resources.old resources.new (λ part. or_kept part (serve_message part thread.proc.num thread.tid moment))) }
         ensures err { OnErr result ((self.new ≡ self.old) × (resources.new ≡ resources.old)) }
@@ -86,7 +85,6 @@ impl Channel {
     /// so are others that can be then (Writing a Resource Manager: the unblock pulse).
     pub fn cancel(&mut self, resources: &mut Resources, thread: Thread, call: u64, moment: u64)
         requires user { resources.old.user ≡ thread.proc.user.0 }
-        requires fits { Fits resources.old (lists self.old) }
         ensures cancelled { Serves self.old self.new resources.old resources.new (λ part. or_kept part (serve_pulse part thread.proc.num thread.tid call moment)) }
     {
         let Some(_) = self.users.processes(thread.proc.user) else {
@@ -101,7 +99,7 @@ impl Channel {
 /// message that is left without one. Where memory is refused, the message is received as before.
 fn perform(
     users: &mut Users,
-    queues: &mut Queues,
+    queues: &mut Shared,
     resources: &mut Resources,
     thread: Thread,
     call: Call,
@@ -116,7 +114,7 @@ fn perform(
     requires read { IsReadOf (option_copied read) (taken_of (thread_row users.old thread)) }
     ensures served { OnOk result (users.new ≡ with_thread_row users.old thread served_thread) }
     ensures did { (process : machine.Process) (bytes : List ℕ) → Sends users.old thread process bytes → IfOk result (λ given. Did state resources.old queues.old resources.new queues.new reply.new given.0 (deed_in resources.old queues.old process thread call moment bytes)) }
-    ensures room { IfOk result (λ given. HasRoomAfter given.1 given.0) }
+    ensures room { IfOk result (λ given. IsReplied given.0 → IsSome given.1) }
     ensures err { OnErr result ((users.new ≡ users.old) × (queues.new ≡ queues.old) × (resources.new ≡ resources.old)) }
     ensures wanted { (process : machine.Process) (bytes : List ℕ) → Sends users.old thread process bytes → OnErr result (IsOk (deed_in resources.old queues.old process thread call moment bytes)) }
     ensures sure { (process : machine.Process) (bytes : List ℕ) → Sends users.old thread process bytes → IsFalse (wants_memory call.target.manager (reading.meaning bytes)) → IsOk result }
@@ -153,7 +151,7 @@ fn perform(
 /// pulse of the call is in the line no more.
 fn answer(
     users: &mut Users,
-    queues: &mut Queues,
+    queues: &mut Shared,
     thread: Thread,
     call: Call,
     given: Result<Done, Errno>,
@@ -161,10 +159,10 @@ fn answer(
     mut room: Option<Room>,
 )
     requires fits { length reply.now ≤ BODY }
-    requires room { HasRoomAfter room given }
+    requires room { IsReplied given → IsSome room }
     ensures users { users.new ≡ answered_users users.old thread call.target.over reply.now given }
     ensures queues { queues.new ≡ answered_queues queues.old users.new thread call given }
-    ensures gone { IsReplied given → unblock_call (queues_line queues.old (manager_number call.target.manager)) thread ≡ Some call.number → unblock_call (line_without thread.proc.user.0 (item.Unblock thread.proc.num thread.tid call.number) (queues_line queues.old (manager_number call.target.manager))) thread ≡ None }
+    ensures gone { IsReplied given → unblock_call (shared_line queues.old (manager_number call.target.manager)) thread ≡ Some call.number → unblock_call (line_without thread.proc.user.0 (item.Unblock thread.proc.num thread.tid call.number) (shared_line queues.old (manager_number call.target.manager))) thread ≡ None }
 {
     let over = call.target.over;
     match given {

@@ -18,6 +18,11 @@ abbrev pub open_found : Inodes → Names → ℕ → Lookup → OFlags → Kind 
 open_found inodes names user (Found inode) flags kind mode moment = open_existing inodes names user inode flags
 open_found inodes names user (Missing at new) flags kind mode moment = open_missing inodes names user (spot_of names at) flags kind mode moment
 
+-- how many inodes and open control blocks it needs room for
+abbrev pub needed : Lookup → ℕ
+needed (Found inode) = 1
+needed (Missing at new) = 2
+
 -- an open, once it was looked up what it opens
 abbrev pub looked_up : Inodes → Names → ℕ → Result Lookup Errno → OFlags → Kind → ℕ → ℕ → Result Opening Errno
 looked_up inodes names user lookup flags kind mode moment = do

@@ -1,10 +1,10 @@
 //! An open of a path, in two phases: a manager makes between them what it needs, while everything is as it was.
 
-ghost use Rattle.std.specs.Prelude.{◌≡◌, ℕ, None, Ok, IfOk, IsOk, OnErr};
+ghost use Rattle.std.specs.Prelude.{◌≡◌, ◌-◌, ◌≤◌, ℕ, None, Ok, IfOk, IsOk, OnOk, OnErr, max};
 ghost use Rattle.std.specs.FinMap.{get};
 ghost use Rattle.qx_iofunc.specs.Fits.{Fits};
 ghost use Rattle.qx_iofunc.specs.Given.{opening};
-ghost use Rattle.qx_iofunc.specs.Lookups.{IsAllowed, looked_up, open_found};
+ghost use Rattle.qx_iofunc.specs.Lookups.{IsAllowed, looked_up, needed, open_found};
 ghost use Rattle.qx_iofunc.specs.Makes.{may_make};
 ghost use Rattle.qx_machine.specs.Names as of_names;
 ghost use Rattle.qx_machine.specs.Names.{under};
@@ -74,6 +74,8 @@ pub fn open(
     requires allowed { IsAllowed inodes.old.inodes names.old user.0 flags lookup }
     ensures opened { IfOk result (λ o. Ok (opening inodes.new.inodes names.new o) ≡ open_found inodes.old.inodes names.old user.0 lookup.entry flags kind mode moment) }
     ensures err { OnErr result ((inodes.new.inodes ≡ inodes.old.inodes) × (names.new ≡ names.old)) }
+    ensures room { OnOk result (inodes.new.room ≡ inodes.old.room - needed lookup.entry) }
+    ensures spare { inodes.new.room ≤ max inodes.old.room (needed lookup.entry) }
     ensures fits { Fits inodes.new.inodes names.new }
 {
     match lookup {
@@ -96,6 +98,8 @@ fn open_existing(
     requires allowed { IsOk (machine.open_existing inodes.old.inodes names.now user.0 inode flags) }
     ensures opened { IfOk result (λ o. Ok (opening inodes.new.inodes names.now o) ≡ machine.open_existing inodes.old.inodes names.now user.0 inode flags) }
     ensures err { OnErr result (inodes.new.inodes ≡ inodes.old.inodes) }
+    ensures room { OnOk result (inodes.new.room ≡ inodes.old.room - 1) }
+    ensures spare { inodes.new.room ≤ max inodes.old.room 1 }
     ensures fits { Fits inodes.new.inodes names.now }
 {
     inodes.reserve(1)?;
@@ -124,6 +128,8 @@ fn open_missing(
     requires judged { may_make inodes.old.inodes user.0 at.parent flags ≡ Ok new }
     ensures opened { IfOk result (λ o. Ok (opening inodes.new.inodes names.new o) ≡ machine.open_missing inodes.old.inodes names.old user.0 (spot_of names.old at.entry) flags kind mode moment) }
     ensures err { OnErr result ((inodes.new.inodes ≡ inodes.old.inodes) × (names.new ≡ names.old)) }
+    ensures room { OnOk result (inodes.new.room ≡ inodes.old.room - 2) }
+    ensures spare { inodes.new.room ≤ max inodes.old.room 2 }
     ensures fits { Fits inodes.new.inodes names.new }
 {
     inodes.reserve(2)?;

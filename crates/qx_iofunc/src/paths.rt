@@ -1,6 +1,6 @@
 //! Other messages to a path.
 
-ghost use Rattle.std.specs.Prelude.{◌≡◌, IfOk, IsOk, OnErr};
+ghost use Rattle.std.specs.Prelude.{◌≡◌, ◌-◌, ◌≤◌, IfOk, IsOk, OnOk, OnErr, max};
 ghost use Rattle.qx_iofunc.specs.Fits.{Fits, FitsBut};
 ghost use Rattle.qx_iofunc.specs.Given.{naming, status_of};
 ghost use Rattle.qx_machine.specs.Opening as machine;
@@ -45,6 +45,8 @@ pub fn mkdir(
     ensures kept { IfOk result (λ r. OnErr r ((inodes.new.inodes ≡ inodes.old.inodes) × (names.new ≡ names.old))) }
     ensures err { OnErr result ((inodes.new.inodes ≡ inodes.old.inodes) × (names.new ≡ names.old)) }
     ensures wanted { OnErr result (IsOk (machine.make_directory inodes.old.inodes names.old user.0 root rest.now mode moment)) }
+    ensures room { IfOk result (λ r. OnOk r (inodes.new.room ≡ inodes.old.room - 1)) }
+    ensures spare { inodes.new.room ≤ max inodes.old.room 1 }
     ensures fits { Fits inodes.new.inodes names.new }
 {
     let at = match names.spot(inodes, user, root, rest, Errno::EEXIST) {

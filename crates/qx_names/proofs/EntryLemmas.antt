@@ -4,16 +4,15 @@ use Rattle.std.specs.Cmp.Lexicographic.{slice_cmp, lists_total, nat_list_cmp_tot
 use Rattle.std.specs.Cmp.{nat_cmp_total, tied_itself}
 use Rattle.std.specs.FinMap as map
 use Rattle.std.specs.FinMap.{entries, entries_sorted, get, get-entries}
-use Rattle.std.specs.FinMap.Entries.{below_all, find, is_sorted, same_entries}
-use Rattle.std.specs.List.{flat_map}
-use Rattle.std.specs.Ordering.{eq_by_cmp, is_eq, is_lt, nat_cmp, ordering_then}
+use Rattle.std.specs.FinMap.Entries.{find, same_entries}
+use Rattle.std.specs.Ordering.{eq_by_cmp, is_eq, ordering_then}
 use Rattle.std.specs.declared.cmp.Ordering.{Ordering}
 use Rattle.std.specs.declared.cmp.Ordering.TheVariants.{Less, Equal, Greater}
-use Rattle.std.proofs.Common.{◌≡◌, Bool, true, false, ◌&&◌, T, cond, ap, refl, sym, ◌∙◌, subst, arith}
-use Rattle.std.proofs.lemmas.Bool.{eq-eqb, eqb-true}
+use Rattle.std.proofs.Common.{◌≡◌, Bool, true, false, cond, ap, refl, sym, ◌∙◌, arith}
+use Rattle.std.proofs.lemmas.Bool.{eq-eqb}
 use Rattle.qx_machine.specs.Listings.{HasAtMostOnePath}
 use Rattle.qx_machine.specs.Names.{Key, Names, is_there, key_cmp, names_in, under}
-use Rattle.qx_machine.proofs.Directories.{name_cmp, names-pairs, pair_in, pairs_in, sorted_pairs, there_is}
+use Rattle.qx_machine.proofs.Directories.{name_cmp, names-pairs, pairs_in, sorted_pairs, there_is}
 use Rattle.qx_names.specs.Folders.{Folder}
 use Rattle.qx_names.specs.Paths.{IsUnnamed, path_of}
 use Rattle.qx_names.specs.Shows.{Shows, key_total, key-IsAntisymmetric}

@@ -1,16 +1,19 @@
 -- The names that are kept beside the directories, call by call.
-use Rattle.std.specs.Prelude.{ℕ, Result, Ok, Err, OnOk, OnErr, List, [], ◌∷◌, ◌++◌, Option, None, Some, IfSome, length, map as mapped, slice_get}
+use Rattle.std.specs.Prelude.{ℕ, Result, Ok, Err, OnOk, OnErr, List, [], ◌∷◌, ◌++◌, Option, None, Some, IfSome, if◌then◌else◌, length, map as mapped, nat_eq, slice_get}
+use Rattle.std.specs.Cmp.{nat_eq_equiv}
 use Rattle.std.specs.Cmp.Lexicographic.{slice_cmp}
+use Rattle.std.specs.List.{IsDistinct, list_any}
 use Rattle.std.specs.Ordering.{nat_cmp}
 use Rattle.std.specs.FinMap as map
 use Rattle.std.specs.declared.alloc.AllocError.{AllocError}
-use Rattle.std.proofs.Common.{◌≡◌, ap, refl, sym, subst, ◌∙◌, arith}
-use Rattle.qx_machine.specs.Names.{Key, Names, names_in, under, with_root}
+use Rattle.std.proofs.Common.{◌≡◌, Bool, true, false, ap, refl, sym, subst, ◌∙◌, arith}
+use Rattle.std.proofs.lemmas.Map.Keys.{IsDistinct-push}
+use Rattle.qx_machine.specs.Names.{Key, Names, names_in, root_key, under, with_root}
 use Rattle.qx_names.specs.Folders.{Changes, Folder, entry_at, entry_in}
 use Rattle.qx_names.specs.Paths.{IsNamed, IsUnnamed, path_of}
 use Rattle.qx_names.specs.Shows.{Shows, is_root, shown_names}
 use Rattle.qx_names.proofs.EntryLemmas.{empty_alone, names_are_keys}
-use Rattle.qx_names.proofs.ShowsLemmas.{Shows-empty, Shows-insert, Shows-push, Shows-remove, names_shown, unnamed_now}
+use Rattle.qx_names.proofs.ShowsLemmas.{Shows-empty, Shows-insert, Shows-push, Shows-remove, names_shown, root_shown, unnamed_now}
 
 no_entries : (es : List (List ℕ × ℕ)) → length es ≡ 0 → es ≡ []
 no_entries [] e = refl
@@ -18,6 +21,10 @@ no_entries (entry ∷ es) e = let nothing : ⊥ = omega (arith, e) in absurd not
 
 keys-empty : map.keys (map.empty {X = ℕ} {R = slice_cmp nat_cmp}) ≡ []
 keys-empty = ap (mapped (λ entry. entry.0)) (no_entries (map.entries (map.empty {X = ℕ} {R = slice_cmp nat_cmp})) (sym (map.len-entries map.empty) ∙ map.len-empty (slice_cmp nat_cmp) ℕ))
+
+looked_for : (roots : List ℕ) (root : ℕ) → list_any (nat_eq root) roots ≡ is_root roots root
+looked_for [] root = refl
+looked_for (first ∷ roots) root = rw (nat_eq_equiv.symm root first, looked_for roots root) refl
 
 -- nothing is named at first
 pub new_shows : (roots : List ℕ) (folders : List Folder) → roots ≡ [] → folders ≡ [] → Shows (is_root roots) (entry_at folders) map.empty
@@ -30,6 +37,13 @@ module _ (roots : List ℕ) (folders : List Folder) (kept : (names : Names) × S
   -- the directories give the same entries
   pub same_shows : (new : List Folder) → entry_at new ≡ entry_at folders → Shows (is_root roots) (entry_at new) now
   same_shows new e = subst (λ entry. Shows (is_root roots) entry now) (sym e) shows_now
+
+  is_new : (root : ℕ) → IsUnnamed now root → (b : Bool) → is_root roots root ≡ b → is_root roots root ≡ false
+  is_new root unnamed true e = absurd (unnamed (root_key root) (root_shown (is_root roots) (entry_at folders) now shows_now root ∙ ap (λ b. if b then Some root else None) e))
+  is_new root unnamed false e = e
+
+  pub rooted_once : (new : List ℕ) (root : ℕ) → new ≡ roots ++ root ∷ [] → IsUnnamed now root → IsDistinct nat_eq roots → IsDistinct nat_eq new
+  rooted_once new root e unnamed once = rw e (IsDistinct-push nat_eq_equiv roots root once (looked_for roots root ∙ is_new root unnamed (is_root roots root) refl))
 
   pub root_shows : (new : List ℕ) (root : ℕ) → new ≡ roots ++ root ∷ [] → IsUnnamed now root → Shows (is_root new) (entry_at folders) (with_root now root)
   root_shows new root e unnamed = subst (λ rs. Shows (is_root rs) (entry_at folders) (with_root now root)) (sym e) (Shows-push roots (entry_at folders) now shows_now root unnamed)

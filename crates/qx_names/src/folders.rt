@@ -1,4 +1,4 @@
-ghost use Rattle.std.specs.Prelude.{◌≡◌, ◌≤◌, None, Some, OnOk, OnErr, length, slice_get};
+ghost use Rattle.std.specs.Prelude.{◌≡◌, ◌+◌, ◌≤◌, None, Some, OnOk, OnErr, length, max, slice_get};
 ghost use Rattle.std.specs.Option.{option_copied};
 ghost use Rattle.qx_names.specs.Folders.{Changes, entry_at};
 
@@ -28,6 +28,8 @@ pub fn put(
 ) -> Result<(), AllocError>
     ensures ok { OnOk result (Changes (entry_at folders.old.items) (entry_at folders.new.items) directory name.now (Some inode)) }
     ensures err { OnErr result (entry_at folders.new.items ≡ entry_at folders.old.items) }
+    ensures len { OnOk result (length folders.new.items ≡ max (length folders.old.items) (directory + 1)) }
+    ensures few { length folders.new.items ≤ max (length folders.old.items) (directory + 1) }
 {
     grow(folders, directory as usize + 1)?;
     let alloc = *folders.allocator();
@@ -36,7 +38,8 @@ pub fn put(
 
 /// Makes directories with no entries, up to so many.
 fn grow(folders: &mut Vec<Folder>, count: usize) -> Result<(), AllocError>
-    ensures len { OnOk result (count ≤ length folders.new.items) }
+    ensures len { OnOk result (length folders.new.items ≡ max (length folders.old.items) count) }
+    ensures err { OnErr result (length folders.new.items ≡ length folders.old.items) }
     ensures same { entry_at folders.new.items ≡ entry_at folders.old.items }
 {
     let alloc = *folders.allocator();

@@ -31,6 +31,8 @@ pub struct Names {
 }
 
 impl Model for Names {
+    ghost use Rattle.std.specs.List.{IsDistinct};
+    ghost use Rattle.std.specs.Prelude.{nat_eq};
     ghost use Rattle.qx_machine.specs.Names.{Names as Contents};
     ghost use Rattle.qx_names.specs.Folders.{entry_at};
     ghost use Rattle.qx_names.specs.Paths.{names_code};
@@ -41,6 +43,8 @@ impl Model for Names {
     ghost coded = { names_code };
 
     ghost view = { λ n. shown_names (is_root n.roots.items) (entry_at n.folders.items) n.kept };
+
+    ghost invariant = { λ n. IsDistinct nat_eq n.roots.items };
 }
 
 impl Names {

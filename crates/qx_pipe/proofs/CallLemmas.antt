@@ -14,14 +14,16 @@ use Rattle.qx_machine.specs.declared.rows.Sides.{Sides}
 use Rattle.qx_machine.specs.Pipes.{After, Pipe, all_answered, and_then, cancel, clean, clean_read, clean_write, dismissed, first_answered, fits, nobody_answered, one_answered, pipe_of, portion, read, readers_dismissed, readers_ended, release, removed, served, settle, staying, waiting_unless, with_reader, with_writer, without_bytes, write, writers_dismissed, writers_ended}
 use Rattle.qx_pipe.specs.Laws.{AnswersOnce, IsSettled, answers_to, waiting_of}
 use Rattle.qx_pipe.proofs.LawLemmas.{conserves, is_settled}
-use Rattle.qx_pipe.proofs.PipeLemmas.{not_zero}
+
+pub not_zero : (n : ℕ) → (n ≡ 0 → ⊥) → nat_eq n 0 ≡ false
+not_zero n differs = elim (eqb_tells n 0) [ inl same ↦ absurd (differs same.1) | inr other ↦ other.0 ]
 
 -- ---- who waits is answered once or waits on
 
 module _ {W : Type 0} (which : W → Bool) where
   -- answered or waiting are those who waited, and so many more
-  record Counted (more : ℕ) (p : Pipe W) (after : After W) : Type 0 where
-    counted : answers_to which after.answers + waiting_of which after.pipe ≡ more + waiting_of which p
+  pub record Counted (more : ℕ) (p : Pipe W) (after : After W) : Type 0 where
+    pub counted : answers_to which after.answers + waiting_of which after.pipe ≡ more + waiting_of which p
 
   abbrev one : W → ℕ
   one who = count_by which (who ∷ [])
@@ -65,7 +67,7 @@ module _ {W : Type 0} (which : W → Bool) where
     counted-served [] readers [] = counted-nobody (pipe_of [] readers [])
     counted-served (b ∷ bs) [] [] = counted-nobody (pipe_of (b ∷ bs) [] [])
 
-    counted-settle : (p : Pipe W) → Counted 0 p (settle wanted offered p)
+    pub counted-settle : (p : Pipe W) → Counted 0 p (settle wanted offered p)
     unfolding settle
     counted-settle p = counted-served p.bytes p.readers p.writers
 

@@ -1,9 +1,5 @@
-//! Pipes: bytes, and who waits to read and to write them, in two lists of a table that is shared.
+//! One pipe of a user: its bytes, and the calls that wait to read and to write them.
 #![tactic(auto)]
 
-mod answers;
 pub mod laws;
-mod leaving;
 pub mod pipe;
-
-pub use pipe::Pipe;

@@ -1,184 +1,149 @@
--- The pipes of a user, as one of them changes.
-use Rattle.std.proofs.Common.{◌≡◌, ◌≢◌, ◌⊎◌, inl, inr, ℕ, zero, suc, Bool, true, false, List, [], ◌∷◌, length, Option, None, Some, is_some, option_map, unwrap_or, refl, sym, ap, ◌∙◌}
-use Rattle.std.specs.Prelude.{map as mapped, position, slice_set, Result, Ok}
-use Rattle.std.specs.FinMap as map
-use Rattle.std.proofs.lemmas.Bool.Decides.{eqb_tells}
-use Rattle.qx_types.specs.declared.errno.Errno.{Errno}
-use Rattle.qx_types.specs.declared.errno.Errno.TheVariants.{EBADF, EISDIR}
-use Rattle.qx_types.specs.declared.flags.OFlags.{OFlags}
-use Rattle.qx_types.specs.declared.flags.TheConstants.OFlags.{READ, WRITE}
-use Rattle.qx_lists.specs.Table.{Table, nodes_of}
-use Rattle.qx_machine.proofs.Places.{row_at-set_other}
-use Rattle.qx_machine.specs.declared.rows.Ocb.{Ocb}
-use Rattle.qx_machine.specs.Inodes.{Inodes, has, readers_of, writers_of}
-use Rattle.qx_machine.specs.Judgements.{◌>>=◌, found, need}
-use Rattle.qx_machine.specs.PipeManager.{Pipes, PipesGiven, cancel_waiting, filled, holds, manner_of, read_pipe, with_after, write_pipe}
-use Rattle.qx_machine.specs.Pipes.{After, Pipe, cancel, read, write}
-use Rattle.qx_machine.specs.Rows.{row_at, with_row}
-use Rattle.qx_attr.specs.Counts.{Reserved}
+-- The pipes of a user among those of all, as one of them changes.
+use Rattle.std.proofs.Common.{◌≡◌, ℕ, ◌<◌, ◌++◌, Bool, true, false, List, [], ◌∷◌, length, map, Option, None, Some, IsSome, option_map, unwrap_or, Result, Ok, refl, sym, ap, ◌∙◌, append-nil, arith}
+use Rattle.std.specs.Prelude.{slice_set}
+use Rattle.std.specs.List.{filter}
+use Rattle.std.proofs.Math.ListN.{length-set}
+use Rattle.std.proofs.lemmas.Grind.{common_steps}
+use Rattle.std.proofs.lemmas.List.{get_or-set_same, set-get_or, set-set}
 use Rattle.qx_attr.specs.Flags.{block_for}
-use Rattle.qx_attr.proofs.CountLemmas.{row-set_same}
-use Rattle.qx_attr.proofs.TableLemmas.{same_but}
-use Rattle.qx_process.proofs.RowLemmas.{set-row}
-use Rattle.qx_pipe.specs.Pipe.{Done, IsPipeOf, PipeRow, at_node, pipe_in}
-use Rattle.qx_pipes.specs.Pipes.{IsListIn, IsListOf, IsPipesOf, PipeRows, PipesBecame, pipes_in, sized}
-
--- a pipe's row, seen through the table
-pub row-seen : {T : Type 0} (t : Table T) (rows : List (Option PipeRow)) (inode : ℕ) → row_at (mapped (option_map (pipe_in t)) rows) inode ≡ option_map (pipe_in t) (row_at rows inode)
-row-seen t [] inode = refl
-row-seen t (row ∷ rows) zero = refl
-row-seen t (row ∷ rows) (suc inode) = row-seen t rows inode
+use Rattle.qx_attr.proofs.CountLemmas.{within_table}
+use Rattle.qx_machine.proofs.Places.{set-row_at}
+use Rattle.qx_machine.specs.declared.rows.Ocb.{Ocb}
+use Rattle.qx_machine.specs.declared.rows.WaitingCall.{WaitingCall}
+use Rattle.qx_machine.specs.Inodes.{Inodes, has, is_unused}
+use Rattle.qx_machine.specs.Judgements.{◌>>=◌, found, need}
+use Rattle.qx_machine.specs.PipeManager as machine
+use Rattle.qx_machine.specs.PipeManager.{Pipes, PipesGiven, is_gone, no_pipes, nobody_answered, offered, wanted, with_pipe, without_unused}
+use Rattle.qx_machine.specs.Pipes as of_pipe
+use Rattle.qx_machine.specs.Pipes.{After, Pipe, pipe_of, removed}
+use Rattle.qx_machine.specs.Rows.{row_at, with_row}
+use Rattle.qx_pipes.specs.Pipes.{Stands, sized}
+use Rattle.qx_process.proofs.RowLemmas.{row_at-get_or}
+use Rattle.qx_shared.specs.Shared.{HasPipe, Shared, done, inodes_after, pipe_at, pipes_of, shared_after, users_given, went_in, with_after, with_given, with_pipes, with_row_at}
+use Rattle.qx_types.specs.declared.errno.Errno.{Errno}
+use Rattle.qx_types.specs.declared.errno.Errno.TheVariants.{EBADF}
+use Rattle.qx_types.specs.declared.flags.OFlags.{OFlags}
 
 -- a row that a change leaves as it is
 pub with_row-same : {A : Type 0} (rows : List (Option A)) (n : ℕ) (f : A → A) (x : A) → row_at rows n ≡ Some x → f x ≡ x → with_row rows n f ≡ rows
-with_row-same rows n f x is same = ap (λ o. slice_set rows n (option_map f o)) is ∙ ap (λ y. slice_set rows n (Some y)) same ∙ set-row rows n x is
+with_row-same rows n f x is same = ap (λ o. slice_set rows n (option_map f o)) is ∙ ap (λ y. slice_set rows n (Some y)) same ∙ ap (slice_set rows n) (sym is) ∙ set-row_at rows n
 
--- what a judgement of a block leads to
-block-then : {A : Type 0} (inodes : Inodes) (number : ℕ) (flag : OFlags) (rest : Ocb → Result A Errno) → (found (row_at inodes.blocks number) EBADF >>= λ block. need (has block.flags flag) EBADF >>= λ allowed. rest block) ≡ (block_for inodes number flag >>= rest)
-block-then {A} inodes number flag rest = by_row (row_at inodes.blocks number)
-  where
-    by_flag : (b : Bool) (block : Ocb) → (need b EBADF >>= λ allowed. rest block) ≡ ((need b EBADF >>= λ allowed. Ok block) >>= rest)
-    by_flag true block = refl
-    by_flag false block = refl
+-- what is done over a block that was opened with a flag
+block-then : {A : Type 0} (inodes : Inodes) (number : ℕ) (flag : OFlags) (block : Ocb) (rest : Ocb → Result A Errno) → Ok block ≡ block_for inodes number flag → (found (row_at inodes.blocks number) EBADF >>= λ block. need (has block.flags flag) EBADF >>= λ allowed. rest block) ≡ rest block
+block-then inodes number flag block rest is = grind (arith, common_steps)
 
-    by_row : (o : Option Ocb) → (found o EBADF >>= λ block. need (has block.flags flag) EBADF >>= λ allowed. rest block) ≡ ((found o EBADF >>= λ block. need (has block.flags flag) EBADF >>= λ allowed. Ok block) >>= rest)
-    by_row None = refl
-    by_row (Some block) = by_flag (has block.flags flag) block
+there-or : {A : Type 0} (row : Option A) (none : A) → IsSome row → row ≡ Some (unwrap_or row none)
+there-or row none is = grind (arith, common_steps)
 
-module _ {W : Type 0} (wanted : W → ℕ) (offered : W → List ℕ) (gone : W → Bool) (inodes : Inodes) (pipes : Pipes W) (number : ℕ) (is_asked : Bool) (who : W) (moment : ℕ) (block : Ocb) (pipe : Pipe W) where
-  pub read-open : Ok block ≡ block_for inodes number READ → row_at pipes block.inode ≡ Some pipe → read_pipe wanted offered gone inodes pipes number is_asked who moment ≡ Ok (with_after wanted offered gone inodes pipes block.inode moment (read wanted offered gone (manner_of (writers_of inodes block.inode) block is_asked) who pipe))
-  read-open is at =
-      let rest : Ocb → Result (PipesGiven W) Errno = λ block. found (row_at pipes block.inode) EISDIR >>= λ pipe. Ok (with_after wanted offered gone inodes pipes block.inode moment (read wanted offered gone (manner_of (writers_of inodes block.inode) block is_asked) who pipe)) in
-      block-then inodes number READ rest ∙ ap (λ judged. judged >>= rest) (sym is) ∙ rw at refl
+nobody-stays : {A : Type 0} (all : List A) → filter (λ who. false) all ≡ []
+nobody-stays [] = refl
+nobody-stays (who ∷ all) = nobody-stays all
 
-  pub write-open : Ok block ≡ block_for inodes number WRITE → row_at pipes block.inode ≡ Some pipe → write_pipe wanted offered gone inodes pipes number is_asked who moment ≡ Ok (with_after wanted offered gone inodes pipes block.inode moment (write wanted offered gone (manner_of (readers_of inodes block.inode) block is_asked) who pipe))
-  write-open is at =
-      let rest : Ocb → Result (PipesGiven W) Errno = λ block. found (row_at pipes block.inode) EBADF >>= λ pipe. Ok (with_after wanted offered gone inodes pipes block.inode moment (write wanted offered gone (manner_of (readers_of inodes block.inode) block is_asked) who pipe)) in
-      block-then inodes number WRITE rest ∙ ap (λ judged. judged >>= rest) (sym is) ∙ rw at refl
+-- what the machine gives is done
+pub record IsDone {E : Type 0} (c : Shared) (user : ℕ) (inodes : Inodes) (meant : Result (PipesGiven WaitingCall) E) (new : Shared) (now : Inodes) : Type 0 where
+  pub done_is : Ok tt ≡ done meant
+  pub shared_is : new ≡ shared_after c user meant
+  pub inodes_are : now ≡ inodes_after inodes meant
 
--- an unblock of who waits first in the pipe of an inode
-pub cancel-waits : {W : Type 0} (wanted : W → ℕ) (offered : W → List ℕ) (gone : W → Bool) (inodes : Inodes) (pipes : Pipes W) (which : W → Bool) (moment inode : ℕ) (pipe : Pipe W) → position (holds which) pipes ≡ Some inode → row_at pipes inode ≡ Some pipe → cancel_waiting wanted offered gone inodes pipes which moment ≡ Ok (with_after wanted offered gone inodes pipes inode moment (cancel wanted offered gone which pipe))
-cancel-waits wanted offered gone inodes pipes which moment inode pipe first at = rw first (rw at refl)
+module _ (c : Shared) (user : ℕ) where
+  -- no pipe changes
+  pub given-same : (pipes : Pipes WaitingCall) → pipes ≡ pipes_of c user → c ≡ with_pipes c user pipes []
+  given-same pipes same = λ i. record c { pipes = sym (ap (slice_set c.pipes user) same ∙ set-get_or c.pipes user no_pipes) i; answered = sym (append-nil c.answered) i }
 
--- one pipe became what the machine says
-module _ {T : Type 0} (replied : T → ℕ → List ℕ → T) (failed : T → Errno → T) (wanted : T → ℕ) (bytes : T → List ℕ) (gone : T → Bool) (t u : Table T) (p : PipeRows) (answered inode : ℕ) (row next : PipeRow) (flag : Bool) (after : After ℕ)
-    (pipes : IsPipesOf t p answered) (at : row_at p inode ≡ Some row) (done : Done replied failed bytes t u row next answered flag after) where
-  abbrev now_rows : PipeRows
-  now_rows = slice_set p inode (Some next)
+  -- one row changes
+  pub given-row : (inode : ℕ) (row : Option (Pipe WaitingCall)) → with_pipes c user (with_pipe (pipes_of c user) inode row) [] ≡ with_row_at c user inode row
+  given-row inode row = λ i. record (with_row_at c user inode row) { answered = append-nil c.answered i }
 
-  now-same : row_at now_rows inode ≡ Some next
-  now-same = row-set_same p inode row next at
+  pub there : (inode : ℕ) → HasPipe c user inode → row_at (pipes_of c user) inode ≡ Some (pipe_at c user inode)
+  there inode has = there-or (row_at (pipes_of c user) inode) (pipe_of [] [] []) has
 
-  now-other : (other : ℕ) → other ≢ inode → row_at now_rows other ≡ row_at p other
-  now-other other differs = row_at-set_other p inode other (Some next) differs
+  -- an inode is still used, or had no pipe
+  pub unused-kept : (inodes : Inodes) (inode : ℕ) (unused : Bool) → is_unused inodes inode (row_at inodes.attributes inode) ≡ unused → (unused ≡ true → row_at (pipes_of c user) inode ≡ None)
+      → c ≡ with_given c user (without_unused (nobody_answered 0 inodes (pipes_of c user)) inode)
+  unused-kept inodes inode false is none = given-same _ (rw is refl)
+  unused-kept inodes inode true is none = given-same _ (rw is (ap (slice_set (pipes_of c user) inode) (sym (none refl)) ∙ set-row_at (pipes_of c user) inode))
 
-  -- the lists of another pipe are as before
-  kept : (other list : ℕ) (one : PipeRow) → other ≢ inode → row_at p other ≡ Some one → IsListOf one list → map.get u.lists list ≡ map.get t.lists list
-  kept other list one differs is own =
-      let pipe = pipes.each other one is in
-      done.became.gave.elsewhere list
-      (λ same. differs (pipes.apart other inode list one row is at own (inl (sym same))))
-      (λ same. differs (pipes.apart other inode list one row is at own (inr (sym same))))
-      (λ same. elim own [ inl r ↦ pipe.apart_readers (sym (r ∙ same)) | inr w ↦ pipe.apart_writers (sym (w ∙ same)) ])
+  -- a row that was free is free again
+  pub row-free : (inode : ℕ) → row_at (pipes_of c user) inode ≡ None → with_row_at c user inode None ≡ c
+  row-free inode none =
+      λ i. record c { pipes = (ap (slice_set c.pipes user) (ap (slice_set (pipes_of c user) inode) (sym none) ∙ set-row_at (pipes_of c user) inode) ∙ set-get_or c.pipes user no_pipes) i }
 
-  seen-other : (other : ℕ) → other ≢ inode → option_map (pipe_in u) (row_at p other) ≡ option_map (pipe_in t) (row_at p other)
-  seen-other other differs = by_row (row_at p other) refl
-    where
-      by_row : (o : Option PipeRow) → row_at p other ≡ o → option_map (pipe_in u) o ≡ option_map (pipe_in t) o
-      by_row None is = refl
-      by_row (Some one) is =
-          let readers : nodes_of u one.readers ≡ nodes_of t one.readers = ap (λ o. unwrap_or o []) (kept other one.readers one differs is (inl refl)) in
-          let writers : nodes_of u one.writers ≡ nodes_of t one.writers = ap (λ o. unwrap_or o []) (kept other one.writers one differs is (inr refl)) in
-          rw (readers, writers) refl
-
-  pub pipes-seen : pipes_in u now_rows ≡ slice_set (pipes_in t p) inode (Some after.pipe)
-  pipes-seen =
-      same_but (option_map (pipe_in t)) (option_map (pipe_in u)) p inode (Some next) seen-other
-      ∙ ap (λ pipe. slice_set (pipes_in t p) inode (Some pipe)) done.became.pipe
-
-  -- what a pipe's row was
-  record Was (other : ℕ) (one : PipeRow) : Type 0 where
-    pub was : PipeRow
-    pub is : row_at p other ≡ Some was
-    pub readers : one.readers ≡ was.readers
-    pub writers : one.writers ≡ was.writers
-
-  was-row : (other : ℕ) (one : PipeRow) → row_at now_rows other ≡ Some one → Was other one
-  was-row other one is = elim (eqb_tells other inode) [
-    | inl same ↦
-        let here : Some next ≡ Some one = sym now-same ∙ ap (row_at now_rows) (sym same.1) ∙ is in
-        let own : next ≡ one = cc in
-        record { was = row; is = ap (row_at p) same.1 ∙ at; readers = ap (λ r. r.readers) (sym own) ∙ done.became.same_readers; writers = ap (λ r. r.writers) (sym own) ∙ done.became.same_writers }
-    | inr differs ↦ record { was = one; is = sym (now-other other differs.1) ∙ is; readers = refl; writers = refl }
-  ]
-
-  was-list : (other list : ℕ) (one : PipeRow) (w : Was other one) → IsListOf one list → IsListOf w.was list
-  was-list other list one w own = elim own [ inl r ↦ inl (sym w.readers ∙ r) | inr s ↦ inr (sym w.writers ∙ s) ]
-
-  each-now : (other : ℕ) (one : PipeRow) → row_at now_rows other ≡ Some one → IsPipeOf u one answered
-  each-now other one is = elim (eqb_tells other inode) [
-    | inl same ↦
-        let here : Some next ≡ Some one = sym now-same ∙ ap (row_at now_rows) (sym same.1) ∙ is in
-        let own : next ≡ one = cc in
-        rw (← own) done.became.of
-    | inr differs ↦
-        let before : row_at p other ≡ Some one = sym (now-other other differs.1) ∙ is in
-        let pipe = pipes.each other one before in
-        record {
-          readers = ap is_some (kept other one.readers one differs.1 before (inl refl)) ∙ pipe.readers;
-          writers = ap is_some (kept other one.writers one differs.1 before (inr refl)) ∙ pipe.writers;
-          into = done.became.of.into;
-          two = pipe.two;
-          apart_readers = pipe.apart_readers;
-          apart_writers = pipe.apart_writers;
+  module _ (within : user < length c.pipes) where
+    -- what is given first, and then as an inode goes
+    pub given-then : (given : PipesGiven WaitingCall) (inode : ℕ)
+        → with_given (with_given c user given) user (without_unused (nobody_answered 0 given.inodes (pipes_of (with_given c user given) user)) inode) ≡ with_given c user (without_unused given inode)
+    given-then given inode =
+        let pipes : pipes_of (with_given c user given) user ≡ given.pipes = get_or-set_same c.pipes user given.pipes no_pipes within in
+        let left : Pipes WaitingCall → Pipes WaitingCall = λ pipes. (without_unused (record given { pipes = pipes }) inode).pipes in
+        λ i. record c {
+          pipes = (ap (λ pipes. slice_set (slice_set c.pipes user given.pipes) user (left pipes)) pipes ∙ set-set c.pipes user given.pipes (left given.pipes)) i;
+          answered = append-nil (c.answered ++ map (users_given user) given.answers) i;
         }
-  ]
 
-  pub pipes-of : IsPipesOf u now_rows answered
-  pipes-of = record {
-    into = done.became.of.into;
-    each = each-now;
-    apart = λ one other list first second first_is second_is first_own second_own.
-        let a = was-row one first first_is in
-        let b = was-row other second second_is in
-        pipes.apart one other list a.was b.was a.is b.is (was-list one list first a first_own) (was-list other list second b second_own);
-  }
+    -- the row that stands there then
+    pub row-here : (inode : ℕ) (row : Option (Pipe WaitingCall)) → inode < length (pipes_of c user) → row_at (pipes_of (with_row_at c user inode row) user) inode ≡ row
+    row-here inode row inside =
+        ap (λ pipes. row_at pipes inode) (get_or-set_same c.pipes user (with_pipe (pipes_of c user) inode row) no_pipes within)
+        ∙ row_at-get_or (with_pipe (pipes_of c user) inode row) inode
+        ∙ get_or-set_same (pipes_of c user) inode row None inside
 
-  pub pipes-gone : (list : ℕ) → IsListIn p list → IsListIn now_rows list ⊎ (map.get u.lists list ≡ None)
-  pipes-gone list of = inl (elim (eqb_tells of.inode inode) [
-    | inl same ↦
-        let here : Some row ≡ Some of.row = sym at ∙ ap (row_at p) (sym same.1) ∙ of.there in
-        let own : row ≡ of.row = cc in
-        record { inode = inode; row = next; there = now-same; own = elim of.own [ inl r ↦ inl (done.became.same_readers ∙ ap (λ r. r.readers) own ∙ r) | inr w ↦ inr (done.became.same_writers ∙ ap (λ r. r.writers) own ∙ w) ] }
-    | inr differs ↦ record { inode = of.inode; row = of.row; there = now-other of.inode differs.1 ∙ of.there; own = of.own }
-  ])
+    -- another row stands there last
+    pub row-last : (inode : ℕ) (row last : Option (Pipe WaitingCall)) → with_row_at (with_row_at c user inode row) user inode last ≡ with_row_at c user inode last
+    row-last inode row last =
+        let between : Pipes WaitingCall = with_pipe (pipes_of c user) inode row in
+        let pipes =
+        ap (λ pipes. slice_set (slice_set c.pipes user between) user (with_pipe pipes inode last)) (get_or-set_same c.pipes user between no_pipes within)
+        ∙ set-set c.pipes user between (with_pipe between inode last)
+        ∙ ap (slice_set c.pipes user) (set-set (pipes_of c user) inode row last) in
+        λ i. record c { pipes = pipes i }
 
-  pub pipes-fresh : (list : ℕ) → IsListIn now_rows list → IsListIn p list ⊎ (map.get t.lists list ≡ None)
-  pipes-fresh list of =
-      let w = was-row of.inode of.row of.there in
-      inl (record { inode = of.inode; row = w.was; there = w.is; own = was-list of.inode list of.row w of.own })
+    -- an empty pipe that was made stands there
+    pub stands-new : (inode : ℕ) (new : Shared) → inode < length (pipes_of c user) → new ≡ with_row_at c user inode (Some (pipe_of [] [] [])) → Stands c new user inode
+    stands-new inode new inside is =
+        let here = row-here inode (Some (pipe_of [] [] [])) inside in
+        rw is (record { there = rw here refl; users = length-set c.pipes user (with_pipe (pipes_of c user) inode (Some (pipe_of [] [] []))); others = row-last inode (Some (pipe_of [] [] [])) })
 
-  pub pipes-elsewhere : (list : ℕ) → ¬ (IsListIn p list) → list ≢ answered → map.get u.lists list ≡ map.get t.lists list
-  pipes-elsewhere list none other =
-      done.became.gave.elsewhere list
-      (λ same. none (record { inode = inode; row = row; there = at; own = inl (sym same) }))
-      (λ same. none (record { inode = inode; row = row; there = at; own = inr (sym same) }))
-      other
+    within-pipes : (inode : ℕ) → HasPipe c user inode → inode < length (pipes_of c user)
+    within-pipes inode has = within_table (pipes_of c user) inode (pipe_at c user inode) (there inode has)
 
-  module _ (inodes now : Reserved) (size moment : ℕ) (size_is : size ≡ length next.bytes) (now_is : now ≡ record inodes { inodes = record inodes.inodes { attributes = with_row inodes.inodes.attributes inode (sized size flag moment) } }) where
-    sized-filled : sized size flag moment ≡ filled (at_node wanted 0 t) (at_node bytes [] t) (at_node gone false t) moment after
-    sized-filled =
-        let count : size ≡ length after.pipe.bytes = size_is ∙ ap (λ pipe. length pipe.bytes) done.became.pipe in
-        rw (count, done.filled_is) refl
+    -- the inode of a pipe to which something was done, once it has the size of the pipe
+    pub sized-after : (inodes now : Inodes) (inode moment : ℕ) (after : After WaitingCall) (filled : Bool) (new : Shared) → HasPipe c user inode → new ≡ with_after c user inode after → filled ≡ went_in after.answers
+        → now ≡ record inodes { attributes = with_row inodes.attributes inode (sized (length (pipe_at new user inode).bytes) filled moment) }
+        → now ≡ (machine.with_after wanted offered is_gone inodes (pipes_of c user) inode moment after).inodes
+    sized-after inodes now inode moment after filled new has became filled_is now_is =
+        let pipe : pipe_at new user inode ≡ after.pipe = ap (λ (c : Shared). pipe_at c user inode) became ∙ ap (λ row. unwrap_or row (pipe_of [] [] [])) (row-here inode (Some after.pipe) (within-pipes inode has)) in
+        now_is ∙ rw (pipe, filled_is) refl
 
-    pub pipes-done : PipesBecame replied failed t u p now_rows now.inodes answered (with_after (at_node wanted 0 t) (at_node bytes [] t) (at_node gone false t) inodes.inodes (pipes_in t p) inode moment after)
-    pipes-done = record {
-      pipes = pipes-seen;
-      inodes_are = ap (λ (m : Reserved). m.inodes) now_is ∙ ap (λ change. record inodes.inodes { attributes = with_row inodes.inodes.attributes inode change }) sized-filled;
-      gave = done.became.gave.gave;
-      nodes = done.became.gave.nodes;
-      elsewhere = λ list not_before not_after. pipes-elsewhere list not_before;
-      gone = pipes-gone;
-      fresh = pipes-fresh;
-      of = pipes-of;
-    }
+    -- what is done over a block that was opened with a flag, where that may be
+    pub over-done : (inodes : Inodes) (number moment : ℕ) (flag : OFlags) (missing : Errno) (doing : Ocb → Pipe WaitingCall → After WaitingCall) (block : Ocb) → Ok block ≡ block_for inodes number flag → HasPipe c user block.inode
+        → (now : Inodes) (filled : Bool) (new : Shared) → new ≡ with_after c user block.inode (doing block (pipe_at c user block.inode)) → filled ≡ went_in (doing block (pipe_at c user block.inode)).answers
+        → now ≡ record inodes { attributes = with_row inodes.attributes block.inode (sized (length (pipe_at new user block.inode).bytes) filled moment) }
+        → IsDone c user inodes (found (row_at inodes.blocks number) EBADF >>= λ block. need (has block.flags flag) EBADF >>= λ allowed. found (row_at (pipes_of c user) block.inode) missing >>= λ pipe. Ok (machine.with_after wanted offered is_gone inodes (pipes_of c user) block.inode moment (doing block pipe))) new now
+    over-done inodes number moment flag missing doing block is has now filled new became filled_is now_is =
+        let rest : Ocb → Result (PipesGiven WaitingCall) Errno = λ block. found (row_at (pipes_of c user) block.inode) missing >>= λ pipe. Ok (machine.with_after wanted offered is_gone inodes (pipes_of c user) block.inode moment (doing block pipe)) in
+        rw (block-then inodes number flag block rest is, there block.inode has) (record { done_is = refl; shared_is = became; inodes_are = sized-after inodes now block.inode moment (doing block (pipe_at c user block.inode)) filled new has became filled_is now_is })
+
+-- a pipe that all calls leave, and then all bytes
+module _ (c : Shared) (user inode : ℕ) (within : user < length c.pipes) (has : HasPipe c user inode) (left : Shared) (left_is : left ≡ with_after c user inode (of_pipe.nobody_answered (removed (λ who. true) (pipe_at c user inode)))) where
+  abbrev nobody : Pipe WaitingCall
+  nobody = removed (λ who. true) (pipe_at c user inode)
+
+  left-row : left ≡ with_row_at c user inode (Some nobody)
+  left-row = left_is ∙ given-row c user inode (Some nobody)
+
+  left-here : row_at (pipes_of left user) inode ≡ Some nobody
+  left-here = ap (λ (c : Shared). row_at (pipes_of c user) inode) left-row ∙ row-here c user within inode (Some nobody) (within-pipes c user within inode has)
+
+  pub left-there : HasPipe left user inode
+  left-there = rw left-here refl
+
+  pub left-empty : (last : Shared) → last ≡ with_after left user inode (of_pipe.nobody_answered (record (pipe_at left user inode) { bytes = [] })) → last ≡ with_row_at c user inode (Some (pipe_of [] [] []))
+  left-empty last last_is =
+      let pipe : pipe_at left user inode ≡ nobody = ap (λ row. unwrap_or row (pipe_of [] [] [])) left-here in
+      let empty : record (pipe_at left user inode) { bytes = [] } ≡ pipe_of [] [] [] =
+      λ i. record { bytes = []; readers = (ap (λ (p : Pipe WaitingCall). p.readers) pipe ∙ nobody-stays (pipe_at c user inode).readers) i; writers = (ap (λ (p : Pipe WaitingCall). p.writers) pipe ∙ nobody-stays (pipe_at c user inode).writers) i } in
+      last_is
+      ∙ given-row left user inode (Some (record (pipe_at left user inode) { bytes = [] }))
+      ∙ ap (λ pipe. with_row_at left user inode (Some pipe)) empty
+      ∙ ap (λ c. with_row_at c user inode (Some (pipe_of [] [] []))) left-row
+      ∙ row-last c user within inode (Some nobody) (Some (pipe_of [] [] []))

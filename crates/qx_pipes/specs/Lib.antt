@@ -1,3 +1,1 @@
-pub mod Lends
 pub mod Pipes
-pub mod Tell

@@ -1,7 +1,8 @@
-//! The pipes of one user: what the pipe manager does to them, to their inodes and to those who wait, in a table that is
-//! shared.
+//! The pipe manager: what messages do to the pipes of a user, to their inodes and names and to the calls that wait.
 #![tactic(auto)]
 
-pub mod pipes;
+pub mod blocks;
+pub mod paths;
 
-pub use pipes::Pipes;
+pub use blocks::{cancel, read, release, seek, write};
+pub use paths::{open, unlink};

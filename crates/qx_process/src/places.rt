@@ -1,6 +1,6 @@
 //! Tables of rows under small numbers: a place for each number, as long as the table has grown.
 
-ghost use Rattle.std.specs.Prelude.{◌≡◌, ◌+◌, ◌<◌, ◌≤◌, ◌^◌, vec_capacity, vec_len, length, IfOk, OnOk, OnErr, OnSome, None, [], ◌∷◌, replicate, slice_set, Some};
+ghost use Rattle.std.specs.Prelude.{◌≡◌, ◌+◌, ◌<◌, ◌≤◌, ◌^◌, vec_capacity, vec_len, length, IfOk, IsOk, OnOk, OnErr, OnSome, None, [], ◌∷◌, replicate, slice_set, Some};
 ghost use Rattle.std.specs.Option.{option_copied};
 ghost use Rattle.qx_machine.specs.Rows.{row_at, lowest_from, put_row};
 
@@ -34,6 +34,7 @@ pub fn lowest_free<T>(places: &[Option<T>], first: usize) -> usize
 pub fn put<T: Drop>(places: &mut Vec<Option<T>>, number: usize, row: T) -> Result<(), AllocError>
     ensures ok { OnOk result (places.new.items ≡ put_row places.old.items number row) }
     ensures err { OnErr result (places.new.items ≡ places.old.items) }
+    ensures within { number < length places.old.items → IsOk result }
 {
     if number >= places.len() {
         places.reserve(1)?;

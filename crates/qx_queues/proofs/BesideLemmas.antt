@@ -59,6 +59,20 @@ get-waiting_lists t lines answered list =
     ∙ find-mapped (map (call_at t)) list (maps.entries (maps.retain_keys t.lists (is_pipes lines answered)))
     ∙ ap (option_map (map (call_at t))) (sym (maps.get-entries (maps.retain_keys t.lists (is_pipes lines answered)) list) ∙ maps.get-retain_keys t.lists (is_pipes lines answered) list (λ other same. ap (is_pipes lines answered) (sym (maps.nat_cmp-IsAntisymmetric list other same))))
 
+-- a list that is not there, and one in which nobody waits
+module _ (t : Table Waiting) (lines : List Line) (answered list : ℕ) where
+  pub waiting-absent : maps.get t.lists list ≡ None → maps.get (waiting_lists t lines answered) list ≡ None
+  waiting-absent absent = get-waiting_lists t lines answered list ∙ elim (cases_Bool (is_pipes lines answered list)) [ inl pipes ↦ rw (pipes, absent) refl | inr off ↦ rw off refl ]
+
+  pub waiting-empty : maps.get (waiting_lists t lines answered) list ≡ Some [] → maps.get t.lists list ≡ Some []
+  waiting-empty none = of (is_pipes lines answered list) (maps.get t.lists list) (sym (get-waiting_lists t lines answered list) ∙ none)
+    where
+      of : (b : Bool) (o : Option (List ℕ)) → option_map (map (call_at t)) (cond b o None) ≡ Some [] → o ≡ Some []
+      of true None is = absurd (cc)
+      of true (Some []) is = refl
+      of true (Some (node ∷ nodes)) is = absurd (cc)
+      of false o is = absurd (cc)
+
 -- a list that is shown is a pipe's, and is there
 pub list_shown : (t : Table Waiting) (lines : List Line) (answered list : ℕ) → is_some (maps.get (waiting_lists t lines answered) list) ≡ true → (is_pipes lines answered list ≡ true) × ContainsList t list
 list_shown t lines answered list is = there_if (map (call_at t)) (is_pipes lines answered list) (maps.get t.lists list) (ap is_some (sym (get-waiting_lists t lines answered list)) ∙ is)

@@ -261,10 +261,6 @@ module _ {A : Type 0} {answered : ℕ} (part : OwnItem → Option A) (thread : T
         absurd (cc)
   ])
 
--- the node of a thread's messages stands in no list, where no message of the thread stands in a line and no call of it is carried
-pub IsFree-message : {answered : ℕ} (t : Table Waiting) (lines : List Line) (node_of : Owner → Option ℕ) (thread : Thread) (node : ℕ) → Kept t lines answered node_of → node_of (Message thread) ≡ Some node → ((number : ℕ) → stands (line_at (map (entries t) lines) number) thread ≡ false) → ((list : ℕ) → has_call (unwrap_or (maps.get (waiting_lists t lines answered) list) []) thread ≡ false) → is_answered (answered_calls t answered) thread ≡ false → IsFree t node
-IsFree-message t lines node_of thread node kept has idle waiting unanswered = IsFree-own as_message thread (Message thread) (reads-message thread) refl t lines node_of node kept has idle (no_call-message t lines node_of thread node kept has waiting unanswered)
-
 -- a thread's message goes out of a line as its node does, and so does the pulse that names a call
 module _ {answered : ℕ} (t : Table Waiting) (lines : List Line) (node_of : Owner → Option ℕ) (thread : Thread) (node : ℕ) (kept : Kept t lines answered node_of) (line : Line) where
   pub message-leaves : node_of (Message thread) ≡ Some node → IsDistinct nat_eq (nodes_in t line) → map (entry_at t) (without node (nodes_in t line)) ≡ line_without thread.proc.user.0 (item.Message thread.proc.num thread.tid) (entries t line)
@@ -282,7 +278,7 @@ module _ {answered : ℕ} (t : Table Waiting) (lines : List Line) (node_of : Own
         (other-unblock thread call other (entry_at t node) names differs) (λ entry at. owner-this thread.proc.user.0 (item.Unblock thread.proc.num thread.tid call) entry at)
 
 -- what holds of no items and of the items of each line, holds of the line of each number
-at_any : (t : Table Waiting) (P : List Queued → Type 0) → P [] → ((line : Line) → P (entries t line)) → (lines : List Line) (number : ℕ) → P (line_at (map (entries t) lines) number)
+pub at_any : (t : Table Waiting) (P : List Queued → Type 0) → P [] → ((line : Line) → P (entries t line)) → (lines : List Line) (number : ℕ) → P (line_at (map (entries t) lines) number)
 at_any t P none all [] number = none
 at_any t P none all (line ∷ lines) zero = all line
 at_any t P none all (line ∷ lines) (suc number) = at_any t P none all lines number

@@ -10,25 +10,17 @@ pub mod BesideLemmas
 pub mod PulseLemmas
 -- The invariant, call by call.
 pub mod KeptLemmas
--- The invariant, as calls come to wait, are answered and are taken out.
+-- The invariant, as the lists that are no line's change and what their nodes carry.
 pub mod CallLemmas
--- What answers make of what nodes carry, and of the lists in which they stand.
-pub mod GivenLemmas
--- Pipes told by nodes with what is known of them, and so by nodes and by calls.
-pub mod PipedLemmas
--- A call of the pipe manager, for the queues.
-pub mod ServedLemmas
--- One call of the pipe manager, told by nodes and by calls.
-pub mod PassedLemmas
--- A thread's call that is handed to the pipe manager.
-pub mod HandedLemmas
--- A call of the pipe manager that gives names beside what it gives of the pipes.
-pub mod NamedLemmas
--- An unblock, told by nodes and by calls.
-pub mod CancelLemmas
+-- Who waits and who was answered, by the nodes; whose message was received.
+pub mod WaitLemmas
+-- A list of which some leave, from the first on.
+pub mod WalkLemmas
 -- The columns of nodes, as a thread or a server connection gets its own or gives it back.
 pub mod NodesLemmas
 -- Sets of threads and of server connections.
 pub mod SetLemmas
 -- Which threads and server connections have nodes, as sets, and what calls make of the value.
 pub mod PresenceLemmas
+-- The value, as calls leave a list and are answered.
+pub mod LeavingLemmas

@@ -1,5 +1,5 @@
 -- How the lines and the nodes stand in the table. No public clause cites this module.
-use Rattle.std.specs.Prelude.{◌≡◌, ◌≢◌, ◌⊎◌, ℕ, ◌==◌, ◌&&◌, not, Bool, true, false, Contains, List, Option, None, Some, drop, is_some, map, option_map, slice_get, unwrap_or}
+use Rattle.std.specs.Prelude.{◌≡◌, ◌≢◌, ◌⊎◌, ℕ, ◌==◌, ◌&&◌, not, Bool, true, false, Contains, List, Option, None, Some, is_some, map, option_map, slice_get, unwrap_or}
 use Rattle.std.specs.FinMap as maps
 use Rattle.std.specs.List.{list_any}
 use Rattle.std.specs.Ordering.{nat_cmp}
@@ -128,12 +128,11 @@ pub record TakenOut (old new : Table Waiting) (before after : Line) (change : Li
   pub lists : (list : ℕ) → (IsOwn before list → ⊥) → maps.get new.lists list ≡ maps.get old.lists list
   pub own : after.list ≡ before.list
 
--- the first of the answered nodes, if there is one, left their list, and carries nothing any more
-pub record Unloaded (old new : Table Waiting) (answered : ℕ) : Type 0 where
-  pub there : ContainsList new answered
-  pub rest : nodes_of new answered ≡ drop 1 (nodes_of old answered)
-  pub lists : (list : ℕ) → list ≢ answered → maps.get new.lists list ≡ maps.get old.lists list
-  pub nodes : (node : ℕ) → is_some (maps.get new.values node) ≡ is_some (maps.get old.values node)
+-- a list has other nodes, or is gone, and nothing else is different but what nodes carry that stand in no other list
+pub record Moved (old new : Table Waiting) (list : ℕ) (nodes : Option (List ℕ)) : Type 0 where
+  pub here : maps.get new.lists list ≡ nodes
+  pub lists : (other : ℕ) → other ≢ list → maps.get new.lists other ≡ maps.get old.lists other
+  pub stays : (other node : ℕ) → other ≢ list → IsIn old other node → waiting_at new node ≡ waiting_at old node
+  pub there : (node : ℕ) → is_some (maps.get new.values node) ≡ is_some (maps.get old.values node)
   pub entries : (node : ℕ) → entry_at new node ≡ entry_at old node
-  pub others : (node : ℕ) → slice_get (nodes_of old answered) 0 ≢ Some node → waiting_at new node ≡ waiting_at old node
   pub room : new.room ≡ old.room

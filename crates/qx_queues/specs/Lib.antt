@@ -2,5 +2,5 @@ pub mod Calls
 pub mod Waiting
 pub mod Queues
 pub mod Kept
-pub mod Piped
+pub mod Waits
 pub mod Nodes

@@ -1,5 +1,5 @@
 -- What contracts see of the managers' lines, and what its calls make of it.
-use Rattle.std.specs.Prelude.{◌≡◌, ℕ, zero, suc, ◌+◌, ◌-◌, ◌==◌, ◌&&◌, if◌then◌else◌, nat_le, refl, IsTrue, Bool, false, List, [], ◌∷◌, Option, Some, None, is_some, replicate, unwrap_or}
+use Rattle.std.specs.Prelude.{◌≡◌, ℕ, zero, suc, ◌+◌, ◌-◌, ◌==◌, ◌&&◌, if◌then◌else◌, nat_le, refl, IsTrue, Bool, false, List, [], ◌∷◌, ◌++◌, Option, Some, None, is_some, replicate, unwrap_or}
 use Rattle.std.specs.Coded.{Coded, code_by, coded×, coded_ℕ, coded_list}
 use Rattle.std.specs.FinMap as maps
 use Rattle.std.specs.FinSet as set
@@ -151,6 +151,22 @@ IsGone entry line = no_other entry.item (sender entry) line
 -- who waits in the list of a number
 abbrev pub waiting_in : Queues → ℕ → List UsersCall
 waiting_in c list = unwrap_or (maps.get c.pipes list) []
+
+-- a list in which calls may wait
+abbrev pub HasList : Queues → ℕ → Type 0
+HasList c list = IsTrue (maps.contains_key c.pipes list)
+
+-- other calls wait in a list
+abbrev pub with_waiting : Queues → ℕ → List UsersCall → Queues
+with_waiting c list calls = record c { pipes = maps.insert c.pipes list calls }
+
+-- a list is gone
+abbrev pub without_list : Queues → ℕ → Queues
+without_list c list = record c { pipes = maps.remove c.pipes list }
+
+-- these were answered, after all others
+abbrev pub with_answers : Queues → List UsersAnswer → Queues
+with_answers c answers = record c { answered = c.answered ++ answers }
 
 -- the thread whose call it is
 abbrev pub caller : UsersCall → Thread

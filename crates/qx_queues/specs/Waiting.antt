@@ -1,13 +1,11 @@
 -- What a node of the table stands for and carries.
-use Rattle.std.specs.Prelude.{ℕ, ◌==◌, Bool, false, List, [], Option, Some, None, unwrap_or}
+use Rattle.std.specs.Prelude.{ℕ, ◌==◌, Bool, false, [], Option, Some, None, unwrap_or}
 use Rattle.qx_types.specs.declared.names.Thread.{Thread}
-use Rattle.qx_types.specs.declared.errno.Errno.{Errno}
-use Rattle.qx_types.specs.declared.outcome.Answer.{Answer}
-use Rattle.qx_types.specs.declared.outcome.Answer.TheVariants.{Failed, Reply}
+use Rattle.qx_types.specs.declared.outcome.Answer.TheVariants.{Reply}
 use Rattle.qx_machine.specs.declared.rows.Queued.{Queued}
 use Rattle.qx_machine.specs.declared.rows.WaitingCall.{WaitingCall}
 use Rattle.qx_machine.specs.Machine.{rank}
-use Rattle.qx_queues.specs.Queues.{UsersAnswer, answer_to, caller}
+use Rattle.qx_queues.specs.Queues.{UsersAnswer, caller}
 use Rattle.qx_queues.specs.declared.waiting.Answered as taken
 use Rattle.qx_queues.specs.declared.waiting.Slot.{Slot}
 use Rattle.qx_queues.specs.declared.waiting.Slot.TheVariants as slot
@@ -23,12 +21,12 @@ pub record Waiting : Type 0 where
   pub queued : Queued
   pub load : Load
 
-abbrev pub idle : Queued → Waiting
-idle queued = record { queued = queued; load = Nothing }
+-- an item whose node carries that
+abbrev pub carrying : Queued → Load → Waiting
+carrying queued load = record { queued = queued; load = load }
 
--- the same item, whose node carries a call
-abbrev pub loaded : Queued → WaitingCall → Waiting
-loaded queued call = record { queued = queued; load = Waits call }
+abbrev pub idle : Queued → Waiting
+idle queued = carrying queued Nothing
 
 -- the place of a node in a line's order
 abbrev pub rank_of : Waiting → ℕ
@@ -72,21 +70,6 @@ caller_in user (Answered given) = given.thread
 -- the thread whose call a node carries, or carried until it was answered
 abbrev pub caller_of : Waiting → Thread
 caller_of waiting = caller_in waiting.queued.user.0 waiting.load
-
-abbrev pub answered_load : ℕ → Answer → Load → Load
-answered_load user answer Nothing = Nothing
-answered_load user answer (Waits call) = Answered (answer_to (record { user = user; call = call }) answer)
-answered_load user answer (Answered given) = Answered given
-
--- a call that waits gets an answer, and no other does
-abbrev pub with_answer : Answer → Waiting → Waiting
-with_answer answer waiting = record waiting { load = answered_load waiting.queued.user.0 answer waiting.load }
-
-abbrev pub with_reply : Waiting → ℕ → List ℕ → Waiting
-with_reply waiting status bytes = with_answer (Reply status bytes) waiting
-
-abbrev pub with_error : Waiting → Errno → Waiting
-with_error waiting error = with_answer (Failed error) waiting
 
 -- to which call of which thread an answer goes, and what it is
 abbrev pub addressed_by : taken.Answered → UsersAnswer

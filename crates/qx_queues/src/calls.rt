@@ -1,7 +1,7 @@
 //! Calls that wait in pipes.
 
 ghost use Rattle.std.specs.Prelude.{◌≡◌, []};
-ghost use Rattle.qx_machine.specs.PipeManager.{waiting_call};
+ghost use Rattle.qx_machine.specs.PipeManager.{is_call, waiting_call};
 ghost use Rattle.qx_queues.specs.Calls.{wanted_by, written_by};
 ghost use Rattle.qx_queues.specs.Queues.{caller};
 
@@ -88,6 +88,13 @@ impl PipeCall {
         ensures number { result ≡ self.now.call }
     {
         self.number
+    }
+
+    /// Whether it is that call of that thread of a process.
+    pub fn is(&self, process: u8, thread: u8, number: u64) -> bool
+        ensures is { result ≡ is_call process thread number self.now }
+    {
+        self.process == process && self.thread == thread && self.number == number
     }
 
     /// The number of the open control block that it works on.

@@ -1,46 +1,37 @@
-//! The managers' lines, the lists of pipes and the list of answered nodes over one table, in which the nodes of all users'
+//! The managers' lines and the lists of calls that wait or were answered, over one table, in which the nodes of all users'
 //! threads and server connections stand.
 
 ghost use Rattle.std.specs.Prelude.{◌≡◌, ℕ, ◌-◌, ◌*◌, ◌<◌, ◌≤◌, true, false, option_map, length, drop, slice_get, is_some, max, IfErr, IfOk, IsOk, OnOk, OnErr, IfSome, IsSome, IsTrue, MatchResult, None, Some};
 ghost use Rattle.std.specs.FinMap as maps;
 ghost use Rattle.qx_types.specs.Managers.{manager_number};
 ghost use Rattle.qx_types.specs.declared.limits.TheConstants.Limits.{PRIORITY, PROCESSES, THREADS, TRANSFER};
-ghost use Rattle.qx_iofunc.specs.Fits.{Fits};
-ghost use Rattle.qx_lists.specs.Table.{ContainsList, ContainsNode, IsFree, IsIn, with_value, without};
+ghost use Rattle.qx_lists.specs.Table.{ContainsNode, IsFree, IsIn, nodes_of, with_nodes, with_value, without};
 ghost use Rattle.qx_lines.specs.Line.{IsInLine, IsLineOf};
 ghost use Rattle.qx_machine.specs.Lines.{into};
 ghost use Rattle.qx_machine.specs.Machine as machine;
-ghost use Rattle.qx_machine.specs.PipeManager.{cancel_call, close_call, open_pipe, read_call, unlink_pipe, write_call};
 ghost use Rattle.qx_machine.specs.declared.rows.OwnItem.TheVariants as item;
 ghost use Rattle.qx_queues.specs.Queues.{HasNoCall, HasThread, IsGone, IsReceived, pulse_call, queues_line, has_server, has_thread, message_of, no_queues, stands, unblock_call, unblock_of, with_queues_line, with_process, with_server, with_thread, without_server};
-ghost use Rattle.qx_queues.specs.Kept.{HasLoad, PutIn, TakenOut, Unloaded, answered_calls, entries, entry_at, given_at, owner_of, waiting_at};
+ghost use Rattle.qx_queues.specs.Kept.{PutIn, TakenOut, entries, entry_at, owner_of, waiting_at};
 ghost use Rattle.qx_queues.specs.Nodes.{Unblock};
-ghost use Rattle.qx_queues.specs.Piped.{ArePipesOf, AsBefore, Follows, FollowsNamed, Piped, calls_in, thread_of};
-ghost use Rattle.qx_queues.specs.Waiting.{addressed_by, idle, loaded, rank_of, waits_in};
+ghost use Rattle.qx_queues.specs.Waiting.{addressed_by, idle, load_of, rank_of};
 
-use crate::calls::PipeCall;
 use crate::nodes::{Nodes, ThreadNodes};
-use crate::waiting::{Answered, Waiting};
-use qx_attr::Inodes;
+use crate::waiting::{Answered, Slot, Waiting};
 use qx_lines::Line;
 use qx_lists::Table;
-use qx_machine::{Caller, Opened, OwnItem, Queued};
-use qx_names::Names;
-use qx_pipes::Pipes;
-use qx_process::Room;
-use qx_types::{Errno, Limits, Manager, OFlags, Prio, Proc, Thread, User};
-use qx_wire::Rest;
+use qx_machine::{OwnItem, Queued};
+use qx_types::{Limits, Manager, Prio, Proc, Thread};
 use std::alloc::{AllocError, Global};
 use std::marker::Model;
 
-/// The managers' lines, the lists of pipes and the list of answered nodes over one table, in which the nodes of all users'
-/// threads and server connections stand.
+/// The managers' lines, the lists in which calls wait and the list of those that were answered, over one table, in which the
+/// nodes of all users' threads and server connections stand.
 #[derive(Drop)]
 pub struct Queues {
-    table: Table<Waiting>,
+    pub(crate) table: Table<Waiting>,
     lines: Vec<Line>,
-    answered: usize,
-    nodes: Nodes,
+    pub(crate) answered: usize,
+    pub(crate) nodes: Nodes,
 }
 
 impl Model for Queues {
@@ -186,212 +177,15 @@ impl Queues {
         self.nodes.set_asked(thread, None);
     }
 
-    /// Opens what a path leads to, or makes a pipe there and opens it, and gives the number of its open control block (C
-    /// Library Reference: `open`). Where an error comes or memory is short, nothing changes; memory is wanted only where no
-    /// error comes.
-    pub fn open(
-        &mut self,
-        pipes: &mut Pipes,
-        inodes: &mut Inodes,
-        names: &mut Names,
-        user: User,
-        root: u32,
-        rest: &Rest<'_>,
-        flags: OFlags,
-        mode: u16,
-        moment: u64,
-    ) -> Result<Result<u16, Errno>, AllocError>
-        requires pipes { ArePipesOf self.old user.0 pipes.old }
-        requires fits { Fits inodes.old.inodes names.old }
-        ensures follows { IfOk result (λ r. FollowsNamed self.old self.new user.0 pipes.old pipes.new inodes.old.inodes inodes.new.inodes (λ number. number) names.old names.new r (open_pipe inodes.old.inodes names.old (calls_in self.old pipes.old) user.0 root rest.now flags mode moment)) }
-        ensures err { OnErr result (AsBefore self.old self.new pipes.old pipes.new inodes.old.inodes inodes.new.inodes × (names.new ≡ names.old)) }
-        ensures wanted { OnErr result (IsOk (open_pipe inodes.old.inodes names.old (calls_in self.old pipes.old) user.0 root rest.now flags mode moment)) }
-        ensures fits { Fits inodes.new.inodes names.new }
-    {
-        let given = pipes.connect(
-            inodes,
-            names,
-            &mut self.table,
-            user,
-            root,
-            rest,
-            flags,
-            mode,
-            moment,
-            self.answered,
-        );
-        self.table.know();
-        given
-    }
-
-    /// Takes a name (C Library Reference: `unlink`); what it named goes, with its pipe, where nothing has it open. Where an
-    /// error comes, nothing changes.
-    pub fn unlink(
-        &mut self,
-        pipes: &mut Pipes,
-        inodes: &mut Inodes,
-        names: &mut Names,
-        user: User,
-        root: u32,
-        rest: &Rest<'_>,
-        moment: u64,
-    ) -> Result<(), Errno>
-        requires pipes { ArePipesOf self.old user.0 pipes.old }
-        requires fits { Fits inodes.old.inodes names.old }
-        ensures follows { FollowsNamed self.old self.new user.0 pipes.old pipes.new inodes.old.inodes inodes.new.inodes (λ done. 0) names.old names.new result (unlink_pipe inodes.old.inodes names.old (calls_in self.old pipes.old) user.0 root rest.now moment) }
-        ensures fits { Fits inodes.new.inodes names.new }
-    {
-        let given = pipes.unlink(
-            inodes,
-            names,
-            &mut self.table,
-            user,
-            root,
-            rest,
-            moment,
-            self.answered,
-        );
-        self.table.know();
-        given
-    }
-
-    /// A READ of a call whose message was received: it waits with the room for its reply, or is answered, and so are others
-    /// that can be then (C Library Reference: `read`). Where the pipe manager refuses it, the room is left.
-    pub fn read(
-        &mut self,
-        pipes: &mut Pipes,
-        inodes: &mut Inodes,
-        user: User,
-        opened: Opened,
-        wanted: u32,
-        room: &mut Option<Room>,
-        moment: u64,
-    ) -> Result<(), Errno>
-        requires received { IsReceived self.old (thread_of user.0 opened.caller) }
-        requires pipes { ArePipesOf self.old user.0 pipes.old }
-        requires room { IsSome room.old }
-        ensures follows { Follows self.old self.new user.0 pipes.old pipes.new inodes.old.inodes inodes.new.inodes result (read_call inodes.old.inodes (calls_in self.old pipes.old) opened wanted moment) }
-        ensures room { MatchResult result (λ done. room.new ≡ None) (λ error. IsSome room.new) }
-    {
-        let Some(own) = self.nodes.at(caller_thread(user, opened.caller)) else {
-            unreachable!();
-        };
-        let Some(own_room) = room.take() else {
-            unreachable!();
-        };
-        let node = own.message;
-        load(
-            &mut self.table,
-            node,
-            PipeCall::reading(opened, wanted, own_room),
-        );
-        let given = pipes.read(
-            inodes,
-            &mut self.table,
-            opened.number,
-            opened.caller.is_asked,
-            node,
-            moment,
-            self.answered,
-        );
-        self.table.know();
-        unload_refused(&mut self.table, node, room, given)
-    }
-
-    /// A WRITE of a call whose message was received: it waits with the room for its reply, in which a copy of the bytes is
-    /// kept, or is answered, and so are others that can be then (C Library Reference: `write`). Where the pipe manager
-    /// refuses it, the room is left, with whatever is in it.
-    pub fn write(
-        &mut self,
-        pipes: &mut Pipes,
-        inodes: &mut Inodes,
-        user: User,
-        opened: Opened,
-        bytes: &[u8],
-        room: &mut Option<Room>,
-        moment: u64,
-    ) -> Result<(), Errno>
-        requires received { IsReceived self.old (thread_of user.0 opened.caller) }
-        requires pipes { ArePipesOf self.old user.0 pipes.old }
-        requires fits { length bytes.now ≤ TRANSFER }
-        requires room { IsSome room.old }
-        ensures follows { Follows self.old self.new user.0 pipes.old pipes.new inodes.old.inodes inodes.new.inodes result (write_call inodes.old.inodes (calls_in self.old pipes.old) opened bytes.now moment) }
-        ensures room { MatchResult result (λ done. room.new ≡ None) (λ error. IsSome room.new) }
-    {
-        let Some(own) = self.nodes.at(caller_thread(user, opened.caller)) else {
-            unreachable!();
-        };
-        let Some(mut own_room) = room.take() else {
-            unreachable!();
-        };
-        own_room.keep(bytes);
-        let node = own.message;
-        load(&mut self.table, node, PipeCall::writing(opened, own_room));
-        let given = pipes.write(
-            inodes,
-            &mut self.table,
-            opened.number,
-            opened.caller.is_asked,
-            node,
-            moment,
-            self.answered,
-        );
-        self.table.know();
-        unload_refused(&mut self.table, node, room, given)
-    }
-
-    /// Takes an open control block of a user away (C Library Reference: `close`): the calls that wait over it are answered, and
-    /// those whom that concerns.
-    pub fn release(
-        &mut self,
-        pipes: &mut Pipes,
-        inodes: &mut Inodes,
-        number: u16,
-        moment: u64,
-    ) -> Result<(), Errno>
-        requires pipes { (user : ℕ) × ArePipesOf self.old user pipes.old }
-        ensures { (user : ℕ) → ArePipesOf self.old user pipes.old → Follows self.old self.new user pipes.old pipes.new inodes.old.inodes inodes.new.inodes result (close_call inodes.old.inodes (calls_in self.old pipes.old) number moment) }
-    {
-        let given = pipes.release(inodes, &mut self.table, number, moment, self.answered);
-        self.table.know();
-        given
-    }
-
-    /// A thread's call is asked to unblock: if it waits in a pipe, it is answered EINTR, unless it is served as the pipe is
-    /// cleaned before, and others may be served then (Writing a Resource Manager: the unblock pulse). Tells whether it waited.
-    pub fn cancel(
-        &mut self,
-        pipes: &mut Pipes,
-        inodes: &mut Inodes,
-        thread: Thread,
-        call: u64,
-        moment: u64,
-    ) -> bool
-        requires pipes { ArePipesOf self.old thread.proc.user.0 pipes.old }
-        ensures { MatchResult (cancel_call inodes.old.inodes (calls_in self.old pipes.old) thread.proc.num thread.tid call moment)
-            (λ given. (result ≡ true) × Piped self.old self.new thread.proc.user.0 pipes.old pipes.new inodes.new.inodes given)
-            (λ outcome. (result ≡ false) × AsBefore self.old self.new pipes.old pipes.new inodes.old.inodes inodes.new.inodes) }
-    {
-        let Some(own) = self.nodes.at(thread) else {
-            return false;
-        };
-        let node = own.message;
-        let Some(block) = waits(&self.table, node, call) else {
-            return false;
-        };
-        let waited = pipes.cancel(inodes, &mut self.table, block, node, moment, self.answered);
-        self.table.know();
-        waited
-    }
-
     /// Takes out the first of those who were answered, with the answer and the room for the thread's replies.
     pub fn take_answered(&mut self) -> Option<Answered>
         ensures first { option_map addressed_by result ≡ slice_get self.old.answered 0 }
         ensures rest { self.new ≡ record self.old { answered = drop 1 self.old.answered } }
         ensures gone { IfSome result (λ taken. HasNoCall self.new taken.thread) }
     {
+        let node = self.table.first(self.answered)?;
         self.table.know();
-        take_first(&mut self.table, self.answered)
+        Some(take_slot(&mut self.table, self.answered, node).into_answered())
     }
 
     /// The first item of a line.
@@ -579,75 +373,16 @@ fn remove(table: &mut Table<Waiting>, line: &mut Line, node: usize)
     line.remove(table, node);
 }
 
-/// Takes the first node out of the list of answered ones, with its answer.
-fn take_first(table: &mut Table<Waiting>, answered: usize) -> Option<Answered>
-    requires list { ContainsList table.old answered }
-    requires there { (list node : ℕ) → IsIn table.old list node → ContainsNode table.old node }
-    requires answered { (node : ℕ) → IsIn table.old answered node → HasLoad true (waiting_at table.old node).load }
-    ensures first { option_map addressed_by result ≡ slice_get (answered_calls table.old answered) 0 }
-    ensures unloaded { Unloaded table.old table.new answered }
-{
-    let node = table.pop_front(answered)?;
-    Some(unload(table, node))
-}
-
-/// The thread of a caller.
-fn caller_thread(user: User, caller: Caller) -> Thread
-    ensures thread { result ≡ thread_of user.0 caller }
-{
-    Thread {
-        proc: Proc {
-            user,
-            num: caller.process,
-        },
-        tid: caller.thread,
-    }
-}
-
-/// Over which open control block the call of a number waits with a node, if it does.
-fn waits(table: &Table<Waiting>, node: usize, number: u64) -> Option<u16>
-    requires there { ContainsNode table.now node }
-    ensures waits { is_some result ≡ waits_in number (waiting_at table.now node).load }
-{
-    table.value(node).waits(number)
-}
-
-/// A node carries a call from now on.
-fn load(table: &mut Table<Waiting>, node: usize, call: PipeCall)
+/// Takes a node out of a list, with what it carries.
+pub(crate) fn take_slot(table: &mut Table<Waiting>, list: usize, node: usize) -> Slot
+    requires in_list { IsIn table.old list node }
     requires there { ContainsNode table.old node }
-    ensures loaded { table.new ≡ with_value table.old node (loaded (entry_at table.old node) call) }
+    ensures carried { load_of result ≡ (waiting_at table.old node).load }
+    ensures taken { table.new ≡ with_value (with_nodes table.old list (without node (nodes_of table.old list))) node (idle (entry_at table.old node)) }
+    ensures free { IsFree table.new node }
 {
-    table.value_mut(node).load(call);
-}
-
-/// Where the call of a node was refused, the node carries it no more, and the room comes back.
-fn unload_refused(
-    table: &mut Table<Waiting>,
-    node: usize,
-    room: &mut Option<Room>,
-    given: Result<(), Errno>,
-) -> Result<(), Errno>
-    requires there { ContainsNode table.old node }
-    requires waits { IfErr given (λ error. HasLoad false (waiting_at table.old node).load) }
-    ensures done { IfOk given (λ done. table.new ≡ table.old) }
-    ensures refused { IfErr given (λ error. table.new ≡ with_value table.old node (idle (entry_at table.old node))) }
-    ensures told { result ≡ given }
-    ensures room { MatchResult given (λ done. room.new ≡ room.old) (λ error. IsSome room.new) }
-{
-    if given.is_err() {
-        *room = Some(table.value_mut(node).unload());
-    }
-    given
-}
-
-/// Takes out the answer that a node carries.
-fn unload(table: &mut Table<Waiting>, node: usize) -> Answered
-    requires there { ContainsNode table.old node }
-    requires answered { HasLoad true (waiting_at table.old node).load }
-    ensures answer { addressed_by result ≡ given_at table.old node }
-    ensures idle { table.new ≡ with_value table.old node (idle (entry_at table.old node)) }
-{
-    table.value_mut(node).take_answer()
+    table.unlink(list, node);
+    table.value_mut(node).replace(Slot::Empty)
 }
 
 /// The call that the pulse of a node names.

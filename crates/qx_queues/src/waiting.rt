@@ -1,19 +1,17 @@
 //! What the nodes of the table stand for and carry.
 
-ghost use Rattle.std.specs.Prelude.{◌≡◌, ◌≤◌, IfSome, MatchResult, false, is_some, length, true};
-ghost use Rattle.std.specs.Option.{option_copied};
+ghost use Rattle.std.specs.Prelude.{◌≡◌, ◌≤◌, IfSome, false, is_some, length, true};
 ghost use Rattle.std.specs.Result.{ForOk};
 ghost use Rattle.qx_types.specs.declared.limits.TheConstants.Limits.{PRIORITY, TRANSFER};
-ghost use Rattle.qx_types.specs.declared.outcome.Answer.TheVariants as answer;
 ghost use Rattle.qx_queues.specs.Kept.{HasLoad};
 ghost use Rattle.qx_queues.specs.Queues.{answer_to};
-ghost use Rattle.qx_queues.specs.Waiting.{addressed_by, call_of, carried, given_of, idle, waits_in};
-ghost use Rattle.qx_queues.specs.Waiting as words;
+ghost use Rattle.qx_queues.specs.Waiting.{Answered as Given, Waits, addressed_by, call_of, carrying, idle, load_of, waits_in};
+ghost use Rattle.qx_queues.specs.Waits.{handed, users_call};
 
 use crate::calls::PipeCall;
 use qx_machine::Queued;
 use qx_process::room::{Room, reply_bytes};
-use qx_types::{Answer, Errno, Prio, Ranked, Thread, User, Waiter};
+use qx_types::{Answer, Errno, Prio, Ranked, Thread, User};
 use std::marker::Model;
 use std::mem;
 
@@ -29,11 +27,9 @@ pub struct Answered {
 
 impl Answered {
     /// The answer to a user's call that waited, for which there is room.
-    fn new(user: User, call: PipeCall, given: Result<(u64, &[u8]), Errno>) -> Self
+    pub(crate) fn new(user: User, call: PipeCall, given: Result<(u64, &[u8]), Errno>) -> Self
         requires short { ForOk given (λ reply. length reply.1.now ≤ TRANSFER) }
-        ensures answered { MatchResult given.entry
-            (λ reply. addressed_by result ≡ answer_to (record { user = user.0; call = call }) (answer.Reply reply.0 reply.1.now))
-            (λ error. addressed_by result ≡ answer_to (record { user = user.0; call = call }) (answer.Failed error)) }
+        ensures answered { addressed_by result ≡ answer_to (users_call user.0 call) (handed given.entry) }
     {
         let thread = call.thread(user);
         let number = call.number();
@@ -53,10 +49,34 @@ impl Answered {
 
 /// What a node carries: nothing, a call that waits, or the answer to one.
 #[derive(Drop)]
-enum Slot {
+pub(crate) enum Slot {
     Empty,
     Waits(PipeCall),
     Answered(Answered),
+}
+
+impl Slot {
+    /// The call that waits.
+    pub(crate) fn into_call(self) -> PipeCall
+        requires waits { HasLoad false (load_of self) }
+        ensures call { load_of self ≡ Waits result }
+    {
+        match self {
+            Slot::Waits(call) => call,
+            _ => unreachable!(),
+        }
+    }
+
+    /// The answer that was given.
+    pub(crate) fn into_answered(self) -> Answered
+        requires answered { HasLoad true (load_of self) }
+        ensures answer { load_of self ≡ Given (addressed_by result) }
+    {
+        match self {
+            Slot::Answered(answered) => answered,
+            _ => unreachable!(),
+        }
+    }
 }
 
 /// An item as it stands in a line, with a priority from 1 to the greatest, and what its node carries.
@@ -98,11 +118,12 @@ impl Waiting {
         self.queued
     }
 
-    /// The node carries a call from now on.
-    pub fn load(&mut self, call: PipeCall)
-        ensures load { self.new ≡ record self.old { load = words.Waits call } }
+    /// The node carries something else from now on; gives what it carried.
+    pub(crate) fn replace(&mut self, slot: Slot) -> Slot
+        ensures before { load_of result ≡ self.old.load }
+        ensures after { self.new ≡ carrying self.old.queued (load_of slot) }
     {
-        self.slot = Slot::Waits(call);
+        mem::replace(&mut self.slot, slot)
     }
 
     /// Over which open control block the call of a number waits with the node, if it does.
@@ -116,36 +137,14 @@ impl Waiting {
         }
     }
 
-    /// The node carries its call no more, and gives the room for the reply back.
-    pub fn unload(&mut self) -> Room
-        requires waits { HasLoad false self.old.load }
-        ensures idle { self.new ≡ idle self.old.queued }
-    {
-        match mem::replace(&mut self.slot, Slot::Empty) {
-            Slot::Waits(call) => call.into_room(),
-            _ => unreachable!(),
-        }
-    }
-
-    /// Takes out the answer that the node carries.
-    pub fn take_answer(&mut self) -> Answered
-        requires answered { HasLoad true self.old.load }
-        ensures answer { addressed_by result ≡ given_of self.old }
-        ensures idle { self.new ≡ idle self.old.queued }
-    {
-        match mem::replace(&mut self.slot, Slot::Empty) {
-            Slot::Answered(answered) => answered,
-            _ => unreachable!(),
-        }
-    }
-
     /// The call that waits with the node.
-    fn call(&self) -> Option<&PipeCall>
-        ensures call { option_copied result ≡ carried self.now.load }
+    pub fn call(&self) -> &PipeCall
+        requires waits { HasLoad false self.now.load }
+        ensures call { result.now ≡ call_of self.now }
     {
         match &self.slot {
-            Slot::Waits(call) => Some(call),
-            _ => None,
+            Slot::Waits(call) => call,
+            _ => unreachable!(),
         }
     }
 }
@@ -157,54 +156,5 @@ impl Ranked for Waiting {
 
     fn prio(&self) -> Prio {
         self.queued.prio
-    }
-}
-
-impl Waiter for Waiting {
-    ghost use Rattle.qx_machine.specs.PipeManager.{is_gone};
-    ghost use Rattle.qx_queues.specs.Waiting.{call_of, with_error, with_reply};
-
-    ghost wanted = { λ w. (call_of w).wanted };
-
-    ghost bytes = { λ w. (call_of w).bytes };
-
-    ghost block = { λ w. (call_of w).block };
-
-    ghost gone = { λ w. is_gone (call_of w) };
-
-    ghost replied = { with_reply };
-
-    ghost failed = { with_error };
-
-    fn wanted(&self) -> usize {
-        match self.call() {
-            Some(call) => call.wanted() as usize,
-            None => 0,
-        }
-    }
-
-    fn bytes(&self) -> &[u8] {
-        match self.call() {
-            Some(call) => call.bytes(),
-            None => &[],
-        }
-    }
-
-    fn block(&self) -> usize {
-        match self.call() {
-            Some(call) => call.block() as usize,
-            None => 0,
-        }
-    }
-
-    fn gone(&self) -> bool {
-        false
-    }
-
-    fn give(&mut self, answer: Result<(u64, &[u8]), Errno>) {
-        self.slot = match mem::replace(&mut self.slot, Slot::Empty) {
-            Slot::Waits(call) => Slot::Answered(Answered::new(self.queued.user, call, answer)),
-            slot => slot,
-        };
     }
 }

@@ -1,10 +1,11 @@
 -- What the calls of the pipe manager, and what both managers do, leave of files: each has the size that it had.
-use Rattle.std.proofs.Common.{◌≡◌, ℕ, ◌<◌, ◌==◌, Bool, true, false, List, [], length, refl, sym, ap, ◌∙◌, subst, inl, inr, Option, Some, None, Result, Ok, Err, OnErr, option_map, slice_set}
+use Rattle.std.proofs.Common.{◌≡◌, ℕ, ◌<◌, ◌==◌, Bool, true, false, List, [], length, refl, sym, ap, ◌∙◌, subst, inl, inr, IfOk, Option, Some, None, Result, Ok, Err, OnErr, option_map, slice_set}
 use Rattle.std.specs.List.{list_any}
 use Rattle.std.specs.Prelude.{if◌then◌else◌, not, position}
 use Rattle.std.proofs.lemmas.Bool.{cases_eq}
 use Rattle.qx_attr.proofs.CountLemmas.{row-set_same}
 use Rattle.qx_attr.specs.Counts.{Reserved}
+use Rattle.qx_iofunc.proofs.FitLemmas.{attribute_fits, closed_but, freed_fits}
 use Rattle.qx_iofunc.proofs.OtherLemmas.{IsOwn, Leaves, directory_made, mode_alike, modeless, own_is, path_leaves, removed_alike, removed_own, unlinked}
 use Rattle.qx_iofunc.proofs.PlaceLemmas.{row-freed, set_differ}
 use Rattle.qx_iofunc.specs.Fits as of_names
@@ -13,16 +14,18 @@ use Rattle.qx_machine.specs.declared.rows.Attribute.{Attribute}
 use Rattle.qx_machine.specs.declared.rows.Kind.{Kind}
 use Rattle.qx_machine.specs.declared.rows.Kind.TheVariants.{Directory, File, Pipe}
 use Rattle.qx_machine.specs.declared.rows.Ocb.{Ocb}
+use Rattle.qx_machine.specs.declared.rows.Opened.{Opened}
+use Rattle.qx_machine.specs.declared.rows.WaitingCall.{WaitingCall}
 use Rattle.qx_machine.specs.Files.{Files, resized}
-use Rattle.qx_machine.specs.Inodes.{Inodes, close_block, free_inode, is_unused, new_attribute, readers_of, reads, writers_of, writes}
+use Rattle.qx_machine.specs.Inodes.{Inodes, close_block, free_inode, is_unused, new_attribute, readers_of, reads, with_attribute, writers_of, writes}
 use Rattle.qx_machine.specs.Judgements.{◌>>=◌, found, need}
 use Rattle.qx_machine.specs.Names.{Names, is_same_kind}
 use Rattle.qx_machine.specs.Opening.{Naming, Opening, chmod_block, is_own, make_directory, open_path, own_block, remove_name}
-use Rattle.qx_machine.specs.PipeManager.{Pipes, PipesGiven, cancel_waiting, filled, holds, is_written, manner_of, nobody_answered, open_pipe, opened_pipe, read_pipe, release_pipe, released, sides_of, unlink_pipe, with_after, without_unused, write_pipe}
+use Rattle.qx_machine.specs.PipeManager.{Pipes, PipesGiven, cancel_call, close_call, filled, holds, is_call, is_gone, is_written, manner_of, offered, open_pipe, read_call, released, sides_of, unlink_pipe, waiting_call, wanted, with_after, without_unused, write_call}
 use Rattle.qx_machine.specs.Pipes.{After, Pipe as Row, cancel, read, release, write}
 use Rattle.qx_machine.specs.Rows.{row_at, with_row}
 use Rattle.qx_process.proofs.RowLemmas.{with_row-none}
-use Rattle.qx_ram.proofs.FitLemmas.{SameSizes, same_fits, same_made, same_size}
+use Rattle.qx_ram.proofs.FitLemmas.{SameSizes, same_fits, same_made, same_size, same_sized}
 use Rattle.qx_ram.specs.Fits.{Fits, file_size}
 use Rattle.qx_types.specs.declared.errno.Errno.{Errno}
 use Rattle.qx_types.specs.declared.errno.Errno.TheVariants.{EBADF, EISDIR}
@@ -31,19 +34,26 @@ use Rattle.qx_types.specs.declared.outcome.Outcome.TheVariants.{WrongState}
 
 -- ---- one inode
 
--- an attribute changes, and is no other file's
-pub same_changed : (inodes : Inodes) (inode : ℕ) (change : Attribute → Attribute) → ((attribute : Attribute) → file_size (Some (change attribute)) ≡ file_size (Some attribute))
-    → SameSizes inodes (record inodes { attributes = with_row inodes.attributes inode change })
-same_changed inodes inode change alike = by_row (row_at inodes.attributes inode) refl
+-- an attribute changes, but not its links, and nothing of a file
+abbrev IsAlike : Attribute → Attribute → Type 0
+IsAlike now was = (now.links ≡ was.links) × (file_size (Some now) ≡ file_size (Some was))
+
+changed_fits : (inodes : Inodes) (names : Names) (files : Files) (inode : ℕ) (change : Attribute → Attribute) → ((attribute : Attribute) → IsAlike (change attribute) attribute) → Fits inodes names files
+    → Fits (record inodes { attributes = with_row inodes.attributes inode change }) names files
+changed_fits inodes names files inode change alike fits = by_row (row_at inodes.attributes inode) refl
   where
-    by_row : (row : Option Attribute) → row_at inodes.attributes inode ≡ row → SameSizes inodes (record inodes { attributes = with_row inodes.attributes inode change })
-    by_row None is = λ other. ap (λ rows. file_size (row_at rows other)) (with_row-none inodes.attributes inode change is)
-    by_row (Some was) is = λ other. elim (cases_eq other inode) [
-      | inl same ↦ subst (λ n. file_size (row_at (with_row inodes.attributes inode change) n) ≡ file_size (row_at inodes.attributes n)) (sym same)
-          (ap (λ row. file_size (row_at (slice_set inodes.attributes inode (option_map change row)) inode)) is
-          ∙ (ap file_size (row-set_same inodes.attributes inode was (change was) is) ∙ (alike was ∙ ap file_size (sym is))))
-      | inr apart ↦ ap file_size ((set_differ inodes.attributes inode (option_map change (row_at inodes.attributes inode))).others other apart)
-    ]
+    by_row : (row : Option Attribute) → row_at inodes.attributes inode ≡ row → Fits (record inodes { attributes = with_row inodes.attributes inode change }) names files
+    by_row None is = rw (with_row-none inodes.attributes inode change is) fits
+    by_row (Some was) is =
+        subst (λ row. Fits (record inodes { attributes = slice_set inodes.attributes inode (option_map change row) }) names files) (sym is)
+        (same_fits inodes (with_attribute inodes inode (change was)) names names files sizes (attribute_fits inodes names inode was (change was) is (alike was).0 fits.named) fits)
+      where
+        sizes : SameSizes inodes (with_attribute inodes inode (change was))
+        sizes other = elim (cases_eq other inode) [
+          | inl same ↦ subst (λ n. file_size (row_at (slice_set inodes.attributes inode (Some (change was))) n) ≡ file_size (row_at inodes.attributes n)) (sym same)
+              (ap file_size (row-set_same inodes.attributes inode was (change was) is) ∙ ((alike was).1 ∙ ap file_size (sym is)))
+          | inr apart ↦ ap file_size ((set_differ inodes.attributes inode (Some (change was))).others other apart)
+        ]
 
 -- an inode that is no file goes
 pub same_freed : (inodes : Inodes) (inode : ℕ) → file_size (row_at inodes.attributes inode) ≡ None → SameSizes inodes (free_inode inodes inode)
@@ -106,97 +116,70 @@ same_removed inodes names user root rest moment removed is = λ inode. same_free
 
 -- ---- the pipe manager's calls
 
-module _ {W : Type 0} (inodes : Inodes) (pipes : Pipes W) where
-  abbrev SameFor : PipesGiven W → Type 0
-  SameFor given = SameSizes inodes given.inodes
+-- what each step of a judgement finds leads on
+over_ok : {A B E : Type 0} (Q : B → Type 0) (first : Result A E) (next : A → Result B E) → ((value : A) → first ≡ Ok value → IfOk (next value) Q) → IfOk (first >>= next) Q
+over_ok Q (Ok value) next each = each value refl
+over_ok Q (Err error) next each = tt
 
-  abbrev opened_so : Opening → Names × PipesGiven W
-  opened_so opening = (opening.names, opened_pipe pipes opening)
+module _ (inodes : Inodes) (names : Names) (pipes : Pipes WaitingCall) (user root : ℕ) (rest : List (List ℕ)) where
+  abbrev SameThen : Names × PipesGiven WaitingCall → Type 0
+  SameThen done = SameSizes inodes done.1.inodes
 
-  abbrev removed_so : Naming → Names × PipesGiven W
-  removed_so removed = (removed.names, without_unused (nobody_answered 0 removed.inodes pipes) removed.inode)
+  pub same_open : (flags : OFlags) (mode moment : ℕ) → 0 < length inodes.attributes → IfOk (open_pipe inodes names pipes user root rest flags mode moment) SameThen
+  same_open flags mode moment some = over_ok _ (open_path inodes names user root rest flags Pipe mode moment) _ (λ opening is. same_opened inodes names user root rest flags mode moment opening some is)
 
-  same_beside : (done : Names × PipesGiven W) (left : Names) (given : PipesGiven W) → ◌≡◌ {A = Result (Names × PipesGiven W) Errno} (Ok done) (Ok (left, given)) → SameFor done.1 → SameFor given
-  same_beside done left given is same =
-      let pair : done ≡ (left, given) = cc in
-      subst (λ (both : Names × PipesGiven W). SameFor both.1) pair same
-
-  pub same_open : (names left : Names) (user root : ℕ) (rest : List (List ℕ)) (flags : OFlags) (mode moment : ℕ) (given : PipesGiven W) → 0 < length inodes.attributes → open_pipe inodes names pipes user root rest flags mode moment ≡ Ok (left, given) → SameSizes inodes given.inodes
-  same_open names left user root rest flags mode moment given some is = by_opening (open_path inodes names user root rest flags Pipe mode moment) refl is
-    where
-      by_opening : (opening : Result Opening Errno) → open_path inodes names user root rest flags Pipe mode moment ≡ opening → (opening >>= (λ opening. Ok (opened_so opening))) ≡ Ok (left, given) → SameFor given
-      by_opening (Err error) from e = absurd (cc)
-      by_opening (Ok opening) from e = same_beside (opened_so opening) left given e (same_opened inodes names user root rest flags mode moment opening some from)
-
-  pub same_unlink : (names left : Names) (user root : ℕ) (rest : List (List ℕ)) (moment : ℕ) (given : PipesGiven W) → unlink_pipe inodes names pipes user root rest moment ≡ Ok (left, given) → SameSizes inodes given.inodes
-  same_unlink names left user root rest moment given is = by_removed (remove_name inodes names user root rest Pipe moment) refl is
-    where
-      by_removed : (removed : Result Naming Errno) → remove_name inodes names user root rest Pipe moment ≡ removed
-          → (removed >>= (λ removed. Ok (removed_so removed))) ≡ Ok (left, given) → SameFor given
-      by_removed (Err error) from e = absurd (cc)
-      by_removed (Ok removed) from e = same_beside (removed_so removed) left given e (same_removed inodes names user root rest moment removed from)
+  pub same_unlink : (moment : ℕ) → IfOk (unlink_pipe inodes names pipes user root rest moment) SameThen
+  same_unlink moment = over_ok _ (remove_name inodes names user root rest Pipe moment) _ (λ removed is. same_removed inodes names user root rest moment removed is)
 
 -- what was done to a pipe changes no file
-filled_size : (attribute : Attribute) (kind : Kind) (into : Bool) (one other : Attribute) → attribute.kind ≡ kind → one.kind ≡ kind → other.kind ≡ kind
-    → file_size (Some (if not (is_same_kind Pipe kind) then attribute else if into then one else other)) ≡ file_size (Some attribute)
-filled_size attribute File into one other is a b = refl
-filled_size attribute Directory into one other is a b = refl
-filled_size attribute Pipe true one other is a b = rw (a, is) refl
-filled_size attribute Pipe false one other is a b = rw (b, is) refl
+filled_alike : (attribute : Attribute) (kind : Kind) (into : Bool) (one other : Attribute) → attribute.kind ≡ kind → one.kind ≡ kind → other.kind ≡ kind → one.links ≡ attribute.links → other.links ≡ attribute.links
+    → IsAlike (if not (is_same_kind Pipe kind) then attribute else if into then one else other) attribute
+filled_alike attribute File into one other is a b c d = (refl, refl)
+filled_alike attribute Directory into one other is a b c d = (refl, refl)
+filled_alike attribute Pipe true one other is a b c d = (c, rw (a, is) refl)
+filled_alike attribute Pipe false one other is a b c d = (d, rw (b, is) refl)
 
-module _ {W : Type 0} (wanted : W → ℕ) (offered : W → List ℕ) (gone : W → Bool) where
-  same_after : (inodes : Inodes) (pipes : Pipes W) (inode moment : ℕ) (after : After W) → SameSizes inodes (with_after wanted offered gone inodes pipes inode moment after).inodes
-  same_after inodes pipes inode moment after = same_changed inodes inode (filled wanted offered gone moment after)
-      (λ attribute. filled_size attribute attribute.kind (list_any (λ answer. is_written (offered answer.0) answer.1) after.answers) (resized (length after.pipe.bytes) moment attribute) (record attribute { size = length after.pipe.bytes }) refl refl refl)
+module _ (inodes : Inodes) (names : Names) (files : Files) (pipes : Pipes WaitingCall) (moment : ℕ) (fits : Fits inodes names files) where
+  abbrev FitsThen : PipesGiven WaitingCall → Type 0
+  FitsThen given = Fits given.inodes names files
 
-  module _ (inodes : Inodes) (pipes : Pipes W) (moment : ℕ) (given : PipesGiven W) where
-    same_over : (may : Ocb → Bool) (error : Errno) (done : Ocb → Row W → After W) (block : Option Ocb)
-        → (found block EBADF >>= (λ block. need (may block) EBADF >>= (λ _. found (row_at pipes block.inode) error >>= (λ pipe. Ok (with_after wanted offered gone inodes pipes block.inode moment (done block pipe)))))) ≡ Ok given
-        → SameSizes inodes given.inodes
-    same_over may error done None is = absurd (cc)
-    same_over may error done (Some block) is = by_parts (may block) (row_at pipes block.inode) is
-      where
-        by_parts : (allowed : Bool) (row : Option (Row W)) → (need allowed EBADF >>= (λ _. found row error >>= (λ pipe. Ok (with_after wanted offered gone inodes pipes block.inode moment (done block pipe))))) ≡ Ok given → SameSizes inodes given.inodes
-        by_parts false row e = absurd (cc)
-        by_parts true None e = absurd (cc)
-        by_parts true (Some pipe) e =
-            let same : with_after wanted offered gone inodes pipes block.inode moment (done block pipe) ≡ given = cc in
-            subst (SameFor inodes pipes) same (same_after inodes pipes block.inode moment (done block pipe))
+  after_fits : (inode : ℕ) (after : After WaitingCall) → FitsThen (with_after wanted offered is_gone inodes pipes inode moment after)
+  after_fits inode after = changed_fits inodes names files inode (filled wanted offered is_gone moment after)
+      (λ attribute. filled_alike attribute attribute.kind (list_any (λ answer. is_written (offered answer.0) answer.1) after.answers) (resized (length after.pipe.bytes) moment attribute) (record attribute { size = length after.pipe.bytes }) refl refl refl refl refl) fits
 
-    pub same_read : (number : ℕ) (is_asked : Bool) (reader : W) → read_pipe wanted offered gone inodes pipes number is_asked reader moment ≡ Ok given → SameSizes inodes given.inodes
-    same_read number is_asked reader is =
-        same_over (λ block. reads block.flags) EISDIR (λ block. read wanted offered gone (manner_of (writers_of inodes block.inode) block is_asked) reader) (row_at inodes.blocks number) is
+  pub read_fits : (opened : Opened) (count : ℕ) → IfOk (read_call inodes pipes opened count moment) FitsThen
+  read_fits opened count =
+      over_ok _ (found (row_at inodes.blocks opened.number) EBADF) _ (λ block _.
+      over_ok _ (need (reads block.flags) EBADF) _ (λ _ _.
+      over_ok _ (found (row_at pipes block.inode) EISDIR) _ (λ pipe _. after_fits block.inode (read wanted offered is_gone (manner_of (writers_of inodes block.inode) block opened.caller.is_asked) (waiting_call opened count []) pipe))))
 
-    pub same_write : (number : ℕ) (is_asked : Bool) (writer : W) → write_pipe wanted offered gone inodes pipes number is_asked writer moment ≡ Ok given → SameSizes inodes given.inodes
-    same_write number is_asked writer is =
-        same_over (λ block. writes block.flags) EBADF (λ block. write wanted offered gone (manner_of (readers_of inodes block.inode) block is_asked) writer) (row_at inodes.blocks number) is
+  pub write_fits : (opened : Opened) (bytes : List ℕ) → IfOk (write_call inodes pipes opened bytes moment) FitsThen
+  write_fits opened bytes =
+      over_ok _ (found (row_at inodes.blocks opened.number) EBADF) _ (λ block _.
+      over_ok _ (need (writes block.flags) EBADF) _ (λ _ _.
+      over_ok _ (found (row_at pipes block.inode) EBADF) _ (λ pipe _. after_fits block.inode (write wanted offered is_gone (manner_of (readers_of inodes block.inode) block opened.caller.is_asked) (waiting_call opened 0 bytes) pipe))))
 
-    pub same_cancel : (which : W → Bool) → cancel_waiting wanted offered gone inodes pipes which moment ≡ Ok given → SameSizes inodes given.inodes
-    same_cancel which is = by_inode (position (holds which) pipes) is
-      where
-        by_row : (inode : ℕ) (row : Option (Row W)) → (found row WrongState >>= (λ pipe. Ok (with_after wanted offered gone inodes pipes inode moment (cancel wanted offered gone which pipe)))) ≡ Ok given → SameSizes inodes given.inodes
-        by_row inode None e = absurd (cc)
-        by_row inode (Some pipe) e =
-            let same : with_after wanted offered gone inodes pipes inode moment (cancel wanted offered gone which pipe) ≡ given = cc in
-            subst (SameFor inodes pipes) same (same_after inodes pipes inode moment (cancel wanted offered gone which pipe))
+  pub cancel_fits : (process thread number : ℕ) → IfOk (cancel_call inodes pipes process thread number moment) FitsThen
+  cancel_fits process thread number =
+      over_ok _ (found (position (holds (is_call process thread number)) pipes) WrongState) _ (λ inode _.
+      over_ok _ (found (row_at pipes inode) WrongState) _ (λ pipe _. after_fits inode (cancel wanted offered is_gone (is_call process thread number) pipe)))
 
-        by_inode : (inode : Option ℕ) → (found inode WrongState >>= (λ inode. found (row_at pipes inode) WrongState >>= (λ pipe. Ok (with_after wanted offered gone inodes pipes inode moment (cancel wanted offered gone which pipe))))) ≡ Ok given → SameSizes inodes given.inodes
-        by_inode None e = absurd (cc)
-        by_inode (Some inode) e = by_row inode (row_at pipes inode) e
+  -- an open control block goes, and what was open with it
+  closed_fits : (now : Inodes) (number : ℕ) (block : Ocb) → row_at now.blocks number ≡ Some block → file_size (row_at inodes.attributes block.inode) ≡ None → Fits now names files → Fits (free_inode (close_block now number) block.inode) names files
+  closed_fits now number block there none still =
+      let no_size : file_size (row_at now.attributes block.inode) ≡ None = sym (still.sized block.inode) ∙ (fits.sized block.inode ∙ none) in
+      record {
+        named = freed_fits (close_block now number) names block.inode (closed_but now names number block there still.named);
+        sized = same_sized (close_block now number) (free_inode (close_block now number) block.inode) files (same_freed (close_block now number) block.inode no_size) still.sized;
+        room = still.room;
+      }
 
-    pub same_release : (block_of : W → ℕ) (number : ℕ) → release_pipe wanted offered gone block_of inodes pipes number moment ≡ Ok given → SameSizes inodes given.inodes
-    same_release block_of number is = by_block (own_block inodes number Pipe) refl is
-      where
-        same_left : (block : Ocb) (row : Option (Row W)) → SameSizes inodes (released wanted offered gone (λ who. block_of who == number) (close_block inodes number) pipes block.inode moment row).inodes
-        same_left block None = λ n. refl
-        same_left block (Some pipe) = same_after (close_block inodes number) pipes block.inode moment (release wanted offered gone (λ who. block_of who == number) (sides_of (close_block inodes number) block.inode) pipe)
-
-        by_block : (block : Result Ocb Errno) → own_block inodes number Pipe ≡ block
-            → (block >>= (λ block. Ok (without_unused (released wanted offered gone (λ who. block_of who == number) (close_block inodes number) pipes block.inode moment (row_at pipes block.inode)) block.inode))) ≡ Ok given → SameSizes inodes given.inodes
-        by_block (Err error) from e = absurd (cc)
-        by_block (Ok block) from e =
-            let before = released wanted offered gone (λ who. block_of who == number) (close_block inodes number) pipes block.inode moment (row_at pipes block.inode) in
-            let same : without_unused before block.inode ≡ given = cc in
-            let kept = same_left block (row_at pipes block.inode) in
-            let none = kept block.inode ∙ no_file inodes block.inode (own_is inodes number Pipe block from).1 in
-            subst (SameFor inodes pipes) same (λ n. same_freed before.inodes block.inode none n ∙ kept n)
+  pub close_fits : (number : ℕ) → IfOk (close_call inodes pipes number moment) FitsThen
+  close_fits number = over_ok _ (own_block inodes number Pipe) _ (λ block is. by_row block (own_is inodes number Pipe block is).0 (no_file inodes block.inode (own_is inodes number Pipe block is).1) (row_at pipes block.inode))
+    where
+      by_row : (block : Ocb) → row_at inodes.blocks number ≡ Some block → file_size (row_at inodes.attributes block.inode) ≡ None → (row : Option (Row WaitingCall))
+          → FitsThen (without_unused (released wanted offered is_gone (λ who. who.block == number) (close_block inodes number) pipes block.inode moment row) block.inode)
+      by_row block there none None = closed_fits inodes number block there none fits
+      by_row block there none (Some pipe) =
+          let after = release wanted offered is_gone (λ who. who.block == number) (sides_of (close_block inodes number) block.inode) pipe in
+          closed_fits (with_after wanted offered is_gone inodes pipes block.inode moment after).inodes number block there none (after_fits block.inode after)

@@ -1,5 +1,5 @@
 -- What a write comes to, once it is known what it goes to.
-use Rattle.std.proofs.Common.{◌≡◌, ℕ, ◌+◌, ◌-◌, ◌==◌, ◌≤◌, Bool, true, false, List, [], length, max, nat_le, refl, ap, ◌∙◌, arith, Option, Some, None, Result, Ok, Err}
+use Rattle.std.proofs.Common.{◌≡◌, ℕ, ◌+◌, ◌-◌, ◌==◌, ◌<◌, ◌≤◌, Bool, true, false, List, [], length, max, nat_le, refl, ap, ◌∙◌, arith, Option, Some, None, Result, Ok, Err}
 use Rattle.std.specs.Prelude.{if◌then◌else◌}
 use Rattle.std.proofs.lemmas.Bool.{leb-true}
 use Rattle.qx_types.specs.declared.errno.Errno.{Errno}
@@ -125,6 +125,12 @@ module _ (inodes : Inodes) (files : Files) (number moment : ℕ) (t : Target) (i
 
   pub written : (size : ℕ) → (length new == 0) ≡ false → size ≡ length (put it.bytes t.offset new) → write_file inodes files number moment new ≡ answered (write_fault (total_size files) t (length new)) (write_given inodes files number moment t size new)
   written size some is = by_faults some ∙ λ i. answered (same_fault i) (same_given size is i)
+
+  -- a longer file makes the sum greater
+  pub grown : t.size < t.offset + length new → total_size files < total_size (pasted files t.block.inode t.offset new)
+  grown longer =
+      let after = ap total_size (pasted_is files t.block.inode t.offset it.bytes new it.contents_are) ∙ total_after files t.block.inode t.offset it.bytes new it.contents_are in
+      omega (arith, after, it.size_is, size_within files t.block.inode it.bytes it.contents_are)
 
   -- the sum stays within its limit where nothing is refused
   pub fits : write_fault (total_size files) t (length new) ≡ None → total_size (pasted files t.block.inode t.offset new) ≤ FILES

@@ -1,12 +1,11 @@
 -- What a function of the RAM manager gave, with what it left.
-use Rattle.std.specs.Prelude.{ℕ, ℤ, ◌+◌, ◌-◌, List, [], Result, Ok, Err, Option, Some, None, length, max, nat_le, if◌then◌else◌}
+use Rattle.std.specs.Prelude.{ℕ, ℤ, ◌+◌, ◌-◌, ◌<◌, List, [], Result, Ok, Err, Option, Some, None, length, max, nat_le, if◌then◌else◌}
 use Rattle.qx_types.specs.declared.errno.Errno.{Errno}
 use Rattle.qx_types.specs.declared.errno.Errno.TheVariants.{EBADF, EFBIG, EINVAL, ENOSPC}
-use Rattle.qx_types.specs.declared.flags.OFlags.{OFlags}
 use Rattle.qx_types.specs.declared.flags.TheConstants.OFlags.{WRITE}
 use Rattle.qx_types.specs.declared.limits.TheConstants.Limits.{FILE, FILES, OFFSET}
 use Rattle.qx_attr.specs.Flags.{block_for}
-use Rattle.qx_machine.specs.Files.{Files, Given, moved_by, put, write_offset}
+use Rattle.qx_machine.specs.Files.{Files, Given, moved_by, put, total_size, write_offset}
 use Rattle.qx_machine.specs.Inodes.{Inodes}
 use Rattle.qx_machine.specs.Judgements.{◌>>=◌, found, need}
 use Rattle.qx_machine.specs.Names.{Names}
@@ -27,6 +26,11 @@ given inodes files (Err error) = Err error
 abbrev pub named : Names → Result Given Errno → Result (Names × Given) Errno
 named names (Ok given) = Ok (names, given)
 named names (Err error) = Err error
+
+-- there are more bytes than there were
+abbrev pub Grows : Files → Result Given Errno → Type 0
+Grows files (Ok given) = total_size files < total_size given.files
+Grows files (Err error) = ⊥
 
 -- what a write goes to
 abbrev pub target : Inodes → Files → ℕ → Result Target Errno

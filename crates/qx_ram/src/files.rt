@@ -5,7 +5,7 @@ ghost use Rattle.qx_machine.specs.Files.{get, put, total_size};
 ghost use Rattle.qx_machine.specs.Names as of_names;
 ghost use Rattle.qx_machine.specs.Rows.{row_at, with_row};
 ghost use Rattle.qx_ram.specs.Fits.{Fits};
-ghost use Rattle.qx_ram.specs.Given.{given, given_bytes, moved_to, pasted, target, write_fault};
+ghost use Rattle.qx_ram.specs.Given.{Grows, given, given_bytes, moved_to, pasted, target, write_fault};
 ghost use Rattle.qx_types.specs.declared.limits.TheConstants.Limits.{FILE, FILES, TRANSFER};
 
 use crate::contents::Contents;
@@ -119,7 +119,7 @@ impl Files {
     /// Writes bytes where an open control block stands, or with APPEND at the end, and gives their number; a gap is filled
     /// with zero bytes (C Library Reference: `write`). EBADF without a block for writing, EFBIG past 65,536 bytes, ENOSPC
     /// where the user's files would have more than 1,048,576 bytes together. Where an error comes or memory is short,
-    /// nothing changes; memory is wanted only where no error comes.
+    /// nothing changes; memory is wanted only where no error comes and the file gets longer.
     pub fn write(
         &mut self,
         inodes: &mut Inodes,
@@ -132,6 +132,7 @@ impl Files {
         ensures kept { IfOk result (λ r. OnErr r ((self.new ≡ self.old) × (inodes.new ≡ inodes.old))) }
         ensures err { OnErr result ((self.new ≡ self.old) × (inodes.new ≡ inodes.old)) }
         ensures wanted { OnErr result (IsOk (machine.write_file inodes.old.inodes self.old number moment new.now)) }
+        ensures longer { OnErr result (Grows self.old (machine.write_file inodes.old.inodes self.old number moment new.now)) }
         ensures fits { (names : of_names.Names) → Fits inodes.old.inodes names self.old → Fits inodes.new.inodes names self.new }
     {
         let target = match self.target(inodes, number) {
@@ -266,6 +267,7 @@ impl Files {
         ensures size { IfOk result (λ size. size ≡ machine.size_of (row_at self.new inode)) }
         ensures ok { OnOk result (self.new ≡ pasted self.old inode offset new.now) }
         ensures err { OnErr result (self.new ≡ self.old) }
+        ensures longer { OnErr result (machine.size_of (row_at self.old inode) < offset + length new.now) }
     {
         let (before, after) = paste(&mut self.contents, inode, offset, new)?;
         self.total = self.total - before + after;
@@ -295,6 +297,7 @@ fn paste(
     ensures after { IfOk result (λ sizes. sizes.1 ≡ machine.size_of (row_at contents.new inode)) }
     ensures ok { OnOk result (contents.new ≡ with_row contents.old inode (λ old. put old offset new.now)) }
     ensures err { OnErr result (contents.new ≡ contents.old) }
+    ensures longer { OnErr result (machine.size_of (row_at contents.old inode) < offset + length new.now) }
 {
     let Some(data) = contents.get_mut(inode) else {
         return Ok((0, 0));

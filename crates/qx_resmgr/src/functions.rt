@@ -38,7 +38,8 @@ impl Done {
 /// A manager's functions for messages to a path (Writing a Resource Manager: `resmgr_connect_funcs_t`), which work on what it
 /// keeps for a user and on what all users share. A function is given what its message came over, or the error if that is
 /// not what the message needs, and the moment; one whose reply may have bytes puts them into `reply`. It always replies. An
-/// error leaves all as it was. Where memory is short, all is as it was too, and the message would have been done.
+/// error leaves all as it was, and no bytes. Where memory is short, all is as it was too, and the message would have been
+/// done.
 pub trait Connect<S: State<W, T>, W, T> {
     /// What they mean. A function that is left out is `no_function()`.
     ghost connect: { ConnectFunctions T } = { no_connect };
@@ -104,8 +105,9 @@ pub trait Connect<S: State<W, T>, W, T> {
 /// A manager's functions for messages over what is open (Writing a Resource Manager: `resmgr_io_funcs_t`), which work on what
 /// it keeps for a user and on what all users share. A function is given what is open, or the error if nothing is, and the
 /// moment; one whose reply may have bytes puts them into `reply`. A read or a write may leave its message without a reply,
-/// and then takes `room`, memory for a reply that comes later; the others always reply. An error leaves all as it was.
-/// Where memory is short, all is as it was too, and the message would have been done.
+/// and then takes `room`, memory for a reply that comes later; else it leaves that as it was. The others always reply. An
+/// error leaves all as it was, and no bytes. Where memory is short, all is as it was too, and the message would have been
+/// done.
 pub trait Io<S: State<W, T>, W, T> {
     /// What they mean. A function that is left out is `no_function()`.
     ghost io: { IoFunctions T } = { no_io };
@@ -132,7 +134,7 @@ pub trait Io<S: State<W, T>, W, T> {
         requires empty { reply.old ≡ [] }
         requires count { count ≤ TRANSFER }
         ensures did { Did S.State state.old waits.old state.new waits.new reply.new result (function_deed io.read opened (λ f o. f (S.told state.old waits.old) o count moment)) }
-        ensures room { HasRoomAfter room.new result };
+        ensures room { HasRoomAfter room.old room.new result };
 
     /// Writes bytes.
     fn write(
@@ -148,7 +150,7 @@ pub trait Io<S: State<W, T>, W, T> {
         requires room { IsSome room.old }
         requires count { length bytes.now ≤ TRANSFER }
         ensures did { IfOk result (λ given. Did S.State state.old waits.old state.new waits.new [] given (function_deed io.write opened (λ f o. f (S.told state.old waits.old) o bytes.now moment))) }
-        ensures room { IfOk result (λ given. HasRoomAfter room.new given) }
+        ensures room { IfOk result (λ given. HasRoomAfter room.old room.new given) }
         ensures err { OnErr result ((state.new ≡ state.old) × (waits.new ≡ waits.old) × (room.new ≡ room.old)) }
         ensures wanted { OnErr result (IsOk (function_deed io.write opened (λ f o. f (S.told state.old waits.old) o bytes.now moment))) }
         ensures sure { IsFalse wants → IsOk result };

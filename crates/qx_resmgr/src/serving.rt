@@ -16,9 +16,9 @@ use std::alloc::AllocError;
 /// Does what a message asks a manager for at a moment, by the function for it in one of the manager's two tables (Writing
 /// a Resource Manager: `resmgr_handler`). ENOSYS where there is none; EINVAL where an open didn't come over a new
 /// connection, or another message to a path not over a side connection; the error of `opened`, for a message over what is
-/// open; then the function's own errors. An error changes nothing. The bytes of the reply are then in `reply`; a message
-/// that is left without one took `room` along. Only an open, a mknod and, of some managers, a write may want memory, and
-/// only where they would be done.
+/// open; then the function's own errors. An error changes nothing. The bytes of the reply are then in `reply`, none after
+/// an error; a message that is left without one took `room` along, and else that is as it was. Only an open, a mknod and,
+/// of some managers, a write may want memory, and only where they would be done.
 pub fn serve<M: Connect<S, W, T> + Io<S, W, T>, S: State<W, T>, W, T>(
     state: &mut S,
     waits: &mut W,
@@ -35,7 +35,7 @@ pub fn serve<M: Connect<S, W, T> + Io<S, W, T>, S: State<W, T>, W, T>(
     requires ranges { IsTrue (in_ranges message) }
     requires empty { reply.old ≡ [] }
     ensures did { IfOk result (λ given. Did S.State state.old waits.old state.new waits.new reply.new given (served M.connect M.io (S.told state.old waits.old) target opened moment message.entry)) }
-    ensures room { IfOk result (λ given. HasRoomAfter room.new given) }
+    ensures room { IfOk result (λ given. HasRoomAfter room.old room.new given) }
     ensures err { OnErr result ((state.new ≡ state.old) × (waits.new ≡ waits.old) × (room.new ≡ room.old)) }
     ensures wanted { OnErr result (IsOk (served M.connect M.io (S.told state.old waits.old) target opened moment message.entry)) }
     ensures sure { IsFalse (wants_memory M.wants message.entry) → IsOk result }

@@ -1,4 +1,4 @@
-ghost use Rattle.std.specs.Prelude.{◌≡◌, List, []};
+ghost use Rattle.std.specs.Prelude.{List};
 ghost use Rattle.qx_types.specs.declared.outcome.Answer.{Answer};
 ghost use Rattle.qx_machine.specs.declared.rows.WaitingCall.{WaitingCall};
 
@@ -8,10 +8,13 @@ pub trait State<W, T> {
     /// What the tables work on.
     ghost told: { Self → W → T };
 
-    /// How the two stand together, between messages. Most managers ask nothing.
+    /// What all users share once a user's part of both is that, and these answers were given, in order. Most managers keep
+    /// nothing there.
+    ghost shared: { Self → W → T → List (WaitingCall × Answer) → W } = { λ _ waits _ _. waits };
+
+    /// What a function may count on. Most managers ask nothing.
     ghost fits: { Self → W → Type 0 } = { λ _ _. Unit {0} };
 
-    /// That these answers were given, and that all that is other users' is as it was: from the two states before to the two
-    /// after. Most managers answer no call that waits.
-    ghost left: { Self → W → Self → W → List (WaitingCall × Answer) → Type 0 } = { λ _ _ _ _ answers. answers ≡ [] };
+    /// What no function changes. Most managers ask nothing.
+    ghost same: { Self → Self → Type 0 } = { λ _ _. Unit {0} };
 }

@@ -1,14 +1,13 @@
 -- What the managers keep for the users at boot.
-use Rattle.std.specs.Prelude.{ℕ, ◌+◌, List, [], ◌∷◌, Option, Some, None, replicate}
+use Rattle.std.specs.Prelude.{ℕ, ◌+◌, List, [], ◌∷◌, Option, Some}
 use Rattle.qx_types.specs.Configuration.{Configuration}
-use Rattle.qx_types.specs.declared.limits.TheConstants.Limits.{INODES}
 use Rattle.qx_machine.specs.Parts.{Resources}
 use Rattle.qx_machine.specs.Users.{boot_part}
 use Rattle.qx_resources.specs.State.{Kept}
 
--- the machine's resources, where there is no pipe
+-- the machine's resources, but the pipes
 abbrev pub without_pipes : Resources → Kept
-without_pipes r = record { user = r.user; mounts = r.mounts; inodes = r.inodes; names = r.names; files = r.files; pipes = replicate (INODES + 1) None }
+without_pipes r = record { user = r.user; mounts = r.mounts; inodes = r.inodes; names = r.names; files = r.files }
 
 -- for the users from this one on
 abbrev pub boot_resources : Configuration → ℕ → List (List ℕ) → List (Option Kept)

@@ -1,6 +1,5 @@
--- What the managers keep for a user, and how it stands together with the lines, in which calls wait.
-use Rattle.std.specs.Prelude.{ℕ, ◌≡◌, List, ◌++◌, None, map}
-use Rattle.std.specs.FinMap as maps
+-- What the managers keep for a user, and how it stands together with what all users share, in which calls wait.
+use Rattle.std.specs.Prelude.{ℕ, ◌≡◌, ◌<◌, List, length}
 use Rattle.qx_types.specs.declared.outcome.Answer.{Answer}
 use Rattle.qx_paths.specs.Prefixes.{MountPoint}
 use Rattle.qx_machine.specs.declared.rows.Opened.{Opened}
@@ -9,42 +8,37 @@ use Rattle.qx_machine.specs.Files.{Files}
 use Rattle.qx_machine.specs.Inodes.{Inodes}
 use Rattle.qx_machine.specs.Names.{Names}
 use Rattle.qx_machine.specs.Parts.{Resources}
-use Rattle.qx_pipes.specs.Pipes.{IsListIn, PipeRows}
-use Rattle.qx_queues.specs.Piped.{ArePipesOf, calls_in, thread_of, users_given}
-use Rattle.qx_queues.specs.Queues.{IsReceived, Queues}
+use Rattle.qx_shared.specs.Shared.{thread_of}
 use Rattle.qx_resmgr.specs.declared.state.State.{Ghosts}
+use Rattle.qx_shared.specs.Shared.{IsReceived, Shared, pipes_of, with_pipes}
 
--- the machine's resources, but that each pipe has its bytes and the numbers of the two lists in which calls wait
+-- the machine's resources, but the pipes
 pub record Kept : Type 0 where
   pub user : ℕ
   pub mounts : List MountPoint
   pub inodes : Inodes
   pub names : Names
   pub files : Files
-  pub pipes : PipeRows
 
--- a user's resources, by the calls that wait
-abbrev pub told : Kept → Queues → Resources
-told k c = record { user = k.user; mounts = k.mounts; inodes = k.inodes; names = k.names; files = k.files; pipes = calls_in c k.pipes }
+-- a user's resources, with the pipes that the user has of what all share
+abbrev pub told : Kept → Shared → Resources
+told k c = record { user = k.user; mounts = k.mounts; inodes = k.inodes; names = k.names; files = k.files; pipes = pipes_of c k.user }
 
--- the user's pipes are of these lines
-abbrev pub Fits : Kept → Queues → Type 0
-Fits k c = ArePipesOf c k.user k.pipes
+-- the user is one of those who share
+abbrev pub Fits : Kept → Shared → Type 0
+Fits k c = k.user < length c.pipes
 
 -- the message of an opened connection's caller was received, and no call of it waits
-abbrev pub IsReady : Kept → Queues → Opened → Type 0
+abbrev pub IsReady : Kept → Shared → Opened → Type 0
 IsReady k c opened = IsReceived c (thread_of k.user opened.caller)
 
--- calls of the user were answered, in order, and only lists of the user's own pipes are different: those of new pipes were not there, and
--- those of pipes that went are not there any more
-pub record Left (k : Kept) (c : Queues) (l : Kept) (d : Queues) (answers : List (WaitingCall × Answer)) : Type 0 where
-  pub user : l.user ≡ k.user
-  pub answered : d.answered ≡ c.answered ++ map (users_given k.user) answers
-  pub elsewhere : (list : ℕ) → ¬ (IsListIn k.pipes list) → ¬ (IsListIn l.pipes list) → maps.get d.pipes list ≡ maps.get c.pipes list
-  pub fresh : (list : ℕ) → ¬ (IsListIn k.pipes list) → IsListIn l.pipes list → maps.get c.pipes list ≡ None
-  pub gone : (list : ℕ) → IsListIn k.pipes list → ¬ (IsListIn l.pipes list) → maps.get d.pipes list ≡ None
-  pub rest : d ≡ record c { pipes = d.pipes; answered = d.answered }
+-- what all share, where a user's resources are these and these answers were given
+abbrev pub shared : Kept → Shared → Resources → List (WaitingCall × Answer) → Shared
+shared k c resources answers = with_pipes c k.user resources.pipes answers
+
+abbrev pub SameUser : Kept → Kept → Type 0
+SameUser k l = l.user ≡ k.user
 
 -- how the managers' tables of functions see the two
-abbrev pub state : Ghosts Kept Queues Resources
-state = record { told = told; fits = Fits; left = Left }
+abbrev pub state : Ghosts Kept Shared Resources
+state = record { told = told; shared = shared; fits = Fits; same = SameUser }

@@ -4,9 +4,9 @@ ghost use Rattle.std.specs.Prelude.{◌≡◌, ℕ, []};
 ghost use Rattle.qx_machine.specs.Functions.{function_deed};
 ghost use Rattle.qx_machine.specs.Managers.{ram_connect, ram_io};
 ghost use Rattle.qx_machine.specs.declared.rows.Effect.TheVariants.{Closes, Opens};
-ghost use Rattle.qx_queues.specs.Queues.{Queues};
 ghost use Rattle.qx_resmgr.specs.Deeds.{Did, IsReplied};
 ghost use Rattle.qx_resources.specs.State as kept;
+ghost use Rattle.qx_shared.specs.Shared.{Shared};
 
 use crate::resources::Resources;
 use qx_attr::Reply;
@@ -43,7 +43,7 @@ pub fn stat(
     reply: &mut Reply,
 ) -> Result<Done, Errno>
     requires empty { reply.old ≡ [] }
-    ensures did { (waits : Queues) (moment : ℕ) → kept.Fits state.now waits → Did kept.state state.now waits state.now waits reply.new result (function_deed ram_connect.stat root (λ f root. f (kept.told state.now waits) root rest.now moment)) }
+    ensures did { (waits : Shared) (moment : ℕ) → Did kept.state state.now waits state.now waits reply.new result (function_deed ram_connect.stat root (λ f root. f (kept.told state.now waits) root rest.now moment)) }
     ensures replied { IsReplied result }
 {
     let status = qx_iofunc::stat(&state.inodes, &state.names, state.user, root?, rest)?;
@@ -58,7 +58,7 @@ pub fn fstat(
     reply: &mut Reply,
 ) -> Result<Done, Errno>
     requires empty { reply.old ≡ [] }
-    ensures did { (waits : Queues) (moment : ℕ) → kept.Fits state.now waits → Did kept.state state.now waits state.now waits reply.new result (function_deed ram_io.fstat opened (λ f o. f (kept.told state.now waits) o moment)) }
+    ensures did { (waits : Shared) (moment : ℕ) → Did kept.state state.now waits state.now waits reply.new result (function_deed ram_io.fstat opened (λ f o. f (kept.told state.now waits) o moment)) }
     ensures replied { IsReplied result }
 {
     let status = qx_iofunc::fstat(&state.inodes, opened?.number)?;
@@ -74,7 +74,7 @@ pub fn list(
     reply: &mut Reply,
 ) -> Result<Done, Errno>
     requires empty { reply.old ≡ [] }
-    ensures did { (waits : Queues) (moment : ℕ) → kept.Fits state.now waits → Did kept.state state.now waits state.now waits reply.new result (function_deed ram_io.list opened (λ f o. f (kept.told state.now waits) o after.now moment)) }
+    ensures did { (waits : Shared) (moment : ℕ) → Did kept.state state.now waits state.now waits reply.new result (function_deed ram_io.list opened (λ f o. f (kept.told state.now waits) o after.now moment)) }
     ensures replied { IsReplied result }
 {
     let count = qx_iofunc::list(&state.inodes, &state.names, opened?.number, after, reply)?;
@@ -88,7 +88,7 @@ pub fn chmod(
     mode: u16,
     moment: u64,
 ) -> Result<Done, Errno>
-    ensures did { (waits : Queues) → kept.Fits state.old waits → Did kept.state state.old waits state.new waits [] result (function_deed ram_io.chmod opened (λ f o. f (kept.told state.old waits) o mode moment)) }
+    ensures did { (waits : Shared) → Did kept.state state.old waits state.new waits [] result (function_deed ram_io.chmod opened (λ f o. f (kept.told state.old waits) o mode moment)) }
     ensures replied { IsReplied result }
 {
     qx_iofunc::chmod(&mut state.inodes, opened?.number, moment, mode)?;

@@ -6,8 +6,8 @@ use crate::state::Told;
 use qx_attr::Reply;
 use qx_machine::{NewOpen, Opened};
 use qx_process::Room;
-use qx_queues::Queues;
 use qx_resmgr::{Connect, Done, Io, no_function};
+use qx_shared::Shared;
 use qx_types::{Errno, OFlags, Whence};
 use qx_wire::Rest;
 use std::alloc::AllocError;
@@ -15,12 +15,12 @@ use std::alloc::AllocError;
 /// The pipe manager.
 pub struct Pipe;
 
-impl Connect<Resources, Queues, Told> for Pipe {
+impl Connect<Resources, Shared, Told> for Pipe {
     ghost connect = { pipe_connect };
 
     fn open(
         state: &mut Resources,
-        waits: &mut Queues,
+        waits: &mut Shared,
         over: Result<NewOpen, Errno>,
         flags: OFlags,
         mode: u16,
@@ -35,18 +35,17 @@ impl Connect<Resources, Queues, Told> for Pipe {
             user,
             inodes,
             names,
-            pipes,
             ..
         } = state;
-        let opened = waits.open(
-            pipes, inodes, names, *user, over.root, rest, flags, mode, moment,
+        let opened = qx_pipes::open(
+            waits, inodes, names, *user, over.root, rest, flags, mode, moment,
         )?;
         Ok(opened.map(|block| blocks::opened(over.coid, block)))
     }
 
     fn stat(
         state: &mut Resources,
-        _waits: &mut Queues,
+        _waits: &mut Shared,
         root: Result<u32, Errno>,
         rest: &Rest<'_>,
         _moment: u64,
@@ -57,7 +56,7 @@ impl Connect<Resources, Queues, Told> for Pipe {
 
     fn unlink(
         state: &mut Resources,
-        waits: &mut Queues,
+        waits: &mut Shared,
         root: Result<u32, Errno>,
         rest: &Rest<'_>,
         moment: u64,
@@ -66,16 +65,15 @@ impl Connect<Resources, Queues, Told> for Pipe {
             user,
             inodes,
             names,
-            pipes,
             ..
         } = state;
-        waits.unlink(pipes, inodes, names, *user, root?, rest, moment)?;
+        qx_pipes::unlink(waits, inodes, names, *user, root?, rest, moment)?;
         Ok(Done::keeps(0))
     }
 
     fn mknod(
         _state: &mut Resources,
-        _waits: &mut Queues,
+        _waits: &mut Shared,
         _root: Result<u32, Errno>,
         _mode: u16,
         _rest: &Rest<'_>,
@@ -85,7 +83,7 @@ impl Connect<Resources, Queues, Told> for Pipe {
     }
 }
 
-impl Io<Resources, Queues, Told> for Pipe {
+impl Io<Resources, Shared, Told> for Pipe {
     ghost use Rattle.qx_resources.specs.State.{IsReady};
 
     ghost io = { pipe_io };
@@ -94,26 +92,21 @@ impl Io<Resources, Queues, Told> for Pipe {
 
     fn read(
         state: &mut Resources,
-        waits: &mut Queues,
+        waits: &mut Shared,
         opened: Result<Opened, Errno>,
         count: u32,
         moment: u64,
         _reply: &mut Reply,
         room: &mut Option<Room>,
     ) -> Result<Done, Errno> {
-        let Resources {
-            user,
-            inodes,
-            pipes,
-            ..
-        } = state;
-        waits.read(pipes, inodes, *user, opened?, count, room, moment)?;
+        let Resources { user, inodes, .. } = state;
+        qx_pipes::read(waits, inodes, *user, opened?, count, room, moment)?;
         Ok(Done::NoReply)
     }
 
     fn write(
         state: &mut Resources,
-        waits: &mut Queues,
+        waits: &mut Shared,
         opened: Result<Opened, Errno>,
         bytes: &[u8],
         moment: u64,
@@ -123,42 +116,37 @@ impl Io<Resources, Queues, Told> for Pipe {
             Ok(opened) => opened,
             Err(error) => return Ok(Err(error)),
         };
-        let Resources {
-            user,
-            inodes,
-            pipes,
-            ..
-        } = state;
-        let written = waits.write(pipes, inodes, *user, opened, bytes, room, moment);
+        let Resources { user, inodes, .. } = state;
+        let written = qx_pipes::write(waits, inodes, *user, opened, bytes, room, moment);
         Ok(written.map(|_| Done::NoReply))
     }
 
     fn close(
         state: &mut Resources,
-        waits: &mut Queues,
+        waits: &mut Shared,
         opened: Result<Opened, Errno>,
         moment: u64,
     ) -> Result<Done, Errno> {
         let opened = opened?;
-        waits.release(&mut state.pipes, &mut state.inodes, opened.number, moment)?;
+        qx_pipes::release(waits, &mut state.inodes, state.user, opened.number, moment)?;
         Ok(blocks::closed(opened.coid))
     }
 
     fn lseek(
         state: &mut Resources,
-        _waits: &mut Queues,
+        _waits: &mut Shared,
         opened: Result<Opened, Errno>,
         _whence: Whence,
         _offset: i64,
         _moment: u64,
     ) -> Result<Done, Errno> {
-        let status = state.pipes.seek(&state.inodes, opened?.number)?;
+        let status = qx_pipes::seek(&state.inodes, opened?.number)?;
         Ok(Done::keeps(status))
     }
 
     fn fstat(
         state: &mut Resources,
-        _waits: &mut Queues,
+        _waits: &mut Shared,
         opened: Result<Opened, Errno>,
         _moment: u64,
         reply: &mut Reply,
@@ -168,7 +156,7 @@ impl Io<Resources, Queues, Told> for Pipe {
 
     fn list(
         state: &mut Resources,
-        _waits: &mut Queues,
+        _waits: &mut Shared,
         opened: Result<Opened, Errno>,
         after: &[u8],
         _moment: u64,
@@ -179,7 +167,7 @@ impl Io<Resources, Queues, Told> for Pipe {
 
     fn chmod(
         state: &mut Resources,
-        _waits: &mut Queues,
+        _waits: &mut Shared,
         opened: Result<Opened, Errno>,
         mode: u16,
         moment: u64,

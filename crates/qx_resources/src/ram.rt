@@ -7,8 +7,8 @@ use crate::state::Told;
 use qx_attr::Reply;
 use qx_machine::{NewOpen, Opened};
 use qx_process::Room;
-use qx_queues::Queues;
 use qx_resmgr::{Connect, Done, Io};
+use qx_shared::Shared;
 use qx_types::{Errno, OFlags, Whence};
 use qx_wire::Rest;
 use std::alloc::AllocError;
@@ -16,12 +16,12 @@ use std::alloc::AllocError;
 /// The RAM manager.
 pub struct Ram;
 
-impl Connect<Resources, Queues, Told> for Ram {
+impl Connect<Resources, Shared, Told> for Ram {
     ghost connect = { ram_connect };
 
     fn open(
         state: &mut Resources,
-        _waits: &mut Queues,
+        _waits: &mut Shared,
         over: Result<NewOpen, Errno>,
         flags: OFlags,
         mode: u16,
@@ -45,7 +45,7 @@ impl Connect<Resources, Queues, Told> for Ram {
 
     fn stat(
         state: &mut Resources,
-        _waits: &mut Queues,
+        _waits: &mut Shared,
         root: Result<u32, Errno>,
         rest: &Rest<'_>,
         _moment: u64,
@@ -56,7 +56,7 @@ impl Connect<Resources, Queues, Told> for Ram {
 
     fn unlink(
         state: &mut Resources,
-        _waits: &mut Queues,
+        _waits: &mut Shared,
         root: Result<u32, Errno>,
         rest: &Rest<'_>,
         moment: u64,
@@ -74,7 +74,7 @@ impl Connect<Resources, Queues, Told> for Ram {
 
     fn mknod(
         state: &mut Resources,
-        _waits: &mut Queues,
+        _waits: &mut Shared,
         root: Result<u32, Errno>,
         mode: u16,
         rest: &Rest<'_>,
@@ -95,14 +95,14 @@ impl Connect<Resources, Queues, Told> for Ram {
     }
 }
 
-impl Io<Resources, Queues, Told> for Ram {
+impl Io<Resources, Shared, Told> for Ram {
     ghost io = { ram_io };
 
     ghost wants = { true };
 
     fn read(
         state: &mut Resources,
-        _waits: &mut Queues,
+        _waits: &mut Shared,
         opened: Result<Opened, Errno>,
         count: u32,
         _moment: u64,
@@ -116,7 +116,7 @@ impl Io<Resources, Queues, Told> for Ram {
 
     fn write(
         state: &mut Resources,
-        _waits: &mut Queues,
+        _waits: &mut Shared,
         opened: Result<Opened, Errno>,
         bytes: &[u8],
         moment: u64,
@@ -134,7 +134,7 @@ impl Io<Resources, Queues, Told> for Ram {
 
     fn close(
         state: &mut Resources,
-        _waits: &mut Queues,
+        _waits: &mut Shared,
         opened: Result<Opened, Errno>,
         _moment: u64,
     ) -> Result<Done, Errno> {
@@ -145,7 +145,7 @@ impl Io<Resources, Queues, Told> for Ram {
 
     fn lseek(
         state: &mut Resources,
-        _waits: &mut Queues,
+        _waits: &mut Shared,
         opened: Result<Opened, Errno>,
         whence: Whence,
         offset: i64,
@@ -159,7 +159,7 @@ impl Io<Resources, Queues, Told> for Ram {
 
     fn fstat(
         state: &mut Resources,
-        _waits: &mut Queues,
+        _waits: &mut Shared,
         opened: Result<Opened, Errno>,
         _moment: u64,
         reply: &mut Reply,
@@ -169,7 +169,7 @@ impl Io<Resources, Queues, Told> for Ram {
 
     fn list(
         state: &mut Resources,
-        _waits: &mut Queues,
+        _waits: &mut Shared,
         opened: Result<Opened, Errno>,
         after: &[u8],
         _moment: u64,
@@ -180,7 +180,7 @@ impl Io<Resources, Queues, Told> for Ram {
 
     fn chmod(
         state: &mut Resources,
-        _waits: &mut Queues,
+        _waits: &mut Shared,
         opened: Result<Opened, Errno>,
         mode: u16,
         moment: u64,

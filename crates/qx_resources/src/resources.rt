@@ -1,22 +1,21 @@
 //! What the managers keep for a user, and what messages do to it.
 
-ghost use Rattle.std.specs.Prelude.{◌≡◌, ◌<◌, false, true, IsFalse, IsOk, IsSome, IfOk, MatchResult, OnErr, OnOk};
+ghost use Rattle.std.specs.Prelude.{◌≡◌, ◌<◌, is_ok, IsFalse, IsOk, IsSome, IfOk, OnErr, OnOk};
 ghost use Rattle.qx_machine.specs.Attributes as attributes;
 ghost use Rattle.qx_attr.specs.Counts.{numbered};
 ghost use Rattle.qx_machine.specs.Inodes.{inode_number, new_inode};
 ghost use Rattle.qx_machine.specs.Mounting as mounting;
-ghost use Rattle.qx_machine.specs.Managers.{with_pipes};
 ghost use Rattle.qx_machine.specs.Performing as performing;
 ghost use Rattle.qx_machine.specs.Performing.{deed_of};
 ghost use Rattle.qx_machine.specs.PipeManager.{cancel_call};
 ghost use Rattle.qx_machine.specs.Users.{boot_part};
-ghost use Rattle.qx_queues.specs.Piped.{thread_of};
-ghost use Rattle.qx_queues.specs.Queues.{IsReceived, Queues};
+ghost use Rattle.qx_shared.specs.Shared.{thread_of};
 ghost use Rattle.qx_resmgr.specs.Deeds.{Did, HasRoomAfter};
 ghost use Rattle.qx_resources.specs.Boot.{without_pipes};
 ghost use Rattle.qx_resources.specs.Memory.{IsInRanges, wants_memory};
 ghost use Rattle.qx_resources.specs.Mounts.{CanMount, with_new_mount};
-ghost use Rattle.qx_resources.specs.State.{Fits, Left, state, told};
+ghost use Rattle.qx_resources.specs.State.{Fits, state, told};
+ghost use Rattle.qx_shared.specs.Shared.{IsReceived, Shared, inodes_after, shared_after};
 
 use crate::pipe::Pipe;
 use crate::ram::Ram;
@@ -25,11 +24,10 @@ use qx_attr::{Inodes, Reply};
 use qx_machine::{Attribute, Caller, Kind, Opened, Over, Target};
 use qx_names::Names;
 use qx_paths::{MountFault, Mounts, Path, read_path};
-use qx_pipes::Pipes;
 use qx_process::{Process, Room};
-use qx_queues::Queues;
 use qx_ram::Files;
 use qx_resmgr::{Done, serve};
+use qx_shared::Shared;
 use qx_types::{Config, Errno, Manager, NoMemory, Thread, User};
 use qx_wire::Meaning;
 use std::alloc::{AllocError, Global};
@@ -47,7 +45,6 @@ pub struct Resources {
     pub(crate) inodes: Inodes,
     pub(crate) names: Names,
     pub(crate) files: Files,
-    pub(crate) pipes: Pipes,
 }
 
 impl Model for Resources {
@@ -60,7 +57,7 @@ impl Model for Resources {
 
     ghost coded = { Prim.hlevel (codes, names_code) };
 
-    ghost view = { λ r. record { user = r.user.0; mounts = r.mounts; inodes = r.inodes.inodes; names = r.names; files = r.files; pipes = r.pipes } };
+    ghost view = { λ r. record { user = r.user.0; mounts = r.mounts; inodes = r.inodes.inodes; names = r.names; files = r.files } };
 
     ghost invariant = { λ r. Fits r.inodes.inodes r.names r.files };
 }
@@ -97,7 +94,6 @@ impl Resources {
             inodes,
             names,
             files: Files::new(alloc)?,
-            pipes: Pipes::new(alloc)?,
         })
     }
 
@@ -118,7 +114,7 @@ impl Resources {
         manager: Manager,
     ) -> Result<NewMount<'a>, Errno>
         ensures can { IfOk result (λ mount. CanMount self.now mount) }
-        ensures mount { (queues : Queues) → result ≡ mounting.new_mount name.now path.now manager (told self.now queues) }
+        ensures mount { (all : Shared) → result ≡ mounting.new_mount name.now path.now manager (told self.now all) }
     {
         let path = read_path(path)?;
         if !path.is_under(name) {
@@ -159,11 +155,11 @@ impl Resources {
     }
 
     /// Does what bytes of a process ask its manager for at a moment, by what they mean; the bytes of the reply are then in
-    /// `reply`, and a call that waits took `room` along. Only an open, a mknod and a write to the RAM manager may want memory,
-    /// and only where they would be done.
+    /// `reply`, none after an error, and a call that waits took `room` along. Only an open, a mknod and a write to the RAM
+    /// manager may want memory, and only where they would be done.
     pub fn perform(
         &mut self,
-        queues: &mut Queues,
+        all: &mut Shared,
         process: &Process,
         caller: Caller,
         target: Target,
@@ -173,42 +169,42 @@ impl Resources {
         room: &mut Option<Room>,
     ) -> Result<Result<Done, Errno>, AllocError>
         requires ranges { IsInRanges meaning }
-        requires fits { Fits self.old queues.old }
-        requires received { IsReceived queues.old (thread_of self.old.user caller) }
+        requires fits { Fits self.old all.old }
+        requires received { IsReceived all.old (thread_of self.old.user caller) }
         requires room { IsSome room.old }
-        ensures did { IfOk result (λ given. Did state self.old queues.old self.new queues.new reply.new given (deed_of (told self.old queues.old) process.now caller target moment meaning.entry)) }
-        ensures room { IfOk result (λ given. HasRoomAfter room.new given) }
-        ensures err { OnErr result ((self.new ≡ self.old) × (queues.new ≡ queues.old) × (room.new ≡ room.old)) }
-        ensures wanted { OnErr result (IsOk (deed_of (told self.old queues.old) process.now caller target moment meaning.entry)) }
+        ensures did { IfOk result (λ given. Did state self.old all.old self.new all.new reply.new given (deed_of (told self.old all.old) process.now caller target moment meaning.entry)) }
+        ensures room { IfOk result (λ given. HasRoomAfter room.old room.new given) }
+        ensures err { OnErr result ((self.new ≡ self.old) × (all.new ≡ all.old) × (room.new ≡ room.old)) }
+        ensures wanted { OnErr result (IsOk (deed_of (told self.old all.old) process.now caller target moment meaning.entry)) }
         ensures sure { IsFalse (wants_memory target.manager meaning.entry) → IsOk result }
     {
+        reply.clear();
         let message = match meaning {
             Meaning::Known(message) => message,
             Meaning::Unknown => return Ok(Err(Errno::ENOSYS)),
             Meaning::Malformed => return Ok(Err(Errno::EINVAL)),
         };
-        reply.clear();
         let opened = opened_by(process, caller, target);
         match target.manager {
-            Manager::Ram => serve::<Ram, Resources, Queues, Told>(
-                self, queues, target, opened, message, moment, reply, room,
+            Manager::Ram => serve::<Ram, Resources, Shared, Told>(
+                self, all, target, opened, message, moment, reply, room,
             ),
-            Manager::Pipe => serve::<Pipe, Resources, Queues, Told>(
-                self, queues, target, opened, message, moment, reply, room,
+            Manager::Pipe => serve::<Pipe, Resources, Shared, Told>(
+                self, all, target, opened, message, moment, reply, room,
             ),
         }
     }
 
     /// A thread's call is asked to unblock: if it waits in a pipe, it is answered EINTR, unless it is served as the pipe is
     /// cleaned before, and others may be served then (Writing a Resource Manager: the unblock pulse). Tells whether it waited.
-    pub fn cancel(&mut self, queues: &mut Queues, thread: Thread, call: u64, moment: u64) -> bool
+    pub fn cancel(&mut self, all: &mut Shared, thread: Thread, call: u64, moment: u64) -> bool
         requires user { self.old.user ≡ thread.proc.user.0 }
-        requires fits { Fits self.old queues.old }
-        ensures { MatchResult (cancel_call (told self.old queues.old).inodes (told self.old queues.old).pipes thread.proc.num thread.tid call moment)
-            (λ given. (result ≡ true) × (told self.new queues.new ≡ with_pipes (told self.old queues.old) given) × Left self.old queues.old self.new queues.new given.answers × Fits self.new queues.new)
-            (λ outcome. (result ≡ false) × (self.new ≡ self.old) × (queues.new ≡ queues.old)) }
+        requires fits { Fits self.old all.old }
+        ensures waited { result ≡ is_ok (cancel_call (told self.old all.old).inodes (told self.old all.old).pipes thread.proc.num thread.tid call moment) }
+        ensures resources { self.new ≡ record self.old { inodes = inodes_after self.old.inodes (cancel_call (told self.old all.old).inodes (told self.old all.old).pipes thread.proc.num thread.tid call moment) } }
+        ensures shared { all.new ≡ shared_after all.old self.old.user (cancel_call (told self.old all.old).inodes (told self.old all.old).pipes thread.proc.num thread.tid call moment) }
     {
-        queues.cancel(&mut self.pipes, &mut self.inodes, thread, call, moment)
+        qx_pipes::cancel(all, &mut self.inodes, thread, call, moment)
     }
 }
 

@@ -1,8 +1,8 @@
 //! What the managers keep for a user, as their tables of functions see it.
 
 use crate::resources::Resources;
-use qx_queues::Queues;
 use qx_resmgr::State;
+use qx_shared::Shared;
 use std::marker::Model;
 
 /// A user's resources as the machine has them: what the managers' tables of functions work on. It stands in contracts alone.
@@ -22,12 +22,14 @@ impl Model for Told {
     ghost view = { λ _. new_resources 0 [] };
 }
 
-impl State<Queues, Told> for Resources {
+impl State<Shared, Told> for Resources {
     ghost use Rattle.qx_resources.specs.State as state;
 
     ghost told = { state.told };
 
+    ghost shared = { state.shared };
+
     ghost fits = { state.Fits };
 
-    ghost left = { state.Left };
+    ghost same = { state.SameUser };
 }

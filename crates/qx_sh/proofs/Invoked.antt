@@ -7,18 +7,18 @@ use Rattle.qx_sh.specs.declared.ending.End.TheVariants.{Done, Input, Output, Wor
 use Rattle.qx_sh.specs.Invocation.{EndsOn}
 use Rattle.qx_sh.specs.Options.{AsksFor}
 use Rattle.qx_sh.specs.Run.{EndsAs}
+use Rattle.qx_sh.specs.Watched.{Told}
 use Rattle.qx_sh.specs.Written.{AppendsFront}
 use Rattle.qx_sh.proofs.Written.{front_all}
 
 -- a run within the limit that the words ask for
-pub runs_on : (words : List Text) (limit : ℕ) (known old new : Option (List ℕ)) (failed : Bool) (end : End)
-    → AsksFor words limit → EndsAs limit known old new failed end → EndsOn words known old new failed end
-runs_on words limit known old new failed Done asked ending = record { limit = limit; asked = asked; ending = ending }
-runs_on words limit known old new failed Input asked ending = record { limit = limit; asked = asked; ending = ending }
-runs_on words limit known old new failed Output asked ending = record { limit = limit; asked = asked; ending = ending }
-runs_on words limit known old new failed Words asked ending = absurd ending
-runs_on words limit known old new failed (Line line) asked ending = record { limit = limit; asked = asked; ending = ending }
-runs_on words limit known old new failed Memory asked ending = ending
+pub runs_on : (words : List Text) (limit : ℕ) (told : Told) (end : End) → AsksFor words limit → EndsAs limit told end → EndsOn words told end
+runs_on words limit told Done asked ending = record { limit = limit; asked = asked; ending = ending }
+runs_on words limit told Input asked ending = record { limit = limit; asked = asked; ending = ending }
+runs_on words limit told Output asked ending = record { limit = limit; asked = asked; ending = ending }
+runs_on words limit told Words asked ending = absurd ending
+runs_on words limit told (Line line) asked ending = record { limit = limit; asked = asked; ending = ending }
+runs_on words limit told Memory asked ending = ending
 
 -- whatever a report came to, a front of its line is written
 pub front_reported : {T E : Type 0} (r : Result T E) (old new : Option (List ℕ)) (line : List ℕ)

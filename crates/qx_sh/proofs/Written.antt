@@ -32,15 +32,6 @@ front_all a b bytes p = record {
   appends = p;
 }
 
-nothing_kept : (b c : Option (List ℕ)) → Appends b c [] → Keeps b c
-nothing_kept None c p = tt
-nothing_kept (Some x) None p = absurd p
-nothing_kept (Some x) (Some y) p = p ∙ append-nil x
-
--- a front of the text is written, and a write takes nothing
-pub front_stuck : (a b c : Option (List ℕ)) (bytes more : List ℕ) (i n : ℕ) → Appends a b (take i bytes) → n ≡ 0 → Appends b c (take n more) → AppendsFront a c bytes
-front_stuck a b c bytes more i n p none q = front_kept a b c bytes i p (nothing_kept b c (rw none at q))
-
 -- a front of the first piece is a front of the text
 pub front_first : (a b : Option (List ℕ)) (first rest : List ℕ) → AppendsFront a b first → AppendsFront a b (first ++ rest)
 front_first a b first rest p = record {

@@ -8,22 +8,23 @@ use Rattle.qx_sh.specs.declared.ending.End.{End}
 use Rattle.qx_sh.specs.declared.ending.End.TheVariants.{Done, Input, Output, Words, Line, Memory}
 use Rattle.qx_sh.specs.Options.{AsksFor, AsksForNone}
 use Rattle.qx_sh.specs.Run.{EndsAs}
+use Rattle.qx_sh.specs.Watched.{Told}
 use Rattle.qx_sh.specs.Written.{AppendsFront, report_text, status_of}
 
 -- the words ask for a limit, and the run within it ends so
-pub record EndsWithin (words : List Text) (known old new : Option (List ℕ)) (failed : Bool) (end : End) : Type 0 where
+pub record EndsWithin (words : List Text) (told : Told) (end : End) : Type 0 where
   pub limit : ℕ
   pub asked : AsksFor words limit
-  pub ending : EndsAs limit known old new failed end
+  pub ending : EndsAs limit told end
 
--- how the shell ends on these words, by the bytes that there are to read, where they are known, those that the output holds before and after it, and whether the output has failed
-abbrev pub EndsOn : List Text → Option (List ℕ) → Option (List ℕ) → Option (List ℕ) → Bool → End → Type 0
-EndsOn words known old new failed Done = EndsWithin words known old new failed Done
-EndsOn words known old new failed Input = EndsWithin words known old new failed Input
-EndsOn words known old new failed Output = EndsWithin words known old new failed Output
-EndsOn words known old new failed Words = AsksForNone words × (new ≡ old)
-EndsOn words known old new failed (Line line) = EndsWithin words known old new failed (Line line)
-EndsOn words known old new failed Memory = new ≡ old
+-- how the shell ends on these words, by what the input and the output tell
+abbrev pub EndsOn : List Text → Told → End → Type 0
+EndsOn words told Done = EndsWithin words told Done
+EndsOn words told Input = EndsWithin words told Input
+EndsOn words told Output = EndsWithin words told Output
+EndsOn words told Words = AsksForNone words × (told.after ≡ told.before)
+EndsOn words told (Line line) = EndsWithin words told (Line line)
+EndsOn words told Memory = told.after ≡ told.before
 
 -- how it ends where the words could not be had, for want of memory or since they are no text: nothing is written
 pub record EndsUnread (kind : ErrorKind) (old new : Option (List ℕ)) (end : End) : Type 0 where

@@ -1,5 +1,5 @@
--- How a run ends, told by the bytes that its reader had and its writer holds.
-use Rattle.std.specs.Prelude.{◌≡◌, ◌≤◌, ℕ, Bool, true, List, Option, IfSome, length}
+-- How a run ends, told by what its reader and its writer tell.
+use Rattle.std.specs.Prelude.{◌≡◌, ◌<◌, ◌≤◌, ◌⊎◌, ℕ, true, List, Option, IfSome, length}
 use Rattle.std.specs.Io.KnownBytes.{Appends}
 use Rattle.qx_types.specs.Configuration.{Configuration}
 use Rattle.qx_script.specs.declared.command.Command.{Command}
@@ -7,6 +7,7 @@ use Rattle.qx_sh.specs.declared.ending.End.{End}
 use Rattle.qx_sh.specs.declared.ending.End.TheVariants.{Done, Input, Output, Words, Line, Memory}
 use Rattle.qx_play.specs.Play.{shown}
 use Rattle.qx_script.specs.Script.{script, Bad, Good}
+use Rattle.qx_sh.specs.Watched.{Told}
 use Rattle.qx_sh.specs.Written.{AppendsFront}
 
 -- the script is good, and this is the text that it prints
@@ -21,38 +22,44 @@ pub record IsRead (limit : ℕ) (known : Option (List ℕ)) (bytes : List ℕ) :
   pub within : length bytes ≤ limit
   pub all : IfSome known (λ there. bytes ≡ there)
 
--- a script was read, and its whole text was written
-pub record WritesAll (limit : ℕ) (known old new : Option (List ℕ)) : Type 0 where
+-- `Done`: a script was read, its whole text was written, and the writer flushed behind it
+pub record WritesAll (limit : ℕ) (told : Told) : Type 0 where
   pub bytes : List ℕ
-  pub read : IsRead limit known bytes
+  pub read : IsRead limit told.there bytes
   pub text : List ℕ
   pub prints : Prints bytes text
-  pub appends : Appends old new text
+  pub appends : Appends told.before told.after text
+  pub flushed : told.flushed ≡ true
 
--- a script was read, a write or a flush failed, and a front of its text was written
-pub record WritesFront (limit : ℕ) (known old new : Option (List ℕ)) (failed : Bool) : Type 0 where
+-- `Input`: the reader has failed, or has more bytes than the limit, where they are known; nothing was written
+pub record Unread (limit : ℕ) (told : Told) : Type 0 where
+  pub cause : (told.read_failed ≡ true) ⊎ IfSome told.there (λ there. limit < length there)
+  pub unwritten : told.after ≡ told.before
+
+-- `Output`: a script was read, a write or a flush has failed, or a write took nothing, and a front of the script's text was written
+pub record WritesFront (limit : ℕ) (told : Told) : Type 0 where
   pub bytes : List ℕ
-  pub read : IsRead limit known bytes
+  pub read : IsRead limit told.there bytes
   pub text : List ℕ
   pub prints : Prints bytes text
-  pub appends : AppendsFront old new text
-  pub has_failed : failed ≡ true
+  pub appends : AppendsFront told.before told.after text
+  pub has_failed : told.write_failed ≡ true
 
--- a script was read that is bad, first at this line, and nothing was written
-pub record RefusedAt (line limit : ℕ) (known old new : Option (List ℕ)) : Type 0 where
+-- `Line`: a script was read that is bad, first at this line, and nothing was written
+pub record RefusedAt (line limit : ℕ) (told : Told) : Type 0 where
   pub bytes : List ℕ
-  pub read : IsRead limit known bytes
+  pub read : IsRead limit told.there bytes
   pub bad : script bytes ≡ Bad line
-  pub unwritten : new ≡ old
+  pub unwritten : told.after ≡ told.before
 
--- how a run ends, by the most bytes that it may read, those that there are to read, where they are known, those that the writer holds before and after it, and whether the writer has failed; it never refuses words
-abbrev pub EndsAs : ℕ → Option (List ℕ) → Option (List ℕ) → Option (List ℕ) → Bool → End → Type 0
-EndsAs limit known old new failed Done = WritesAll limit known old new
-EndsAs limit known old new failed Input = new ≡ old
-EndsAs limit known old new failed Output = WritesFront limit known old new failed
-EndsAs limit known old new failed Words = ⊥
-EndsAs limit known old new failed (Line line) = RefusedAt line limit known old new
-EndsAs limit known old new failed Memory = new ≡ old
+-- how a run ends, by the most bytes that it may read and what its reader and writer tell; it never refuses words
+abbrev pub EndsAs : ℕ → Told → End → Type 0
+EndsAs limit told Done = WritesAll limit told
+EndsAs limit told Input = Unread limit told
+EndsAs limit told Output = WritesFront limit told
+EndsAs limit told Words = ⊥
+EndsAs limit told (Line line) = RefusedAt line limit told
+EndsAs limit told Memory = told.after ≡ told.before
 
 -- how a script ends that prints nothing
 abbrev pub EndsUnprinted : List ℕ → End → Type 0

@@ -1,11 +1,34 @@
--- A writer that tells whether it has failed.
+-- A reader or a writer that tells what its calls came to.
 use Rattle.std.specs.Prelude.{ℕ, Bool, List, Option}
 use Rattle.qx_sh.specs.declared.watched.Watched.{Watched}
 
--- the bytes that the writer holds, where they are known
-abbrev pub held : {W : Type 0} → (W → Option (List ℕ)) → Watched W → Option (List ℕ)
-held contents watched = contents watched.writer
+-- the bytes that the reader has left, or the writer holds, where they are known
+abbrev pub held : {S : Type 0} → (S → Option (List ℕ)) → Watched S → Option (List ℕ)
+held bytes watched = bytes watched.stream
 
--- a write or a flush of the writer has failed
-abbrev pub has_failed : {W : Type 0} → Watched W → Bool
+-- a read, a write or a flush has failed, or a write took nothing
+abbrev pub has_failed : {S : Type 0} → Watched S → Bool
 has_failed watched = watched.failed
+
+-- a flush of the writer has succeeded since its last write
+abbrev pub is_flushed : {S : Type 0} → Watched S → Bool
+is_flushed watched = watched.flushed
+
+-- what the reader and the writer of a run tell: the bytes that there were to read, where they are known, and whether the reader has failed; the bytes that the writer held before and holds after, where they are known, whether it has failed, and whether it was flushed behind its last write
+pub record Told : Type 0 where
+  pub there : Option (List ℕ)
+  pub read_failed : Bool
+  pub before : Option (List ℕ)
+  pub after : Option (List ℕ)
+  pub write_failed : Bool
+  pub flushed : Bool
+
+abbrev pub told : {R W : Type 0} → (R → Option (List ℕ)) → (W → Option (List ℕ)) → Watched R → Watched R → Watched W → Watched W → Told
+told remaining contents reader_old reader_new writer_old writer_new = record {
+  there = held remaining reader_old;
+  read_failed = has_failed reader_new;
+  before = held contents writer_old;
+  after = held contents writer_new;
+  write_failed = has_failed writer_new;
+  flushed = is_flushed writer_new;
+}

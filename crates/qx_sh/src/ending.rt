@@ -3,8 +3,8 @@ ghost use Rattle.std.specs.Io.KnownBytes.{Appends};
 ghost use Rattle.qx_sh.specs.Watched.{has_failed, held};
 ghost use Rattle.qx_sh.specs.Written.{AppendsFront, report_text, status_of};
 
-use crate::streams::WriteFailed;
-use crate::watched::Watched;
+use crate::streams::write_out;
+use crate::watched::{Watched, WriteFailed};
 use itoa::Buffer;
 use std::io::Write;
 
@@ -55,11 +55,11 @@ fn write_report<W: Write>(end: &End, writer: &mut Watched<W>) -> Result<(), Writ
 {
     match end {
         End::Done => Ok(()),
-        End::Input => writer.write_all(b"qnxsh: input\n"),
-        End::Output => writer.write_all(b"qnxsh: output\n"),
-        End::Words => writer.write_all(b"qnxsh: words\n"),
+        End::Input => write_out(writer, b"qnxsh: input\n"),
+        End::Output => write_out(writer, b"qnxsh: output\n"),
+        End::Words => write_out(writer, b"qnxsh: words\n"),
         End::Line(line) => write_line(*line, writer),
-        End::Memory => writer.write_all(b"qnxsh: memory\n"),
+        End::Memory => write_out(writer, b"qnxsh: memory\n"),
     }
 }
 
@@ -69,9 +69,9 @@ fn write_line<W: Write>(line: u64, writer: &mut Watched<W>) -> Result<(), WriteF
     ensures front { OnErr result (AppendsFront (held W.contents writer.old) (held W.contents writer.new) (codes "qnxsh: line " ++ decimal line ++ codes "\n")) }
     ensures failed { OnErr result (has_failed writer.new ≡ true) }
 {
-    writer.write_all(b"qnxsh: line ")?;
+    write_out(writer, b"qnxsh: line ")?;
     write_number(line, writer)?;
-    writer.write_all(b"\n")
+    write_out(writer, b"\n")
 }
 
 /// Writes a number.
@@ -81,5 +81,5 @@ fn write_number<W: Write>(number: u64, writer: &mut Watched<W>) -> Result<(), Wr
     ensures failed { OnErr result (has_failed writer.new ≡ true) }
 {
     let mut buffer = Buffer::new();
-    writer.write_all(buffer.format(number).as_bytes())
+    write_out(writer, buffer.format(number).as_bytes())
 }

@@ -1,7 +1,7 @@
 ghost use Rattle.std.specs.Prelude.{◌≡◌, ◌≢◌, MatchResult, map};
 ghost use Rattle.std.specs.IoError.{error_kind};
 ghost use Rattle.qx_sh.specs.Invocation.{EndsOn, EndsUnread, Exits};
-ghost use Rattle.qx_sh.specs.Watched.{has_failed, held};
+ghost use Rattle.qx_sh.specs.Watched.{has_failed, held, told};
 
 use crate::ending::{End, report};
 use crate::options::{OptionsFault, options};
@@ -18,12 +18,12 @@ use std::io::{ErrorKind, Read, Write};
 pub fn invoke<S: AsStr + Drop, R: Read, W: Write, E: Write>(
     alloc: Global,
     words: io::Result<Vec<S>>,
-    input: &mut R,
+    input: &mut Watched<R>,
     output: &mut Watched<W>,
     errors: &mut Watched<E>,
 ) -> u8
     ensures exit { Exits (λ end. MatchResult words
-        (λ words. EndsOn (map S.text words.items) (R.remaining input.old) (held W.contents output.old) (held W.contents output.new) (has_failed output.new) end)
+        (λ words. EndsOn (map S.text words.items) (told R.remaining W.contents input.old input.new output.old output.new) end)
         (λ error. EndsUnread (error_kind error) (held W.contents output.old) (held W.contents output.new) end))
         (held E.contents errors.old) (held E.contents errors.new) (has_failed errors.new) result }
 {
@@ -36,11 +36,11 @@ pub fn invoke<S: AsStr + Drop, R: Read, W: Write, E: Write>(
 fn end_of<S: AsStr + Drop, R: Read, W: Write>(
     alloc: Global,
     words: io::Result<Vec<S>>,
-    input: &mut R,
+    input: &mut Watched<R>,
     output: &mut Watched<W>,
 ) -> End
     ensures ends { MatchResult words
-        (λ words. EndsOn (map S.text words.items) (R.remaining input.old) (held W.contents output.old) (held W.contents output.new) (has_failed output.new) result)
+        (λ words. EndsOn (map S.text words.items) (told R.remaining W.contents input.old input.new output.old output.new) result)
         (λ error. EndsUnread (error_kind error) (held W.contents output.old) (held W.contents output.new) result) }
 {
     match words {
@@ -53,10 +53,10 @@ fn end_of<S: AsStr + Drop, R: Read, W: Write>(
 fn run_as_asked<S: AsStr, R: Read, W: Write>(
     alloc: Global,
     words: &[S],
-    input: &mut R,
+    input: &mut Watched<R>,
     output: &mut Watched<W>,
 ) -> End
-    ensures ends { EndsOn (map S.text words.now) (R.remaining input.old) (held W.contents output.old) (held W.contents output.new) (has_failed output.new) result }
+    ensures ends { EndsOn (map S.text words.now) (told R.remaining W.contents input.old input.new output.old output.new) result }
 {
     match options(alloc, words) {
         Ok(options) => run(alloc, input, output, &options),

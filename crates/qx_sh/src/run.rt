@@ -1,13 +1,13 @@
 ghost use Rattle.std.specs.Prelude.{◌≡◌, true, MatchResult, OnErr, OnOk};
 ghost use Rattle.std.specs.Io.KnownBytes.{Appends};
 ghost use Rattle.qx_sh.specs.Run.{EndsAs, EndsUnprinted, Prints};
-ghost use Rattle.qx_sh.specs.Watched.{has_failed, held};
+ghost use Rattle.qx_sh.specs.Watched.{has_failed, held, is_flushed, told};
 ghost use Rattle.qx_sh.specs.Written.{AppendsFront};
 
 use crate::ending::End;
 use crate::limit::Options;
-use crate::streams::{ReadFault, WriteFailed, read_all};
-use crate::watched::Watched;
+use crate::streams::{ReadFault, read_all, write_out};
+use crate::watched::{Watched, WriteFailed};
 use qx_play::play::play;
 use qx_script::{Script, parse};
 use std::alloc::Global;
@@ -17,11 +17,11 @@ use std::io::{Read, Write};
 /// limit is not run.
 pub fn run<R: Read, W: Write>(
     alloc: Global,
-    reader: &mut R,
+    reader: &mut Watched<R>,
     writer: &mut Watched<W>,
     options: &Options,
 ) -> End
-    ensures ending { EndsAs options.now.limit (R.remaining reader.old) (held W.contents writer.old) (held W.contents writer.new) (has_failed writer.new) result }
+    ensures ending { EndsAs options.now.limit (told R.remaining W.contents reader.old reader.new writer.old writer.new) result }
 {
     let text = match read_all(alloc, reader, options.limit) {
         Ok(text) => text,
@@ -41,9 +41,10 @@ pub fn run<R: Read, W: Write>(
 fn write_flushed<W: Write>(writer: &mut Watched<W>, bytes: &[u8]) -> Result<(), WriteFailed>
     ensures whole { OnOk result (Appends (held W.contents writer.old) (held W.contents writer.new) bytes.now) }
     ensures front { OnErr result (AppendsFront (held W.contents writer.old) (held W.contents writer.new) bytes.now) }
+    ensures flushed { OnOk result (is_flushed writer.new ≡ true) }
     ensures failed { OnErr result (has_failed writer.new ≡ true) }
 {
-    writer.write_all(bytes)?;
+    write_out(writer, bytes)?;
     writer.flush()
 }
 

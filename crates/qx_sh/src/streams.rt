@@ -1,8 +1,10 @@
-ghost use Rattle.std.specs.Prelude.{[], ◌≡◌, ◌+◌, ◌^◌, ◌<◌, ◌≤◌, IfOk, IfSome, IsErrOf, IsOk, OnErr, OnOk, drop, length};
+ghost use Rattle.std.specs.Prelude.{[], ◌≡◌, true, ◌+◌, ◌^◌, ◌<◌, ◌≤◌, IfOk, IfSome, IsErrOf, IsOk, OnErr, OnOk, drop, length};
 ghost use Rattle.std.specs.Io.{StartsWith};
 ghost use Rattle.std.specs.Io.KnownBytes.{Appends, Consumes, IsAtEnd};
+ghost use Rattle.qx_sh.specs.Watched.{has_failed, held};
 ghost use Rattle.qx_sh.specs.Written.{AppendsFront};
 
+use crate::watched::{Watched, WriteFailed};
 use std::alloc::Global;
 use std::io::{Read, Write};
 
@@ -17,20 +19,21 @@ pub enum ReadFault {
     NoMemory,
 }
 
-/// A write failed, or took nothing.
-#[derive(Clone, Copy, Debug, PartialEq, Eq)]
-pub struct WriteFailed;
-
 /// How many bytes are asked for at once.
 const CHUNK: usize = 4096;
 
 /// Reads to the end, where that comes after at most `limit` bytes.
-pub fn read_all<R: Read>(alloc: Global, reader: &mut R, limit: usize) -> Result<Vec<u8>, ReadFault>
+pub fn read_all<R: Read>(
+    alloc: Global,
+    reader: &mut Watched<R>,
+    limit: usize,
+) -> Result<Vec<u8>, ReadFault>
     requires small { limit < 2 ^ 63 }
-    ensures all { IfOk result (λ text. IfSome (R.remaining reader.old) (λ bytes. text.items ≡ bytes)) }
+    ensures all { IfOk result (λ text. IfSome (held R.remaining reader.old) (λ bytes. text.items ≡ bytes)) }
     ensures within { IfOk result (λ text. length text.items ≤ limit) }
-    ensures at_end { OnOk result (IsAtEnd (R.remaining reader.new)) }
-    ensures too_long { IsErrOf result ReadFault.TooLong → IfSome (R.remaining reader.old) (λ bytes. limit < length bytes) }
+    ensures at_end { OnOk result (IsAtEnd (held R.remaining reader.new)) }
+    ensures too_long { IsErrOf result ReadFault.TooLong → IfSome (held R.remaining reader.old) (λ bytes. limit < length bytes) }
+    ensures failed { IsErrOf result ReadFault.Failed → has_failed reader.new ≡ true }
 {
     let mut text = Vec::new(alloc);
     'reads: while text.len() <= limit {
@@ -43,15 +46,20 @@ pub fn read_all<R: Read>(alloc: Global, reader: &mut R, limit: usize) -> Result<
 }
 
 /// Reads once, at most one byte past the limit, and says how many bytes that gave.
-fn read_more<R: Read>(reader: &mut R, text: &mut Vec<u8>, limit: usize) -> Result<usize, ReadFault>
+fn read_more<R: Read>(
+    reader: &mut Watched<R>,
+    text: &mut Vec<u8>,
+    limit: usize,
+) -> Result<usize, ReadFault>
     requires small { limit < 2 ^ 63 }
     requires room { length text.old.items ≤ limit }
     ensures kept { OnOk result (StartsWith text.new.items text.old.items) }
     ensures count { IfOk result (λ count. length text.new.items ≡ length text.old.items + count) }
     ensures within { OnOk result (length text.new.items ≤ limit + 1) }
-    ensures consumed { OnOk result (Consumes (R.remaining reader.old) (R.remaining reader.new) (drop (length text.old.items) text.new.items)) }
-    ensures at_end { IfOk result (λ count. count ≡ 0 → IsAtEnd (R.remaining reader.new)) }
+    ensures consumed { OnOk result (Consumes (held R.remaining reader.old) (held R.remaining reader.new) (drop (length text.old.items) text.new.items)) }
+    ensures at_end { IfOk result (λ count. count ≡ 0 → IsAtEnd (held R.remaining reader.new)) }
     ensures not_long { IsErrOf result ReadFault.TooLong → ⊥ }
+    ensures failed { IsErrOf result ReadFault.Failed → has_failed reader.new ≡ true }
 {
     let mut chunk = [0; CHUNK];
     let room = CHUNK.min(limit + 1 - text.len());
@@ -65,20 +73,16 @@ fn read_more<R: Read>(reader: &mut R, text: &mut Vec<u8>, limit: usize) -> Resul
 }
 
 /// Writes all bytes, or a front of them. Where there are none it does not fail.
-pub fn write_out<W: Write>(writer: &mut W, bytes: &[u8]) -> Result<(), WriteFailed>
-    ensures whole { OnOk result (Appends (W.contents writer.old) (W.contents writer.new) bytes.now) }
-    ensures front { OnErr result (AppendsFront (W.contents writer.old) (W.contents writer.new) bytes.now) }
+pub fn write_out<W: Write>(writer: &mut Watched<W>, bytes: &[u8]) -> Result<(), WriteFailed>
+    ensures whole { OnOk result (Appends (held W.contents writer.old) (held W.contents writer.new) bytes.now) }
+    ensures front { OnErr result (AppendsFront (held W.contents writer.old) (held W.contents writer.new) bytes.now) }
     ensures nothing { bytes.now ≡ [] → IsOk result }
+    ensures failed { OnErr result (has_failed writer.new ≡ true) }
+    ensures no_worse { OnOk result (has_failed writer.new ≡ has_failed writer.old) }
 {
     let mut written = 0;
     'writes: while written < bytes.len() {
-        let Ok(count) = writer.write(&bytes[written..]) else {
-            return Err(WriteFailed);
-        };
-        if count == 0 {
-            return Err(WriteFailed);
-        }
-        written += count;
+        written += writer.write(&bytes[written..])?;
     }
     Ok(())
 }

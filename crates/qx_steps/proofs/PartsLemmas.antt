@@ -1,8 +1,7 @@
 -- The rows of users, put together from two columns: one row, and a change in one column; and resources as the calls that wait tell them.
-use Rattle.std.proofs.Common.{◌≡◌, ◌⊎◌, subst, inl, inr, ℕ, zero, suc, ◌+◌, List, [], ◌∷◌, true, false, Option, Some, None, Result, Ok, Err, length, is_some, map, replicate, refl, sym, ap, ap₂, ◌∙◌, arith}
+use Rattle.std.proofs.Common.{◌≡◌, ◌⊎◌, subst, inl, inr, ℕ, zero, suc, ◌+◌, get_or, List, [], ◌∷◌, true, false, Option, Some, None, Result, Ok, Err, length, is_some, map, replicate, refl, sym, ap, ap₂, ◌∙◌, arith}
 use Rattle.std.specs.Prelude.{option_map, slice_set}
 use Rattle.qx_types.specs.Configuration.{Configuration}
-use Rattle.qx_types.specs.declared.limits.TheConstants.Limits.{INODES}
 use Rattle.qx_types.specs.declared.names.Proc.{Proc}
 use Rattle.qx_types.specs.declared.names.Thread.{Thread}
 use Rattle.qx_machine.specs.Machine.{boot, boot_parts}
@@ -10,12 +9,11 @@ use Rattle.qx_machine.specs.Parts.{Resources, thread_of}
 use Rattle.qx_machine.specs.Processes.{Process}
 use Rattle.qx_machine.specs.Rows.{row_at, with_row}
 use Rattle.qx_machine.specs.Users.{boot_part}
-use Rattle.qx_pipes.specs.Pipes.{IsListIn}
-use Rattle.qx_queues.proofs.PipedLemmas.{row_at-mapped, rows-agree}
-use Rattle.qx_queues.specs.Piped.{pipe_of_calls, ArePipesOf}
-use Rattle.qx_queues.specs.Queues.{Queues}
+use Rattle.qx_machine.specs.PipeManager.{no_pipes}
+use Rattle.qx_shared.proofs.RowLemmas.{row_at-mapped, rows-agree}
+use Rattle.qx_shared.specs.Shared.{Shared, pipes_of}
 use Rattle.qx_resources.specs.Boot.{boot_resources, without_pipes}
-use Rattle.qx_resources.specs.State.{told, Fits, Kept}
+use Rattle.qx_resources.specs.State.{told, Kept}
 use Rattle.qx_chan.proofs.RowReads.{option_cases}
 use Rattle.qx_chan.specs.Channel.{Channel, empty_channel, lists}
 use Rattle.qx_chan.specs.Users as users
@@ -142,54 +140,37 @@ module _ (c : Channel) (ks : List (Option Kept)) where
   pub thread_row-told : (thread : Thread) → AreResourcesOf c ks → thread_row (parts_of c.users (told_all c ks)) thread ≡ users.thread_row c.users thread
   thread_row-told thread of = thread_row-parts c.users (told_all c ks) thread (same-told of)
 
--- a user's resources change, but not the lists of the pipes
-module _ (c : Channel) (ks : List (Option Kept)) (user : ℕ) (k l : Kept) (there : row_at ks user ≡ Some k) (number : l.user ≡ k.user) (pipes : l.pipes ≡ k.pipes) (of : AreResourcesOf c ks) where
-  -- what stood in a row before
-  record Was (other : ℕ) (m : Kept) : Type 0 where
-    before : Kept
-    stood : row_at ks other ≡ Some before
-    same_user : m.user ≡ before.user
-    same_pipes : m.pipes ≡ before.pipes
-
-  was : (other : ℕ) (m : Kept) → row_at (slice_set ks user (Some l)) other ≡ Some m → Was other m
-  was other m is = elim (put-cases ks user other l m is) [
-    | inl its ↦ record { before = k; stood = ap (row_at ks) its.0 ∙ there; same_user = ap (λ n. n.user) its.1 ∙ number; same_pipes = ap (λ n. n.pipes) its.1 ∙ pipes }
-    | inr other ↦ record { before = m; stood = other.1; same_user = refl; same_pipes = refl }
-  ]
-
+-- a user's resources change
+module _ (c : Channel) (ks : List (Option Kept)) (user : ℕ) (k l : Kept) (there : row_at ks user ≡ Some k) (number : l.user ≡ k.user) (of : AreResourcesOf c ks) where
   pub still-resources : AreResourcesOf c (slice_set ks user (Some l))
   still-resources = record {
     same = same-set_resources c.users ks user k l there of.same;
-    own = λ other m is. let row = was other m is in row.same_user ∙ of.own other row.before row.stood;
-    fits = λ other m is.
-        let row = was other m is in
-        subst (λ n. ArePipesOf (lists c) n m.pipes) (sym row.same_user) (subst (ArePipesOf (lists c) row.before.user) (sym row.same_pipes) (of.fits other row.before row.stood));
-    apart = λ one other list m n is other_is at other_at.
-        let first = was one m is in
-        let next = was other n other_is in
-        of.apart one other list first.before next.before first.stood next.stood (subst (λ p. IsListIn p list) first.same_pipes at) (subst (λ p. IsListIn p list) next.same_pipes other_at);
+    own = λ other m is. elim (put-cases ks user other l m is) [
+      | inl its ↦ ap (λ n. n.user) its.1 ∙ (number ∙ (of.own user k there ∙ sym its.0))
+      | inr before ↦ of.own other m before.1
+    ];
   }
 
 -- ---- at boot
 
--- where there is no pipe, nothing waits
-none-mapped : {A B : Type 0} (f : A → B) (n : ℕ) → map (option_map f) (replicate n None) ≡ replicate n None
-none-mapped f zero = refl
-none-mapped f (suc n) = ap (λ rows. None ∷ rows) (none-mapped f n)
+get_same : {A : Type 0} (n i : ℕ) (x : A) → get_or (replicate n x) i x ≡ x
+get_same zero i x = refl
+get_same (suc n) zero x = refl
+get_same (suc n) (suc i) x = get_same n i x
 
-told-without_pipes : (r : Resources) (q : Queues) → r.pipes ≡ replicate (INODES + 1) None → told (without_pipes r) q ≡ r
-told-without_pipes r q none = ap (λ pipes. record r { pipes = pipes }) (none-mapped (pipe_of_calls q) (INODES + 1) ∙ sym none)
+told-without_pipes : (r : Resources) (q : Shared) → pipes_of q r.user ≡ r.pipes → told (without_pipes r) q ≡ r
+told-without_pipes r q same = ap (λ pipes. record r { pipes = pipes }) same
 
-boot-rows : (q : Queues) (config : Configuration) (user : ℕ) (names : List (List ℕ))
+boot-rows : (q : Shared) (none : (user : ℕ) → pipes_of q user ≡ no_pipes) (config : Configuration) (user : ℕ) (names : List (List ℕ))
     → parts_of (replicate (length names) (Some (None ∷ []))) (map (option_map (λ kept. told kept q)) (boot_resources config user names)) ≡ boot_parts config user names
 unfolding boot_part
-boot-rows q config user [] = refl
-boot-rows q config user (name ∷ names) =
-    ap₂ (λ r parts. Some (record { processes = None ∷ []; resources = r }) ∷ parts) (told-without_pipes (boot_part config user).resources q refl) (boot-rows q config (user + 1) names)
+boot-rows q none config user [] = refl
+boot-rows q none config user (name ∷ names) =
+    ap₂ (λ r parts. Some (record { processes = None ∷ []; resources = r }) ∷ parts) (told-without_pipes (boot_part config user).resources q (none user)) (boot-rows q none config (user + 1) names)
 
 parts-boot : (config : Configuration) (names : List (List ℕ))
     → parts_of (no_processes (length names)) (told_all (empty_channel (length names)) (None ∷ boot_resources config 1 names)) ≡ None ∷ boot_parts config 1 names
-parts-boot config names = ap (λ parts. None ∷ parts) (boot-rows (lists (empty_channel (length names))) config 1 names)
+parts-boot config names = ap (λ parts. None ∷ parts) (boot-rows (lists (empty_channel (length names))) (λ user. get_same (length names + 1) user no_pipes) config 1 names)
 
 same-boot_rows : (config : Configuration) (user : ℕ) (names : List (List ℕ)) → SameUsers {A = List (Option Process)} (replicate (length names) (Some (None ∷ []))) (boot_resources config user names)
 same-boot_rows config user [] other = refl
@@ -200,51 +181,21 @@ same-at_boot : (config : Configuration) (names : List (List ℕ)) → SameUsers 
 same-at_boot config names zero = refl
 same-at_boot config names (suc other) = same-boot_rows config 1 names other
 
--- whose resources stand in a row at boot, and that they have no pipe
-kept_at-boot : (config : Configuration) (user : ℕ) (names : List (List ℕ)) (other : ℕ) (kept : Kept) → row_at (boot_resources config user names) other ≡ Some kept → (kept.user ≡ user + other) × (kept.pipes ≡ replicate (INODES + 1) None)
+-- whose resources stand in a row at boot
+kept_at-boot : (config : Configuration) (user : ℕ) (names : List (List ℕ)) (other : ℕ) (kept : Kept) → row_at (boot_resources config user names) other ≡ Some kept → kept.user ≡ user + other
 unfolding boot_part
 kept_at-boot config user [] other kept is = absurd (cc)
 kept_at-boot config user (name ∷ names) zero kept is =
     let its : without_pipes (boot_part config user).resources ≡ kept = cc in
-    (ap (λ k. k.user) (sym its) ∙ omega arith, ap (λ k. k.pipes) (sym its))
-kept_at-boot config user (name ∷ names) (suc other) kept is =
-    let rest = kept_at-boot config (user + 1) names other kept is in
-    (rest.0 ∙ omega arith, rest.1)
+    ap (λ k. k.user) (sym its) ∙ omega arith
+kept_at-boot config user (name ∷ names) (suc other) kept is = kept_at-boot config (user + 1) names other kept is ∙ omega arith
 
-row_at-replicate : {A : Type 0} (n i : ℕ) → row_at {A = A} (replicate n None) i ≡ None
-row_at-replicate zero i = refl
-row_at-replicate (suc n) zero = refl
-row_at-replicate (suc n) (suc i) = row_at-replicate n i
-
-no_row : {A : Type 0} (rows : List (Option A)) (i : ℕ) (row : A) → rows ≡ replicate (INODES + 1) None → row_at rows i ≡ Some row → ⊥
-no_row rows i row none is =
-    let clash : None ≡ Some row = sym (row_at-replicate (INODES + 1) i) ∙ (ap (λ all. row_at all i) (sym none) ∙ is) in
-    absurd (cc)
-
-no_list : (kept : Kept) (list : ℕ) → kept.pipes ≡ replicate (INODES + 1) None → IsListIn kept.pipes list → ⊥
-no_list kept list none at = no_row kept.pipes at.inode at.row none at.there
-
-kept_in-boot : (config : Configuration) (names : List (List ℕ)) (user : ℕ) (kept : Kept) → row_at (None ∷ boot_resources config 1 names) user ≡ Some kept → (kept.user ≡ user) × (kept.pipes ≡ replicate (INODES + 1) None)
+kept_in-boot : (config : Configuration) (names : List (List ℕ)) (user : ℕ) (kept : Kept) → row_at (None ∷ boot_resources config 1 names) user ≡ Some kept → kept.user ≡ user
 kept_in-boot config names zero kept is = absurd (cc)
-kept_in-boot config names (suc user) kept is =
-    let rest = kept_at-boot config 1 names user kept is in
-    (rest.0 ∙ omega arith, rest.1)
-
-fits-without_pipes : (kept : Kept) (q : Queues) → kept.pipes ≡ replicate (INODES + 1) None → Fits kept q
-fits-without_pipes kept q none = record {
-  there = λ list at. absurd (no_list kept list none at);
-  two = λ inode row is. absurd (no_row kept.pipes inode row none is);
-  apart = λ one other list row next is other_is own other_own. absurd (no_row kept.pipes one row none is);
-  users = λ list at. absurd (no_list kept list none at);
-}
+kept_in-boot config names (suc user) kept is = kept_at-boot config 1 names user kept is ∙ omega arith
 
 of-at_boot : (config : Configuration) (names : List (List ℕ)) → AreResourcesOf (empty_channel (length names)) (None ∷ boot_resources config 1 names)
-of-at_boot config names = record {
-  same = same-at_boot config names;
-  own = λ user kept is. (kept_in-boot config names user kept is).0;
-  fits = λ user kept is. fits-without_pipes kept (lists (empty_channel (length names))) (kept_in-boot config names user kept is).1;
-  apart = λ one other list kept next is other_is at other_at. absurd (no_list kept list (kept_in-boot config names one kept is).1 at);
-}
+of-at_boot config names = record { same = same-at_boot config names; own = λ user kept is. kept_in-boot config names user kept is }
 
 pub of-boot : (config : Configuration) (count : ℕ) → count ≡ length config.users → AreResourcesOf (empty_channel count) (None ∷ boot_resources config 1 config.users)
 of-boot config count is = subst (λ n. AreResourcesOf (empty_channel n) (None ∷ boot_resources config 1 config.users)) (sym is) (of-at_boot config config.users)
@@ -252,3 +203,6 @@ of-boot config count is = subst (λ n. AreResourcesOf (empty_channel n) (None �
 pub world-boot : (config : Configuration) → world_of config (empty_channel (length config.users)) (None ∷ boot_resources config 1 config.users) (None ∷ replicate config.workers None) ≡ boot config
 unfolding boot
 world-boot config = rw (parts-boot config config.users) refl
+
+pub world-boot_of : (config : Configuration) (count : ℕ) → count ≡ length config.users → world_of config (empty_channel count) (None ∷ boot_resources config 1 config.users) (None ∷ replicate config.workers None) ≡ boot config
+world-boot_of config count is = ap (λ n. world_of config (empty_channel n) (None ∷ boot_resources config 1 config.users) (None ∷ replicate config.workers None)) is ∙ world-boot config

@@ -1,5 +1,5 @@
 -- Resources are still those of the channel's users once the channel has changed, where its lists of pipes are as before.
-use Rattle.std.proofs.Common.{◌≡◌, ℕ, List, Option, Some, None, refl, sym, ap, subst}
+use Rattle.std.proofs.Common.{◌≡◌, ℕ, List, Option, Some, None, refl, ap}
 use Rattle.std.specs.Prelude.{slice_get}
 use Rattle.qx_types.specs.Configuration.{Configuration}
 use Rattle.qx_types.specs.declared.errno.Errno.TheVariants.{EINTR}
@@ -15,8 +15,7 @@ use Rattle.qx_machine.specs.Clients.{spawn_number}
 use Rattle.qx_machine.specs.Processes.{Process, asked_thread, ready_thread, taken_thread, with_queued, with_thread}
 use Rattle.qx_machine.specs.Rows.{with_row}
 use Rattle.qx_procs.specs.Calls.{after_or, spawned, with_prio}
-use Rattle.qx_queues.specs.Queues.{no_queues}
-use Rattle.qx_resources.specs.State.{Fits, Kept}
+use Rattle.qx_resources.specs.State.{Kept}
 use Rattle.qx_chan.specs.Calls.{answer_of, queued_call, unasked_call}
 use Rattle.qx_chan.specs.Channel.{Channel, after_asking, after_ranking, after_receive, after_send, after_spawn, after_taking, after_withdrawing, asked, channel_line, failed, readied, with_first_taken, withdrawn}
 use Rattle.qx_chan.specs.declared.call.Call.{Call}
@@ -28,13 +27,14 @@ use Rattle.qx_steps.proofs.PartsLemmas.{same-with_processes}
 pub world-told : (config : Configuration) (c d : Channel) (ks : List (Option Kept)) (hands : List (Option Held)) → d.pipes ≡ c.pipes → world_of config d ks hands ≡ told_world config d (told_all c ks) hands
 world-told config c d ks hands same = ap (λ pipes. told_world config d (told_all (record c { pipes = pipes }) ks) hands) same
 
-pub of-lists : (c d : Channel) (ks : List (Option Kept)) → AreResourcesOf c ks → SameUsers d.users ks → d.pipes ≡ c.pipes → AreResourcesOf d ks
-of-lists c d ks of users same = record {
-  same = users;
-  own = of.own;
-  fits = λ user kept is. subst (λ pipes. Fits kept (record (no_queues 0) { pipes = pipes })) (sym same) (of.fits user kept is);
-  apart = of.apart;
-}
+-- a channel in which the same users have processes
+pub of-users : (c d : Channel) (ks : List (Option Kept)) → AreResourcesOf c ks → SameUsers d.users ks → AreResourcesOf d ks
+of-users c d ks of users = record { same = users; own = of.own }
+
+-- they are so still, and the pipes are as before
+pub record Still (c d : Channel) (ks : List (Option Kept)) : Type 0 where
+  pub of : AreResourcesOf d ks
+  pub pipes : d.pipes ≡ c.pipes
 
 module _ (c : Channel) (ks : List (Option Kept)) (of : AreResourcesOf c ks) where
   -- one user's processes change
@@ -42,13 +42,13 @@ module _ (c : Channel) (ks : List (Option Kept)) (of : AreResourcesOf c ks) wher
   one user change = same-with_processes c.users ks user change of.same
 
   pub still-spawn : (user threads prio : ℕ) → AreResourcesOf (after_spawn c user threads prio) ks
-  still-spawn user threads prio = of-lists c (after_spawn c user threads prio) ks of (one user (λ processes. spawned processes threads prio (spawn_number processes threads prio))) refl
+  still-spawn user threads prio = of-users c (after_spawn c user threads prio) ks of (one user (λ processes. spawned processes threads prio (spawn_number processes threads prio)))
 
   pub still-ranking : (thread : Thread) (prio : ℕ) → AreResourcesOf (after_ranking c thread prio) ks
-  still-ranking thread prio = of-lists c (after_ranking c thread prio) ks of (one thread.proc.user.0 (λ processes. after_or processes (with_prio processes thread.proc.num thread.tid prio))) refl
+  still-ranking thread prio = of-users c (after_ranking c thread prio) ks of (one thread.proc.user.0 (λ processes. after_or processes (with_prio processes thread.proc.num thread.tid prio)))
 
   pub still-send : (thread : Thread) (sent : Sent) → AreResourcesOf (after_send c thread sent) ks
-  still-send thread sent = of-lists c (after_send c thread sent) ks of (one thread.proc.user.0 (λ processes. with_row processes thread.proc.num (with_queued thread.tid sent))) refl
+  still-send thread sent = of-users c (after_send c thread sent) ks of (one thread.proc.user.0 (λ processes. with_row processes thread.proc.num (with_queued thread.tid sent)))
 
   taken : (first : Option Queued) → SameUsers (with_first_taken c.users first) ks
   taken None = of.same
@@ -59,47 +59,27 @@ module _ (c : Channel) (ks : List (Option Kept)) (of : AreResourcesOf c ks) wher
       by_item (item.Unblock process thread call) = of.same
 
   pub still-receive : (manager : Manager) → AreResourcesOf (after_receive c manager) ks
-  still-receive manager = of-lists c (after_receive c manager) ks of (taken (slice_get (channel_line c manager) 0)) refl
+  still-receive manager = of-users c (after_receive c manager) ks of (taken (slice_get (channel_line c manager) 0))
 
-  asked_by : (thread : Thread) (call : Option Call) → AreResourcesOf (asked c thread call) ks
-  asked_by thread None = of
-  asked_by thread (Some call) = of-lists c (asked c thread (Some call)) ks of (one thread.proc.user.0 (λ processes. with_row processes thread.proc.num (with_thread thread.tid asked_thread))) refl
+  -- where a thread has a call, or an answer, its process changes
 
-  pub still-asking : (thread : Thread) → AreResourcesOf (after_asking c thread) ks
+  asked_by : (thread : Thread) (call : Option Call) → Still c (asked c thread call) ks
+  asked_by thread None = record { of = of; pipes = refl }
+  asked_by thread (Some call) = record { of = of-users c (asked c thread (Some call)) ks of (one thread.proc.user.0 (λ processes. with_row processes thread.proc.num (with_thread thread.tid asked_thread))); pipes = refl }
+
+  pub still-asking : (thread : Thread) → Still c (after_asking c thread) ks
   still-asking thread = asked_by thread (unasked_call (thread_row c.users thread))
 
-  withdrawn_by : (thread : Thread) (call : Option Call) → AreResourcesOf (withdrawn c thread call) ks
-  withdrawn_by thread None = of
-  withdrawn_by thread (Some call) = of-lists c (withdrawn c thread (Some call)) ks of (one thread.proc.user.0 (λ processes. with_row processes thread.proc.num (failed thread.tid EINTR call.target.over))) refl
+  withdrawn_by : (thread : Thread) (call : Option Call) → Still c (withdrawn c thread call) ks
+  withdrawn_by thread None = record { of = of; pipes = refl }
+  withdrawn_by thread (Some call) = record { of = of-users c (withdrawn c thread (Some call)) ks of (one thread.proc.user.0 (λ processes. with_row processes thread.proc.num (failed thread.tid EINTR call.target.over))); pipes = refl }
 
-  pub still-withdrawing : (thread : Thread) → AreResourcesOf (after_withdrawing c thread) ks
+  pub still-withdrawing : (thread : Thread) → Still c (after_withdrawing c thread) ks
   still-withdrawing thread = withdrawn_by thread (queued_call (thread_row c.users thread))
 
-  readied_by : (thread : Thread) (answer : Option Answer) → AreResourcesOf (readied c thread answer) ks
-  readied_by thread None = of
-  readied_by thread (Some answer) = of-lists c (readied c thread (Some answer)) ks of (one thread.proc.user.0 (λ processes. with_row processes thread.proc.num (with_thread thread.tid ready_thread))) refl
+  readied_by : (thread : Thread) (answer : Option Answer) → Still c (readied c thread answer) ks
+  readied_by thread None = record { of = of; pipes = refl }
+  readied_by thread (Some answer) = record { of = of-users c (readied c thread (Some answer)) ks of (one thread.proc.user.0 (λ processes. with_row processes thread.proc.num (with_thread thread.tid ready_thread))); pipes = refl }
 
-  pub still-taking : (thread : Thread) → AreResourcesOf (after_taking c thread) ks
+  pub still-taking : (thread : Thread) → Still c (after_taking c thread) ks
   still-taking thread = readied_by thread (answer_of (thread_row c.users thread))
-
--- the lists of pipes are as before
-asking_lists : (c : Channel) (thread : Thread) (call : Option Call) → (asked c thread call).pipes ≡ c.pipes
-asking_lists c thread None = refl
-asking_lists c thread (Some call) = refl
-
-pub asking-lists : (c : Channel) (thread : Thread) → (after_asking c thread).pipes ≡ c.pipes
-asking-lists c thread = asking_lists c thread (unasked_call (thread_row c.users thread))
-
-withdrawing_lists : (c : Channel) (thread : Thread) (call : Option Call) → (withdrawn c thread call).pipes ≡ c.pipes
-withdrawing_lists c thread None = refl
-withdrawing_lists c thread (Some call) = refl
-
-pub withdrawing-lists : (c : Channel) (thread : Thread) → (after_withdrawing c thread).pipes ≡ c.pipes
-withdrawing-lists c thread = withdrawing_lists c thread (queued_call (thread_row c.users thread))
-
-taking_lists : (c : Channel) (thread : Thread) (answer : Option Answer) → (readied c thread answer).pipes ≡ c.pipes
-taking_lists c thread None = refl
-taking_lists c thread (Some answer) = refl
-
-pub taking-lists : (c : Channel) (thread : Thread) → (after_taking c thread).pipes ≡ c.pipes
-taking-lists c thread = taking_lists c thread (answer_of (thread_row c.users thread))

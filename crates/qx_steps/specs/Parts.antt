@@ -6,8 +6,7 @@ use Rattle.qx_machine.specs.Machine.{World}
 use Rattle.qx_machine.specs.Parts.{Part, Resources}
 use Rattle.qx_machine.specs.Processes.{Process}
 use Rattle.qx_machine.specs.Rows.{row_at}
-use Rattle.qx_pipes.specs.Pipes.{IsListIn}
-use Rattle.qx_resources.specs.State.{told, Fits, Kept}
+use Rattle.qx_resources.specs.State.{told, Kept}
 use Rattle.qx_chan.specs.Channel.{Channel, lists}
 
 -- a user's rows: the processes and the resources; none where there is no such user
@@ -20,7 +19,7 @@ abbrev pub parts_of : List (Option (List (Option Process))) → List (Option Res
 parts_of (processes ∷ users) (resources ∷ rows) = part_of processes resources ∷ parts_of users rows
 parts_of _ _ = []
 
--- the resources of all users, by the calls that wait in the channel
+-- the resources of all users, with the pipes that the channel has
 abbrev pub told_all : Channel → List (Option Kept) → List (Option Resources)
 told_all channel resources = map (option_map (λ kept. told kept (lists channel))) resources
 
@@ -35,10 +34,7 @@ world_of config channel resources hands = told_world config channel (told_all ch
 abbrev pub SameUsers : {A B : Type 0} → List (Option A) → List (Option B) → Type 0
 SameUsers users resources = (user : ℕ) → is_some (row_at users user) ≡ is_some (row_at resources user)
 
--- resources are those of the channel's users: who has processes has resources, and they are that user's own; the lists of pipes are the
--- channel's, and no list is one of two users' pipes
+-- resources are those of the channel's users: who has processes has resources, that user's own
 pub record AreResourcesOf (channel : Channel) (resources : List (Option Kept)) : Type 0 where
   pub same : SameUsers channel.users resources
   pub own : (user : ℕ) (kept : Kept) → row_at resources user ≡ Some kept → kept.user ≡ user
-  pub fits : (user : ℕ) (kept : Kept) → row_at resources user ≡ Some kept → Fits kept (lists channel)
-  pub apart : (one other list : ℕ) (kept next : Kept) → row_at resources one ≡ Some kept → row_at resources other ≡ Some next → IsListIn kept.pipes list → IsListIn next.pipes list → one ≡ other

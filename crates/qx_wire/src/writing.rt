@@ -1,6 +1,7 @@
-ghost use Rattle.std.specs.Prelude.{◌≡◌, ◌≤◌, ◌++◌, IsTrue, IfOk, length};
+ghost use Rattle.std.specs.Prelude.{◌≡◌, ◌≤◌, ◌++◌, IsTrue, IfOk, IsOk, length};
 ghost use Rattle.std.specs.Int.{w16, w32, to_le_bytes};
 ghost use Rattle.std.specs.List.{flat_map};
+ghost use Rattle.qx_bytes.specs.declared.message.TheConstants.MessageBytes.{INLINE};
 ghost use Rattle.qx_types.specs.declared.limits.TheConstants.Limits.{BODY};
 ghost use Rattle.qx_wire.specs.Table.{action_number, framed, in_ranges, spelling, whence_number};
 
@@ -14,6 +15,7 @@ use std::alloc::Global;
 pub fn encode(alloc: Global, message: &Message<'_>) -> Result<MessageBytes, NoMemory>
     requires in_ranges { IsTrue (in_ranges message.now) }
     ensures spelling { IfOk result (λ bytes. bytes ≡ spelling message.now) }
+    ensures few { length (spelling message.now) ≤ INLINE → IsOk result }
 {
     match message {
         Message::Open { flags, mode, rest } => framed(
@@ -89,6 +91,7 @@ fn framed(
 ) -> Result<MessageBytes, NoMemory>
     requires fits { length (flat_map (λ f. f.now) fields.now) ≤ BODY }
     ensures framed { IfOk result (λ bytes. bytes ≡ framed kind subtype (flat_map (λ f. f.now) fields.now)) }
+    ensures few { length (framed kind subtype (flat_map (λ f. f.now) fields.now)) ≤ INLINE → IsOk result }
 {
     let mut bytes = header(alloc, kind, subtype, total(fields) as u32);
     for field in fields {

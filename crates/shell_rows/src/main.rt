@@ -57,8 +57,8 @@ fn run_row(rt: &HostRuntime, name: &str) -> anyhow::Result<u8> {
 
 /// Runs a script, and prints its name, its text, its exit status and its report.
 fn run_script(rt: &HostRuntime, name: &str, script: &[u8]) -> io::Result<()> {
-    let mut script = script;
     println!(rt; "== {name}")?;
+    let mut script = Watched::new(script);
     let mut output = Watched::new(io::writer(rt));
     let end = run(rt.alloc(), &mut script, &mut output, &Options::default());
     println!(rt; "status {}", end.status())?;

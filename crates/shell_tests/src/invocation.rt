@@ -11,7 +11,7 @@ use std::test::Fail;
 /// Whether the shell, on these words or the error for which they could not be had, ends the script with status 0 and
 /// its text, or with another status, no text and this line on the errors.
 fn ends_with(alloc: Global, words: io::Result<Vec<&str>>, status: u8, told: &[u8]) -> bool {
-    let mut script = SCRIPT;
+    let mut script = Watched::new(SCRIPT);
     let mut output = kept(alloc);
     let mut errors = kept(alloc);
     let given = invoke(alloc, words, &mut script, &mut output, &mut errors);
@@ -48,7 +48,7 @@ fn ends_where_words_are_not_had(rt: HostRuntime) {
 
 /// Whether the shell ends with status 1, and tells so, where the script's text goes to this output.
 fn fails_at<W: Write>(alloc: Global, output: &mut Watched<W>) -> Result<bool, AllocError> {
-    let mut script = SCRIPT;
+    let mut script = Watched::new(SCRIPT);
     let mut errors = kept(alloc);
     let words = Ok(vec![in alloc; "qnxsh"]?);
     let status = invoke(alloc, words, &mut script, output, &mut errors);
@@ -76,7 +76,7 @@ fn ends_with_status_1_at_a_flush_that_fails(rt: HostRuntime) -> Result<(), Fail>
 #[test]
 fn keeps_its_status_where_the_errors_fail(rt: HostRuntime) -> Result<(), Fail> {
     let words = Ok(vec![in rt.alloc(); "qnxsh", "x"]?);
-    let mut script = SCRIPT;
+    let mut script = Watched::new(SCRIPT);
     let mut output = kept(rt.alloc());
     let mut errors = Watched::new(FailingWriter::new(rt.alloc(), 3, None));
     let status = invoke(rt.alloc(), words, &mut script, &mut output, &mut errors);

@@ -8,7 +8,8 @@ use qx_sh::watched::Watched;
 use std::alloc::Global;
 use std::io::{ErrorKind, Write};
 
-/// Whether the script ends so where this is the last of the reads that don't fail, and this is written.
+/// Whether the script ends so where this is the last of the reads that don't fail, this is written, and the reader has
+/// failed exactly if that is the end.
 fn ends_with_reads(
     alloc: Global,
     reads: usize,
@@ -16,13 +17,14 @@ fn ends_with_reads(
     end: &End,
     written: &[u8],
 ) -> bool {
-    let mut reader = FailingReader {
+    let mut reader = Watched::new(FailingReader {
         bytes: SCRIPT,
         reads,
         error,
-    };
+    });
     let mut writer = kept(alloc);
     run(alloc, &mut reader, &mut writer, &Options::default()) == *end
+        && reader.has_failed() == (*end == End::Input)
         && writer.into_inner().as_slice() == written
 }
 
@@ -42,7 +44,7 @@ fn reads_one_byte_at_a_time(rt: HostRuntime) {
 
 /// Whether the script ends so with this writer, which then has failed exactly if the script is not done.
 fn ends_so<W: Write>(alloc: Global, writer: &mut Watched<W>, end: &End) -> bool {
-    let mut reader = SCRIPT;
+    let mut reader = Watched::new(SCRIPT);
     run(alloc, &mut reader, writer, &Options::default()) == *end
         && writer.has_failed() == (*end != End::Done)
 }

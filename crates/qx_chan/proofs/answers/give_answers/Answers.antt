@@ -1,11 +1,12 @@
 use Rattle.std.proofs.Common.{◌≡◌, List, [], Some, drop, slice_get, ap, ◌∙◌}
 use Rattle.qx_machine.specs.declared.rows.Queued.{Queued}
-use Rattle.qx_queues.specs.Queues.{HasNoCall, Queues, UsersAnswer}
+use Rattle.qx_queues.specs.Queues.{UsersAnswer}
+use Rattle.qx_shared.specs.Shared.{HasNoCall, Shared}
 use Rattle.qx_queues.specs.Waiting.{addressed_by}
 use Rattle.qx_chan.proofs.GivenLemmas.{Answering-first, lines-first, users-first}
 use Rattle.qx_chan.proofs.answers.give_answers.Goals as goal
 
-abbrev cleared : Queues → List (List Queued) → Queues
+abbrev cleared : Shared → List (List Queued) → Shared
 cleared queues lines = record queues { lines = lines; answered = [] }
 
 pub loop-taken-preserved : goal.loop-taken-preserved

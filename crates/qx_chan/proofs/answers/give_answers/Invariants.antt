@@ -1,5 +1,5 @@
 use Rattle.std.proofs.Common.{◌≡◌, [], length}
-use Rattle.qx_queues.specs.Queues.{Queues}
+use Rattle.qx_shared.specs.Shared.{Shared}
 use Rattle.qx_chan.specs.Answers.{given_lines, given_users}
 use Rattle.qx_chan.specs.Kept.{Answering}
 use Rattle.qx_chan.proofs.answers.give_answers.Given as goal
@@ -8,7 +8,7 @@ use Rattle.qx_chan.proofs.answers.give_answers.Given as goal
 abbrev pub invariant-loop-taken : goal.invariant-loop-taken
 invariant-loop-taken l = record {
   users : given_users l.users l.queues.answered ≡ given_users l.initial.users l.initial.queues.answered;
-  queues : ◌≡◌ {A = Queues} (record l.queues { lines = given_lines l.queues.lines l.queues.answered; answered = [] }) (record l.initial.queues { lines = given_lines l.initial.queues.lines l.initial.queues.answered; answered = [] });
+  queues : ◌≡◌ {A = Shared} (record l.queues { lines = given_lines l.queues.lines l.queues.answered; answered = [] }) (record l.initial.queues { lines = given_lines l.initial.queues.lines l.initial.queues.answered; answered = [] });
   kept : Answering l.initial.users l.initial.queues → Answering l.users l.queues;
 }
 

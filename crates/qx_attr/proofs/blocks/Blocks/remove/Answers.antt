@@ -1,7 +1,8 @@
-use Rattle.std.proofs.Common.{◌≡◌, arith, None, Some, sym}
+use Rattle.std.proofs.Common.{◌≡◌, arith, is_some, None, refl, Some, sym}
 use Rattle.qx_machine.specs.Rows.{row_at}
 use Rattle.qx_attr.specs.Blocks.{rows_of}
 use Rattle.qx_attr.proofs.BlockLemmas.{keyed-without, rows-without, nothing-freed, nothing-there}
+use Rattle.qx_attr.proofs.CountLemmas.{count-free}
 use Rattle.qx_attr.proofs.blocks.Blocks.remove.Goals as goal
 
 pub remove-requires : goal.remove-requires
@@ -20,6 +21,7 @@ invariant_of-self c =
     let is : row_at c.self.inside.keys.items c.args.number ≡ Some c.in-Some.key = cc in
     record {
       keyed = keyed-without c.self.inside.values c.remove.new.self c.self.inside.keys.items c.args.number c.in-Some.key c.self.invariant.keyed is c.remove.ensures.updates;
+      held = omega (arith, count-free is_some refl c.self.inside.keys.items c.args.number c.in-Some.key is);
       numbers = c.self.invariant.numbers;
       slots = omega arith;
     }

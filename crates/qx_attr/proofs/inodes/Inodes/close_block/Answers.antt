@@ -10,7 +10,7 @@ pub returns-in_default : goal.returns-in_default
 returns-in_default c =
     let none : row_at c.self.inside.blocks.rows c.args.number ≡ None = cc in
     let same = nothing-freed c.self.inside.blocks.rows c.args.number none in
-    rw (← c.self.view_is) (record { closed = λ i. record { inodes = record { attributes = map attribute_of c.self.inside.attrs.items; blocks = sym same i }; room = c.self.inside.room } })
+    rw (← c.self.view_is) (record { closed = λ i. record { inodes = record { attributes = map attribute_of c.self.inside.attrs.items; blocks = sym same i }; room = c.self.inside.blocks.room } })
 
 pub unreachable-requires : goal.unreachable-requires
 unreachable-requires c =
@@ -30,7 +30,6 @@ invariant_of-self c =
       counted = counted_close attrs rows c.args.number c.in-Some.block c.in-Some-copied.attr there c.self.invariant.counted is;
       few = omega (arith, long, few);
       numbers = c.self.invariant.numbers;
-      slots = c.self.invariant.slots;
     })
 
 pub returns : goal.returns
@@ -38,4 +37,4 @@ returns c =
     let attrs = c.self.inside.attrs.items in
     let there : row_at attrs c.in-Some.block.inode ≡ Some c.in-Some-copied.attr = cc in
     let same = same_attributes attrs c.in-Some.block.inode c.in-Some-copied.attr (uncounted c.in-Some.block.flags c.in-Some-copied.attr) there refl in
-    rw (c.remove.ensures.row, c.uncounted.ensures, ← c.self.view_is) (record { closed = λ i. record { inodes = record { attributes = same i; blocks = slice_set c.self.inside.blocks.rows c.args.number None }; room = c.self.inside.room } })
+    rw (c.remove.ensures.row, c.uncounted.ensures, ← c.self.view_is) (record { closed = λ i. record { inodes = record { attributes = same i; blocks = slice_set c.self.inside.blocks.rows c.args.number None }; room = c.self.inside.blocks.room } })

@@ -15,7 +15,6 @@ invariant_of-self c =
       counted = counted_open attrs rows c.args.number c.args.block c.in-Some.attr there c.self.invariant.counted free;
       few = few_blocks rows c.args.number BLOCKS c.args.block c.requires.few c.self.invariant.few;
       numbers = omega arith;
-      slots = omega arith;
     })
 
 pub returns : goal.returns
@@ -23,4 +22,4 @@ returns c =
     let attrs = c.self.inside.attrs.items in
     let there : row_at attrs c.args.block.inode ≡ Some c.in-Some.attr = cc in
     let same = same_attributes attrs c.args.block.inode c.in-Some.attr (counted c.args.block.flags c.in-Some.attr) there refl in
-    rw (c.put.ensures.row, c.counted.ensures, ← c.self.view_is) (λ i. record { inodes = record { attributes = same i; blocks = put_row c.self.inside.blocks.rows c.args.number c.args.block }; room = c.self.inside.room - 1 })
+    rw (c.put.ensures.row, c.counted.ensures, ← c.self.view_is) (λ i. record { inodes = record { attributes = same i; blocks = put_row c.self.inside.blocks.rows c.args.number c.args.block }; room = c.self.inside.blocks.room - 1 })

@@ -9,14 +9,13 @@ pub invariant_of-self : goal.invariant_of-self
 invariant_of-self c =
     let attrs = c.self.inside.attrs.items in
     let free : row_at attrs c.args.number ≡ None = none_before attribute_of attrs c.args.number (λ attr e. cc) (ap (λ (all : Reserved). row_at all.inodes.attributes c.args.number) c.self.view_is ∙ c.requires.free) in
-    rw (c.put_reserved.ensures.row, c.new.ensures) (record {
+    rw (c.put_reserved.ensures.row, c.new.ensures, c.give_up_room.ensures.room) (record {
       counted = counted_inode attrs c.self.inside.blocks.rows c.args.number (unopened c.args.attribute) refl refl refl free c.self.invariant.counted;
       few = c.self.invariant.few;
       numbers = omega arith;
-      slots = omega arith;
     })
 
 pub returns : goal.returns
 returns c =
     let put = rows_put attribute_of c.self.inside.attrs.items c.args.number (unopened c.args.attribute) c.args.attribute refl in
-    rw (c.put_reserved.ensures.row, c.new.ensures, ← c.self.view_is) (λ i. record { inodes = record { attributes = put i; blocks = c.self.inside.blocks.rows }; room = c.self.inside.room - 1 })
+    rw (c.put_reserved.ensures.row, c.new.ensures, c.give_up_room.ensures.room, ← c.self.view_is) (λ i. record { inodes = record { attributes = put i; blocks = c.self.inside.blocks.rows }; room = c.self.inside.blocks.room - 1 })

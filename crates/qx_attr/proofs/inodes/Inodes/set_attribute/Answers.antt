@@ -15,11 +15,10 @@ invariant_of-self c =
       counted = counted_same attrs c.self.inside.blocks.rows c.args.inode c.self.invariant.counted c.in-Some.attr now there refl refl refl;
       few = c.self.invariant.few;
       numbers = c.self.invariant.numbers;
-      slots = c.self.invariant.slots;
     }
 
 pub returns : goal.returns
 returns c =
     let now : Attr = record c.in-Some.attr { attribute = c.args.attribute } in
     let set = map-set attribute_of c.self.inside.attrs.items c.args.inode (Some now) in
-    rw (← c.self.view_is) (record { set = λ i. record { inodes = record { attributes = set i; blocks = c.self.inside.blocks.rows }; room = c.self.inside.room } })
+    rw (← c.self.view_is) (record { set = λ i. record { inodes = record { attributes = set i; blocks = c.self.inside.blocks.rows }; room = c.self.inside.blocks.room } })

@@ -11,7 +11,7 @@ pub returns-in_default : goal.returns-in_default
 returns-in_default c =
     let none : row_at c.self.inside.blocks.rows c.args.number ≡ None = cc in
     let same = nothing-changed c.self.inside.blocks.rows c.args.number (moved_to c.args.offset) none in
-    rw (← c.self.view_is) (record { moved = λ i. record { inodes = record { attributes = map attribute_of c.self.inside.attrs.items; blocks = sym same i }; room = c.self.inside.room } })
+    rw (← c.self.view_is) (record { moved = λ i. record { inodes = record { attributes = map attribute_of c.self.inside.attrs.items; blocks = sym same i }; room = c.self.inside.blocks.room } })
 
 pub invariant_of-self : goal.invariant_of-self
 invariant_of-self c =
@@ -23,5 +23,4 @@ invariant_of-self c =
       counted = counted_moved c.self.inside.attrs.items rows c.args.number c.args.offset c.in-Some.block is c.self.invariant.counted;
       few = omega (arith, long, few);
       numbers = c.self.invariant.numbers;
-      slots = c.self.invariant.slots;
     })

@@ -12,10 +12,9 @@ invariant_of-self c =
       counted = counted_free c.self.inside.attrs.items c.self.inside.blocks.rows c.args.inode c.self.invariant.counted none;
       few = c.self.invariant.few;
       numbers = omega arith;
-      slots = c.self.invariant.slots;
     })
 
 pub returns : goal.returns
 returns c =
     let set = map-set attribute_of c.self.inside.attrs.items c.args.inode None in
-    rw (c.free.ensures.freed, ← c.self.view_is) (λ i. record { inodes = record { attributes = set i; blocks = c.self.inside.blocks.rows }; room = c.self.inside.room })
+    rw (c.free.ensures.freed, ← c.self.view_is) (λ i. record { inodes = record { attributes = set i; blocks = c.self.inside.blocks.rows }; room = c.self.inside.blocks.room })

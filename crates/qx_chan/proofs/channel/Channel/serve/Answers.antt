@@ -1,24 +1,27 @@
-use Rattle.std.proofs.Common.{◌≡◌, Some, refl, ◌∙◌, sym}
+use Rattle.std.proofs.Common.{◌≡◌, Some, refl, ◌∙◌, sym, ap}
 use Rattle.std.proofs.lemmas.Bool.{false≢true}
 use Rattle.qx_chan.specs.Calls.{taken_call}
-use Rattle.qx_chan.specs.Channel.{lists}
 use Rattle.qx_chan.specs.Users.{thread_row}
-use Rattle.qx_resources.specs.State.{Fits}
 use Rattle.qx_chan.proofs.MeaningLemmas.{unwanted}
 use Rattle.qx_chan.proofs.MessageLemmas.{Serves-untaken, received, received-alone, received-wants, sends}
 use Rattle.qx_chan.proofs.OutcomeLemmas.{outcome}
-use Rattle.qx_chan.proofs.PulseLemmas.{fits-lists, shown}
+use Rattle.qx_chan.proofs.PulseLemmas.{user-fits}
+use Rattle.qx_machine.specs.Rows.{row_at}
 use Rattle.qx_chan.proofs.channel.Channel.serve.Goals as goal
 
 pub returns-in_default-clause-ok : goal.returns-in_default-clause-ok
 returns-in_default-clause-ok c =
-    let fits : Fits c.args.resources.now (lists (shown c.self.inside.users c.self.inside.queues)) = rw (← c.self.view_is) at c.requires.fits in
     rw (← c.self.view_is)
-    (Serves-untaken c.self.inside.users c.self.inside.queues c.args.resources.now (fits-lists c.args.resources.now (lists (shown c.self.inside.users c.self.inside.queues)) c.self.inside.queues refl fits)
+    (Serves-untaken c.self.inside.users c.self.inside.queues c.args.resources.now
     c.args.thread c.requires.user (rw (← c.self.view_is) at (sym c.taken.ensures.call ∙ c.in_default.is)) c.args.moment)
 
 pub perform-requires-clause-received : goal.perform-requires-clause-received
 perform-requires-clause-received c = received-alone c.self.inside.users c.self.inside.queues c.args.thread c.in-Some.call (rw (← c.self.view_is) at c.in-Some.ensures.call) c.self.invariant
+
+pub perform-requires-clause-fits : goal.perform-requires-clause-fits
+perform-requires-clause-fits c =
+    let its = received c.self.inside.users c.args.thread c.in-Some.call (rw (← c.self.view_is) at c.in-Some.ensures.call) in
+    user-fits c.self.inside.users c.self.inside.queues c.args.resources.now its.processes (ap (row_at c.self.inside.users) c.requires.user ∙ its.user) c.self.invariant
 
 pub returns-in_err-given-clause-sure : goal.returns-in_err-given-clause-sure
 returns-in_err-given-clause-sure c = λ no.
@@ -31,20 +34,18 @@ returns-in_err-given-clause-sure c = λ no.
 pub invariant_of-self-2 : goal.invariant_of-self-2
 invariant_of-self-2 c =
     let taken : Some c.in-Some.call ≡ taken_call (thread_row c.self.inside.users c.args.thread) = rw (← c.self.view_is) at c.in-Some.ensures.call in
-    let fits : Fits c.args.resources.now (lists (shown c.self.inside.users c.self.inside.queues)) = rw (← c.self.view_is) at c.requires.fits in
     let its = received c.self.inside.users c.args.thread c.in-Some.call taken in
     c.give_answers.ensures.kept
     (rw (c.answer.ensures.queues, c.answer.ensures.users, c.in_ok-given.ensures.served, c.as_slice.ensures.bytes)
     (outcome c.self.inside.users c.self.inside.queues c.args.thread c.in-Some.call taken c.self.invariant c.args.resources.now c.perform.new.resources c.perform.new.queues c.requires.user
-    (fits-lists c.args.resources.now (lists (shown c.self.inside.users c.self.inside.queues)) c.self.inside.queues refl fits) c.args.moment c.perform.new.reply c.in_ok-given.given _ refl
+    c.args.moment c.perform.new.reply c.in_ok-given.given _ refl
     (c.in_ok-given.ensures.did its.process its.sent.bytes (sends c.self.inside.users c.args.thread c.in-Some.call its)) c.answer.ensures.gone).0)
 
 pub returns-clause-ok : goal.returns-clause-ok
 returns-clause-ok c =
     let taken : Some c.in-Some.call ≡ taken_call (thread_row c.self.inside.users c.args.thread) = rw (← c.self.view_is) at c.in-Some.ensures.call in
-    let fits : Fits c.args.resources.now (lists (shown c.self.inside.users c.self.inside.queues)) = rw (← c.self.view_is) at c.requires.fits in
     let its = received c.self.inside.users c.args.thread c.in-Some.call taken in
     rw (← c.self.view_is, c.give_answers.ensures.queues, c.give_answers.ensures.users, c.answer.ensures.queues, c.answer.ensures.users, c.in_ok-given.ensures.served, c.as_slice.ensures.bytes)
     (outcome c.self.inside.users c.self.inside.queues c.args.thread c.in-Some.call taken c.self.invariant c.args.resources.now c.perform.new.resources c.perform.new.queues c.requires.user
-    (fits-lists c.args.resources.now (lists (shown c.self.inside.users c.self.inside.queues)) c.self.inside.queues refl fits) c.args.moment c.perform.new.reply c.in_ok-given.given _ refl
+    c.args.moment c.perform.new.reply c.in_ok-given.given _ refl
     (c.in_ok-given.ensures.did its.process its.sent.bytes (sends c.self.inside.users c.args.thread c.in-Some.call its)) c.answer.ensures.gone).1

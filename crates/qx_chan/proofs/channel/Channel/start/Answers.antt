@@ -1,6 +1,6 @@
 use Rattle.std.proofs.Common.{◌≡◌, Ok}
 use Rattle.qx_machine.specs.Rows.{row_at}
-use Rattle.qx_queues.proofs.PresenceLemmas.{lines-process}
+use Rattle.qx_shared.proofs.PresenceLemmas.{lines-process}
 use Rattle.qx_chan.specs.Users.{spawn_number_in}
 use Rattle.qx_chan.proofs.SendLemmas.{Kept-room}
 use Rattle.qx_chan.proofs.StartLemmas.{Kept-started, fresh, pipes-process, starts, user_within}

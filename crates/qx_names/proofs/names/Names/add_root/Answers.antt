@@ -2,7 +2,7 @@ use Rattle.std.proofs.Common.{[], ◌∷◌, ◌++◌, ap, subst, sym, ◌∙◌
 use Rattle.std.proofs.lemmas.Result.{err_from_is_err_and}
 use Rattle.qx_names.specs.Folders.{entry_at}
 use Rattle.qx_names.specs.Shows.{Shows, is_root}
-use Rattle.qx_names.proofs.NamesLemmas.{root_shows, shows_now}
+use Rattle.qx_names.proofs.NamesLemmas.{root_shows, rooted_once, shows_now}
 use Rattle.qx_names.proofs.ShowsLemmas.{names_are}
 use Rattle.qx_names.proofs.names.Names.add_root.Goals as goal
 
@@ -18,6 +18,10 @@ returns-in_err-reserve-clause-err c =
 pub invariant_of-self-inside-2 : goal.invariant_of-self-inside-2
 invariant_of-self-inside-2 c =
     ((_, root_shows c.self.inside.roots.items c.self.inside.folders.items c.self.inside.kept c.args.self.now c.self.view_is c.push_reserved.new.self.items c.args.root (c.push_reserved.ensures.items ∙ ap (◌++ c.args.root ∷ []) c.reserve.ensures.items) c.requires.new), tt)
+
+pub invariant_of-self-2 : goal.invariant_of-self-2
+invariant_of-self-2 c =
+    rooted_once c.self.inside.roots.items c.self.inside.folders.items c.self.inside.kept c.args.self.now c.self.view_is c.push_reserved.new.self.items c.args.root (c.push_reserved.ensures.items ∙ ap (◌++ c.args.root ∷ []) c.reserve.ensures.items) c.requires.new c.self.invariant
 
 pub returns-clause-ok : goal.returns-clause-ok
 returns-clause-ok c =

@@ -1,4 +1,3 @@
-use Rattle.qx_machine.specs.Listings.{HasAtMostOnePath}
 use Rattle.qx_names.proofs.names.Names.listed_whole.Goals as goal
 
 pub returns : goal.returns

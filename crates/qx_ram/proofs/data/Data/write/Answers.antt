@@ -7,4 +7,4 @@ pub returns-clause-ok : goal.returns-clause-ok
 returns-clause-ok c =
     let o = c.args.offset in
     let new = c.args.new.now in
-    c.paste.ensures ∙ ap (λ x. take o x ++ (new ++ drop (o + length new) x)) c.in_ok-grow.ensures.ok ∙ put_is c.self.inside.bytes.items new o ∙ ap (λ bytes. put bytes o new) c.self.view_is
+    c.paste.ensures.pasted ∙ ap (λ x. take o x ++ (new ++ drop (o + length new) x)) c.in_ok-grow.ensures.ok ∙ put_is c.self.inside.bytes.items new o ∙ ap (λ bytes. put bytes o new) c.self.view_is

@@ -8,7 +8,7 @@ use Rattle.qx_ram.specs.Fits.{Fits}
 use Rattle.qx_ram.specs.Given.{pasted, target, write_fault}
 use Rattle.qx_ram.proofs.FitLemmas.{offset_fits, resized_fits}
 use Rattle.qx_ram.proofs.SizeLemmas.{size_within}
-use Rattle.qx_ram.proofs.WriteLemmas.{answered, fits, pasted_is, pasted_size, target_is, write_given, written}
+use Rattle.qx_ram.proofs.WriteLemmas.{answered, fits, grown, pasted_is, pasted_size, target_is, write_given, written}
 use Rattle.qx_ram.proofs.files.Files.write.Goals as goal
 
 pub write_fault-requires-clause-size : goal.write_fault-requires-clause-size
@@ -74,3 +74,17 @@ returns-in_err-size-clause-wanted c =
     let all = written c.args.inodes.now.inodes c.args.self.now c.args.number c.args.moment t it new (length (put it.bytes t.offset new)) some refl ∙ ap (λ fault. answered fault given) none in
     let error = err_from_is_err_and c.from_residual.result c.from_residual.ensures.1 in
     rw (error.1, all) refl
+
+pub returns-in_err-size-clause-longer : goal.returns-in_err-size-clause-longer
+returns-in_err-size-clause-longer c =
+    let is : target c.args.inodes.now.inodes c.args.self.now c.args.number ≡ Ok c.in-Ok.target = sym c.in-Ok.ensures in
+    let it = target_is c.args.inodes.now.inodes c.args.self.now c.args.number c.in-Ok.target is in
+    let new = c.args.new.now in
+    let t = c.in-Ok.target in
+    let given = write_given c.args.inodes.now.inodes c.args.self.now c.args.number c.args.moment t (length (put it.bytes t.offset new)) new in
+    let some : (length new == 0) ≡ false = sym c.if-is_empty.ensures in
+    let none : write_fault (total_size c.args.self.now) t (length new) ≡ None = sym c.in_default.ensures in
+    let all = written c.args.inodes.now.inodes c.args.self.now c.args.number c.args.moment t it new (length (put it.bytes t.offset new)) some refl ∙ ap (λ fault. answered fault given) none in
+    let error = err_from_is_err_and c.from_residual.result c.from_residual.ensures.1 in
+    let was = ap size_of it.contents_are in
+    rw (error.1, all) (grown c.args.inodes.now.inodes c.args.self.now c.args.number c.args.moment t it new (omega (arith, it.size_is, was, c.in_err-size.ensures.longer)))

@@ -16,7 +16,7 @@ pub add_root-requires : goal.add_root-requires
 add_root-requires c = rw c.new-names.ensures.none (record { new = none_named 1 })
 
 -- the inodes once the root is made
-root_made : (c : goal.In_ok-new-2) → c.make_root.new.inodes.inodes ≡ record no_inodes { attributes = put_row no_inodes.attributes 1 (root_attribute c.args.user.0) }
+root_made : (c : goal.In_ok-new) → c.make_root.new.inodes.inodes ≡ record no_inodes { attributes = put_row no_inodes.attributes 1 (root_attribute c.args.user.0) }
 root_made c =
     let user = c.args.user.0 in
     let new = c.make_root.new.inodes.inodes in
@@ -27,11 +27,11 @@ root_made c =
     made_is no_inodes new (root_attribute user) (inode_number no_inodes) 1 refl made
 
 -- the names once the root is named
-root_named : (c : goal.In_ok-new-2) → c.add_root.new.self ≡ with_root empty 1
+root_named : (c : goal.In_ok-new) → c.add_root.new.self ≡ with_root empty 1
 root_named c = c.in_ok-add_root.ensures.ok ∙ ap (λ (names : Names). with_root names 1) c.new-names.ensures.none
 
-pub invariant_of-result-2 : goal.invariant_of-result-2
-invariant_of-result-2 c =
+pub invariant_of-result-3 : goal.invariant_of-result-3
+invariant_of-result-3 c =
     let inodes = ap (λ (all : Reserved). all.inodes) c.inodes-2.view_is ∙ root_made c in
     let names = c.names.view_is ∙ root_named c in
     rw (inodes, names, c.in_ok-new.ensures.none) (named_fits no_inodes empty no_files (root_key 1) 1 (root_attribute c.args.user.0) refl refl refl none_fit)
@@ -41,4 +41,4 @@ unfolding boot_part
 returns c =
     let inodes = ap (λ (all : Reserved). all.inodes) c.inodes-2.view_is ∙ root_made c in
     let names = c.names.view_is ∙ root_named c in
-    rw (inodes, names, c.in_ok-boot.ensures.top, c.name_bytes.ensures, c.in_ok-new.ensures.none, c.in_ok-new-2.ensures.none) refl
+    rw (inodes, names, c.in_ok-boot.ensures.top, c.name_bytes.ensures, c.in_ok-new.ensures.none) refl

@@ -16,15 +16,12 @@ serve-requires-clause-user c = c.self.invariant.own c.args.thread.proc.user.0 c.
 pub serve-requires-clause-read : goal.serve-requires-clause-read
 serve-requires-clause-read c = rw (← thread_row-told c.self.inside.channel c.self.inside.resources c.args.thread c.self.invariant) (rw (← c.self.view_is) at c.requires.read)
 
-pub serve-requires-clause-fits : goal.serve-requires-clause-fits
-serve-requires-clause-fits c = c.self.invariant.fits c.args.thread.proc.user.0 c.in-Some.resources.now (sym c.in-Some.ensures.row)
-
 pub invariant_of-self-2 : goal.invariant_of-self-2
 invariant_of-self-2 c =
     on_either c.serve.result c.serve.ensures.ok c.serve.ensures.err
     (λ serves. still-serving c.self.inside.channel c.serve.new.self c.self.inside.resources c.self.invariant c.args.thread.proc.user.0 c.in-Some.resources.now c.serve.new.resources (sym c.in-Some.ensures.row) _ serves)
     (λ kept. subst (λ channel. AreResourcesOf channel (slice_set c.self.inside.resources c.args.thread.proc.user.0 (Some c.serve.new.resources))) (sym kept.0)
-    (still-resources c.self.inside.channel c.self.inside.resources c.args.thread.proc.user.0 c.in-Some.resources.now c.serve.new.resources (sym c.in-Some.ensures.row) (ap (λ k. k.user) kept.1) (ap (λ k. k.pipes) kept.1) c.self.invariant))
+    (still-resources c.self.inside.channel c.self.inside.resources c.args.thread.proc.user.0 c.in-Some.resources.now c.serve.new.resources (sym c.in-Some.ensures.row) (ap (λ k. k.user) kept.1) c.self.invariant))
 
 pub returns-clause-ok : goal.returns-clause-ok
 returns-clause-ok c =

@@ -13,14 +13,14 @@ mount-requires c = record { can = attached-can c.self.inside.channel c.self.insi
 
 pub invariant_of-self-in_err-mount : goal.invariant_of-self-in_err-mount
 invariant_of-self-in_err-mount c =
-    still-resources c.self.inside.channel c.self.inside.resources c.args.user.0 c.in-Some.resources.now c.mount.new.self (sym c.in-Some.ensures.row) (ap (λ kept. kept.user) c.in_err-mount.ensures.err) (ap (λ kept. kept.pipes) c.in_err-mount.ensures.err) c.self.invariant
+    still-resources c.self.inside.channel c.self.inside.resources c.args.user.0 c.in-Some.resources.now c.mount.new.self (sym c.in-Some.ensures.row) (ap (λ kept. kept.user) c.in_err-mount.ensures.err) c.self.invariant
 
 pub returns-in_err-mount-clause-err : goal.returns-in_err-mount-clause-err
 returns-in_err-mount-clause-err c = on_err c.from_residual.result (rw (c.in_err-mount.ensures.err, set-row c.self.inside.resources c.args.user.0 c.in-Some.resources.now (sym c.in-Some.ensures.row)) c.self.view_is)
 
 pub invariant_of-self-2 : goal.invariant_of-self-2
 invariant_of-self-2 c =
-    still-resources c.self.inside.channel c.self.inside.resources c.args.user.0 c.in-Some.resources.now c.mount.new.self (sym c.in-Some.ensures.row) (ap (λ kept. kept.user) c.in_ok-mount.ensures.ok) (ap (λ kept. kept.pipes) c.in_ok-mount.ensures.ok) c.self.invariant
+    still-resources c.self.inside.channel c.self.inside.resources c.args.user.0 c.in-Some.resources.now c.mount.new.self (sym c.in-Some.ensures.row) (ap (λ kept. kept.user) c.in_ok-mount.ensures.ok) c.self.invariant
 
 pub returns-clause-ok : goal.returns-clause-ok
 returns-clause-ok c = rw (c.in_ok-mount.ensures.ok, ← c.self.view_is) (attached c.self.inside.config c.self.inside.channel c.self.inside.resources c.self.inside.hands.items c.args.user.0 c.in-Some.resources.now c.args.mount.now (sym c.in-Some.ensures.row))

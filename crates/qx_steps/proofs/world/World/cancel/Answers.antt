@@ -3,11 +3,8 @@ use Rattle.qx_machine.specs.Performing.{or_kept, serve_pulse}
 use Rattle.qx_steps.proofs.ServeLemmas.{still-serving, world-nobody, world-serving}
 use Rattle.qx_steps.proofs.world.World.cancel.Goals as goal
 
-pub cancel-requires-clause-user : goal.cancel-requires-clause-user
-cancel-requires-clause-user c = c.self.invariant.own c.args.thread.proc.user.0 c.in-Some.resources.now (sym c.in-Some.ensures.row)
-
-pub cancel-requires-clause-fits : goal.cancel-requires-clause-fits
-cancel-requires-clause-fits c = c.self.invariant.fits c.args.thread.proc.user.0 c.in-Some.resources.now (sym c.in-Some.ensures.row)
+pub cancel-requires : goal.cancel-requires
+cancel-requires c = record { user = c.self.invariant.own c.args.thread.proc.user.0 c.in-Some.resources.now (sym c.in-Some.ensures.row) }
 
 pub invariant_of-self : goal.invariant_of-self
 invariant_of-self c = still-serving c.self.inside.channel c.cancel.new.self c.self.inside.resources c.self.invariant c.args.thread.proc.user.0 c.in-Some.resources.now c.cancel.new.resources (sym c.in-Some.ensures.row) _ c.cancel.ensures.cancelled

@@ -1,0 +1,97 @@
+-- A bell: a read waits until somebody writes. Calls wait in a place under the number of an inode, as in a pipe that they read.
+use Rattle.std.specs.Prelude.{ℕ, ◌≡◌, ◌==◌, not, true, List, [], ◌∷◌, Option, Some, None, Result, Ok, length, slice_set}
+use Rattle.qx_types.specs.declared.errno.Errno.{Errno}
+use Rattle.qx_types.specs.declared.errno.Errno.TheVariants.{EBADF, EINTR}
+use Rattle.qx_types.specs.declared.flags.OFlags.{OFlags}
+use Rattle.qx_types.specs.declared.outcome.Answer.{Answer}
+use Rattle.qx_types.specs.declared.outcome.Answer.TheVariants as answer
+use Rattle.qx_machine.specs.declared.rows.Effect.TheVariants.{Keeps, Closes}
+use Rattle.qx_machine.specs.declared.rows.NewOpen.{NewOpen}
+use Rattle.qx_machine.specs.declared.rows.Opened.{Opened}
+use Rattle.qx_machine.specs.declared.rows.WaitingCall.{WaitingCall}
+use Rattle.qx_machine.specs.Functions.{ConnectFunctions, Deed, IoFunctions, Reply, no_connect, no_io}
+use Rattle.qx_machine.specs.Judgements.{◌>>=◌, need}
+use Rattle.qx_machine.specs.PipeManager.{waiting_call}
+use Rattle.qx_machine.specs.Pipes.{After, Pipe, nobody_answered, readers_dismissed, with_reader}
+use Rattle.qx_shared.specs.Shared.{HasPipe, IsReceived, Shared, pipe_at, thread_of, with_after}
+use Rattle.qx_resmgr.specs.declared.state.State.{Ghosts}
+use Rattle.null_manager.specs.Null as null
+use Rattle.null_manager.specs.Null.{Blocks}
+
+-- what the manager keeps for a user: which inode of the user its place is under, and the open control blocks, from 1
+pub record Kept : Type 0 where
+  pub user : ℕ
+  pub inode : ℕ
+  pub blocks : Blocks
+
+-- what its functions work on: these blocks, and who waits
+pub record Bells : Type 0 where
+  pub blocks : Blocks
+  pub place : Pipe WaitingCall
+
+-- nothing is open
+abbrev pub new_bell : ℕ → ℕ → Kept
+new_bell user inode = record { user = user; inode = inode; blocks = None ∷ [] }
+
+-- ---- how it stands together with what all users share
+
+abbrev pub told : Kept → Shared → Bells
+told k c = record { blocks = k.blocks; place = pipe_at c k.user k.inode }
+
+abbrev pub shared : Kept → Shared → Bells → List (WaitingCall × Answer) → Shared
+shared k c bells answers = with_after c k.user k.inode (record { pipe = bells.place; answers = answers })
+
+-- the place is there
+abbrev pub Fits : Kept → Shared → Type 0
+Fits k c = HasPipe c k.user k.inode
+
+abbrev pub SamePlace : Kept → Kept → Type 0
+SamePlace k l = (l.user ≡ k.user) × (l.inode ≡ k.inode)
+
+-- how the tables see the two
+abbrev pub state : Ghosts Kept Shared Bells
+state = record { told = told; shared = shared; fits = Fits; same = SamePlace }
+
+-- the message of an opened connection's caller was received, and no call of it waits
+abbrev pub IsReady : Kept → Shared → Opened → Type 0
+IsReady k c opened = IsReceived c (thread_of k.user opened.caller)
+
+-- ---- the tables
+
+-- a message comes to that reply, these blocks, and what was done to who waits
+abbrev pub comes_to : Option Reply → Blocks → After WaitingCall → Result (Deed Bells) Errno
+comes_to reply blocks after = Ok (record { reply = reply; state = record { blocks = blocks; place = after.pipe }; answers = after.answers })
+
+-- the null manager's open
+abbrev pub open_deed : Bells → NewOpen → OFlags → List (List ℕ) → Result (Deed Bells) Errno
+open_deed bells over flags rest = do
+  opened ← null.open_deed bells.blocks over flags rest
+  comes_to opened.reply opened.state (nobody_answered bells.place)
+
+-- who was asked to unblock does not wait (Writing a Resource Manager: the unblock pulse)
+abbrev pub read_deed : Bells → Opened → ℕ → Result (Deed Bells) Errno
+read_deed bells opened count = do
+  patient ← need (not opened.caller.is_asked) EINTR
+  comes_to None bells.blocks (nobody_answered (with_reader bells.place (waiting_call opened count [])))
+
+-- all who wait are answered with no bytes
+abbrev pub write_deed : Bells → List ℕ → Result (Deed Bells) Errno
+write_deed bells bytes =
+    comes_to (Some (record { status = length bytes; bytes = []; effect = Keeps })) bells.blocks
+    (readers_dismissed (λ call. true) (answer.Reply 0 []) bells.place)
+
+-- who waits over the block that goes is answered EBADF
+abbrev pub close_deed : Bells → Opened → Result (Deed Bells) Errno
+close_deed bells opened =
+    comes_to (Some (record { status = 0; bytes = []; effect = Closes opened.coid })) (slice_set bells.blocks opened.number None)
+    (readers_dismissed (λ call. call.block == opened.number) (answer.Failed EBADF) bells.place)
+
+abbrev pub bell_connect : ConnectFunctions Bells
+bell_connect = record no_connect { «open» = Some (λ bells over flags mode rest moment. open_deed bells over flags rest) }
+
+abbrev pub bell_io : IoFunctions Bells
+bell_io = record no_io {
+  read = Some (λ bells opened count moment. read_deed bells opened count);
+  write = Some (λ bells opened bytes moment. write_deed bells bytes);
+  close = Some (λ bells opened moment. close_deed bells opened);
+}

@@ -1,0 +1,173 @@
+ghost use Rattle.bell_manager.specs.Bell.{bell_connect, bell_io};
+
+use crate::bell::{Bell, Bells};
+use null_manager::Null;
+use qx_attr::Reply;
+use qx_machine::{NewOpen, Opened};
+use qx_process::Room;
+use qx_queues::{Leaving, PipeCall};
+use qx_resmgr::{Connect, Done, Io, no_function};
+use qx_shared::{Shared, Side};
+use qx_types::{Errno, OFlags, Whence};
+use qx_wire::Rest;
+use std::alloc::AllocError;
+
+/// The manager of a bell.
+pub struct Ringing;
+
+impl Connect<Bell, Shared, Bells> for Ringing {
+    ghost connect = { bell_connect };
+
+    fn open(
+        state: &mut Bell,
+        _waits: &mut Shared,
+        over: Result<NewOpen, Errno>,
+        flags: OFlags,
+        mode: u16,
+        rest: &Rest<'_>,
+        moment: u64,
+    ) -> Result<Result<Done, Errno>, AllocError> {
+        Null::open(&mut state.blocks, &mut (), over, flags, mode, rest, moment)
+    }
+
+    fn stat(
+        _state: &mut Bell,
+        _waits: &mut Shared,
+        _root: Result<u32, Errno>,
+        _rest: &Rest<'_>,
+        _moment: u64,
+        _reply: &mut Reply,
+    ) -> Result<Done, Errno> {
+        no_function()
+    }
+
+    fn unlink(
+        _state: &mut Bell,
+        _waits: &mut Shared,
+        _root: Result<u32, Errno>,
+        _rest: &Rest<'_>,
+        _moment: u64,
+    ) -> Result<Done, Errno> {
+        no_function()
+    }
+
+    fn mknod(
+        _state: &mut Bell,
+        _waits: &mut Shared,
+        _root: Result<u32, Errno>,
+        _mode: u16,
+        _rest: &Rest<'_>,
+        _moment: u64,
+    ) -> Result<Result<Done, Errno>, AllocError> {
+        Ok(no_function())
+    }
+}
+
+impl Io<Bell, Shared, Bells> for Ringing {
+    ghost use Rattle.bell_manager.specs.Bell.{IsReady};
+
+    ghost io = { bell_io };
+
+    ghost ready = { IsReady };
+
+    fn read(
+        state: &mut Bell,
+        waits: &mut Shared,
+        opened: Result<Opened, Errno>,
+        count: u32,
+        _moment: u64,
+        _reply: &mut Reply,
+        room: &mut Option<Room>,
+    ) -> Result<Done, Errno> {
+        let opened = opened?;
+        if opened.caller.is_asked {
+            return Err(Errno::EINTR);
+        }
+        let Some(room) = room.take() else {
+            unreachable!()
+        };
+        let call = PipeCall::reading(opened, count, room);
+        waits.wait(state.user, state.inode, Side::Reading, call);
+        Ok(Done::NoReply)
+    }
+
+    fn write(
+        state: &mut Bell,
+        waits: &mut Shared,
+        opened: Result<Opened, Errno>,
+        bytes: &[u8],
+        _moment: u64,
+        _room: &mut Option<Room>,
+    ) -> Result<Result<Done, Errno>, AllocError> {
+        if let Err(error) = opened {
+            return Ok(Err(error));
+        }
+        waits.dismiss(
+            state.user,
+            state.inode,
+            Side::Reading,
+            Leaving::All,
+            Ok((0, &[])),
+        );
+        Ok(Ok(Done::keeps(bytes.len() as u64)))
+    }
+
+    fn close(
+        state: &mut Bell,
+        waits: &mut Shared,
+        opened: Result<Opened, Errno>,
+        moment: u64,
+    ) -> Result<Done, Errno> {
+        let over_it = Leaving::Block(opened?.number);
+        waits.dismiss(
+            state.user,
+            state.inode,
+            Side::Reading,
+            over_it,
+            Err(Errno::EBADF),
+        );
+        Null::close(&mut state.blocks, &mut (), opened, moment)
+    }
+
+    fn lseek(
+        _state: &mut Bell,
+        _waits: &mut Shared,
+        _opened: Result<Opened, Errno>,
+        _whence: Whence,
+        _offset: i64,
+        _moment: u64,
+    ) -> Result<Done, Errno> {
+        no_function()
+    }
+
+    fn fstat(
+        _state: &mut Bell,
+        _waits: &mut Shared,
+        _opened: Result<Opened, Errno>,
+        _moment: u64,
+        _reply: &mut Reply,
+    ) -> Result<Done, Errno> {
+        no_function()
+    }
+
+    fn list(
+        _state: &mut Bell,
+        _waits: &mut Shared,
+        _opened: Result<Opened, Errno>,
+        _after: &[u8],
+        _moment: u64,
+        _reply: &mut Reply,
+    ) -> Result<Done, Errno> {
+        no_function()
+    }
+
+    fn chmod(
+        _state: &mut Bell,
+        _waits: &mut Shared,
+        _opened: Result<Opened, Errno>,
+        _mode: u16,
+        _moment: u64,
+    ) -> Result<Done, Errno> {
+        no_function()
+    }
+}

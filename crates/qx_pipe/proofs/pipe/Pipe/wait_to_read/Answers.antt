@@ -1,6 +1,0 @@
-use Rattle.qx_pipe.proofs.pipe.Pipe.wait_to_read.Goals as goal
-use Rattle.qx_pipe.proofs.TableLemmas.{became-with_reader}
-use Rattle.std.proofs.Common.{ap}
-
-pub returns : goal.returns
-returns g c = became-with_reader _ _ _ _ _ _ _ c.requires.pipe (rw (ap (λ k. k.readers) c.self.view_is) at c.push_back.ensures)

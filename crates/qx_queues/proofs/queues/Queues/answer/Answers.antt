@@ -1,0 +1,43 @@
+use Rattle.std.proofs.Common.{◌∙◌, [], ◌∷◌, ◌++◌, ◌==◌, ap, sym}
+use Rattle.qx_queues.specs.Kept.{Carries, answered_calls, entry_at}
+use Rattle.qx_queues.specs.Nodes.{Message, node_of}
+use Rattle.qx_queues.specs.Queues.{caller}
+use Rattle.qx_queues.specs.Waiting.{Answered, addressed_by, carrying, given_of}
+use Rattle.qx_queues.specs.Waits.{users_call}
+use Rattle.qx_queues.proofs.CallLemmas.{Kept-in, Moved-in, equal_itself, more-in, pulses-moved, value-answered}
+use Rattle.qx_queues.proofs.PresenceLemmas.{threads-nodes}
+use Rattle.qx_queues.proofs.WaitLemmas.{IsFree-received, answer-carried}
+use Rattle.qx_queues.proofs.queues.Queues.answer.Goals as goal
+
+pub message_node-node-requires : goal.message_node-node-requires
+message_node-node-requires c = record { there = rw c.thread.ensures.thread (sym (threads-nodes c.self.inside.nodes _) ∙ (rw (← c.self.view_is) at c.requires.received.own)) }
+
+pub put_slot-requires-clause-list : goal.put_slot-requires-clause-list
+put_slot-requires-clause-list c = c.self.invariant.1.answers
+
+pub put_slot-requires-clause-free : goal.put_slot-requires-clause-free
+put_slot-requires-clause-free c =
+    let has = ap (λ thread. node_of c.self.inside.nodes (Message thread)) (sym c.thread.ensures.thread) ∙ c.message_node-node.ensures.node in
+    IsFree-received c.self.inside.table c.self.inside.lines.items c.self.inside.nodes _ c.message_node-node.result c.self.invariant.1 has (rw (← c.self.view_is) at c.requires.received)
+
+pub invariant_of-self : goal.invariant_of-self
+invariant_of-self c =
+    let table = c.self.inside.table in
+    let kept = c.self.invariant.1 in
+    let has = ap (λ thread. node_of c.self.inside.nodes (Message thread)) (sym c.thread.ensures.thread) ∙ c.message_node-node.ensures.node in
+    let free = IsFree-received c.self.inside.table c.self.inside.lines.items c.self.inside.nodes _ c.message_node-node.result c.self.invariant.1 has (rw (← c.self.view_is) at c.requires.received) in
+    let names = kept.names (Message (caller (users_call c.args.user.0 c.args.call))) c.message_node-node.result has in
+    let carries : Carries (c.self.inside.answered == c.self.inside.answered) (carrying (entry_at table c.message_node-node.result) (Answered (addressed_by c.new-answered.result))) = rw (equal_itself c.self.inside.answered) (answer-carried _ c.args.user.0 c.args.call names (addressed_by c.new-answered.result) (ap (λ given. given.thread) c.new-answered.ensures.answered)) in (
+      c.self.invariant.0,
+      Kept-in table _ _ _ _ _ _ kept c.put_slot.ensures.put free kept.off_lines carries (ap (node_of c.self.inside.nodes) names ∙ has),
+      pulses-moved table _ _ _ _ _ kept (Moved-in table _ _ _ _ _ _ kept c.put_slot.ensures.put free) kept.off_lines _ c.self.invariant.2,
+    )
+
+pub returns-clause-answered : goal.returns-clause-answered
+returns-clause-answered c =
+    let table = c.self.inside.table in
+    let kept = c.self.invariant.1 in
+    let has = ap (λ thread. node_of c.self.inside.nodes (Message thread)) (sym c.thread.ensures.thread) ∙ c.message_node-node.ensures.node in
+    let free = IsFree-received c.self.inside.table c.self.inside.lines.items c.self.inside.nodes _ c.message_node-node.result c.self.invariant.1 has (rw (← c.self.view_is) at c.requires.received) in
+    rw (← c.self.view_is) (value-answered table _ _ _ _ kept (Moved-in table _ _ _ _ _ _ kept c.put_slot.ensures.put free) c.self.inside.nodes _
+    (more-in table _ _ _ _ _ _ kept c.put_slot.ensures.put free given_of ∙ ap (λ last. answered_calls table c.self.inside.answered ++ last ∷ []) c.new-answered.ensures.answered))

@@ -1,0 +1,14 @@
+use Rattle.std.proofs.Common.{◌≡◌, length}
+use Rattle.qx_queues.specs.Queues.{HasList, waiting_in}
+use Rattle.qx_queues.specs.Waits.{handed, leaves}
+use Rattle.qx_queues.proofs.LeavingLemmas.{dismissed}
+use Rattle.qx_queues.proofs.queues.Queues.dismiss.Given as goal
+
+abbrev pub invariant-leaving : goal.invariant-leaving
+invariant-leaving l = record {
+  list : HasList l.self l.list;
+  same : dismissed (λ own. leaves l.which own.call) l.list (handed l.answer) l.self ≡ dismissed (λ own. leaves l.which own.call) l.list (handed l.answer) l.initial.self;
+}
+
+abbrev pub decreases-leaving : goal.decreases-leaving
+decreases-leaving l = length (waiting_in l.self l.list)

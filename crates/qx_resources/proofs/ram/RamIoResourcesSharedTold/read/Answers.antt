@@ -1,0 +1,4 @@
+use Rattle.qx_resources.proofs.ram.RamIoResourcesSharedTold.read.Goals as goal
+
+pub invariant_of-state-2 : goal.invariant_of-state-2
+invariant_of-state-2 c = c.read.ensures.fits c.state.inside.names c.state.invariant

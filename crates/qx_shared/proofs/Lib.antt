@@ -1,0 +1,14 @@
+-- The first threads of a process get nodes.
+pub mod PresenceLemmas
+-- Numbered rows that are told in another way.
+pub mod RowLemmas
+-- The pipes of all users, and one of them changed.
+pub mod OwnLemmas
+-- One change of a pipe after another.
+pub mod AfterLemmas
+-- What all users share once the calls of a list or the bytes of a pipe are others.
+pub mod ChangeLemmas
+-- Whose calls wait, in the lists of the queues and in the pipes of a user.
+pub mod CallLemmas
+-- A pipe comes and goes, with its lists.
+pub mod PlaceLemmas

@@ -1,0 +1,30 @@
+use Rattle.std.proofs.Common.{◌<◌, [], ◌∷◌, ◌++◌, append-nil, length, rules}
+use Rattle.qx_types.specs.declared.outcome.Answer.TheVariants.{Reply}
+use Rattle.qx_shared.proofs.CallLemmas.{received}
+use Rattle.qx_shared.proofs.ChangeLemmas.{fits, put-bytes, refilled}
+use Rattle.qx_shared.proofs.OwnLemmas.{has_row, row_of-within}
+use Rattle.qx_shared.proofs.shared.Shared.put_bytes.Goals as goal
+
+pub index_mut-requires : goal.index_mut-requires
+index_mut-requires c =
+    let row = has_row c.self.inside.queues c.self.inside.pipes.items c.args.user.0 c.args.inode (rw (← c.self.view_is) at c.requires.pipe) in
+    let within : c.args.user.0 < length c.self.inside.pipes.items = (row_of-within c.self.inside.pipes.items c.args.user.0 c.args.inode row.0 row.1).0 in
+    search rules
+
+pub append-requires : goal.append-requires
+append-requires c =
+    let row = has_row c.self.inside.queues c.self.inside.pipes.items c.args.user.0 c.args.inode (rw (← c.self.view_is) at c.requires.pipe) in
+    record { fits = rw c.bytes-bytes.ensures.bytes (fits _ _ c.self.invariant _ _ row.0 row.1 _ c.index_mut.ensures.value (length c.args.call.bytes) (rw (← c.self.view_is) at c.requires.fits)) }
+
+pub answer-requires-clause-received : goal.answer-requires-clause-received
+answer-requires-clause-received c = received _ _ c.self.invariant _ (rw (← c.self.view_is) at c.requires.received)
+
+pub invariant_of-self : goal.invariant_of-self
+invariant_of-self c =
+    let row = has_row c.self.inside.queues c.self.inside.pipes.items c.args.user.0 c.args.inode (rw (← c.self.view_is) at c.requires.pipe) in
+    (refilled _ _ c.self.invariant _ _ row.0 row.1 _ ((c.args.call, Reply (length c.args.call.bytes) []) ∷ []) _ _ (rw c.bytes-bytes.ensures.bytes at c.answer.ensures.answered) (put-bytes _ _ c.self.invariant _ _ row.0 row.1 _ c.index_mut.ensures.value _ (λ bytes. bytes ++ c.args.call.bytes) (rw c.bytes-bytes.ensures.bytes at c.append.ensures.appended))).all_are
+
+pub returns-clause-taken : goal.returns-clause-taken
+returns-clause-taken c =
+    let row = has_row c.self.inside.queues c.self.inside.pipes.items c.args.user.0 c.args.inode (rw (← c.self.view_is) at c.requires.pipe) in
+    rw (← c.self.view_is, append-nil c.args.call.bytes) (refilled _ _ c.self.invariant _ _ row.0 row.1 _ ((c.args.call, Reply (length c.args.call.bytes) []) ∷ []) _ _ (rw c.bytes-bytes.ensures.bytes at c.answer.ensures.answered) (put-bytes _ _ c.self.invariant _ _ row.0 row.1 _ c.index_mut.ensures.value _ (λ bytes. bytes ++ c.args.call.bytes) (rw c.bytes-bytes.ensures.bytes at c.append.ensures.appended))).told_is

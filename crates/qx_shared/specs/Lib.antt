@@ -1,0 +1,4 @@
+pub mod Shared
+pub mod Row
+pub mod Own
+pub mod Lends

@@ -1,0 +1,280 @@
+//! The pipes of all users, one at a time: each call makes of one pipe what it says, and leaves all others.
+
+ghost use Rattle.std.specs.Prelude.{◌≡◌, ◌<◌, ◌≤◌, ◌+◌, ◌++◌, ◌∷◌, [], None, Some, IfNone, IsTrue, OnErr, OnOk, false, ℕ, drop, is_some, length, map, slice_get, take};
+ghost use Rattle.std.specs.List.{flat_map};
+ghost use Rattle.std.specs.Option.{option_copied};
+ghost use Rattle.std.specs.Result.{ForOk};
+ghost use Rattle.qx_machine.specs.PipeManager.{holds, is_call, is_written};
+ghost use Rattle.qx_machine.specs.Pipes.{nobody_answered, pipe_of, removed};
+ghost use Rattle.qx_machine.specs.Rows.{row_at};
+ghost use Rattle.qx_queues.specs.Waits.{handed, leaves};
+ghost use Rattle.qx_shared.specs.Row.{HasRow, list_at, place, row_of};
+ghost use Rattle.qx_shared.specs.Shared.{HasPipe, IsCallReceived, dismissed_on, passed_to, pipe_at, pipes_of, taken_from, waiting_on, went_in, with_after, with_answer_to, with_row_at, with_waiting_on};
+ghost use Rattle.qx_types.specs.declared.limits.TheConstants.Limits.{INODES, PIPE, TRANSFER};
+
+use crate::row::{PipeRow, UserPipes};
+use crate::shared::Shared;
+use crate::side::Side;
+use circular_buffer::HeapCircularBuffer;
+use qx_queues::{Leaving, PipeCall};
+use qx_types::{Errno, Limits, Thread, User};
+use std::alloc::AllocError;
+
+impl Shared {
+    /// Whether there is a pipe under the number of an inode.
+    pub fn has_pipe(&self, user: User, inode: u32) -> bool
+        ensures is { result ≡ is_some (row_at (pipes_of self.now user.0) inode) }
+        ensures places { length (pipes_of self.now user.0) ≡ INODES + 1 }
+    {
+        row(&self.pipes, user, inode).is_some()
+    }
+
+    /// Makes a pipe with no bytes, in which nobody waits, under the number of an inode that has none.
+    pub fn add_pipe(&mut self, user: User, inode: u32) -> Result<(), AllocError>
+        requires user { user.0 < length self.old.pipes }
+        requires inode { inode ≤ INODES }
+        requires none { row_at (pipes_of self.old user.0) inode ≡ None }
+        ensures ok { OnOk result (self.new ≡ with_row_at self.old user.0 inode (Some (pipe_of [] [] []))) }
+        ensures err { OnErr result (self.new ≡ self.old) }
+    {
+        let bytes = HeapCircularBuffer::with_capacity(*self.pipes.allocator(), Limits::PIPE)?;
+        let readers = self.queues.add_list()?;
+        match self.queues.add_list() {
+            Ok(writers) => {
+                let row = PipeRow {
+                    bytes,
+                    readers,
+                    writers,
+                };
+                self.pipes[user.0 as usize].set(inode, row);
+                Ok(())
+            }
+            Err(error) => {
+                self.queues.free_list(readers);
+                Err(error)
+            }
+        }
+    }
+
+    /// A pipe goes, with its bytes; the calls that wait in it wait nowhere then.
+    pub fn remove_pipe(&mut self, user: User, inode: u32)
+        requires pipe { HasPipe self.old user.0 inode }
+        ensures { self.new ≡ with_row_at self.old user.0 inode None }
+    {
+        let readers = list(&self.pipes, user, inode, Side::Reading);
+        let writers = list(&self.pipes, user, inode, Side::Writing);
+        self.queues.free_list(readers);
+        self.queues.free_list(writers);
+        self.pipes[user.0 as usize].remove(inode);
+    }
+
+    /// How many bytes stand in a pipe; none where there is no pipe.
+    pub fn pipe_len(&self, user: User, inode: u32) -> usize
+        ensures count { result ≡ length (pipe_at self.now user.0 inode).bytes }
+        ensures within { result ≤ PIPE }
+    {
+        match row(&self.pipes, user, inode) {
+            Some(row) => row.len(),
+            None => 0,
+        }
+    }
+
+    /// The first call that waits on a side of a pipe.
+    pub fn first_waiting(&self, user: User, inode: u32, side: Side) -> Option<&PipeCall>
+        ensures { option_copied result ≡ slice_get (waiting_on side (pipe_at self.now user.0 inode)) 0 }
+    {
+        let row = row(&self.pipes, user, inode)?;
+        self.queues.first_waiting(row.list(side))
+    }
+
+    /// Whether a call waits in a pipe; then it waits in no other of the user's.
+    pub fn is_waiting(&self, thread: Thread, call: u64, inode: u32) -> bool
+        ensures holds { result ≡ holds (is_call thread.proc.num thread.tid call) (row_at (pipes_of self.now thread.proc.user.0) inode) }
+        ensures only { IsTrue result → (other : ℕ) → IsTrue (holds (is_call thread.proc.num thread.tid call) (row_at (pipes_of self.now thread.proc.user.0) other)) → other ≡ inode }
+    {
+        let Some(row) = row(&self.pipes, thread.proc.user, inode) else {
+            return false;
+        };
+        self.queues.know();
+        let which = Leaving::Call {
+            process: thread.proc.num,
+            thread: thread.tid,
+            call,
+        };
+        let reads = self.queues.is_waiting(row.list(Side::Reading), which);
+        let writes = self.queues.is_waiting(row.list(Side::Writing), which);
+        reads | writes
+    }
+
+    /// Over which open control block a call of a thread waits; none where it waits nowhere.
+    pub fn waits(&self, thread: Thread, call: u64) -> Option<u16>
+        ensures nowhere { IfNone result ((inode : ℕ) → holds (is_call thread.proc.num thread.tid call) (row_at (pipes_of self.now thread.proc.user.0) inode) ≡ false) }
+        ensures places { length (pipes_of self.now thread.proc.user.0) ≡ INODES + 1 }
+    {
+        self.queues.waits(thread, call)
+    }
+
+    /// A call whose message was received waits, last on a side of a pipe, until it is answered (Writing a Resource Manager: a
+    /// client to whom no reply is made yet).
+    pub fn wait(&mut self, user: User, inode: u32, side: Side, call: PipeCall)
+        requires pipe { HasPipe self.old user.0 inode }
+        requires received { IsCallReceived self.old user.0 call }
+        ensures { self.new ≡ with_after self.old user.0 inode (nobody_answered (with_waiting_on side (waiting_on side (pipe_at self.old user.0 inode) ++ call ∷ []) (pipe_at self.old user.0 inode))) }
+    {
+        let list = list(&self.pipes, user, inode, side);
+        self.queues.wait(list, user, call);
+    }
+
+    /// A call whose message was received is answered, with a status and bytes or with an error; tells whether that takes the
+    /// bytes that it writes.
+    pub fn answer(
+        &mut self,
+        user: User,
+        call: PipeCall,
+        answer: Result<(u64, &[u8]), Errno>,
+    ) -> bool
+        requires received { IsCallReceived self.old user.0 call }
+        requires short { ForOk answer (λ reply. length reply.1.now ≤ TRANSFER) }
+        ensures answered { self.new ≡ with_answer_to self.old user.0 call (handed answer.entry) }
+        ensures written { result ≡ is_written call.bytes (handed answer.entry) }
+    {
+        self.queues.answer(user, call, answer)
+    }
+
+    /// The first call that waits on a side of a pipe is answered; tells whether that takes the bytes that it writes.
+    pub fn answer_first(
+        &mut self,
+        user: User,
+        inode: u32,
+        side: Side,
+        answer: Result<(u64, &[u8]), Errno>,
+    ) -> bool
+        requires pipe { HasPipe self.old user.0 inode }
+        requires waits { 0 < length (waiting_on side (pipe_at self.old user.0 inode)) }
+        requires short { ForOk answer (λ reply. length reply.1.now ≤ TRANSFER) }
+        ensures answered { self.new ≡ with_after self.old user.0 inode (record {
+          pipe = with_waiting_on side (drop 1 (waiting_on side (pipe_at self.old user.0 inode))) (pipe_at self.old user.0 inode);
+          answers = map (λ call. (call, handed answer.entry)) (take 1 (waiting_on side (pipe_at self.old user.0 inode)));
+        }) }
+        ensures written { result ≡ went_in (map (λ call. (call, handed answer.entry)) (take 1 (waiting_on side (pipe_at self.old user.0 inode)))) }
+    {
+        let list = list(&self.pipes, user, inode, side);
+        self.queues.answer_first(list, answer)
+    }
+
+    /// Those calls on a side of a pipe are answered, from the first on.
+    pub fn dismiss(
+        &mut self,
+        user: User,
+        inode: u32,
+        side: Side,
+        which: Leaving,
+        answer: Result<(u64, &[u8]), Errno>,
+    )
+        requires pipe { HasPipe self.old user.0 inode }
+        requires short { ForOk answer (λ reply. length reply.1.now ≤ TRANSFER) }
+        ensures { self.new ≡ with_after self.old user.0 inode (dismissed_on side (leaves which) (handed answer.entry) (pipe_at self.old user.0 inode)) }
+    {
+        let list = list(&self.pipes, user, inode, side);
+        self.queues.dismiss(list, which, answer);
+    }
+
+    /// Those calls leave a pipe, and nobody answers them.
+    pub fn take_out(&mut self, user: User, inode: u32, which: Leaving)
+        requires pipe { HasPipe self.old user.0 inode }
+        ensures { self.new ≡ with_after self.old user.0 inode (nobody_answered (removed (leaves which) (pipe_at self.old user.0 inode))) }
+    {
+        let readers = list(&self.pipes, user, inode, Side::Reading);
+        let writers = list(&self.pipes, user, inode, Side::Writing);
+        self.queues.take_out(readers, which);
+        self.queues.take_out(writers, which);
+    }
+
+    /// The first reader gets so many of the first bytes that stand; tells whether that takes bytes that it writes.
+    pub fn pass_bytes(&mut self, user: User, inode: u32, count: usize) -> bool
+        requires pipe { HasPipe self.old user.0 inode }
+        requires waits { 0 < length (pipe_at self.old user.0 inode).readers }
+        requires count { count ≤ length (pipe_at self.old user.0 inode).bytes }
+        ensures passed { self.new ≡ with_after self.old user.0 inode (passed_to count (take 1 (pipe_at self.old user.0 inode).readers) (record (pipe_at self.old user.0 inode) { readers = drop 1 (pipe_at self.old user.0 inode).readers })) }
+        ensures written { result ≡ went_in (passed_to count (take 1 (pipe_at self.old user.0 inode).readers) (pipe_at self.old user.0 inode)).answers }
+    {
+        let readers = list(&self.pipes, user, inode, Side::Reading);
+        let mut bytes = [0; Limits::PIPE];
+        self.pipes[user.0 as usize].take(inode, count, &mut bytes);
+        self.queues
+            .answer_first(readers, Ok((count as u64, &bytes[..count])))
+    }
+
+    /// A call whose message was received gets so many of the first bytes that stand; tells whether that takes bytes that it
+    /// writes.
+    pub fn hand_bytes(&mut self, user: User, inode: u32, call: PipeCall, count: usize) -> bool
+        requires pipe { HasPipe self.old user.0 inode }
+        requires received { IsCallReceived self.old user.0 call }
+        requires count { count ≤ length (pipe_at self.old user.0 inode).bytes }
+        ensures passed { self.new ≡ with_after self.old user.0 inode (passed_to count (call ∷ []) (pipe_at self.old user.0 inode)) }
+        ensures written { result ≡ went_in (passed_to count (call ∷ []) (pipe_at self.old user.0 inode)).answers }
+    {
+        let mut bytes = [0; Limits::PIPE];
+        self.pipes[user.0 as usize].take(inode, count, &mut bytes);
+        self.queues
+            .answer(user, call, Ok((count as u64, &bytes[..count])))
+    }
+
+    /// The bytes of the first writer, which fit, go in last, and it is answered; tells whether there were any.
+    pub fn take_bytes(&mut self, user: User, inode: u32) -> bool
+        requires pipe { HasPipe self.old user.0 inode }
+        requires waits { 0 < length (pipe_at self.old user.0 inode).writers }
+        requires fits { length (pipe_at self.old user.0 inode).bytes + length (flat_map (λ call. call.bytes) (take 1 (pipe_at self.old user.0 inode).writers)) ≤ PIPE }
+        ensures taken { self.new ≡ with_after self.old user.0 inode (taken_from (take 1 (pipe_at self.old user.0 inode).writers) (record (pipe_at self.old user.0 inode) { writers = drop 1 (pipe_at self.old user.0 inode).writers })) }
+        ensures written { result ≡ went_in (taken_from (take 1 (pipe_at self.old user.0 inode).writers) (pipe_at self.old user.0 inode)).answers }
+    {
+        let writers = list(&self.pipes, user, inode, Side::Writing);
+        let Some(call) = self.queues.first_waiting(writers) else {
+            unreachable!();
+        };
+        let bytes = call.bytes();
+        let count = bytes.len();
+        self.pipes[user.0 as usize].append(inode, bytes);
+        self.queues.answer_first(writers, Ok((count as u64, &[])))
+    }
+
+    /// The bytes of a call whose message was received, which fit, go in last, and it is answered; tells whether there were any.
+    pub fn put_bytes(&mut self, user: User, inode: u32, call: PipeCall) -> bool
+        requires pipe { HasPipe self.old user.0 inode }
+        requires received { IsCallReceived self.old user.0 call }
+        requires fits { length (pipe_at self.old user.0 inode).bytes + length call.bytes ≤ PIPE }
+        ensures taken { self.new ≡ with_after self.old user.0 inode (taken_from (call ∷ []) (pipe_at self.old user.0 inode)) }
+        ensures written { result ≡ went_in (taken_from (call ∷ []) (pipe_at self.old user.0 inode)).answers }
+    {
+        let bytes = call.bytes();
+        let count = bytes.len();
+        self.pipes[user.0 as usize].append(inode, bytes);
+        self.queues.answer(user, call, Ok((count as u64, &[])))
+    }
+
+    /// The bytes that stand in a pipe go.
+    pub fn discard(&mut self, user: User, inode: u32)
+        requires pipe { HasPipe self.old user.0 inode }
+        ensures { self.new ≡ with_after self.old user.0 inode (nobody_answered (record (pipe_at self.old user.0 inode) { bytes = [] })) }
+    {
+        self.pipes[user.0 as usize].clear(inode);
+    }
+}
+
+/// The pipe of an inode of a user.
+fn row(pipes: &[UserPipes], user: User, inode: u32) -> Option<&PipeRow>
+    ensures row { option_copied result ≡ row_of pipes.now user.0 inode }
+{
+    pipes.get(user.0 as usize)?.row(inode)
+}
+
+/// In which list calls wait on a side of a pipe.
+fn list(pipes: &[UserPipes], user: User, inode: u32, side: Side) -> usize
+    requires there { HasRow pipes.now user.0 inode }
+    ensures list { list_at pipes.now (place user.0 inode side) ≡ Some result }
+{
+    let Some(row) = row(pipes, user, inode) else {
+        unreachable!();
+    };
+    row.list(side)
+}

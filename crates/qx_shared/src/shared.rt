@@ -1,0 +1,172 @@
+//! The managers' lines, the nodes of all users' threads and server connections, and the pipes of all users, in which calls
+//! wait.
+
+ghost use Rattle.std.specs.Prelude.{◌≡◌, ℕ, ◌+◌, ◌-◌, ◌*◌, ◌<◌, ◌≤◌, true, false, option_map, length, drop, slice_get, max, IfOk, IsOk, OnOk, OnErr, is_ok, IfSome, IsSome, IsTrue, MatchResult, None, Some, Ok};
+ghost use Rattle.qx_types.specs.Managers.{manager_number};
+ghost use Rattle.qx_types.specs.declared.limits.TheConstants.Limits.{PRIORITY, PROCESSES, THREADS, TRANSFER};
+ghost use Rattle.qx_machine.specs.Lines.{into};
+ghost use Rattle.qx_machine.specs.Machine as machine;
+ghost use Rattle.qx_machine.specs.declared.rows.OwnItem.TheVariants as item;
+ghost use Rattle.qx_queues.specs.Queues.{IsGone, message_of, stands, unblock_call, unblock_of};
+ghost use Rattle.qx_queues.specs.Waiting.{addressed_by};
+ghost use Rattle.qx_shared.specs.Shared.{HasNoCall, HasThread, has_server, has_thread, nothing_shared, shared_line, with_process, with_server, with_shared_line, without_server};
+
+use crate::row::UserPipes;
+use qx_machine::Queued;
+use qx_queues::{Answered, Queues};
+use qx_types::{Manager, Prio, Proc, Thread};
+use std::alloc::{AllocError, Global};
+use std::marker::Model;
+
+/// The managers' lines, the nodes of all users' threads and server connections, and the pipes of all users, in which calls
+/// wait.
+#[derive(Drop)]
+pub struct Shared {
+    pub(crate) queues: Queues,
+    pub(crate) pipes: Vec<UserPipes>,
+}
+
+impl Model for Shared {
+    ghost use Rattle.qx_shared.specs.Own.{AreAllPipes, told};
+    ghost use Rattle.qx_shared.specs.Shared as words;
+
+    ghost Value = { words.Shared };
+
+    ghost coded = { words.shared_code };
+
+    ghost view = { λ c. told c.queues c.pipes.items };
+
+    ghost invariant = { λ c. AreAllPipes c.queues c.pipes.items };
+}
+
+impl Shared {
+    /// Empty lines, no nodes, and no pipes of the users from 1 to this many.
+    pub fn new(alloc: Global, users: usize) -> Result<Self, AllocError>
+        requires few { users < 256 }
+        ensures empty { IfOk result (λ shared. shared ≡ nothing_shared users) }
+    {
+        let queues = Queues::new(alloc, users)?;
+        let mut pipes = Vec::new(alloc);
+        'users: for _ in 0..users + 1 {
+            let none = UserPipes::new(alloc)?;
+            pipes.push(none)?;
+        }
+        Ok(Shared { queues, pipes })
+    }
+
+    /// Puts a thread's message, which stands in no line, into a line (C Library Reference: `MsgSend`).
+    pub fn send(&mut self, manager: Manager, thread: Thread, prio: Prio)
+        requires own { IsTrue (has_thread self.old thread) }
+        requires idle { (number : ℕ) → stands (shared_line self.old number) thread ≡ false }
+        requires no_call { HasNoCall self.old thread }
+        requires lowest { 1 ≤ prio.0 }
+        requires highest { prio.0 ≤ PRIORITY }
+        ensures sent { self.new ≡ with_shared_line self.old (manager_number manager) (λ line. into machine.rank line (message_of thread prio.0)) }
+    {
+        self.queues.send(manager, thread, prio);
+    }
+
+    /// Takes the first item of a line, a message or an unblock pulse (C Library Reference: `MsgReceive`).
+    pub fn receive(&mut self, manager: Manager) -> Option<Queued>
+        ensures first { result ≡ slice_get (shared_line self.old (manager_number manager)) 0 }
+        ensures rest { self.new ≡ with_shared_line self.old (manager_number manager) (drop 1) }
+        ensures gone { IfSome result (λ first. IsGone first (drop 1 (shared_line self.old (manager_number manager)))) }
+    {
+        self.queues.receive(manager)
+    }
+
+    /// Puts the pulse that asks to unblock a thread from a call, where none of the thread stands in a line (C Library
+    /// Reference: `ChannelCreate`, `_NTO_CHF_UNBLOCK`).
+    pub fn ask_unblock(&mut self, manager: Manager, thread: Thread, call: u64, prio: Prio)
+        requires own { IsTrue (has_thread self.old thread) }
+        requires idle { (number : ℕ) → unblock_call (shared_line self.old number) thread ≡ None }
+        requires lowest { 1 ≤ prio.0 }
+        requires highest { prio.0 ≤ PRIORITY }
+        ensures asked { self.new ≡ with_shared_line self.old (manager_number manager) (λ line. into machine.rank line (unblock_of thread call prio.0)) }
+    {
+        self.queues.ask_unblock(manager, thread, call, prio);
+    }
+
+    /// Takes a thread's message out of the line that it stands in, as a call ends early (C Library Reference: `MsgSend`,
+    /// `EINTR`).
+    pub fn withdraw(&mut self, manager: Manager, thread: Thread)
+        requires stands { IsTrue (stands (shared_line self.old (manager_number manager)) thread) }
+        ensures withdrawn { self.new ≡ with_shared_line self.old (manager_number manager) (machine.line_without thread.proc.user.0 (item.Message thread.proc.num thread.tid)) }
+        ensures gone { stands (machine.line_without thread.proc.user.0 (item.Message thread.proc.num thread.tid) (shared_line self.old (manager_number manager))) thread ≡ false }
+    {
+        self.queues.withdraw(manager, thread);
+    }
+
+    /// Takes the pulse that asks to unblock a thread from a call out of the line, if it stands there, as the call is
+    /// answered (C Library Reference: `MsgReply`).
+    pub fn reply(&mut self, manager: Manager, thread: Thread, call: u64)
+        ensures replied { self.new ≡ with_shared_line self.old (manager_number manager) (machine.line_without thread.proc.user.0 (item.Unblock thread.proc.num thread.tid call)) }
+        ensures gone { unblock_call (shared_line self.old (manager_number manager)) thread ≡ Some call → unblock_call (machine.line_without thread.proc.user.0 (item.Unblock thread.proc.num thread.tid call) (shared_line self.old (manager_number manager))) thread ≡ None }
+    {
+        self.queues.reply(manager, thread, call);
+    }
+
+    /// Takes out the first of those who were answered, with the answer and the room for the thread's replies.
+    pub fn take_answered(&mut self) -> Option<Answered>
+        ensures first { option_map addressed_by result ≡ slice_get self.old.answered 0 }
+        ensures rest { self.new ≡ record self.old { answered = drop 1 self.old.answered } }
+        ensures gone { IfSome result (λ taken. HasNoCall self.new taken.thread) }
+    {
+        self.queues.take_answered()
+    }
+
+    /// The first item of a line.
+    pub fn first(&self, manager: Manager) -> Option<Queued>
+        ensures first { result ≡ slice_get (shared_line self.now (manager_number manager)) 0 }
+    {
+        self.queues.first(manager)
+    }
+
+    /// How many items stand in a line.
+    pub fn len(&self, manager: Manager) -> usize
+        ensures count { result ≡ length (shared_line self.now (manager_number manager)) }
+    {
+        self.queues.len(manager)
+    }
+
+    /// Makes room for the nodes of so many threads.
+    pub fn reserve(&mut self, threads: u8) -> Result<(), AllocError>
+        ensures ok { OnOk result (self.new ≡ record self.old { room = max self.old.room (2 * threads) }) }
+        ensures had_room { 2 * threads ≤ self.old.room → IsOk result }
+        ensures err { OnErr result (self.new ≡ self.old) }
+    {
+        self.queues.reserve(threads)
+    }
+
+    /// Makes the nodes of a process' threads, for which there is room, and none of which has any.
+    pub fn add_process(&mut self, proc: Proc, threads: u8, prio: Prio)
+        requires fresh { (thread : ℕ) → has_thread self.old (record { proc = proc; tid = thread }) ≡ false }
+        requires user { proc.user.0 < length self.old.pipes }
+        requires process { proc.num ≤ PROCESSES }
+        requires threads { threads ≤ THREADS }
+        requires lowest { 1 ≤ prio.0 }
+        requires highest { prio.0 ≤ PRIORITY }
+        requires room { 2 * threads ≤ self.old.room }
+        ensures added { self.new ≡ with_process self.old proc threads }
+    {
+        self.queues.add_process(proc, threads, prio);
+    }
+
+    /// A process has a disconnect node at a manager from now on: the one that it had, or a new one.
+    pub fn add_server(&mut self, proc: Proc, manager: Manager) -> Result<(), AllocError>
+        requires started { HasThread self.old proc }
+        ensures ok { OnOk result (self.new ≡ with_server self.old proc (manager_number manager)) }
+        ensures had_node { IsTrue (has_server self.old proc (manager_number manager)) → IsOk result }
+        ensures had_room { 1 ≤ self.old.room → IsOk result }
+        ensures err { OnErr result (self.new ≡ self.old) }
+    {
+        self.queues.add_server(proc, manager)
+    }
+
+    /// A process has no disconnect node at a manager from now on, and room is kept for the one that it had.
+    pub fn remove_server(&mut self, proc: Proc, manager: Manager)
+        ensures removed { self.new ≡ without_server self.old proc (manager_number manager) }
+    {
+        self.queues.remove_server(proc, manager);
+    }
+}
