@@ -194,12 +194,15 @@ fn is_written(call: &PipeCall, answer: Result<(u64, &[u8]), Errno>) -> bool
     }
 }
 
-/// The first node of a list whose call is meant.
+/// The first node of a list whose call is meant. Calls of ended processes are not looked for: none waits in this profile.
 fn first_leaving(table: &Table<Waiting>, list: usize, which: Leaving) -> Option<usize>
     requires list { ContainsList table.now list }
     requires wait { (node : ℕ) → IsIn table.now list node → HasLoad false (waiting_at table.now node).load }
     ensures { result ≡ slice_get (filter (λ node. leaves which (call_of (waiting_at table.now node))) (nodes_of table.now list)) 0 }
 {
+    if let Leaving::Gone = which {
+        return None;
+    }
     table.know();
     let mut next = table.first(list);
     'nodes: while let Some(node) = next {
