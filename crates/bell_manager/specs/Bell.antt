@@ -11,7 +11,7 @@ use Rattle.qx_machine.specs.declared.rows.Opened.{Opened}
 use Rattle.qx_machine.specs.declared.rows.WaitingCall.{WaitingCall}
 use Rattle.qx_machine.specs.Functions.{ConnectFunctions, Deed, IoFunctions, Reply, no_connect, no_io}
 use Rattle.qx_machine.specs.Judgements.{◌>>=◌, need}
-use Rattle.qx_machine.specs.PipeManager.{waiting_call}
+use Rattle.qx_machine.specs.Waiting.{waiting_call}
 use Rattle.qx_machine.specs.Pipes.{After, Pipe, nobody_answered, readers_dismissed, with_reader}
 use Rattle.qx_shared.specs.Shared.{HasPipe, IsReceived, Shared, pipe_at, thread_of, with_after}
 use Rattle.qx_resmgr.specs.declared.state.State.{Ghosts}

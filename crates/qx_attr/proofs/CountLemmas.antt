@@ -74,7 +74,7 @@ eqb-same : (n : ℕ) → (n == n) ≡ true
 eqb-same n = grind (arith, nat_tests)
 
 -- of one's own inode a block is counted where it has such flags, and of others never
-counts_own : (which : OFlags → Bool) (block : Ocb) (m : ℕ) → m ≡ block.inode → is_open which m (Some block) ≡ which block.flags
+pub counts_own : (which : OFlags → Bool) (block : Ocb) (m : ℕ) → m ≡ block.inode → is_open which m (Some block) ≡ which block.flags
 counts_own which block m same = ap (λ test. test && which block.flags) (ap (λ n. block.inode == n) same ∙ eqb-same block.inode)
 
 pub counts_other : (which : OFlags → Bool) (block : Ocb) (m : ℕ) → m ≢ block.inode → is_open which m (Some block) ≡ false

@@ -1,9 +1,8 @@
 -- Threads whose calls waited get their answers: rows, lines and nodes stand together then, and the machine does the same.
 use Rattle.std.proofs.Common.{◌≡◌, subst, inl, inr, ℕ, ◌∷◌, [], ◌&&◌, ◌==◌, Bool, true, false, List, Option, Some, None, drop, map, refl, sym, ◌∙◌, ap}
 use Rattle.std.specs.List.{AllByRecursion}
-use Rattle.std.specs.Prelude.{option_map, slice_get, slice_set}
+use Rattle.std.specs.Prelude.{option_map, slice_get}
 use Rattle.std.proofs.lemmas.Bool.{eqb-true}
-use Rattle.std.proofs.lemmas.List.{set-set}
 use Rattle.qx_types.specs.Managers.{manager_number}
 use Rattle.qx_types.specs.declared.names.Manager.TheVariants.{Pipe}
 use Rattle.qx_types.specs.declared.outcome.Answer.{Answer}
@@ -19,16 +18,14 @@ use Rattle.qx_machine.specs.Parts.{Part}
 use Rattle.qx_machine.specs.Performing.{answered_changes, with_answer, with_answers}
 use Rattle.qx_machine.specs.Processes.{Process, answered_thread, with_thread}
 use Rattle.qx_machine.specs.Rows.{row_at, with_row}
-use Rattle.qx_process.proofs.RowLemmas.{set-row}
-use Rattle.qx_shared.specs.Shared.{users_given}
 use Rattle.qx_queues.specs.Queues.{UsersAnswer, caller, has_call, unblock_call}
-use Rattle.qx_shared.specs.Shared.{HasNoCall, Shared, waiting_in, with_shared_line}
+use Rattle.qx_shared.specs.Shared.{HasNoCall, Shared, users_given, waiting_in, with_shared_line}
 use Rattle.qx_queues.proofs.LineLemmas.{call-replied_other, replied-none, stands-replied}
 use Rattle.qx_chan.specs.Answers.{given_lines, given_users}
 use Rattle.qx_chan.specs.Kept.{Answering, IsAwaited, Kept, asked_at, is_asked_at, is_queued_at, is_waiting_for, stands_at, waits_for}
 use Rattle.qx_chan.specs.Users.{Users, thread_row, with_thread_row}
 use Rattle.qx_chan.proofs.AnswerLemmas.{and_last, and_middle, answered_row}
-use Rattle.qx_chan.proofs.RowReads.{option_cases, row_at-with_same}
+use Rattle.qx_chan.proofs.RowReads.{option_cases, row_at-with_same, with_row-fixed, with_row-twice}
 use Rattle.qx_chan.proofs.ThreadLemmas.{Kept-changed, OneThread, Own, one_thread}
 use Rattle.qx_chan.proofs.WaitLemmas.{waits-others}
 
@@ -161,11 +158,11 @@ pub resources-machine : (answers : List (WaitingCall × Answer)) (part : Part) �
 resources-machine [] part = refl
 resources-machine ((call, given) ∷ rest) part = resources-machine rest (with_answer (call, given) part)
 
-pub users-machine : (users : Users) (user : ℕ) (answers : List (WaitingCall × Answer)) (part : Part) → row_at users user ≡ Some part.processes → given_users users (map (users_given user) answers) ≡ slice_set users user (Some (with_answers answers part).processes)
-users-machine users user [] part there = sym (set-row users user part.processes there)
+pub users-machine : (users : Users) (user : ℕ) (answers : List (WaitingCall × Answer)) (part : Part) → row_at users user ≡ Some part.processes → given_users users (map (users_given user) answers) ≡ with_row users user (λ _. (with_answers answers part).processes)
+users-machine users user [] part there = sym (with_row-fixed users user (λ _. part.processes) part.processes there refl)
 users-machine users user ((call, given) ∷ rest) part there =
     users-machine (with_row users user change) user rest (with_answer (call, given) part) (row_at-with_same users user change ∙ ap (option_map change) there)
-    ∙ set-set users user (option_map change (row_at users user)) (Some (with_answers rest (with_answer (call, given) part)).processes)
+    ∙ with_row-twice users user change (λ _. (with_answers rest (with_answer (call, given) part)).processes)
   where
     change : List (Option Process) → List (Option Process)
     change rows = with_row rows call.process (with_thread call.thread (answered_thread given))

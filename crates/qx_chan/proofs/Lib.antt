@@ -26,7 +26,7 @@ pub mod RowReads
 mod SendLemmas
 -- what a received message that was done comes to
 mod OutcomeLemmas
--- what a user's resources leave of the queues
+-- a deed to a user's resources, in what all users share and in the channel
 mod ServeLemmas
 -- a message is served, as in the machine
 mod ServedLemmas

@@ -1,21 +1,18 @@
 -- A received message is performed: what its thread's row and the queues tell before, and what comes of that, as in the machine.
-use Rattle.std.proofs.Common.{◌≡◌, subst, inl, inr, ℕ, List, Option, Some, None, Ok, Err, refl, sym, ◌∙◌, ap}
-use Rattle.std.specs.Prelude.{◌&&◌, [], IsSome, Result, is_ok, option_map, slice_set}
+use Rattle.std.proofs.Common.{◌≡◌, inl, inr, ℕ, List, Option, Some, None, Ok, Err, refl, sym, ◌∙◌, ap}
+use Rattle.std.specs.Prelude.{◌&&◌, [], IsSome, Result, is_ok, option_map}
 use Rattle.qx_types.specs.declared.errno.Errno.{Errno}
 use Rattle.qx_types.specs.declared.names.Thread.{Thread}
 use Rattle.qx_wire.specs.declared.message.Meaning.{Meaning}
 use Rattle.qx_wire.specs.Reading.{meaning}
-use Rattle.qx_machine.specs.declared.rows.Queued.{Queued}
 use Rattle.qx_machine.specs.declared.rows.Sent.{Sent}
 use Rattle.qx_machine.specs.declared.rows.State.TheVariants.{Taken}
 use Rattle.qx_machine.specs.declared.rows.ThreadRow.{ThreadRow}
-use Rattle.qx_machine.specs.Machine.{lines_after}
-use Rattle.qx_machine.specs.Parts.{Part, Resources}
-use Rattle.qx_machine.specs.Performing.{Served, caller_of, deed_of, or_kept, serve_message, served_by, taken_in}
+use Rattle.qx_machine.specs.Parts.{Part, thread_at, thread_of}
+use Rattle.qx_machine.specs.Performing.{caller_of, deed_of, or_kept, serve_message, served_by, taken_in}
 use Rattle.qx_machine.specs.Processes.{Process, served_state, served_thread, with_thread}
-use Rattle.qx_machine.specs.Rows.{row_at, with_row}
+use Rattle.qx_machine.specs.Rows.{row_at}
 use Rattle.qx_process.specs.Reads.{unserved_state, unserved_thread}
-use Rattle.qx_process.proofs.RowLemmas.{set-row}
 use Rattle.qx_queues.specs.Queues.{caller, is_answered}
 use Rattle.qx_shared.specs.Shared.{IsReceived, Shared, waiting_in}
 use Rattle.qx_resmgr.specs.Deeds.{HasRoomAfter, IsReplied}
@@ -24,18 +21,16 @@ use Rattle.qx_resmgr.specs.declared.functions.Done.TheVariants.{NoReply, Reply}
 use Rattle.qx_resources.specs.Memory.{wants_memory}
 use Rattle.qx_resources.specs.State as state
 use Rattle.qx_resources.specs.State.{told}
-use Rattle.qx_resources.proofs.KeptLemmas.{none_shared}
 use Rattle.qx_chan.specs.Calls.{taken_bytes, taken_call}
-use Rattle.qx_chan.specs.Channel.{Channel}
 use Rattle.qx_chan.specs.Kept.{Kept}
-use Rattle.qx_chan.specs.Serving.{PartServed, Sends, Serves, caller_in, deed_in, part_in, part_wants_memory, process_wants_memory, row_wants_memory, sent_wants_memory}
+use Rattle.qx_chan.specs.Serving.{Sends, Serves, caller_in, deed_in, part_in, part_wants_memory, process_wants_memory, row_wants_memory, sent_wants_memory}
 use Rattle.qx_chan.specs.Users.{Users, process_in, process_of, thread_row, with_thread_row}
 use Rattle.qx_chan.specs.declared.call.Call.{Call}
 use Rattle.qx_chan.proofs.AnswerLemmas.{taken-stands, taken-unwaiting}
 use Rattle.qx_chan.proofs.CallLemmas.{taken_is, waits}
 use Rattle.qx_chan.proofs.ProcessLemmas.{process_of-same, with_process-fixed, with_process-twice}
-use Rattle.qx_chan.proofs.PulseLemmas.{Serves-none, shown}
-use Rattle.qx_chan.proofs.RowReads.{option_cases, with_row-twice}
+use Rattle.qx_chan.proofs.RowReads.{option_cases, with_row-fixed, with_row-twice}
+use Rattle.qx_chan.proofs.ServeLemmas.{Serves-nothing, shown}
 use Rattle.qx_chan.proofs.WaitLemmas.{no-call}
 
 -- ---- before
@@ -115,9 +110,6 @@ deed-served k queues users new thread call moment process found bytes given mean
 back : (row : ThreadRow) (sent : Sent) → row.state ≡ Taken sent → unserved_thread sent.bytes (served_thread row) ≡ row
 back row sent is = ap (λ s. record row { state = s }) (ap (λ s. unserved_state sent.bytes (served_state s)) is ∙ sym is)
 
-with_row-fixed : {A : Type 0} (xs : List (Option A)) (n : ℕ) (f : A → A) (x : A) → row_at xs n ≡ Some x → f x ≡ x → with_row xs n f ≡ xs
-with_row-fixed {A = A} xs n f x there same = ap (λ (o : Option A). slice_set xs n (option_map f o)) there ∙ ap (λ (y : A). slice_set xs n (Some y)) same ∙ set-row xs n x there
-
 -- a message that was handed over and is handed back changed nothing
 pub handed_back : (users new : Users) (thread : Thread) (call : Call) (bytes : List ℕ) → Some call ≡ taken_call (thread_row users thread) → Some bytes ≡ taken_bytes (thread_row users thread)
     → new ≡ with_thread_row users thread served_thread → with_thread_row new thread (unserved_thread bytes) ≡ users
@@ -134,35 +126,10 @@ handed_back users new thread call bytes taken read served =
 
 -- ---- after
 
-module _ (users : Users) (queues : Shared) (k : state.Kept) (processes : List (Option Process)) (there : row_at users k.user ≡ Some processes) where
-  abbrev part : Part
-  part = record { processes = processes; resources = told k queues }
-
-  -- the part is what was served
-  pub Serves-left : (l : state.Kept) (d : Shared) (last : Users) (lines : List (List Queued)) (served : Part → Served) (s : Served) → served part ≡ s
-      → told l d ≡ s.part.resources → last ≡ with_row users k.user (λ _. s.part.processes) → lines ≡ lines_after k.user queues.lines s.changes → d.pipes ≡ slice_set queues.pipes k.user s.part.resources.pipes → l.user ≡ k.user
-      → Serves (shown users queues) (record { users = last; lines = lines; pipes = d.pipes }) k l served
-  Serves-left l d last lines served s is resources_are users_are lines_are pipes_are same = record {
-    did = subst (PartServed (shown users queues) (record { users = last; lines = lines; pipes = d.pipes }) k l served) (sym part_is) (subst Done (sym is) (λ i. record { users = users_are i; lines = lines_are i; pipes = pipes_are i }, resources_are));
-    user = same;
-  }
-    where
-      Done : Served → Type 0
-      Done s =
-          (◌≡◌ {A = Channel} (record { users = last; lines = lines; pipes = d.pipes }) (record { users = with_row users k.user (λ _. s.part.processes); lines = lines_after k.user queues.lines s.changes; pipes = slice_set queues.pipes k.user s.part.resources.pipes }))
-          × (told l d ≡ s.part.resources)
-
-      part_is : part_in (shown users queues) k ≡ Some part
-      part_is = ap (option_map (λ processes. record { processes = processes; resources = told k queues })) there
-
 -- a thread with no received message is left as it is
-module _ (users : Users) (queues : Shared) (k : state.Kept) (thread : Thread) (of : k.user ≡ thread.proc.user.0) (none : taken_call (thread_row users thread) ≡ None) (moment : ℕ) where
-  abbrev served : Part → Served
-  served part = or_kept part (serve_message part thread.proc.num thread.tid moment)
-
-  kept-part : (processes : List (Option Process)) → row_at users thread.proc.user.0 ≡ Some processes → (resources : Resources)
-      → served (record { processes = processes; resources = resources }) ≡ record { part = record { processes = processes; resources = resources }; changes = [] }
-  kept-part processes there resources = elim (option_cases (row_at processes thread.proc.num)) [
+module _ (thread : Thread) (moment : ℕ) where
+  untaken : (part : Part) → taken_call (thread_at part thread.proc.num thread.tid) ≡ None → or_kept part (serve_message part thread.proc.num thread.tid moment) ≡ record { part = part; changes = [] }
+  untaken part none = elim (option_cases (row_at part.processes thread.proc.num)) [
     | inl nobody ↦ rw nobody refl
     | inr process ↦ elim (option_cases (row_at process.0.threads thread.tid)) [
       | inl nobody ↦ rw (process.1, nobody) refl
@@ -170,19 +137,17 @@ module _ (users : Users) (queues : Shared) (k : state.Kept) (thread : Thread) (o
         | inl idle ↦ rw (process.1, row.1, idle) refl
         | inr sent ↦
             let call : Call = record { target = sent.0.target; number = row.0.calls; is_asked = sent.0.is_asked } in
-            let clash : Some call ≡ None = rw (there, process.1, row.1, sent.1) at none in
+            let clash : Some call ≡ None = rw (process.1, row.1, sent.1) at none in
             absurd (cc)
       ]
     ]
   ]
 
-  pub Serves-untaken : Serves (shown users queues) (shown users queues) k k (λ part. or_kept part (serve_message part thread.proc.num thread.tid moment))
-  Serves-untaken = elim (option_cases (row_at users k.user)) [
-    | inl nobody ↦ Serves-none (shown users queues) k served nobody
-    | inr processes ↦
-        Serves-left users queues k processes.0 processes.1 k queues users queues.lines served (record { part = record { processes = processes.0; resources = told k queues }; changes = [] })
-        (kept-part processes.0 (ap (row_at users) (sym of) ∙ processes.1) (told k queues)) refl (sym (with_row-fixed users k.user (λ _. processes.0) processes.0 processes.1 refl)) refl (ap (λ q. q.pipes) (none_shared k queues)) refl
-  ]
+  pub Serves-untaken : (users : Users) (queues : Shared) (k : state.Kept) → k.user ≡ thread.proc.user.0 → taken_call (thread_row users thread) ≡ None
+      → Serves (shown users queues) (shown users queues) k k (λ part. or_kept part (serve_message part thread.proc.num thread.tid moment))
+  Serves-untaken users queues k of none = Serves-nothing users queues k (λ part. or_kept part (serve_message part thread.proc.num thread.tid moment)) (λ processes there.
+      let idle : taken_call (thread_of thread.tid (process_in thread.proc.num (Some processes))) ≡ None = ap (λ rows. taken_call (thread_of thread.tid (process_in thread.proc.num rows))) (sym there ∙ ap (row_at users) of) ∙ none in
+      untaken (record { processes = processes; resources = told k queues }) idle)
 
 -- doing a received message may want memory, where its function may and the message is done
 pub received-wants : (users : Users) (queues : Shared) (k : state.Kept) (thread : Thread) (call : Call) (its : Received users thread call) → k.user ≡ thread.proc.user.0 → (moment : ℕ)

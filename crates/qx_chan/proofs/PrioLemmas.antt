@@ -12,8 +12,7 @@ use Rattle.qx_machine.specs.Processes.{Process, ranked_thread, ready_thread, wit
 use Rattle.qx_machine.specs.Rows.{row_at, with_row}
 use Rattle.qx_process.proofs.RowLemmas.{set-row}
 use Rattle.qx_procs.specs.Calls.{after_or, with_prio}
-use Rattle.qx_machine.specs.PipeManager.{Pipes}
-use Rattle.qx_machine.specs.declared.rows.WaitingCall.{WaitingCall}
+use Rattle.qx_machine.specs.Waiting.{Pipes}
 use Rattle.qx_shared.specs.Shared.{Shared}
 use Rattle.qx_machine.specs.declared.rows.Queued.{Queued as Item}
 use Rattle.qx_chan.specs.Channel.{Channel, after_taking}
@@ -61,7 +60,7 @@ module _ (users : Users) (queues : Shared) (thread : Thread) (row after : Thread
   Kept-answer (Some given) is same = readies given is same
 
 -- the channel's value then
-pub after_answer : (users : Users) (lines : List (List Item)) (pipes : List (Pipes WaitingCall)) (thread : Thread) (row after : ThreadRow) (result : Option Answer) → Some row ≡ thread_row users thread → result ≡ answer_in row.state → MatchOption result (after ≡ row) (λ _. after ≡ ready_thread row)
+pub after_answer : (users : Users) (lines : List (List Item)) (pipes : List Pipes) (thread : Thread) (row after : ThreadRow) (result : Option Answer) → Some row ≡ thread_row users thread → result ≡ answer_in row.state → MatchOption result (after ≡ row) (λ _. after ≡ ready_thread row)
     → ◌≡◌ {A = Channel} (record { users = with_thread_row users thread (λ _. after); lines = lines; pipes = pipes }) (after_taking (record { users = users; lines = lines; pipes = pipes }) thread)
 after_answer users lines pipes thread row after None there is same =
     rw (same, with_thread-same users thread row (sym there), ← there, ← is) refl

@@ -7,7 +7,7 @@ use Rattle.std.proofs.lemmas.List.{get_or-set_same, get_or-set_other, length-set
 use Rattle.std.proofs.Math.ListN.{get_or-append}
 use Rattle.std.proofs.Math.Seq.{get_or-append_seam, get_or-append_right}
 use Rattle.qx_machine.specs.Rows.{row_at, lowest_from, put_row, taken_places, with_row}
-use Rattle.qx_process.proofs.RowLemmas.{row_at-get_or}
+use Rattle.qx_process.proofs.RowLemmas.{row_at-get_or, set-row}
 
 pub option_cases : {A : Type 0} (o : Option A) → (o ≡ None) ⊎ ((x : A) × (o ≡ Some x))
 option_cases None = inl refl
@@ -64,6 +64,10 @@ with_row-alike {A = A} xs n f g same = ap (slice_set xs n) (each (row_at xs n))
     each : (o : Option A) → option_map f o ≡ option_map g o
     each None = refl
     each (Some x) = ap Some (same x)
+
+-- a row that changes to what it was
+pub with_row-fixed : {A : Type 0} (xs : List (Option A)) (n : ℕ) (f : A → A) (x : A) → row_at xs n ≡ Some x → f x ≡ x → with_row xs n f ≡ xs
+with_row-fixed {A = A} xs n f x there same = ap (λ (o : Option A). slice_set xs n (option_map f o)) there ∙ ap (λ (y : A). slice_set xs n (Some y)) same ∙ set-row xs n x there
 
 -- a row that comes
 

@@ -1,22 +1,34 @@
--- What all users share, where calls of a user came to wait and were answered: rows, lines and nodes stand together, but that answers are on
--- their way.
-use Rattle.std.proofs.Common.{◌≡◌, ◌⊎◌, subst, inl, inr, ℕ, zero, suc, ◌∷◌, ◌++◌, [], List, Some, None, length, map, get_or, slice_set, refl, sym, ◌∙◌, ap}
+-- What a deed to a user's resources makes of what all users share: rows, lines and nodes stand together, but that answers are on their way; and
+-- of the channel, once those are given.
+use Rattle.std.proofs.Common.{◌≡◌, ◌⊎◌, subst, inl, inr, ℕ, zero, suc, ◌∷◌, ◌++◌, [], List, Option, Some, None, length, map, get_or, slice_set, refl, sym, ◌∙◌, ap}
 use Rattle.std.specs.List.{AllByRecursion}
-use Rattle.std.proofs.lemmas.List.{length-set}
+use Rattle.std.specs.Prelude.{option_map}
+use Rattle.std.proofs.lemmas.List.{append-nil, length-set, set-get_or}
 use Rattle.std.proofs.lemmas.Option.{same_Some}
 use Rattle.qx_types.specs.Managers.{manager_number}
-use Rattle.qx_types.specs.declared.outcome.Answer.{Answer}
 use Rattle.qx_machine.specs.declared.rows.WaitingCall.{WaitingCall}
+use Rattle.qx_machine.specs.Functions.{Deed}
 use Rattle.qx_machine.specs.Lines.{line_at}
-use Rattle.qx_machine.specs.PipeManager.{Pipes, no_pipes}
+use Rattle.qx_machine.specs.Machine.{lines_after}
+use Rattle.qx_machine.specs.Parts.{Part}
+use Rattle.qx_machine.specs.Performing.{Served}
 use Rattle.qx_machine.specs.Pipes.{Pipe}
-use Rattle.qx_machine.specs.Rows.{row_at}
-use Rattle.qx_machine.proofs.Waiters.{InPipes}
-use Rattle.qx_shared.specs.Shared.{users_given}
+use Rattle.qx_machine.specs.Processes.{Process}
+use Rattle.qx_machine.specs.Resources.{Resources}
+use Rattle.qx_machine.specs.Rows.{row_at, with_row}
+use Rattle.qx_machine.specs.Waiting.{Pipes, no_pipes}
+use Rattle.qx_machine.proofs.Waiters.{InDeed, InPipe, InPipes}
 use Rattle.qx_queues.specs.Queues.{stands, unblock_call}
-use Rattle.qx_shared.specs.Shared.{Shared, calls_at, has_server, has_thread, pipes_of, waiting_calls, waiting_in, with_pipes}
+use Rattle.qx_queues.specs.Waits.{users_call}
+use Rattle.qx_shared.specs.Shared.{Shared, calls_at, has_server, has_thread, nothing_shared, pipes_of, users_given, waiting_calls, waiting_in, with_pipes}
+use Rattle.qx_resources.specs.State as state
+use Rattle.qx_resources.specs.State.{told}
+use Rattle.qx_chan.specs.Answers.{given_lines, given_users}
+use Rattle.qx_chan.specs.Channel.{Channel, lists}
 use Rattle.qx_chan.specs.Kept.{Answering, IsAwaited, IsWaiting, Kept}
+use Rattle.qx_chan.specs.Serving.{PartServed, Serves, part_in}
 use Rattle.qx_chan.specs.Users.{Users}
+use Rattle.qx_chan.proofs.RowReads.{with_row-fixed}
 
 -- a place of which another was written
 place-cases : {A : Type 0} (xs : List A) (i j : ℕ) (x none : A) → ((j ≡ i) × (get_or (slice_set xs i x) j none ≡ x)) ⊎ (get_or (slice_set xs i x) j none ≡ get_or xs j none)
@@ -29,67 +41,61 @@ place-cases (y ∷ ys) (suc i) (suc j) x none = elim (place-cases ys i j x none)
   | inr there ↦ inr there
 ]
 
-both-append : {A : Type 0} (P : A → Type 0) (xs ys : List A) → AllByRecursion P xs → AllByRecursion P ys → AllByRecursion P (xs ++ ys)
-both-append P [] ys all others = others
-both-append P (x ∷ xs) ys all others = (all.0, both-append P xs ys all.1 others)
+module _ {A : Type 0} (P : A → Type 0) where
+  both-append : (xs ys : List A) → AllByRecursion P xs → AllByRecursion P ys → AllByRecursion P (xs ++ ys)
+  both-append [] ys all others = others
+  both-append (x ∷ xs) ys all others = (all.0, both-append xs ys all.1 others)
 
-first-append : {A : Type 0} (P : A → Type 0) (xs ys : List A) → AllByRecursion P (xs ++ ys) → AllByRecursion P xs
-first-append P [] ys all = tt
-first-append P (x ∷ xs) ys all = (all.0, first-append P xs ys all.1)
+  append-both : (xs ys : List A) → AllByRecursion P (xs ++ ys) → AllByRecursion P xs × AllByRecursion P ys
+  append-both [] ys all = (tt, all)
+  append-both (x ∷ xs) ys all = let rest = append-both xs ys all.1 in ((all.0, rest.0), rest.1)
 
-second-append : {A : Type 0} (P : A → Type 0) (xs ys : List A) → AllByRecursion P (xs ++ ys) → AllByRecursion P ys
-second-append P [] ys all = all
-second-append P (x ∷ xs) ys all = second-append P xs ys all.1
+  each-mapped : {B : Type 0} (f : B → A) (xs : List B) → AllByRecursion (λ x. P (f x)) xs → AllByRecursion P (map f xs)
+  each-mapped f [] all = tt
+  each-mapped f (x ∷ xs) all = (all.0, each-mapped f xs all.1)
+
+  mapped-each : {B : Type 0} (f : B → A) (xs : List B) → AllByRecursion P (map f xs) → AllByRecursion (λ x. P (f x)) xs
+  mapped-each f [] all = tt
+  mapped-each f (x ∷ xs) all = (all.0, mapped-each f xs all.1)
 
 -- who waits in pipes, pipe by pipe and as one list
-in-pipes : (P : WaitingCall → Type 0) (pipes : Pipes WaitingCall) → AllByRecursion P (waiting_calls pipes) → (inode : ℕ) (pipe : Pipe WaitingCall) → row_at pipes inode ≡ Some pipe → AllByRecursion P pipe.readers × AllByRecursion P pipe.writers
-in-pipes P [] all inode pipe is = let clash : None ≡ Some pipe = is in absurd (cc)
-in-pipes P (None ∷ pipes) all zero pipe is = absurd (cc)
-in-pipes P (Some first ∷ pipes) all zero pipe is =
-    let own = first-append P (first.readers ++ first.writers) (waiting_calls pipes) all in
-    subst (λ pipe. AllByRecursion P pipe.readers × AllByRecursion P pipe.writers) (same_Some first pipe is) (first-append P first.readers first.writers own, second-append P first.readers first.writers own)
-in-pipes P (first ∷ pipes) all (suc inode) pipe is = in-pipes P pipes (second-append P (calls_at first) (waiting_calls pipes) all) inode pipe is
+module _ (P : WaitingCall → Type 0) where
+  in-pipes : (pipes : Pipes) → AllByRecursion P (waiting_calls pipes) → (inode : ℕ) (pipe : Pipe WaitingCall) → row_at pipes inode ≡ Some pipe → InPipe P pipe
+  in-pipes [] all inode pipe is = let clash : None ≡ Some pipe = is in absurd (cc)
+  in-pipes (None ∷ pipes) all zero pipe is = absurd (cc)
+  in-pipes (Some first ∷ pipes) all zero pipe is =
+      let own = append-both P first.readers first.writers (append-both P (first.readers ++ first.writers) (waiting_calls pipes) all).0 in
+      subst (InPipe P) (same_Some first pipe is) (record { readers = own.0; writers = own.1 })
+  in-pipes (first ∷ pipes) all (suc inode) pipe is = in-pipes pipes (append-both P (calls_at first) (waiting_calls pipes) all).1 inode pipe is
 
-from-pipes : (P : WaitingCall → Type 0) (pipes : Pipes WaitingCall) → ((inode : ℕ) (pipe : Pipe WaitingCall) → row_at pipes inode ≡ Some pipe → AllByRecursion P pipe.readers × AllByRecursion P pipe.writers) → AllByRecursion P (waiting_calls pipes)
-from-pipes P [] each = tt
-from-pipes P (None ∷ pipes) each = from-pipes P pipes (λ inode. each (suc inode))
-from-pipes P (Some first ∷ pipes) each = let own = each 0 first refl in both-append P (first.readers ++ first.writers) (waiting_calls pipes) (both-append P first.readers first.writers own.0 own.1) (from-pipes P pipes (λ inode. each (suc inode)))
+  from-pipes : (pipes : Pipes) → ((inode : ℕ) (pipe : Pipe WaitingCall) → row_at pipes inode ≡ Some pipe → InPipe P pipe) → AllByRecursion P (waiting_calls pipes)
+  from-pipes [] each = tt
+  from-pipes (None ∷ pipes) each = from-pipes pipes (λ inode. each (suc inode))
+  from-pipes (Some first ∷ pipes) each =
+      let own = each 0 first refl in
+      both-append P (first.readers ++ first.writers) (waiting_calls pipes) (both-append P first.readers first.writers own.readers own.writers) (from-pipes pipes (λ inode. each (suc inode)))
 
 module _ (users : Users) (user : ℕ) where
   -- the row of a user's call tells that it waits
   abbrev pub Waits : WaitingCall → Type 0
-  Waits call = IsWaiting users (record { user = user; call = call })
-
-  with-user : (calls : List WaitingCall) → AllByRecursion Waits calls → AllByRecursion (IsWaiting users) (map (λ call. record { user = user; call = call }) calls)
-  with-user [] wait = tt
-  with-user (call ∷ rest) wait = (wait.0, with-user rest wait.1)
-
-  of-user : (calls : List WaitingCall) → AllByRecursion (IsWaiting users) (map (λ call. record { user = user; call = call }) calls) → AllByRecursion Waits calls
-  of-user [] wait = tt
-  of-user (call ∷ rest) wait = (wait.0, of-user rest wait.1)
-
-  given-all : (answers : List (WaitingCall × Answer)) → AllByRecursion (λ answer. Waits answer.0) answers → AllByRecursion (IsAwaited users) (map (users_given user) answers)
-  given-all [] wait = tt
-  given-all (first ∷ rest) wait = (wait.0, given-all rest wait.1)
+  Waits call = IsWaiting users (users_call user call)
 
   -- who waits there, before
   pub waits-before : (c : Shared) → ((user : ℕ) → AllByRecursion (IsWaiting users) (waiting_in c user)) → InPipes Waits (pipes_of c user)
-  waits-before c wait = record {
-    each = λ inode pipe is. let own = in-pipes Waits (pipes_of c user) (of-user (waiting_calls (pipes_of c user)) (wait user)) inode pipe is in record { readers = own.0; writers = own.1 };
-  }
+  waits-before c wait = record { each = in-pipes Waits (pipes_of c user) (mapped-each (IsWaiting users) (users_call user) (waiting_calls (pipes_of c user)) (wait user)) }
 
-  -- with other pipes of the user, and with answers
-  module _ (c d : Shared) (pipes : Pipes WaitingCall) (answers : List (WaitingCall × Answer)) (kept : Kept users c) (shared : d ≡ with_pipes c user pipes answers) (wait : InPipes Waits pipes) (given : AllByRecursion (λ answer. Waits answer.0) answers) where
+  -- once a deed was done to the user's resources
+  module _ (c d : Shared) (deed : Deed Resources) (kept : Kept users c) (shared : d ≡ with_pipes c user deed.state.pipes deed.answers) (keeps : InDeed Waits deed) where
     waits-after : (other : ℕ) → AllByRecursion (IsWaiting users) (waiting_in d other)
-    waits-after other = subst (λ all. AllByRecursion (IsWaiting users) (waiting_in all other)) (sym shared) (elim (place-cases c.pipes user other pipes no_pipes) [
-      | inl here ↦ rw (here.1, here.0) (with-user (waiting_calls pipes) (from-pipes Waits pipes (λ inode pipe is. ((wait.each inode pipe is).readers, (wait.each inode pipe is).writers))))
+    waits-after other = subst (λ all. AllByRecursion (IsWaiting users) (waiting_in all other)) (sym shared) (elim (place-cases c.pipes user other deed.state.pipes no_pipes) [
+      | inl here ↦ rw (here.1, here.0) (each-mapped (IsWaiting users) (users_call user) (waiting_calls deed.state.pipes) (from-pipes Waits deed.state.pipes keeps.pipes.each))
       | inr there ↦ rw there (kept.waits other)
     ])
 
     pub Answering-left : Answering users d
     Answering-left = record {
       kept = record {
-        users = ap (λ q. length q.pipes) shared ∙ length-set c.pipes user pipes ∙ kept.users;
+        users = ap (λ q. length q.pipes) shared ∙ length-set c.pipes user deed.state.pipes ∙ kept.users;
         managers = ap (λ q. length q.lines) shared ∙ kept.managers;
         threads = λ thread. ap (λ q. has_thread q thread) shared ∙ kept.threads thread;
         lines = λ thread number. ap (λ q. stands (line_at q.lines number) thread) shared ∙ kept.lines thread number;
@@ -98,5 +104,86 @@ module _ (users : Users) (user : ℕ) where
         waits = waits-after;
         answered = refl;
       };
-      answered = subst (AllByRecursion (IsAwaited users)) (sym (ap (λ q. q.answered) shared ∙ ap (λ before. before ++ map (users_given user) answers) kept.answered)) (given-all answers given);
+      answered = subst (AllByRecursion (IsAwaited users)) (sym (ap (λ q. q.answered) shared ∙ ap (λ before. before ++ map (users_given user) deed.answers) kept.answered)) (each-mapped (IsAwaited users) (users_given user) deed.answers keeps.answers);
     }
+
+-- ---- the channel
+
+-- that of these
+abbrev pub shown : Users → Shared → Channel
+shown users queues = record { users = users; lines = queues.lines; pipes = queues.pipes }
+
+-- once answers that are on their way are given
+abbrev pub given_all : Users → Shared → Channel
+given_all users queues = record { users = given_users users queues.answered; lines = given_lines queues.lines queues.answered; pipes = queues.pipes }
+
+-- a deed was done to a user's resources, and its answers are on their way
+pub record Left (k : state.Kept) (c : Shared) (l : state.Kept) (d : Shared) (deed : Deed Resources) : Type 0 where
+  pub told_is : told l d ≡ deed.state
+  pub shared : d ≡ with_pipes c k.user deed.state.pipes deed.answers
+  pub user : l.user ≡ k.user
+
+-- nothing was done, and nobody is answered
+abbrev pub nothing_done : Resources → Deed Resources
+nothing_done resources = record { reply = None; state = resources; answers = [] }
+
+-- what a user's pipes are is what they are set to
+same_pipes : (c : Shared) (user : ℕ) → c.pipes ≡ slice_set c.pipes user (pipes_of c user)
+same_pipes c user = sym (set-get_or c.pipes user no_pipes)
+
+pub left-same : (k : state.Kept) (c : Shared) → Left k c k c (nothing_done (told k c))
+left-same k c = record {
+  told_is = refl;
+  shared = λ i. record c { pipes = same_pipes c k.user i; answered = sym (append-nil c.answered) i };
+  user = refl;
+}
+
+module _ (users : Users) (queues : Shared) (k : state.Kept) (served : Part → Served) where
+  abbrev part_of : List (Option Process) → Part
+  part_of processes = record { processes = processes; resources = told k queues }
+
+  module _ (c : Channel) (l : state.Kept) where
+    abbrev DidAll : Served → Type 0
+    DidAll s =
+        (c ≡ record { users = with_row users k.user (λ _. s.part.processes); lines = lines_after k.user queues.lines s.changes; pipes = slice_set queues.pipes k.user s.part.resources.pipes })
+        × (told l (lists c) ≡ s.part.resources)
+
+    part-served : (processes : List (Option Process)) → row_at users k.user ≡ Some processes → DidAll (served (part_of processes)) → PartServed (shown users queues) c k l served (part_in (shown users queues) k)
+    part-served processes there did = subst (λ row. PartServed (shown users queues) c k l served (option_map part_of row)) (sym there) did
+
+  -- where nothing happens to the user's part, nothing does
+  pub Serves-nothing : ((processes : List (Option Process)) → row_at users k.user ≡ Some processes → served (record { processes = processes; resources = told k queues }) ≡ record { part = record { processes = processes; resources = told k queues }; changes = [] })
+      → Serves (shown users queues) (shown users queues) k k served
+  Serves-nothing same = record { did = by_row (row_at users k.user) refl; user = refl }
+    where
+      by_row : (row : Option (List (Option Process))) → row_at users k.user ≡ row → PartServed (shown users queues) (shown users queues) k k served (option_map part_of row)
+      by_row None none = (refl, refl)
+      by_row (Some processes) there =
+          let users_are : users ≡ with_row users k.user (λ _. processes) = sym (with_row-fixed users k.user (λ _. processes) processes there refl) in
+          subst (DidAll (shown users queues) k) (sym (same processes there)) (λ i. record { users = users_are i; lines = queues.lines; pipes = same_pipes queues k.user i }, refl)
+
+  -- once a deed is done, and the answers are given
+  module _ (kept : Kept users queues) (l : state.Kept) (d : Shared) (deed : Deed Resources) (left : Left k queues l d deed) (user : ℕ) (of : k.user ≡ user) (processes : List (Option Process)) (there : row_at users user ≡ Some processes) where
+    answered_are : d.answered ≡ map (users_given user) deed.answers
+    answered_are = ap (λ q. q.answered) left.shared ∙ ap (λ before. before ++ map (users_given k.user) deed.answers) kept.answered ∙ ap (λ user. map (users_given user) deed.answers) of
+
+    pub Serves-given : (s : Served) → served (record { processes = processes; resources = told k queues }) ≡ s → s.part.resources ≡ deed.state → (rows : Users) (after : Shared) → after.answered ≡ d.answered → after.pipes ≡ d.pipes
+        → given_users rows (map (users_given user) deed.answers) ≡ with_row users user (λ _. s.part.processes)
+        → given_lines after.lines (map (users_given user) deed.answers) ≡ lines_after user queues.lines s.changes
+        → Serves (shown users queues) (given_all rows after) k l served
+    Serves-given s is resources_are rows after answered pipes rows_are lines_are = record {
+      did = part-served (given_all rows after) l processes (ap (row_at users) of ∙ there) (subst (DidAll (given_all rows after) l) (sym is) (λ i. record { users = users_here i; lines = lines_here i; pipes = pipes_here i }, resources_here));
+      user = left.user;
+    }
+      where
+        users_here : given_users rows after.answered ≡ with_row users k.user (λ _. s.part.processes)
+        users_here = ap (given_users rows) (answered ∙ answered_are) ∙ rows_are ∙ ap (λ user. with_row users user (λ _. s.part.processes)) (sym of)
+
+        lines_here : given_lines after.lines after.answered ≡ lines_after k.user queues.lines s.changes
+        lines_here = ap (given_lines after.lines) (answered ∙ answered_are) ∙ lines_are ∙ ap (λ user. lines_after user queues.lines s.changes) (sym of)
+
+        pipes_here : after.pipes ≡ slice_set queues.pipes k.user s.part.resources.pipes
+        pipes_here = pipes ∙ ap (λ q. q.pipes) left.shared ∙ ap (λ (r : Resources). slice_set queues.pipes k.user r.pipes) (sym resources_are)
+
+        resources_here : told l (lists (given_all rows after)) ≡ s.part.resources
+        resources_here = ap (λ pipes. told l (record (nothing_shared 0) { pipes = pipes })) pipes ∙ left.told_is ∙ sym resources_are

@@ -1,7 +1,6 @@
 -- A message is served: its thread is answered beside the calls that waited, as in the machine.
 use Rattle.std.proofs.Common.{◌≡◌, ◌⊎◌, inl, inr, ℕ, ◌∷◌, ◌++◌, [], Bool, true, false, List, Option, Some, None, map, refl, sym, ◌∙◌, ap}
 use Rattle.std.specs.Prelude.{Ok, Err, option_map, slice_set, if◌then◌else◌}
-use Rattle.std.proofs.lemmas.List.{set-set}
 use Rattle.qx_types.specs.Managers.{manager_number, managers}
 use Rattle.qx_types.specs.declared.errno.Errno.{Errno}
 use Rattle.qx_types.specs.declared.names.Manager.{Manager}
@@ -17,13 +16,13 @@ use Rattle.qx_machine.specs.declared.rows.WaitingCall.{WaitingCall}
 use Rattle.qx_machine.specs.Functions.{Deed}
 use Rattle.qx_machine.specs.Lines.{line_at, with_line}
 use Rattle.qx_machine.specs.Machine.{line_without, lines_after}
-use Rattle.qx_machine.specs.Parts.{Part, Resources, with_process}
-use Rattle.qx_machine.specs.Performing.{after_answer, after_serving, answered_changes, own_change, with_answers}
+use Rattle.qx_machine.specs.Parts.{Part, with_process}
+use Rattle.qx_machine.specs.Resources.{Resources}
+use Rattle.qx_machine.specs.Performing.{after_answer, after_serving, answered_changes, own_change}
 use Rattle.qx_machine.specs.Processes.{Process, answered_thread}
 use Rattle.qx_machine.specs.Rows.{row_at, with_row}
-use Rattle.qx_shared.specs.Shared.{users_given}
 use Rattle.qx_queues.specs.Queues.{unblock_call}
-use Rattle.qx_shared.specs.Shared.{Shared, with_shared_line, without_server}
+use Rattle.qx_shared.specs.Shared.{Shared, users_given, with_shared_line, without_server}
 use Rattle.qx_chan.specs.Answers.{given_lines, given_users}
 use Rattle.qx_chan.specs.Calls.{taken_call}
 use Rattle.qx_chan.specs.Channel.{failed}
@@ -32,26 +31,21 @@ use Rattle.qx_chan.specs.Users.{Users, process_of, thread_row, with_process_of}
 use Rattle.qx_chan.specs.declared.call.Call.{Call}
 use Rattle.qx_chan.proofs.AnswerLemmas.{IsAnswer, Kept-answered, taken-unwaiting}
 use Rattle.qx_chan.proofs.GivenLemmas.{lines-machine, users-machine}
-use Rattle.qx_chan.proofs.RowReads.{row_at-with_same}
+use Rattle.qx_chan.proofs.RowReads.{row_at-with_same, with_row-twice}
 use Rattle.qx_chan.proofs.SettleLemmas.{settled-fields}
 use Rattle.qx_chan.proofs.ThreadLemmas.{OneThread, one_thread}
 use Rattle.qx_chan.proofs.WaitLemmas.{no-call, waits-others}
 
 -- ---- rows
 
--- one user's row changes, and then is another
-set-with_row : {A : Type 0} (xs : List (Option A)) (n : ℕ) (f : A → A) (x y : A) → row_at xs n ≡ Some x → slice_set (with_row xs n f) n (Some y) ≡ with_row xs n (λ _. y)
-set-with_row {A = A} xs n f x y there = set-set xs n (option_map f (row_at xs n)) (Some y) ∙ ap (λ (o : Option A). slice_set xs n (option_map (λ _. y) o)) (sym there) ∙ refl
-
 module _ (users : Users) (proc : Proc) (thread : ℕ) (over : Over) (part : Part) (there : row_at users proc.user.0 ≡ Some part.processes) where
   -- the thread that sent a message that is done, and who waited
   pub users-done : (deed : Deed Resources) → given_users (with_process_of users proc (after_serving thread over deed.reply)) (map (users_given proc.user.0) deed.answers)
       ≡ with_row users proc.user.0 (λ _. (after_answer part proc.num thread over (Ok deed)).processes)
   users-done deed =
-      let served : Part = with_process proc.num (after_serving thread over deed.reply) (record part { resources = deed.state }) in
-      users-machine (with_process_of users proc (after_serving thread over deed.reply)) proc.user.0 deed.answers served
+      users-machine (with_process_of users proc (after_serving thread over deed.reply)) proc.user.0 deed.answers (with_process proc.num (after_serving thread over deed.reply) (record part { resources = deed.state }))
       (row_at-with_same users proc.user.0 (λ rows. with_row rows proc.num (after_serving thread over deed.reply)) ∙ ap (option_map (λ rows. with_row rows proc.num (after_serving thread over deed.reply))) there)
-      ∙ set-with_row users proc.user.0 (λ rows. with_row rows proc.num (after_serving thread over deed.reply)) part.processes (with_answers deed.answers served).processes there
+      ∙ with_row-twice users proc.user.0 (λ rows. with_row rows proc.num (after_serving thread over deed.reply)) (λ _. (after_answer part proc.num thread over (Ok deed)).processes)
 
   -- the thread that sent one that is answered an error
   pub users-refused : (error : Errno) → with_process_of users proc (failed thread error over) ≡ with_row users proc.user.0 (λ _. (after_answer part proc.num thread over (Err error)).processes)

@@ -25,7 +25,7 @@ use Rattle.qx_procs.specs.Calls.{spawned}
 use Rattle.qx_queues.specs.Queues.{is_thread_of, stands, unblock_call, thread_cmp, server_cmp}
 use Rattle.qx_shared.specs.Shared.{Shared, has_thread, nothing_shared, waiting_in, with_process, waiting_at, waiting_calls}
 use Rattle.qx_machine.specs.declared.rows.WaitingCall.{WaitingCall}
-use Rattle.qx_machine.specs.PipeManager.{no_pipes}
+use Rattle.qx_machine.specs.Waiting.{no_pipes}
 use Rattle.qx_types.specs.declared.limits.TheConstants.Limits.{INODES}
 use Rattle.qx_shared.proofs.PresenceLemmas.{has-process, lines-process, servers-process}
 use Rattle.qx_chan.specs.Channel.{Channel, after_spawn}

@@ -18,9 +18,8 @@ use Rattle.qx_machine.specs.Clients.{spawn_number}
 use Rattle.qx_machine.specs.Lines.{into, line_at, with_line}
 use Rattle.qx_machine.specs.Machine.{line_without, rank}
 use Rattle.qx_machine.specs.Processes.{Process, after_effect, after_error, after_reply, answered_thread, asked_thread, ready_thread, taken_thread, with_queued, with_thread}
-use Rattle.qx_machine.specs.PipeManager.{Pipes, no_pipes}
+use Rattle.qx_machine.specs.Waiting.{Pipes, no_pipes}
 use Rattle.qx_machine.specs.Rows.{with_row}
-use Rattle.qx_machine.specs.declared.rows.WaitingCall.{WaitingCall}
 use Rattle.qx_procs.specs.Calls.{after_or, spawned, with_prio}
 use Rattle.qx_queues.specs.Queues.{message_of, sender, unblock_of}
 use Rattle.qx_shared.specs.Shared.{Shared, nothing_shared}
@@ -32,7 +31,7 @@ use Rattle.qx_chan.specs.Users.{Users, no_processes, thread_row, with_process_of
 pub record Channel : Type 0 where
   pub users : Users
   pub lines : List (List Queued)
-  pub pipes : List (Pipes WaitingCall)
+  pub pipes : List Pipes
 
 -- a share with the channel's pipes, and nothing else
 abbrev pub lists : Channel → Shared

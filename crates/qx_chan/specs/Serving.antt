@@ -8,7 +8,8 @@ use Rattle.qx_machine.specs.declared.rows.Sent.{Sent}
 use Rattle.qx_machine.specs.declared.rows.ThreadRow.{ThreadRow}
 use Rattle.qx_machine.specs.Functions.{Deed}
 use Rattle.qx_machine.specs.Machine.{lines_after}
-use Rattle.qx_machine.specs.Parts.{Part, Resources}
+use Rattle.qx_machine.specs.Parts.{Part}
+use Rattle.qx_machine.specs.Resources.{Resources}
 use Rattle.qx_machine.specs.Performing.{Served, caller_of, deed_of, taken_in}
 use Rattle.qx_machine.specs.Processes.{Process}
 use Rattle.qx_machine.specs.Rows.{row_at, with_row}

@@ -1,14 +1,14 @@
 -- What each change of names and inodes leaves of how they stand together.
-use Rattle.std.proofs.Common.{◌≡◌, ◌≢◌, ℕ, zero, suc, ◌≤◌, ◌==◌, ◌&&◌, Bool, true, false, length, refl, sym, ap, ◌∙◌, subst, inl, inr, arith, cond, slice_set, Option, Some, None, count_by}
+use Rattle.std.proofs.Common.{◌≡◌, ◌≢◌, ℕ, zero, suc, ◌≤◌, ◌==◌, ◌&&◌, Bool, true, false, List, length, refl, sym, ap, ◌∙◌, subst, arith, cond, slice_set, Option, Some, None, count_by}
 use Rattle.std.specs.Prelude.{if◌then◌else◌}
 use Rattle.std.specs.FinMap.{empty, get, get-empty, get-insert, get-remove, insert, remove}
 use Rattle.std.specs.Ordering.{eq_by_cmp}
-use Rattle.std.proofs.lemmas.Bool.{cases_eq, eqb-true}
+use Rattle.std.proofs.lemmas.Bool.{eqb-true}
 use Rattle.std.proofs.lemmas.Bool.Decides.{nat_tests}
 use Rattle.qx_attr.proofs.CountLemmas.{count-free, count-put, count-same, counts_other, row-set_same}
 use Rattle.qx_attr.specs.Counts.{one}
-use Rattle.qx_iofunc.specs.Fits.{Fits, FitsBut, IsLinked}
-use Rattle.qx_iofunc.proofs.PlaceLemmas.{Differ, put_at, put_differ, row-freed, same_differ, set_differ}
+use Rattle.qx_iofunc.specs.Fits.{NamesFit, NamesFitBut, IsLinked}
+use Rattle.qx_iofunc.proofs.PlaceLemmas.{Differ, by_place, put_at, put_differ, row-freed, same_differ, set_differ}
 use Rattle.qx_machine.specs.declared.rows.Attribute.{Attribute}
 use Rattle.qx_machine.specs.declared.rows.Ocb.{Ocb}
 use Rattle.qx_machine.specs.Inodes.{Inodes, blocks_of, close_block, free_inode, is_open, is_unused, moved_to, no_inodes, with_attribute, with_offset}
@@ -44,58 +44,44 @@ no_links inodes inode (Some attribute) unused linked = by_links (attribute.links
 
 but_one : (inodes now : Inodes) (names left : Names) (inode : ℕ) → Differ inodes.attributes now.attributes inode
     → ((other : ℕ) → other ≢ inode → blocks_of inodes other ≤ blocks_of now other) → ((key : Key) (other : ℕ) → get left key ≡ Some other → get names key ≡ Some other)
-    → ((key : Key) → get left key ≡ Some inode → IsLinked (row_at now.attributes inode)) → Fits inodes names → FitsBut now left inode
+    → ((key : Key) → get left key ≡ Some inode → IsLinked (row_at now.attributes inode)) → NamesFit inodes names → NamesFitBut now left inode
 but_one inodes now names left inode rows opens named linked fits = record {
-  linked = led;
+  linked = λ key. by_place (λ n. get left key ≡ Some n → IsLinked (row_at now.attributes n)) inode (linked key)
+      (λ other apart leads. subst IsLinked (sym (rows.others other apart)) (fits.linked key other (named key other leads)));
   used = λ other apart. ap (is_unused now other) (rows.others other apart) ∙ used_more inodes now other (row_at inodes.attributes other) (opens other apart) (fits.used other);
   places = let longer = rows.longer in let some = fits.places in omega (arith, longer, some);
 }
-  where
-    led : (key : Key) (other : ℕ) → get left key ≡ Some other → IsLinked (row_at now.attributes other)
-    led key other leads = elim (cases_eq other inode) [
-      | inl same ↦ subst (λ n. IsLinked (row_at now.attributes n)) (sym same) (linked key (leads ∙ ap Some same))
-      | inr apart ↦ subst IsLinked (sym (rows.others other apart)) (fits.linked key other (named key other leads))
-    ]
 
-whole : (inodes : Inodes) (names : Names) (inode : ℕ) → is_unused inodes inode (row_at inodes.attributes inode) ≡ false → FitsBut inodes names inode → Fits inodes names
-whole inodes names inode used but = record { linked = but.linked; used = each; places = but.places }
-  where
-    each : (other : ℕ) → is_unused inodes other (row_at inodes.attributes other) ≡ false
-    each other = elim (cases_eq other inode) [
-      | inl same ↦ subst (λ n. is_unused inodes n (row_at inodes.attributes n) ≡ false) (sym same) used
-      | inr apart ↦ but.used other apart
-    ]
+whole : (inodes : Inodes) (names : Names) (inode : ℕ) → is_unused inodes inode (row_at inodes.attributes inode) ≡ false → NamesFitBut inodes names inode → NamesFit inodes names
+whole inodes names inode used but = record {
+  linked = but.linked;
+  used = by_place (λ n. is_unused inodes n (row_at inodes.attributes n) ≡ false) inode used but.used;
+  places = but.places;
+}
+
+-- the attribute of an inode comes or changes, and is linked where paths lead there
+row_fits : (inodes : Inodes) (rows : List (Option Attribute)) (names : Names) (inode : ℕ) (now : Attribute) → Differ inodes.attributes rows inode → row_at rows inode ≡ Some now → ((key : Key) → get names key ≡ Some inode → IsLinked (Some now)) → is_unused inodes inode (Some now) ≡ false
+    → NamesFit inodes names → NamesFit (record inodes { attributes = rows }) names
+row_fits inodes rows names inode now differ at linked used fits =
+    let after : Inodes = record inodes { attributes = rows } in
+    whole after names inode (ap (is_unused after inode) at ∙ used)
+    (but_one inodes after names names inode differ (λ other apart. omega arith) (λ key other leads. leads) (λ key leads. subst IsLinked (sym at) (linked key leads)) fits)
 
 -- an attribute changes, and not its links
-pub attribute_fits : (inodes : Inodes) (names : Names) (inode : ℕ) (was now : Attribute) → row_at inodes.attributes inode ≡ Some was → now.links ≡ was.links → Fits inodes names → Fits (with_attribute inodes inode now) names
+pub attribute_fits : (inodes : Inodes) (names : Names) (inode : ℕ) (was now : Attribute) → row_at inodes.attributes inode ≡ Some was → now.links ≡ was.links → NamesFit inodes names → NamesFit (with_attribute inodes inode now) names
 attribute_fits inodes names inode was now is links fits =
-    whole (with_attribute inodes inode now) names inode (ap (is_unused (with_attribute inodes inode now) inode) at ∙ used)
-    (but_one inodes (with_attribute inodes inode now) names names inode (set_differ inodes.attributes inode (Some now)) (λ other apart. omega arith) (λ key other leads. leads) (λ key leads. subst IsLinked (sym at) (linked key leads)) fits)
-  where
-    at : row_at (slice_set inodes.attributes inode (Some now)) inode ≡ Some now
-    at = row-set_same inodes.attributes inode was now is
-
-    linked : (key : Key) → get names key ≡ Some inode → IsLinked (Some now)
-    linked key leads = let before : IsLinked (Some was) = subst IsLinked is (fits.linked key inode leads) in omega (arith, before, links)
-
-    used : is_unused (with_attribute inodes inode now) inode (Some now) ≡ false
-    used = ap (λ count. (count == 0) && (blocks_of inodes inode == 0)) links ∙ (ap (is_unused inodes inode) (sym is) ∙ fits.used inode)
+    row_fits inodes (slice_set inodes.attributes inode (Some now)) names inode now (set_differ inodes.attributes inode (Some now)) (row-set_same inodes.attributes inode was now is)
+    (λ key leads. let before : IsLinked (Some was) = subst IsLinked is (fits.linked key inode leads) in omega (arith, before, links))
+    (ap (λ count. (count == 0) && (blocks_of inodes inode == 0)) links ∙ (ap (is_unused inodes inode) (sym is) ∙ fits.used inode)) fits
 
 -- an inode comes, with a link
-pub inode_fits : (inodes : Inodes) (names : Names) (inode : ℕ) (attribute : Attribute) → inode ≤ length inodes.attributes → attribute.links ≡ 1 → Fits inodes names → Fits (record inodes { attributes = put_row inodes.attributes inode attribute }) names
-inode_fits inodes names inode attribute within links fits =
-    whole (record inodes { attributes = put_row inodes.attributes inode attribute }) names inode
-    (ap (is_unused (record inodes { attributes = put_row inodes.attributes inode attribute }) inode) at ∙ ap (λ count. (count == 0) && (blocks_of inodes inode == 0)) links)
-    (but_one inodes (record inodes { attributes = put_row inodes.attributes inode attribute }) names names inode (put_differ inodes.attributes inode attribute within) (λ other apart. omega arith) (λ key other leads. leads) (λ key leads. subst IsLinked (sym at) linked) fits)
-  where
-    at : row_at (put_row inodes.attributes inode attribute) inode ≡ Some attribute
-    at = put_at inodes.attributes inode attribute within
-
-    linked : IsLinked (Some attribute)
-    linked = omega (arith, links)
+pub inode_fits : (inodes : Inodes) (names : Names) (inode : ℕ) (attribute : Attribute) → inode ≤ length inodes.attributes → attribute.links ≡ 1 → NamesFit inodes names → NamesFit (record inodes { attributes = put_row inodes.attributes inode attribute }) names
+inode_fits inodes names inode attribute within links =
+    row_fits inodes (put_row inodes.attributes inode attribute) names inode attribute (put_differ inodes.attributes inode attribute within) (put_at inodes.attributes inode attribute within)
+    (λ key leads. omega (arith, links)) (ap (λ count. (count == 0) && (blocks_of inodes inode == 0)) links)
 
 -- a path comes
-pub name_fits : (inodes : Inodes) (names : Names) (key : Key) (inode : ℕ) → IsLinked (row_at inodes.attributes inode) → Fits inodes names → Fits inodes (insert names key inode)
+pub name_fits : (inodes : Inodes) (names : Names) (key : Key) (inode : ℕ) → IsLinked (row_at inodes.attributes inode) → NamesFit inodes names → NamesFit inodes (insert names key inode)
 name_fits inodes names key inode is fits = record {
   linked = λ other number leads. by_key other number (eq_by_cmp key_cmp other key) (sym (get-insert key_total names key inode other) ∙ leads);
   used = fits.used;
@@ -108,31 +94,26 @@ name_fits inodes names key inode is fits = record {
 
 -- ---- open control blocks come, move and go
 
-pub offset_fits : (inodes : Inodes) (names : Names) (number offset : ℕ) → Fits inodes names → Fits (with_offset inodes number offset) names
-offset_fits inodes names number offset fits = record {
+-- no inode has fewer
+blocks_fit : (inodes : Inodes) (names : Names) (blocks : List (Option Ocb)) → ((inode : ℕ) → blocks_of inodes inode ≤ count_by (is_open (λ flags. true) inode) blocks) → NamesFit inodes names → NamesFit (record inodes { blocks = blocks }) names
+blocks_fit inodes names blocks more fits = record {
   linked = fits.linked;
-  used = λ inode. used_more inodes (with_offset inodes number offset) inode (row_at inodes.attributes inode) (let same = counts inode in omega (arith, same)) (fits.used inode);
+  used = λ inode. used_more inodes (record inodes { blocks = blocks }) inode (row_at inodes.attributes inode) (more inode) (fits.used inode);
   places = fits.places;
 }
+
+pub offset_fits : (inodes : Inodes) (names : Names) (number offset : ℕ) → NamesFit inodes names → NamesFit (with_offset inodes number offset) names
+offset_fits inodes names number offset = blocks_fit inodes names (with_row inodes.blocks number (moved_to offset)) (λ inode. let same = by_row inode (row_at inodes.blocks number) refl in omega (arith, same))
   where
-    by_row : (inode : ℕ) (row : Option Ocb) → row_at inodes.blocks number ≡ row → count_by (is_open (λ flags. true) inode) (with_row inodes.blocks number (moved_to offset)) ≡ count_by (is_open (λ flags. true) inode) inodes.blocks
+    by_row : (inode : ℕ) (row : Option Ocb) → row_at inodes.blocks number ≡ row → count_by (is_open (λ flags. true) inode) (with_row inodes.blocks number (moved_to offset)) ≡ blocks_of inodes inode
     by_row inode None is = ap (count_by (is_open (λ flags. true) inode)) (with_row-none inodes.blocks number (moved_to offset) is)
     by_row inode (Some block) is = rw is (count-same (is_open (λ flags. true) inode) refl inodes.blocks number block (moved_to offset block) is refl)
 
-    counts : (inode : ℕ) → blocks_of (with_offset inodes number offset) inode ≡ blocks_of inodes inode
-    counts inode = by_row inode (row_at inodes.blocks number) refl
+pub block_fits : (inodes : Inodes) (names : Names) (number : ℕ) (block : Ocb) → row_at inodes.blocks number ≡ None → NamesFit inodes names → NamesFit (record inodes { blocks = put_row inodes.blocks number block }) names
+block_fits inodes names number block free =
+    blocks_fit inodes names (put_row inodes.blocks number block) (λ inode. let put = count-put (is_open (λ flags. true) inode) refl inodes.blocks number block free in omega (arith, put))
 
-pub block_fits : (inodes : Inodes) (names : Names) (number : ℕ) (block : Ocb) → row_at inodes.blocks number ≡ None → Fits inodes names → Fits (record inodes { blocks = put_row inodes.blocks number block }) names
-block_fits inodes names number block free fits = record {
-  linked = fits.linked;
-  used = λ inode. used_more inodes (record inodes { blocks = put_row inodes.blocks number block }) inode (row_at inodes.attributes inode) (more inode) (fits.used inode);
-  places = fits.places;
-}
-  where
-    more : (inode : ℕ) → blocks_of inodes inode ≤ blocks_of (record inodes { blocks = put_row inodes.blocks number block }) inode
-    more inode = let put = count-put (is_open (λ flags. true) inode) refl inodes.blocks number block free in omega (arith, put)
-
-pub closed_but : (inodes : Inodes) (names : Names) (number : ℕ) (block : Ocb) → row_at inodes.blocks number ≡ Some block → Fits inodes names → FitsBut (close_block inodes number) names block.inode
+pub closed_but : (inodes : Inodes) (names : Names) (number : ℕ) (block : Ocb) → row_at inodes.blocks number ≡ Some block → NamesFit inodes names → NamesFitBut (close_block inodes number) names block.inode
 closed_but inodes names number block is fits =
     but_one inodes (close_block inodes number) names names block.inode (same_differ inodes.attributes block.inode) opens (λ key other leads. leads) (λ key leads. fits.linked key block.inode leads) fits
   where
@@ -145,7 +126,7 @@ closed_but inodes names number block is fits =
 -- ---- a name goes, and what is unused
 
 -- no path leads to what it named any more
-pub unnamed_but : (inodes : Inodes) (names : Names) (key : Key) (inode : ℕ) (now : Attribute) → ((other : Key) → get (remove names key) other ≡ Some inode → ⊥) → Fits inodes names → FitsBut (with_attribute inodes inode now) (remove names key) inode
+pub unnamed_but : (inodes : Inodes) (names : Names) (key : Key) (inode : ℕ) (now : Attribute) → ((other : Key) → get (remove names key) other ≡ Some inode → ⊥) → NamesFit inodes names → NamesFitBut (with_attribute inodes inode now) (remove names key) inode
 unnamed_but inodes names key inode now gone fits =
     but_one inodes (with_attribute inodes inode now) names (remove names key) inode (set_differ inodes.attributes inode (Some now)) (λ other apart. omega arith) kept (λ other leads. absurd (gone other leads)) fits
   where
@@ -156,26 +137,22 @@ unnamed_but inodes names key inode now gone fits =
     kept : (other : Key) (number : ℕ) → get (remove names key) other ≡ Some number → get names other ≡ Some number
     kept other number leads = by_key other number (eq_by_cmp key_cmp other key) (sym (get-remove key_total names key other) ∙ leads)
 
-pub freed_fits : (inodes : Inodes) (names : Names) (inode : ℕ) → FitsBut inodes names inode → Fits (free_inode inodes inode) names
+pub freed_fits : (inodes : Inodes) (names : Names) (inode : ℕ) → NamesFitBut inodes names inode → NamesFit (free_inode inodes inode) names
 freed_fits inodes names inode but = by_test (is_unused inodes inode (row_at inodes.attributes inode)) refl
   where
     others : (other : ℕ) → other ≢ inode → row_at (slice_set inodes.attributes inode None) other ≡ row_at inodes.attributes other
     others = (set_differ inodes.attributes inode None).others
 
-    led : is_unused inodes inode (row_at inodes.attributes inode) ≡ true → (key : Key) (other : ℕ) → get names key ≡ Some other → IsLinked (row_at (slice_set inodes.attributes inode None) other)
-    led unused key other leads = elim (cases_eq other inode) [
-      | inl same ↦ absurd (no_links inodes inode (row_at inodes.attributes inode) unused (but.linked key inode (leads ∙ ap Some same)))
-      | inr apart ↦ subst IsLinked (sym (others other apart)) (but.linked key other leads)
-    ]
-
-    by_test : (unused : Bool) → is_unused inodes inode (row_at inodes.attributes inode) ≡ unused → Fits (if unused then record inodes { attributes = slice_set inodes.attributes inode None } else inodes) names
+    by_test : (unused : Bool) → is_unused inodes inode (row_at inodes.attributes inode) ≡ unused → NamesFit (if unused then record inodes { attributes = slice_set inodes.attributes inode None } else inodes) names
     by_test false is = whole inodes names inode is but
     by_test true is =
         let longer = (set_differ inodes.attributes inode None).longer in
         let some = but.places in
         whole (record inodes { attributes = slice_set inodes.attributes inode None }) names inode (ap (is_unused (record inodes { attributes = slice_set inodes.attributes inode None }) inode) (row-freed inodes.attributes inode))
         (record {
-          linked = led is;
+          linked = λ key. by_place (λ n. get names key ≡ Some n → IsLinked (row_at (slice_set inodes.attributes inode None) n)) inode
+              (λ leads. absurd (no_links inodes inode (row_at inodes.attributes inode) is (but.linked key inode leads)))
+              (λ other apart leads. subst IsLinked (sym (others other apart)) (but.linked key other leads));
           used = λ other apart. ap (is_unused inodes other) (others other apart) ∙ but.used other apart;
           places = omega (arith, longer, some);
         })
@@ -183,7 +160,7 @@ freed_fits inodes names inode but = by_test (is_unused inodes inode (row_at inod
 -- ---- no path leads there
 
 -- no path leads to a number that is free
-pub unnamed_free : (inodes : Inodes) (names : Names) → Fits inodes names → (inode : ℕ) → row_at inodes.attributes inode ≡ None → IsUnnamed names inode
+pub unnamed_free : (inodes : Inodes) (names : Names) → NamesFit inodes names → (inode : ℕ) → row_at inodes.attributes inode ≡ None → IsUnnamed names inode
 unnamed_free inodes names fits inode free key leads = subst IsLinked free (fits.linked key inode leads)
 
 pub none_named : (root : ℕ) → IsUnnamed empty root
@@ -195,7 +172,7 @@ pub none_there : (inode : ℕ) → row_at no_inodes.attributes inode ≡ None
 none_there zero = refl
 none_there (suc inode) = refl
 
-pub none_fit : Fits no_inodes empty
+pub none_fit : NamesFit no_inodes empty
 none_fit = record {
   linked = λ key inode leads. absurd (none_named inode key leads);
   used = λ inode. ap (is_unused no_inodes inode) (none_there inode);

@@ -1,62 +1,163 @@
--- What an open of what is there comes to, once it is known that it may be opened.
-use Rattle.std.proofs.Common.{◌≡◌, ℕ, ◌&&◌, Bool, true, false, not, refl, sym, ap, ◌∙◌, subst, Option, Some, None, Result, Ok, Err}
-use Rattle.std.specs.Prelude.{nat_le, if◌then◌else◌}
+-- What is at the spot where a path leads, and what an open of a path and the making of a directory come to.
+use Rattle.std.proofs.Common.{◌≡◌, ℕ, ◌&&◌, Bool, true, false, [], not, refl, sym, ap, ◌∙◌, subst, Option, Some, None, Result, Ok, Err, IsOk, IsSome, List, ◌∷◌, length, arith}
+use Rattle.qx_iofunc.specs.Given as given
+use Rattle.std.specs.Prelude.{nat_le, is_some, if◌then◌else◌}
 use Rattle.qx_attr.specs.Counts.{numbered}
 use Rattle.qx_iofunc.proofs.FitLemmas.{block_fits}
 use Rattle.qx_iofunc.specs.Fits.{Fits}
-use Rattle.qx_iofunc.specs.Makes.{may_open}
+use Rattle.qx_iofunc.specs.Makes.{may_open, may_make, may_make_directory}
+use Rattle.qx_iofunc.specs.Store.{Stored, within, with_made}
+use Rattle.qx_iofunc.proofs.StoreLemmas.{emptied_in, emptied_is}
 use Rattle.qx_machine.proofs.Places.{lowest_from_free}
 use Rattle.qx_machine.specs.declared.rows.Attribute.{Attribute}
-use Rattle.qx_machine.specs.Inodes.{Inodes, Numbered, block_number, has, open_block, writes}
+use Rattle.qx_machine.specs.declared.rows.Effect.TheVariants.{Opens}
+use Rattle.qx_machine.specs.declared.rows.Kind.{Kind}
+use Rattle.qx_machine.specs.declared.rows.Kind.TheVariants.{Pipe}
+use Rattle.qx_machine.specs.declared.rows.Wish.{Wish}
+use Rattle.qx_machine.specs.Defaults.{allows, open_existing, opened, open_missing, writable}
+use Rattle.qx_machine.specs.Files.{Files}
+use Rattle.qx_machine.specs.Functions.{Deed, reply_alone}
+use Rattle.qx_machine.specs.Inodes.{Inodes, Numbered, block_number, has, open_block, writes, inode_number, may}
 use Rattle.qx_machine.specs.Judgements.{◌>>=◌, found, need}
-use Rattle.qx_machine.specs.Names.{Names, is_directory}
-use Rattle.qx_machine.specs.Opening.{Opening, allows, open_existing}
+use Rattle.qx_machine.specs.Names.{Names, is_directory, Spot, Key, is_empty, root_key, search, spot, start, under, walk}
+use Rattle.qx_machine.specs.RamManager.{emptied, with_bytes}
+use Rattle.qx_machine.specs.Resources.{Resources, with_empty}
 use Rattle.qx_machine.specs.Rows.{lowest_from, put_row, row_at}
 use Rattle.qx_types.specs.declared.errno.Errno.{Errno}
 use Rattle.qx_types.specs.declared.errno.Errno.TheVariants.{EACCES, EEXIST, EISDIR, ENFILE, ENOENT}
 use Rattle.qx_types.specs.declared.flags.OFlags.{OFlags}
-use Rattle.qx_types.specs.declared.flags.TheConstants.OFlags.{CREAT, EXCL}
+use Rattle.qx_types.specs.declared.flags.TheConstants.OFlags.{CREAT, EXCL, TRUNC}
 use Rattle.qx_types.specs.declared.limits.TheConstants.Limits.{BLOCKS}
+use Rattle.qx_types.specs.declared.names.Coid.{Coid}
+use Rattle.std.specs.FinMap.{insert, get}
+use Rattle.qx_iofunc.specs.declared.found.New.{New}
+use Rattle.qx_machine.specs.declared.rows.Access.TheVariants.{Write}
+use Rattle.std.proofs.lemmas.Bool.{eqb-true}
 
-abbrev done : Unit {0}
+-- ---- what is at a spot
+
+-- what is at a spot is what its path leads to
+abbrev IsAt : Names → Result Spot Errno → Type 0
+IsAt names (Err error) = Unit
+IsAt names (Ok at) = at.inode ≡ get names at.key
+
+walk_at : (inodes : Inodes) (names : Names) (user directory : ℕ) (key : Key) (name : List ℕ) (rest : List (List ℕ)) → IsAt names (walk inodes names user directory key name rest)
+walk_at inodes names user directory key name [] = by_search (search inodes user directory)
+  where
+    by_search : (searched : Result Bool Errno) → IsAt names (searched >>= (λ _. Ok (record { parent = directory; key = under key name; inode = get names (under key name) })))
+    by_search (Err error) = tt
+    by_search (Ok allowed) = refl
+walk_at inodes names user directory key name (further ∷ rest) = by_search (search inodes user directory) (get names (under key name)) (λ next. walk_at inodes names user next (under key name) further rest)
+  where
+    by_search : (searched : Result Bool Errno) (next : Option ℕ) → ((next : ℕ) → IsAt names (walk inodes names user next (under key name) further rest)) → IsAt names (searched >>= (λ _. found next ENOENT >>= (λ next. walk inodes names user next (under key name) further rest)))
+    by_search (Ok allowed) (Some next) again = again next
+    by_search searched next again = tt
+
+pub at_spot : (inodes : Inodes) (names : Names) (user root : ℕ) (rest : List (List ℕ)) (at_root : Errno) (at : Spot) → Ok at ≡ spot inodes names user root rest at_root → at.inode ≡ get names at.key
+at_spot inodes names user root rest at_root at is = subst (IsAt names) (sym is) (by_rest rest)
+  where
+    by_start : (name : List ℕ) (rest : List (List ℕ)) (first : Result ℕ Errno) → IsAt names (first >>= (λ first. walk inodes names user first (root_key root) name rest))
+    by_start name rest (Err error) = tt
+    by_start name rest (Ok first) = walk_at inodes names user first (root_key root) name rest
+
+    by_rest : (rest : List (List ℕ)) → IsAt names (spot inodes names user root rest at_root)
+    by_rest [] = tt
+    by_rest (name ∷ rest) = by_start name rest (start names root)
+
+-- a directory is empty
+pub none_in : (names : List (List ℕ)) → is_empty names ≡ true → names ≡ []
+none_in [] e = refl
+none_in (name ∷ names) e = let none : length (name ∷ names) ≡ 0 = eqb-true (length (name ∷ names)) 0 e in absurd (omega (arith, none))
+
+-- ---- what may be opened
+
+abbrev the : (A : Type 0) → A → A
+the A value = value
+
+abbrev pub done : Unit {0}
 done = tt
 
--- ---- what is there
+no_value : (error : Errno) → IsOk (the (Result (Deed Resources) Errno) (Err error)) → ⊥
+no_value error is = absurd (cc)
 
-module _ (made : ℕ → Numbered) (given : Numbered → Opening) where
-  judged : (shared fits may : Bool) (number : Result ℕ Errno)
-      → (need shared EEXIST >>= (λ _. need fits EISDIR >>= (λ _. need may EACCES >>= (λ _. (number >>= (λ n. Ok (made n))) >>= (λ opened. Ok (given opened))))))
-      ≡ ((need shared EEXIST >>= (λ _. need fits EISDIR >>= (λ _. need may EACCES >>= (λ _. number >>= (λ _. Ok done))))) >>= (λ _. (number >>= (λ n. Ok (made n))) >>= (λ opened. Ok (given opened))))
-  judged false fits may number = refl
-  judged true false may number = refl
-  judged true true false number = refl
-  judged true true true (Ok n) = refl
-  judged true true true (Err error) = refl
+-- an open, once it is known what number it gets
+abbrev opened_by : Coid → OFlags → ℕ → Resources → Result ℕ Errno → Result (Deed Resources) Errno
+opened_by coid flags inode after number =
+    (number >>= (λ n. Ok (the Numbered (record { number = n; inodes = record after.inodes { blocks = put_row after.inodes.blocks n (record { inode = inode; flags = flags; offset = 0 }) } })))) >>= (λ block. Ok (reply_alone coid.0 [] (Opens coid block.number) (record after { inodes = block.inodes })))
 
-module _ (inodes : Inodes) (names : Names) (user inode : ℕ) (flags : OFlags) where
-  abbrev pub given : Numbered → Opening
-  given opened = record { number = opened.number; inode = inode; is_new = false; inodes = opened.inodes; names = names }
+judged : (last : Result ℕ Errno → Result (Deed Resources) Errno) → ((error : Errno) → last (Err error) ≡ Err error) → (shared fits may : Bool) (number : Result ℕ Errno)
+    → (need shared EEXIST >>= (λ _. need fits EISDIR >>= (λ _. need may EACCES >>= (λ _. last number))))
+    ≡ ((need shared EEXIST >>= (λ _. need fits EISDIR >>= (λ _. need may EACCES >>= (λ _. number >>= (λ _. Ok done))))) >>= (λ _. last number))
+judged last refused true true true (Err error) = refused error
+judged last refused shared fits may number = refl
 
-  abbrev pub made : ℕ → Numbered
-  made n = record { number = n; inodes = record inodes { blocks = put_row inodes.blocks n (record { inode = inode; flags = flags; offset = 0 }) } }
-
-  pub existing_is : open_existing inodes names user inode flags ≡ (may_open inodes user inode flags >>= (λ _. open_block inodes inode flags >>= (λ opened. Ok (given opened))))
-  existing_is = by_row (row_at inodes.attributes inode)
+module _ (inodes : Inodes) (user inode : ℕ) (flags : OFlags) where
+  -- is there, and has a number
+  pub may_open_is : (nothing : Unit {0}) → may_open inodes user inode flags ≡ Ok nothing → IsSome (row_at inodes.attributes inode) × IsOk (block_number inodes)
+  may_open_is nothing is = by_row (row_at inodes.attributes inode) is
     where
-      by_row : (row : Option Attribute)
-          → (found row ENOENT >>= (λ a. need (not (has flags CREAT && has flags EXCL)) EEXIST >>= (λ _. need (not (is_directory a.kind && writes flags)) EISDIR >>= (λ _. need (allows a user flags) EACCES >>= (λ _. open_block inodes inode flags >>= (λ opened. Ok (given opened)))))))
-          ≡ ((found row ENOENT >>= (λ a. need (not (has flags CREAT && has flags EXCL)) EEXIST >>= (λ _. need (not (is_directory a.kind && writes flags)) EISDIR >>= (λ _. need (allows a user flags) EACCES >>= (λ _. block_number inodes >>= (λ _. Ok done)))))) >>= (λ _. open_block inodes inode flags >>= (λ opened. Ok (given opened))))
-      by_row None = refl
-      by_row (Some a) = judged made given (not (has flags CREAT && has flags EXCL)) (not (is_directory a.kind && writes flags)) (allows a user flags) (block_number inodes)
+      by_parts : (shared fits may : Bool) (number : Result ℕ Errno) → (need shared EEXIST >>= (λ _. need fits EISDIR >>= (λ _. need may EACCES >>= (λ _. number >>= (λ _. Ok done))))) ≡ Ok nothing → IsOk number
+      by_parts true true true (Ok n) e = refl
+      by_parts shared fits may number e = absurd (cc)
 
-  pub existing_refused : (error : Errno) → may_open inodes user inode flags ≡ Err error → open_existing inodes names user inode flags ≡ Err error
-  existing_refused error refused = existing_is ∙ ap (λ r. r >>= (λ _. open_block inodes inode flags >>= (λ opened. Ok (given opened)))) refused
+      by_row : (row : Option Attribute) → (found row ENOENT >>= (λ a. need (not (has flags CREAT && has flags EXCL)) EEXIST >>= (λ _. need (not (is_directory a.kind && writes flags)) EISDIR >>= (λ _. need (allows a user flags) EACCES >>= (λ _. block_number inodes >>= (λ _. Ok done)))))) ≡ Ok nothing
+          → IsSome row × IsOk (block_number inodes)
+      by_row None e = absurd (cc)
+      by_row (Some a) e = (refl, by_parts (not (has flags CREAT && has flags EXCL)) (not (is_directory a.kind && writes flags)) (allows a user flags) (block_number inodes) e)
+
+-- where a number is free, it is opened
+opened_ok : (coid : Coid) (flags : OFlags) (inode : ℕ) (after : Resources) → IsOk (block_number after.inodes) → IsOk (opened coid flags inode after)
+opened_ok coid flags inode after = by_number (block_number after.inodes)
+  where
+    by_number : (number : Result ℕ Errno) → IsOk number → IsOk (opened_by coid flags inode after number)
+    by_number (Ok n) is = refl
+    by_number (Err error) is = absurd (cc)
+
+module _ (r : Resources) (coid : Coid) (inode : ℕ) (wish : Wish) where
+  -- it is judged, and then opened
+  existing_is : open_existing r coid inode wish ≡ (may_open r.inodes r.user inode wish.flags >>= (λ _. opened coid wish.flags inode (emptied wish.flags inode wish.moment r)))
+  existing_is = by_row (row_at r.inodes.attributes inode) (has wish.flags TRUNC && writes wish.flags && is_some (row_at r.files inode))
+    where
+      by_row : (row : Option Attribute) (empties : Bool)
+          → (found row ENOENT >>= (λ a. need (not (has wish.flags CREAT && has wish.flags EXCL)) EEXIST >>= (λ _. need (not (is_directory a.kind && writes wish.flags)) EISDIR >>= (λ _. need (allows a r.user wish.flags) EACCES >>= (λ _. opened coid wish.flags inode (if empties then with_bytes inode wish.moment [] r else r))))))
+          ≡ ((found row ENOENT >>= (λ a. need (not (has wish.flags CREAT && has wish.flags EXCL)) EEXIST >>= (λ _. need (not (is_directory a.kind && writes wish.flags)) EISDIR >>= (λ _. need (allows a r.user wish.flags) EACCES >>= (λ _. block_number r.inodes >>= (λ _. Ok done))))))
+          >>= (λ _. opened coid wish.flags inode (if empties then with_bytes inode wish.moment [] r else r)))
+      by_row None empties = refl
+      by_row (Some a) true = judged (opened_by coid wish.flags inode (with_bytes inode wish.moment [] r)) (λ error. refl) (not (has wish.flags CREAT && has wish.flags EXCL)) (not (is_directory a.kind && writes wish.flags)) (allows a r.user wish.flags) (block_number r.inodes)
+      by_row (Some a) false = judged (opened_by coid wish.flags inode r) (λ error. refl) (not (has wish.flags CREAT && has wish.flags EXCL)) (not (is_directory a.kind && writes wish.flags)) (allows a r.user wish.flags) (block_number r.inodes)
+
+  pub existing_judged : (given : Result (Unit {0}) Errno) → may_open r.inodes r.user inode wish.flags ≡ given → open_existing r coid inode wish ≡ (given >>= (λ _. opened coid wish.flags inode (emptied wish.flags inode wish.moment r)))
+  existing_judged given is = existing_is ∙ ap (λ judged. judged >>= (λ _. opened coid wish.flags inode (emptied wish.flags inode wish.moment r))) is
+
+  pub existing_allowed : (nothing : Unit {0}) → may_open r.inodes r.user inode wish.flags ≡ Ok nothing → IsOk (open_existing r coid inode wish)
+  existing_allowed nothing may =
+      let number = (may_open_is r.inodes r.user inode wish.flags nothing may).1 in
+      subst IsOk (sym (existing_judged (Ok nothing) may))
+      (elim (has wish.flags TRUNC && writes wish.flags && is_some (row_at r.files inode)) as (λ empties. IsOk (opened coid wish.flags inode (if empties then with_bytes inode wish.moment [] r else r))) [
+        | true ↦ opened_ok coid wish.flags inode (with_bytes inode wish.moment [] r) number
+        | false ↦ opened_ok coid wish.flags inode r number
+      ])
+
+  -- whatever may be opened was judged so
+  allowed_may : IsOk (open_existing r coid inode wish) → may_open r.inodes r.user inode wish.flags ≡ Ok done
+  allowed_may allowed = by_judged (may_open r.inodes r.user inode wish.flags) refl
+    where
+      by_judged : (judged : Result (Unit {0}) Errno) → may_open r.inodes r.user inode wish.flags ≡ judged → judged ≡ Ok done
+      by_judged (Ok nothing) is = refl
+      by_judged (Err error) is = absurd (no_value error (subst IsOk (existing_judged (Err error) is) allowed))
+
+-- whatever managers have beside a store
+beside : Stored → Resources
+beside s = record { user = s.user; mounts = []; inodes = s.inodes; names = s.names; files = s.files; pipes = [] }
+
+pub all_allowed : (s : Stored) (inode : ℕ) (wish : Wish) → ((r : Resources) (coid : Coid) → IsOk (open_existing (within r s) coid inode wish)) → may_open s.inodes s.user inode wish.flags ≡ Ok done
+all_allowed s inode wish allowed = allowed_may (within (beside s) s) (record { 0 = 0 }) inode wish (allowed (beside s) (record { 0 = 0 }))
 
 -- ---- once it is open
 
-module _ (inodes now : Inodes) (inode number : ℕ) (flags : OFlags) (opened : numbered now (Ok number) ≡ open_block inodes inode flags) where
+module _ (inodes now : Inodes) (inode number : ℕ) (flags : OFlags) (is_open : numbered now (Ok number) ≡ open_block inodes inode flags) where
   opened_is : now ≡ record inodes { blocks = put_row inodes.blocks (lowest_from 1 inodes.blocks) (record { inode = inode; flags = flags; offset = 0 }) }
-  opened_is = by_test (nat_le (lowest_from 1 inodes.blocks) BLOCKS) opened
+  opened_is = by_test (nat_le (lowest_from 1 inodes.blocks) BLOCKS) is_open
     where
       by_test : (few : Bool) → numbered now (Ok number) ≡ ((if few then Ok (lowest_from 1 inodes.blocks) else Err ENFILE) >>= (λ n. Ok (record { number = n; inodes = record inodes { blocks = put_row inodes.blocks n (record { inode = inode; flags = flags; offset = 0 }) } })))
           → now ≡ record inodes { blocks = put_row inodes.blocks (lowest_from 1 inodes.blocks) (record { inode = inode; flags = flags; offset = 0 }) }
@@ -65,10 +166,120 @@ module _ (inodes now : Inodes) (inode number : ℕ) (flags : OFlags) (opened : n
           ap (λ (given : Numbered). given.inodes) equal
       by_test false e = absurd (cc)
 
-  pub opened_attributes : now.attributes ≡ inodes.attributes
-  opened_attributes = ap (λ (i : Inodes). i.attributes) opened_is
+  pub opened_fits : (names : Names) (files : Files) → Fits inodes names files → Fits now names files
+  opened_fits names files fits =
+      subst (λ (i : Inodes). Fits i names files) (sym opened_is)
+      (record {
+        named = block_fits inodes names (lowest_from 1 inodes.blocks) (record { inode = inode; flags = flags; offset = 0 }) (lowest_from_free 1 inodes.blocks) fits.named;
+        sized = fits.sized;
+        room = fits.room;
+      })
 
-  pub opened_fits : (names : Names) → Fits inodes names → Fits now names
-  opened_fits names fits =
-      subst (λ (i : Inodes). Fits i names) (sym opened_is)
-      (block_fits inodes names (lowest_from 1 inodes.blocks) (record { inode = inode; flags = flags; offset = 0 }) (lowest_from_free 1 inodes.blocks) fits)
+  -- the deed of an open
+  opened_deed : (coid : Coid) (after : Resources) → after.inodes ≡ inodes → opened coid flags inode after ≡ Ok (reply_alone coid.0 [] (Opens coid number) (record after { inodes = now }))
+  opened_deed coid after same =
+      ap (λ (from : Inodes). open_block from inode flags >>= (λ block. Ok (reply_alone coid.0 [] (Opens coid block.number) (record after { inodes = block.inodes })))) same
+      ∙ ap (λ block. block >>= (λ block. Ok (reply_alone coid.0 [] (Opens coid block.number) (record after { inodes = block.inodes })))) (sym is_open)
+
+-- what was there is no pipe that is made
+not_made : (kind : Kind) (number inode : ℕ) (r : Resources) → given.with_pipe_made kind (record { number = number; inode = inode; is_new = false }) r ≡ r
+not_made Pipe number inode r = refl
+not_made kind number inode r = refl
+
+pub existing_done : (s : Stored) (now : Inodes) (number inode : ℕ) (wish : Wish) → may_open s.inodes s.user inode wish.flags ≡ Ok done → numbered now (Ok number) ≡ open_block (emptied_in wish.flags inode wish.moment s).inodes inode wish.flags → (r : Resources) (coid : Coid)
+    → open_existing (within r s) coid inode wish
+    ≡ Ok (given.opened coid wish.kind (record { number = number; inode = inode; is_new = false }) (within r (record (emptied_in wish.flags inode wish.moment s) { inodes = now })))
+existing_done s now number inode wish may is r coid =
+    existing_judged (within r s) coid inode wish (Ok done) may
+    ∙ (ap (λ (after : Resources). opened coid wish.flags inode after) (emptied_is wish.flags inode wish.moment s r)
+    ∙ (opened_deed (emptied_in wish.flags inode wish.moment s).inodes now inode number wish.flags is coid (within r (emptied_in wish.flags inode wish.moment s)) refl
+    ∙ ap (λ (after : Resources). Ok (reply_alone coid.0 [] (Opens coid number) after))
+    (sym (not_made wish.kind number inode (within r (record (emptied_in wish.flags inode wish.moment s) { inodes = now }))))))
+
+-- ---- what may be made
+
+pub writable_row : (inodes : Inodes) (user parent : ℕ) (attribute : Attribute) → writable inodes user parent ≡ Ok attribute → row_at inodes.attributes parent ≡ Some attribute
+writable_row inodes user parent attribute is = by_row (row_at inodes.attributes parent) is
+  where
+    by_access : (there : Attribute) (allowed : Bool) → (need {E = Errno} allowed EACCES >>= (λ _. Ok there)) ≡ Ok attribute → Some there ≡ Some attribute
+    by_access there true e = cc
+    by_access there false e = absurd (cc)
+
+    by_row : (row : Option Attribute) → (found row ENOENT >>= (λ there. need (may there user Write) EACCES >>= (λ _. Ok there))) ≡ Ok attribute → row ≡ Some attribute
+    by_row None e = absurd (cc)
+    by_row (Some there) e = by_access there (may there user Write) e
+
+pub record MakesDirectory (inodes : Inodes) (parent : ℕ) (there : Option ℕ) (new : New) : Type 0 where
+  pub missing : there ≡ None
+  pub parent_is : row_at inodes.attributes parent ≡ Some new.parent
+  pub number_is : inode_number inodes ≡ Ok new.inode
+
+pub makes_directory : (inodes : Inodes) (user parent : ℕ) (there : Option ℕ) (new : New) → may_make_directory inodes user parent there ≡ Ok new → MakesDirectory inodes parent there new
+makes_directory inodes user parent there new is = by_parts there (writable inodes user parent) (inode_number inodes) refl refl is
+  where
+    by_parts : (there : Option ℕ) (attribute : Result Attribute Errno) (number : Result ℕ Errno) → writable inodes user parent ≡ attribute → inode_number inodes ≡ number
+        → (need (not (is_some there)) EEXIST >>= (λ _. attribute >>= (λ attribute. number >>= (λ number. Ok (the New (record { inode = number; parent = attribute })))))) ≡ Ok new → MakesDirectory inodes parent there new
+    by_parts None (Ok attribute) (Ok number) w n e =
+        let same : record { inode = number; parent = attribute } ≡ new = cc in
+        record { missing = refl; parent_is = writable_row inodes user parent attribute w ∙ ap (λ (n : New). Some n.parent) same; number_is = n ∙ ap (λ (n : New). Ok n.inode) same }
+    by_parts there attribute number w n e = absurd (cc)
+
+pub record Makes (inodes : Inodes) (user parent : ℕ) (flags : OFlags) (new : New) : Type 0 where
+  pub creates : has flags CREAT ≡ true
+  pub writable_is : writable inodes user parent ≡ Ok new.parent
+  pub parent_is : row_at inodes.attributes parent ≡ Some new.parent
+  pub block : ℕ
+  pub block_is : block_number inodes ≡ Ok block
+  pub number_is : inode_number inodes ≡ Ok new.inode
+
+pub missing_makes : (inodes : Inodes) (user parent : ℕ) (new : New) (flags : OFlags) → may_make inodes user parent flags ≡ Ok new → Makes inodes user parent flags new
+missing_makes inodes user parent new flags is = by_parts (has flags CREAT) (writable inodes user parent) (block_number inodes) (inode_number inodes) refl refl refl refl is
+  where
+    by_parts : (creates : Bool) (attribute : Result Attribute Errno) (block number : Result ℕ Errno) → has flags CREAT ≡ creates → writable inodes user parent ≡ attribute → block_number inodes ≡ block → inode_number inodes ≡ number
+        → (need creates ENOENT >>= (λ _. attribute >>= (λ attribute. block >>= (λ _. number >>= (λ number. Ok (the New (record { inode = number; parent = attribute }))))))) ≡ Ok new → Makes inodes user parent flags new
+    by_parts true (Ok attribute) (Ok block) (Ok number) c w b n e =
+        let same : record { inode = number; parent = attribute } ≡ new = cc in
+        record {
+          creates = c;
+          writable_is = w ∙ ap (λ (n : New). Ok n.parent) same;
+          parent_is = writable_row inodes user parent attribute w ∙ ap (λ (n : New). Some n.parent) same;
+          block = block;
+          block_is = b;
+          number_is = n ∙ ap (λ (n : New). Ok n.inode) same;
+        }
+    by_parts creates attribute block number c w b n e = absurd (cc)
+
+-- ---- it is made, and opened
+
+module _ (r : Resources) (s : Stored) (coid : Coid) (at : Spot) (wish : Wish) where
+  -- what there is once it is made
+  abbrev after : Kind → New → Resources
+  after kind new = with_empty kind new.inode (record (within r s) { inodes = (with_made at new.inode new.parent kind wish.mode wish.moment s).inodes; names = insert s.names at.key new.inode })
+
+  after_inodes : (kind : Kind) (new : New) → (after kind new).inodes ≡ (with_made at new.inode new.parent kind wish.mode wish.moment s).inodes
+  after_inodes Pipe new = refl
+  after_inodes kind new = refl
+
+  -- in the store, and with what is in it elsewhere
+  after_is : (kind : Kind) (new : New) (number : ℕ) (now : Inodes)
+      → record (after kind new) { inodes = now } ≡ given.with_pipe_made kind (record { number = number; inode = new.inode; is_new = true }) (within r (record (with_made at new.inode new.parent kind wish.mode wish.moment s) { inodes = now }))
+  after_is Pipe new number now = refl
+  after_is kind new number now = refl
+
+  missing_is : (new : New) → may_make s.inodes s.user at.parent wish.flags ≡ Ok new → open_missing (within r s) coid at wish ≡ opened coid wish.flags new.inode (after wish.kind new)
+  missing_is new may = let it = missing_makes s.inodes s.user at.parent new wish.flags may in rw (it.creates, it.writable_is, it.block_is, it.number_is) refl
+
+  pub missing_done : (new : New) (now : Inodes) (number : ℕ) → may_make s.inodes s.user at.parent wish.flags ≡ Ok new
+      → numbered now (Ok number) ≡ open_block (with_made at new.inode new.parent wish.kind wish.mode wish.moment s).inodes new.inode wish.flags
+      → open_missing (within r s) coid at wish
+      ≡ Ok (given.opened coid wish.kind (record { number = number; inode = new.inode; is_new = true }) (within r (record (with_made at new.inode new.parent wish.kind wish.mode wish.moment s) { inodes = now })))
+  missing_done new now number may is =
+      missing_is new may
+      ∙ (opened_deed (with_made at new.inode new.parent wish.kind wish.mode wish.moment s).inodes now new.inode number wish.flags is coid (after wish.kind new) (after_inodes wish.kind new)
+      ∙ ap (λ (after : Resources). Ok (reply_alone coid.0 [] (Opens coid number) after)) (after_is wish.kind new number now))
+
+  pub missing_allowed : (new : New) → may_make s.inodes s.user at.parent wish.flags ≡ Ok new → IsOk (open_missing (within r s) coid at wish)
+  missing_allowed new may =
+      let free = (missing_makes s.inodes s.user at.parent new wish.flags may).block_is in
+      let number : IsOk (block_number s.inodes) = rw free refl in
+      subst IsOk (sym (missing_is new may)) (opened_ok coid wish.flags new.inode (after wish.kind new) (subst (λ (inodes : Inodes). IsOk (block_number inodes)) (sym (after_inodes wish.kind new)) number))

@@ -1,10 +1,14 @@
 -- Tables of which one row changes.
-use Rattle.std.proofs.Common.{◌≡◌, ◌≢◌, ℕ, zero, suc, ◌<◌, ◌≤◌, Bool, true, false, List, [], ◌∷◌, ◌++◌, length, refl, ap, ◌∙◌, arith, subst, Option, Some, None, nat_lt, slice_set, length-append}
+use Rattle.std.proofs.Common.{◌≡◌, ◌≢◌, ℕ, zero, suc, ◌<◌, ◌≤◌, Bool, true, false, List, [], ◌∷◌, ◌++◌, length, refl, sym, ap, ◌∙◌, inl, inr, arith, subst, Option, Some, None, nat_lt, option_map, slice_set, length-append}
 use Rattle.std.specs.Prelude.{if◌then◌else◌}
 use Rattle.std.proofs.Math.ListN.{length-set}
-use Rattle.std.proofs.lemmas.Bool.{ltb-false, ltb-true}
-use Rattle.qx_machine.proofs.Places.{row_at-set_other}
-use Rattle.qx_machine.specs.Rows.{lowest_from, put_row, row_at, taken_places}
+use Rattle.std.proofs.lemmas.Bool.{cases_eq, ltb-false, ltb-true}
+use Rattle.qx_machine.proofs.Places.{row_at-set_other, set-row_at}
+use Rattle.qx_machine.specs.Rows.{lowest_from, put_row, row_at, taken_places, with_row}
+
+-- at one place, and at all others
+pub by_place : (P : ℕ → Type 0) (n : ℕ) → P n → ((m : ℕ) → m ≢ n → P m) → (m : ℕ) → P m
+by_place P n here others m = elim (cases_eq m n) [ inl same ↦ subst P (sym same) here | inr apart ↦ others m apart ]
 
 -- two tables that have the same rows, but perhaps at one place
 pub record Differ {A : Type 0} (places now : List (Option A)) (n : ℕ) : Type 0 where
@@ -43,26 +47,22 @@ module _ {A : Type 0} where
   last_other (place ∷ places) row zero apart = refl
   last_other (place ∷ places) row (suc m) apart = last_other places row m (λ same. apart (ap suc same))
 
-  pub put_at : (places : List (Option A)) (n : ℕ) (row : A) → n ≤ length places → row_at (put_row places n row) n ≡ Some row
-  put_at places n row within = by_test (nat_lt n (length places)) refl
+  by_put : (places : List (Option A)) (n : ℕ) (row : A) (P : List (Option A) → Type 0) → n ≤ length places → (n < length places → P (slice_set places n (Some row))) → (length places ≡ n → P (places ++ Some row ∷ [])) → P (put_row places n row)
+  by_put places n row P within inside last = by_test (nat_lt n (length places)) refl
     where
-      by_test : (inside : Bool) → nat_lt n (length places) ≡ inside → row_at (if inside then slice_set places n (Some row) else places ++ Some row ∷ []) n ≡ Some row
-      by_test true inside = set_at places n row (ltb-true n (length places) inside)
-      by_test false beyond =
-          let past = ltb-false n (length places) beyond in
-          let last : length places ≡ n = omega (arith, within, past) in
-          subst (λ m. row_at (places ++ Some row ∷ []) m ≡ Some row) last (last_at places row)
+      by_test : (test : Bool) → nat_lt n (length places) ≡ test → P (if test then slice_set places n (Some row) else places ++ Some row ∷ [])
+      by_test true is = inside (ltb-true n (length places) is)
+      by_test false is = let past = ltb-false n (length places) is in last (omega (arith, within, past))
+
+  pub put_at : (places : List (Option A)) (n : ℕ) (row : A) → n ≤ length places → row_at (put_row places n row) n ≡ Some row
+  put_at places n row within =
+      by_put places n row (λ rows. row_at rows n ≡ Some row) within (set_at places n row) (λ last. subst (λ m. row_at (places ++ Some row ∷ []) m ≡ Some row) last (last_at places row))
 
   pub put_differ : (places : List (Option A)) (n : ℕ) (row : A) → n ≤ length places → Differ places (put_row places n row) n
-  put_differ places n row within = by_test (nat_lt n (length places)) refl
-    where
-      by_test : (inside : Bool) → nat_lt n (length places) ≡ inside → Differ places (if inside then slice_set places n (Some row) else places ++ Some row ∷ []) n
-      by_test true inside = set_differ places n (Some row)
-      by_test false beyond =
-          let past = ltb-false n (length places) beyond in
-          let last : length places ≡ n = omega (arith, within, past) in
-          let more = length-append places (Some row ∷ []) in
-          record { others = λ m apart. last_other places row m (λ same. apart (same ∙ last)); longer = omega (arith, more) }
+  put_differ places n row within =
+      let more = length-append places (Some row ∷ []) in
+      by_put places n row (λ rows. Differ places rows n) within (λ inside. set_differ places n (Some row))
+      (λ last. record { others = λ m apart. last_other places row m (λ same. apart (same ∙ last)); longer = omega (arith, more) })
 
   taken_within : (places : List (Option A)) → taken_places places ≤ length places
   taken_within [] = omega arith
@@ -73,3 +73,13 @@ module _ {A : Type 0} where
   pub lowest_within : (places : List (Option A)) → 0 < length places → lowest_from 1 places ≤ length places
   lowest_within [] some = absurd (omega (arith, some))
   lowest_within (place ∷ places) some = let rest = taken_within places in omega (arith, rest)
+
+  -- ---- a row that changes, or stays as it is
+
+  pub with_row-at : (places : List (Option A)) (n : ℕ) (change : A → A) → row_at (with_row places n change) n ≡ option_map change (row_at places n)
+  with_row-at [] n change = refl
+  with_row-at (place ∷ places) zero change = refl
+  with_row-at (place ∷ places) (suc n) change = with_row-at places n change
+
+  pub with_row-same : (places : List (Option A)) (n : ℕ) (change : A → A) (row : A) → row_at places n ≡ Some row → change row ≡ row → with_row places n change ≡ places
+  with_row-same places n change row is same = ap (λ r. slice_set places n (option_map change r)) is ∙ (ap (λ r. slice_set places n (Some r)) same ∙ (ap (slice_set places n) (sym is) ∙ set-row_at places n))

@@ -1,17 +1,23 @@
--- How names and inodes stand together.
-use Rattle.std.specs.Prelude.{ℕ, ◌≡◌, ◌≢◌, ◌<◌, false, Option, Some, None, length}
+-- How names, inodes and the bytes of files stand together.
+use Rattle.std.specs.Prelude.{ℕ, ◌≡◌, ◌≢◌, ◌<◌, Bool, true, false, Option, Some, None, length, option_map, if◌then◌else◌}
 use Rattle.std.specs.FinMap.{get}
+use Rattle.qx_types.specs.declared.limits.TheConstants.Limits.{INODES}
 use Rattle.qx_machine.specs.declared.rows.Attribute.{Attribute}
+use Rattle.qx_machine.specs.declared.rows.Kind.{Kind}
+use Rattle.qx_machine.specs.declared.rows.Kind.TheVariants.{File}
+use Rattle.qx_machine.specs.Files.{Files}
 use Rattle.qx_machine.specs.Inodes.{Inodes, is_unused}
 use Rattle.qx_machine.specs.Names.{Key, Names}
 use Rattle.qx_machine.specs.Rows.{row_at}
+
+-- ---- names and inodes
 
 -- an inode that is there, and has a link
 abbrev pub IsLinked : Option Attribute → Type 0
 IsLinked None = ⊥
 IsLinked (Some attribute) = 0 < attribute.links
 
-pub record Fits (inodes : Inodes) (names : Names) : Type 0 where
+pub record NamesFit (inodes : Inodes) (names : Names) : Type 0 where
   -- each path leads to an inode that is there and linked
   pub linked : (key : Key) (inode : ℕ) → get names key ≡ Some inode → IsLinked (row_at inodes.attributes inode)
   -- each inode that is there is linked or open
@@ -20,7 +26,30 @@ pub record Fits (inodes : Inodes) (names : Names) : Type 0 where
   pub places : 0 < length inodes.attributes
 
 -- the same, but that one inode may be neither linked nor open
-pub record FitsBut (inodes : Inodes) (names : Names) (inode : ℕ) : Type 0 where
+pub record NamesFitBut (inodes : Inodes) (names : Names) (inode : ℕ) : Type 0 where
   pub linked : (key : Key) (other : ℕ) → get names key ≡ Some other → IsLinked (row_at inodes.attributes other)
   pub used : (other : ℕ) → other ≢ inode → is_unused inodes other (row_at inodes.attributes other) ≡ false
   pub places : 0 < length inodes.attributes
+
+-- ---- sizes
+
+abbrev pub is_file : Kind → Bool
+is_file File = true
+is_file _ = false
+
+-- the size of a file; nothing else has one
+abbrev pub file_size : Option Attribute → Option ℕ
+file_size None = None
+file_size (Some attribute) = if is_file attribute.kind then Some attribute.size else None
+
+-- a file has as many bytes as its size says; what is no file, and where there is no inode, has none
+abbrev pub AreSized : Inodes → Files → Type 0
+AreSized inodes files = (inode : ℕ) → option_map (λ bytes. length bytes) (row_at files inode) ≡ file_size (row_at inodes.attributes inode)
+
+pub record Fits (inodes : Inodes) (names : Names) (files : Files) : Type 0 where
+  -- names and inodes stand together
+  pub named : NamesFit inodes names
+  -- files have the sizes that their inodes say
+  pub sized : AreSized inodes files
+  -- there is a place for the bytes of each inode
+  pub room : INODES < length files

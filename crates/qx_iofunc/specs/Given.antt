@@ -1,35 +1,45 @@
--- What a function gave, with what it left.
-use Rattle.std.specs.Prelude.{ℕ, List, Result, Ok, Err, length}
+-- What a function gave, as a deed, with what it left.
+use Rattle.std.specs.Prelude.{ℕ, List, [], Option, Some, Result, Ok, Err, if◌then◌else◌}
 use Rattle.arrayvec.specs.ArrayVec.{ArrayVec}
-use Rattle.qx_iofunc.specs.declared.found.Opening.{Opening}
-use Rattle.qx_machine.specs.Inodes.{Inodes}
-use Rattle.qx_machine.specs.Names.{Names, listing}
-use Rattle.qx_machine.specs.Opening as machine
 use Rattle.qx_types.specs.declared.errno.Errno.{Errno}
+use Rattle.qx_types.specs.declared.names.Coid.{Coid}
+use Rattle.qx_iofunc.specs.declared.found.Opening.{Opening}
+use Rattle.qx_machine.specs.declared.rows.Effect.TheVariants.{Keeps, Opens}
+use Rattle.qx_machine.specs.declared.rows.Kind.{Kind}
+use Rattle.qx_machine.specs.declared.rows.Kind.TheVariants.{Pipe}
+use Rattle.qx_machine.specs.Functions.{Deed, reply_alone}
+use Rattle.qx_machine.specs.Resources.{Resources, with_empty, without_content}
 
-abbrev pub opening : Inodes → Names → Opening → machine.Opening
-opening inodes names given = record { number = given.number; inode = given.inode; is_new = given.is_new; inodes = inodes; names = names }
+-- a number is replied, with these bytes
+abbrev pub replied : List ℕ → Resources → Result ℕ Errno → Result (Deed Resources) Errno
+replied bytes r (Ok status) = Ok (reply_alone status bytes Keeps r)
+replied bytes r (Err error) = Err error
 
--- an inode that was named, or whose name went
-abbrev pub naming : Inodes → Names → Result ℕ Errno → Result machine.Naming Errno
-naming inodes names (Ok inode) = Ok (record { inode = inode; inodes = inodes; names = names })
-naming inodes names (Err error) = Err error
+-- it is done, and nothing is told
+abbrev pub done : Resources → Result (Unit {0}) Errno → Result (Deed Resources) Errno
+done r (Ok nothing) = Ok (reply_alone 0 [] Keeps r)
+done r (Err error) = Err error
 
-abbrev pub changed_to : Inodes → Result (Unit {0}) Errno → Result Inodes Errno
-changed_to inodes (Ok done) = Ok inodes
-changed_to inodes (Err error) = Err error
+-- the bytes of a status are told
+abbrev pub status_told : Resources → Result (ArrayVec ℕ) Errno → Result (Deed Resources) Errno
+status_told r (Ok status) = Ok (reply_alone 0 status.items Keeps r)
+status_told r (Err error) = Err error
 
--- the bytes of a status
-abbrev pub status_of : Result (ArrayVec ℕ) Errno → Result (List ℕ) Errno
-status_of (Ok status) = Ok status.items
-status_of (Err error) = Err error
+-- ---- what a manager keeps elsewhere in its inodes, a pipe, is the manager's to make and to take away
 
--- the names of a listing as they are told: how many, and their bytes
-abbrev pub told : Result (List (List ℕ)) Errno → Result (ℕ × List ℕ) Errno
-told (Ok names) = Ok (length names, listing names)
-told (Err error) = Err error
+abbrev pub with_pipe_made : Kind → Opening → Resources → Resources
+with_pipe_made Pipe opening r = if opening.is_new then with_empty Pipe opening.inode r else r
+with_pipe_made _ opening r = r
 
--- a number, with the bytes of the reply
-abbrev pub replied : List ℕ → Result ℕ Errno → Result (ℕ × List ℕ) Errno
-replied bytes (Ok count) = Ok (count, bytes)
-replied bytes (Err error) = Err error
+abbrev pub with_pipe_gone : Kind → Option ℕ → Resources → Resources
+with_pipe_gone Pipe (Some inode) r = without_content Pipe inode r
+with_pipe_gone _ _ r = r
+
+-- an open of a connection
+abbrev pub opened : Coid → Kind → Opening → Resources → Deed Resources
+opened coid kind opening r = reply_alone coid.0 [] (Opens coid opening.number) (with_pipe_made kind opening r)
+
+-- a name is gone, and the inode that it named or not
+abbrev pub unlinked : Kind → Resources → Result (Option ℕ) Errno → Result (Deed Resources) Errno
+unlinked own r (Ok gone) = Ok (reply_alone 0 [] Keeps (with_pipe_gone own gone r))
+unlinked own r (Err error) = Err error

@@ -1,4 +1,4 @@
--- how names and inodes stand together
+-- how names, inodes and the bytes of files stand together
 pub mod Fits
 -- what functions gave, with what they left
 pub mod Given
@@ -8,3 +8,7 @@ pub mod Laws
 pub mod Lookups
 -- what may be opened or made
 pub mod Makes
+-- a pipe's size
+pub mod Sizes
+-- what contracts see of a store
+pub mod Store

@@ -8,7 +8,7 @@ use Rattle.qx_iofunc.specs.declared.found.New.{New}
 use Rattle.qx_machine.specs.Inodes.{Inodes, block_number, has, inode_number, writes}
 use Rattle.qx_machine.specs.Judgements.{◌>>=◌, found, need}
 use Rattle.qx_machine.specs.Names.{is_directory}
-use Rattle.qx_machine.specs.Opening.{allows, writable}
+use Rattle.qx_machine.specs.Defaults.{allows, writable}
 use Rattle.qx_machine.specs.Rows.{row_at}
 
 abbrev pub may_open : Inodes → ℕ → ℕ → OFlags → Result (Unit {0}) Errno

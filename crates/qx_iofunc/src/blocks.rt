@@ -1,15 +1,19 @@
 //! Messages over what is open.
 
-ghost use Rattle.std.specs.Prelude.{◌≡◌, [], OnErr};
-ghost use Rattle.qx_iofunc.specs.Fits.{Fits};
-ghost use Rattle.qx_iofunc.specs.Given.{changed_to, replied, status_of, told};
-ghost use Rattle.qx_machine.specs.Names as of_names;
-ghost use Rattle.qx_machine.specs.Opening as machine;
+ghost use Rattle.std.specs.Prelude.{◌≡◌, ℕ, [], Ok, IfOk, OnErr};
+ghost use Rattle.std.specs.Result.{result_map_both};
+ghost use Rattle.qx_iofunc.specs.Given as given;
+ghost use Rattle.qx_iofunc.specs.Store.{block_gone, unused_gone, within};
+ghost use Rattle.qx_machine.specs.Defaults as machine;
+ghost use Rattle.qx_machine.specs.Inodes.{close_block, is_unused};
+ghost use Rattle.qx_machine.specs.Resources.{Resources};
+ghost use Rattle.qx_machine.specs.Rows.{row_at};
 
 use crate::entries::is_own;
+use crate::found::Closed;
+use crate::store::Store;
 use qx_attr::{Inodes, Ocb, Reply, Status};
-use qx_machine::{Attribute, Kind};
-use qx_names::Names;
+use qx_machine::{Attribute, Kind, Opened};
 use qx_types::Errno;
 
 /// The number of the root of a user's top.
@@ -17,7 +21,7 @@ const TOP_INODE: u32 = 1;
 
 /// An open control block of a directory or of an inode of the manager's own kind (Writing a Resource Manager:
 /// `iofunc_ocb_t`). EBADF without one.
-pub fn own_block(inodes: &Inodes, number: u16, own: Kind) -> Result<Ocb, Errno>
+fn own_block(inodes: &Inodes, number: u16, own: Kind) -> Result<Ocb, Errno>
     ensures block { result ≡ machine.own_block inodes.now.inodes number own }
 {
     let Some(block) = inodes.block(number) else {
@@ -29,63 +33,77 @@ pub fn own_block(inodes: &Inodes, number: u16, own: Kind) -> Result<Ocb, Errno>
     }
 }
 
-/// The status of what is open (C Library Reference: `fstat`). EBADF without a block.
-pub fn fstat(inodes: &Inodes, number: u16) -> Result<Status, Errno>
-    ensures status { status_of result ≡ machine.stat_block inodes.now.inodes number }
-{
-    let Some(block) = inodes.block(number) else {
-        return Err(Errno::EBADF);
-    };
-    inodes.stat_of(block.inode).ok_or(Errno::EBADF)
-}
-
-/// Writes the names in a directory that is open, behind one, into a reply, each followed by a zero byte, as many whole ones
-/// as fit 4,096 bytes, and gives their number (C Library Reference: `readdir`; how a listing is cut is this profile). EBADF
-/// without a block, ENOTDIR on what is no directory.
-pub fn list(
-    inodes: &Inodes,
-    names: &Names,
-    number: u16,
-    after: &[u8],
-    reply: &mut Reply,
-) -> Result<u64, Errno>
-    requires empty { reply.old ≡ [] }
-    ensures listed { replied reply.new result ≡ told (machine.list_block inodes.now.inodes names.now number after.now) }
-    ensures kept { OnErr result (reply.new ≡ []) }
-{
-    let Some(block) = inodes.block(number) else {
-        return Err(Errno::EBADF);
-    };
-    let Some(attr) = inodes.attr(block.inode) else {
-        return Err(Errno::EBADF);
-    };
-    if attr.attribute.kind != Kind::Directory {
-        return Err(Errno::ENOTDIR);
+impl Store {
+    /// The status of what is open (C Library Reference: `fstat`). EBADF without a block.
+    pub fn fstat(&self, opened: Opened) -> Result<Status, Errno>
+        ensures status { (r : Resources) (moment : ℕ) → given.status_told (within r self.now.stored) result ≡ machine.stat_block (within r self.now.stored) opened moment }
+    {
+        let Some(block) = self.tables.inodes.block(opened.number) else {
+            return Err(Errno::EBADF);
+        };
+        self.tables.inodes.stat_of(block.inode).ok_or(Errno::EBADF)
     }
-    Ok(names.list(block.inode, after, reply))
-}
 
-/// Sets the mode of what is open (C Library Reference: `fchmod`). EBADF without a block, EPERM where that is the user's top.
-pub fn chmod(inodes: &mut Inodes, number: u16, moment: u64, mode: u16) -> Result<(), Errno>
-    ensures changed { changed_to inodes.new.inodes result ≡ machine.chmod_block inodes.old.inodes number moment mode }
-    ensures kept { OnErr result (inodes.new ≡ inodes.old) }
-    ensures fits { (names : of_names.Names) → Fits inodes.old.inodes names → Fits inodes.new.inodes names }
-{
-    let Some(block) = inodes.block(number) else {
-        return Err(Errno::EBADF);
-    };
-    let inode = block.inode;
-    if inode == TOP_INODE {
-        return Err(Errno::EPERM);
+    /// Writes the names in a directory that is open, behind one, into a reply, each followed by a zero byte, as many whole
+    /// ones as fit 4,096 bytes, and gives their number (C Library Reference: `readdir`; how a listing is cut is this
+    /// profile). EBADF without a block, ENOTDIR on what is no directory.
+    pub fn list(&self, opened: Opened, after: &[u8], reply: &mut Reply) -> Result<u64, Errno>
+        requires empty { reply.old ≡ [] }
+        ensures listed { (r : Resources) (moment : ℕ) → given.replied reply.new (within r self.now.stored) result ≡ machine.list_block (within r self.now.stored) opened after.now moment }
+        ensures kept { OnErr result (reply.new ≡ []) }
+    {
+        let Some(block) = self.tables.inodes.block(opened.number) else {
+            return Err(Errno::EBADF);
+        };
+        let Some(attr) = self.tables.inodes.attr(block.inode) else {
+            return Err(Errno::EBADF);
+        };
+        if attr.attribute.kind != Kind::Directory {
+            return Err(Errno::ENOTDIR);
+        }
+        Ok(self.tables.names.list(block.inode, after, reply))
     }
-    let Some(attr) = inodes.attr(inode) else {
-        return Err(Errno::EBADF);
-    };
-    let attribute = Attribute {
-        mode,
-        ctime: moment,
-        ..attr.attribute
-    };
-    inodes.set_attribute(inode, attribute);
-    Ok(())
+
+    /// Sets the mode of what is open (C Library Reference: `fchmod`). EBADF without a block, EPERM where that is the user's
+    /// top.
+    pub fn chmod(&mut self, opened: Opened, mode: u16, moment: u64) -> Result<(), Errno>
+        ensures user { self.new.stored.user ≡ self.old.stored.user }
+        ensures changed { (r : Resources) → given.done (within r self.new.stored) result ≡ machine.chmod_block (within r self.old.stored) opened mode moment }
+        ensures kept { OnErr result (self.new ≡ self.old) }
+    {
+        let Some(block) = self.tables.inodes.block(opened.number) else {
+            return Err(Errno::EBADF);
+        };
+        let inode = block.inode;
+        if inode == TOP_INODE {
+            return Err(Errno::EPERM);
+        }
+        let Some(attr) = self.tables.inodes.attr(inode) else {
+            return Err(Errno::EBADF);
+        };
+        let attribute = Attribute {
+            mode,
+            ctime: moment,
+            ..attr.attribute
+        };
+        self.tables.inodes.set_attribute(inode, attribute);
+        Ok(())
+    }
+
+    /// Takes an open control block of a directory or of an inode of the manager's own kind away (C Library Reference:
+    /// `close`), and what was open with it, with the bytes of a file, where nothing names that and nothing else has it open.
+    /// EBADF without such a block.
+    pub fn close(&mut self, own: Kind, number: u16) -> Result<Closed, Errno>
+        ensures block { result_map_both (λ c. c.inode) (λ error. error) result ≡ result_map_both (λ block. block.inode) (λ error. error) (machine.own_block self.old.stored.inodes number own) }
+        ensures gone { IfOk result (λ c. c.is_gone ≡ is_unused (close_block self.old.stored.inodes number) c.inode (row_at self.old.stored.inodes.attributes c.inode)) }
+        ensures closed { IfOk result (λ c. self.new ≡ record self.old { stored = unused_gone own c.inode (block_gone number self.old.stored) }) }
+        ensures kept { OnErr result (self.new ≡ self.old) }
+    {
+        let block = own_block(&self.tables.inodes, number, own)?;
+        self.tables.inodes.close_block(number);
+        Ok(Closed {
+            inode: block.inode,
+            is_gone: self.tables.free(own, block.inode),
+        })
+    }
 }

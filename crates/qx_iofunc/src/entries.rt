@@ -4,7 +4,8 @@ ghost use Rattle.std.specs.Prelude.{◌≡◌, ◌<◌, ◌-◌, Ok, IsOk, IsSom
 ghost use Rattle.qx_attr.specs.Counts.{numbered};
 ghost use Rattle.qx_iofunc.specs.Makes.{may_make, may_make_directory, may_open};
 ghost use Rattle.qx_machine.specs.Inodes as of_inodes;
-ghost use Rattle.qx_machine.specs.Opening as machine;
+ghost use Rattle.qx_machine.specs.Attributes as attributes;
+ghost use Rattle.qx_machine.specs.Defaults as machine;
 ghost use Rattle.qx_machine.specs.Rows.{row_at};
 
 use crate::found::New;
@@ -119,6 +120,21 @@ pub fn new_attribute(kind: Kind, mode: u16, user: User, moment: u64) -> Attribut
         size: 0,
         mtime: moment,
         ctime: moment,
+    }
+}
+
+/// The root of a mount of a user, at first.
+pub fn root_attribute(user: User) -> Attribute
+    ensures { result ≡ attributes.root_attribute user.0 }
+{
+    Attribute {
+        kind: Kind::Directory,
+        mode: 0o700,
+        links: 1,
+        owner: user.0 as u32,
+        size: 0,
+        mtime: 0,
+        ctime: 0,
     }
 }
 

@@ -22,3 +22,10 @@ pub struct Opening {
     pub inode: u32,
     pub is_new: bool,
 }
+
+/// What a close took away: an open control block of that inode, and the inode with it or not.
+#[derive(Clone, Copy)]
+pub struct Closed {
+    pub inode: u32,
+    pub is_gone: bool,
+}

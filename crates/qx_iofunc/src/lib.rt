@@ -1,4 +1,5 @@
-//! What any resource manager does by default with inodes, open control blocks and names.
+//! What a user has under names and numbers, and what any resource manager does by default with it (Writing a Resource
+//! Manager: the iofunc layer).
 #![tactic(auto)]
 
 pub mod blocks;
@@ -7,8 +8,8 @@ pub mod found;
 pub mod laws;
 pub mod opening;
 pub mod paths;
+pub mod store;
+mod tables;
 
-pub use blocks::{chmod, fstat, list, own_block};
-pub use found::{Lookup, New, Opening};
-pub use opening::{lookup, open};
-pub use paths::{mkdir, stat, unlink};
+pub use found::{Closed, Lookup, New, Opening};
+pub use store::Store;

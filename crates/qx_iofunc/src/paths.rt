@@ -1,104 +1,110 @@
 //! Other messages to a path.
 
-ghost use Rattle.std.specs.Prelude.{◌≡◌, ◌-◌, ◌≤◌, IfOk, IsOk, OnOk, OnErr, max};
-ghost use Rattle.qx_iofunc.specs.Fits.{Fits, FitsBut};
-ghost use Rattle.qx_iofunc.specs.Given.{naming, status_of};
-ghost use Rattle.qx_machine.specs.Opening as machine;
+ghost use Rattle.std.specs.Prelude.{◌≡◌, ◌-◌, ◌≤◌, ℕ, IfOk, IsOk, OnOk, OnErr, max};
+ghost use Rattle.qx_iofunc.specs.Given as given;
+ghost use Rattle.qx_iofunc.specs.Store.{within};
+ghost use Rattle.qx_machine.specs.Defaults as machine;
+ghost use Rattle.qx_machine.specs.Resources.{Resources};
 
-use crate::entries::{changed, is_own, made, may_make_directory, new_attribute, unnamed, writable};
-use qx_attr::{Inodes, Status};
+use crate::entries::{changed, is_own, may_make_directory, unnamed, writable};
+use crate::store::Store;
+use qx_attr::Status;
 use qx_machine::Kind;
-use qx_names::Names;
-use qx_types::{Errno, User};
+use qx_types::Errno;
 use qx_wire::Rest;
 use std::alloc::AllocError;
 
-/// The status of what a path leads to (C Library Reference: `stat`; Writing a Resource Manager: `iofunc_stat`). The errors
-/// of a walk; ENOENT where nothing is there.
-pub fn stat(
-    inodes: &Inodes,
-    names: &Names,
-    user: User,
-    root: u32,
-    rest: &Rest<'_>,
-) -> Result<Status, Errno>
-    ensures status { status_of result ≡ machine.stat_path inodes.now.inodes names.now user.0 root rest.now }
-{
-    let inode = names.inode_at(inodes, user, root, rest)?;
-    inodes.stat_of(inode).ok_or(Errno::ENOENT)
-}
-
-/// Makes a directory, and gives its inode (C Library Reference: `mkdir`). The errors of a walk; EEXIST where something is
-/// there, a mount's root too; EACCES by its directory's mode; ENOSPC. Where an error comes or memory is short, nothing
-/// changes; memory is wanted only where no error comes.
-pub fn mkdir(
-    inodes: &mut Inodes,
-    names: &mut Names,
-    user: User,
-    root: u32,
-    rest: &Rest<'_>,
-    mode: u16,
-    moment: u64,
-) -> Result<Result<u32, Errno>, AllocError>
-    requires fits { Fits inodes.old.inodes names.old }
-    ensures made { IfOk result (λ r. naming inodes.new.inodes names.new r ≡ machine.make_directory inodes.old.inodes names.old user.0 root rest.now mode moment) }
-    ensures kept { IfOk result (λ r. OnErr r ((inodes.new.inodes ≡ inodes.old.inodes) × (names.new ≡ names.old))) }
-    ensures err { OnErr result ((inodes.new.inodes ≡ inodes.old.inodes) × (names.new ≡ names.old)) }
-    ensures wanted { OnErr result (IsOk (machine.make_directory inodes.old.inodes names.old user.0 root rest.now mode moment)) }
-    ensures room { IfOk result (λ r. OnOk r (inodes.new.room ≡ inodes.old.room - 1)) }
-    ensures spare { inodes.new.room ≤ max inodes.old.room 1 }
-    ensures fits { Fits inodes.new.inodes names.new }
-{
-    let at = match names.spot(inodes, user, root, rest, Errno::EEXIST) {
-        Ok(at) => at,
-        Err(error) => return Ok(Err(error)),
-    };
-    let new = match may_make_directory(inodes, user, &at) {
-        Ok(new) => new,
-        Err(error) => return Ok(Err(error)),
-    };
-    inodes.reserve(1)?;
-    names.insert(at.parent, at.name, new.inode)?;
-    made(inodes, new_attribute(Kind::Directory, mode, user, moment));
-    inodes.set_attribute(at.parent, changed(moment, new.parent));
-    Ok(Ok(new.inode))
-}
-
-/// Takes the name of an empty directory or of an inode of the manager's own kind, and gives the inode that it named, which
-/// is the caller's to free (C Library Reference: `unlink`; that it takes an empty directory is this profile). EBUSY for a
-/// mount's root; then the errors of a walk; ENOENT where nothing is there; EACCES by its directory's mode; ENOTEMPTY;
-/// ENOENT for another kind.
-pub fn unlink(
-    inodes: &mut Inodes,
-    names: &mut Names,
-    user: User,
-    root: u32,
-    rest: &Rest<'_>,
-    own: Kind,
-    moment: u64,
-) -> Result<u32, Errno>
-    requires fits { Fits inodes.old.inodes names.old }
-    ensures removed { naming inodes.new.inodes names.new result ≡ machine.remove_name inodes.old.inodes names.old user.0 root rest.now own moment }
-    ensures kept { OnErr result ((inodes.new.inodes ≡ inodes.old.inodes) × (names.new ≡ names.old)) }
-    ensures fits { IfOk result (FitsBut inodes.new.inodes names.new) }
-{
-    let at = names.spot(inodes, user, root, rest, Errno::EBUSY)?;
-    let Some(inode) = at.inode else {
-        return Err(Errno::ENOENT);
-    };
-    let parent = writable(inodes, user, at.parent)?;
-    if !names.is_empty(inode) {
-        return Err(Errno::ENOTEMPTY);
+impl Store {
+    /// The status of what a path leads to (C Library Reference: `stat`; Writing a Resource Manager: `iofunc_stat`). The
+    /// errors of a walk; ENOENT where nothing is there.
+    pub fn stat(&self, root: u32, rest: &Rest<'_>) -> Result<Status, Errno>
+        ensures status { (r : Resources) (moment : ℕ) → given.status_told (within r self.now.stored) result ≡ machine.stat_path (within r self.now.stored) root rest.now moment }
+    {
+        let inode = self
+            .tables
+            .names
+            .inode_at(&self.tables.inodes, self.tables.user, root, rest)?;
+        self.tables.inodes.stat_of(inode).ok_or(Errno::ENOENT)
     }
-    let Some(attr) = inodes.attr(inode) else {
-        return Err(Errno::ENOENT);
-    };
-    if !is_own(own, attr.attribute.kind) {
-        return Err(Errno::ENOENT);
+
+    /// Makes a directory (C Library Reference: `mkdir`). The errors of a walk; EEXIST where something is there, a mount's
+    /// root too; EACCES by its directory's mode; ENOSPC. Where an error comes or memory is short, nothing changes; memory is
+    /// wanted only where no error comes.
+    pub fn mkdir(
+        &mut self,
+        root: u32,
+        rest: &Rest<'_>,
+        mode: u16,
+        moment: u64,
+    ) -> Result<Result<(), Errno>, AllocError>
+        ensures user { self.new.stored.user ≡ self.old.stored.user }
+        ensures made { IfOk result (λ d. (r : Resources) → given.done (within r self.new.stored) d ≡ machine.make_directory (within r self.old.stored) root mode rest.now moment) }
+        ensures kept { IfOk result (λ d. OnErr d (self.new ≡ self.old)) }
+        ensures err { OnErr result (self.new.stored ≡ self.old.stored) }
+        ensures wanted { OnErr result ((r : Resources) → IsOk (machine.make_directory (within r self.old.stored) root mode rest.now moment)) }
+        ensures room { IfOk result (λ d. OnOk d (self.new.room ≡ self.old.room - 1)) }
+        ensures spare { self.new.room ≤ max self.old.room 1 }
+    {
+        let at = match self.tables.names.spot(
+            &self.tables.inodes,
+            self.tables.user,
+            root,
+            rest,
+            Errno::EEXIST,
+        ) {
+            Ok(at) => at,
+            Err(error) => return Ok(Err(error)),
+        };
+        let new = match may_make_directory(&self.tables.inodes, self.tables.user, &at) {
+            Ok(new) => new,
+            Err(error) => return Ok(Err(error)),
+        };
+        self.tables.inodes.reserve(1)?;
+        self.tables.make(at, new, Kind::Directory, mode, moment)?;
+        Ok(Ok(()))
     }
-    let unnamed = unnamed(moment, attr.attribute);
-    inodes.set_attribute(at.parent, changed(moment, parent));
-    inodes.set_attribute(inode, unnamed);
-    names.remove(at.parent, at.name);
-    Ok(inode)
+
+    /// Takes the name of an empty directory or of an inode of the manager's own kind, and what it named, unless that is
+    /// open; tells which inode went (C Library Reference: `unlink`; that it takes an empty directory is this profile). EBUSY
+    /// for a mount's root; then the errors of a walk; ENOENT where nothing is there; EACCES by its directory's mode;
+    /// ENOTEMPTY; ENOENT for another kind.
+    pub fn unlink(
+        &mut self,
+        own: Kind,
+        root: u32,
+        rest: &Rest<'_>,
+        moment: u64,
+    ) -> Result<Option<u32>, Errno>
+        ensures user { self.new.stored.user ≡ self.old.stored.user }
+        ensures unlinked { (r : Resources) → given.unlinked own (within r self.new.stored) result ≡ machine.unlink_path own (within r self.old.stored) root rest.now moment }
+        ensures kept { OnErr result (self.new ≡ self.old) }
+    {
+        let at = self.tables.names.spot(
+            &self.tables.inodes,
+            self.tables.user,
+            root,
+            rest,
+            Errno::EBUSY,
+        )?;
+        let Some(inode) = at.inode else {
+            return Err(Errno::ENOENT);
+        };
+        let parent = writable(&self.tables.inodes, self.tables.user, at.parent)?;
+        if !self.tables.names.is_empty(inode) {
+            return Err(Errno::ENOTEMPTY);
+        }
+        let Some(attr) = self.tables.inodes.attr(inode) else {
+            return Err(Errno::ENOENT);
+        };
+        if !is_own(own, attr.attribute.kind) {
+            return Err(Errno::ENOENT);
+        }
+        let unnamed = unnamed(moment, attr.attribute);
+        self.tables
+            .inodes
+            .set_attribute(at.parent, changed(moment, parent));
+        self.tables.inodes.set_attribute(inode, unnamed);
+        self.tables.names.remove(at.parent, at.name);
+        Ok(self.tables.free(own, inode).then_some(inode))
+    }
 }

@@ -1,13 +1,17 @@
 -- Who waits in a pipe afterwards, or is answered, waited there before or made the call: a property that all of those have, these have.
 use Rattle.std.proofs.Common.{◌≡◌, inl, inr, ℕ, ◌==◌, List, [], ◌∷◌, ◌++◌, length, drop, map, Bool, true, false, refl, sym, subst}
-use Rattle.std.specs.Prelude.{◌&&◌, ◌||◌, Option, Some, None, Result, Ok, Err, IfOk, filter, is_some, not, position, if◌then◌else◌}
+use Rattle.std.specs.Prelude.{ℤ, ◌&&◌, ◌||◌, Option, Some, None, Result, Ok, Err, IfOk, filter, is_some, nat_le, not, position, slice_set, if◌then◌else◌}
 use Rattle.std.specs.List.{AllByRecursion}
 use Rattle.std.proofs.lemmas.Bool.{cond_both}
 use Rattle.std.proofs.lemmas.Option.{same_Some}
 use Rattle.std.proofs.lemmas.Result.{IfOk-at_ok, IfOk-weaker}
 use Rattle.qx_types.specs.declared.errno.Errno.{Errno}
-use Rattle.qx_types.specs.declared.errno.Errno.TheVariants.{EBADF, EINVAL, EISDIR, EPIPE}
+use Rattle.qx_types.specs.declared.errno.Errno.TheVariants.{EACCES, EBADF, EBUSY, EEXIST, EINVAL, EISDIR, ENOENT, ENOTEMPTY, EPIPE}
+use Rattle.qx_types.specs.declared.fields.Whence.{Whence}
 use Rattle.qx_types.specs.declared.flags.OFlags.{OFlags}
+use Rattle.qx_types.specs.declared.flags.TheConstants.OFlags.{CREAT, EXCL, TRUNC}
+use Rattle.qx_types.specs.declared.limits.TheConstants.Limits.{OFFSET}
+use Rattle.qx_types.specs.declared.names.Coid.{Coid}
 use Rattle.qx_types.specs.declared.names.Manager.{Manager}
 use Rattle.qx_types.specs.declared.names.Manager.TheVariants as managers
 use Rattle.qx_types.specs.declared.outcome.Answer.{Answer}
@@ -19,24 +23,34 @@ use Rattle.qx_wire.specs.declared.message.Message.{Message}
 use Rattle.qx_wire.specs.declared.message.Message.TheVariants as msg
 use Rattle.qx_machine.specs.declared.rows.Caller.{Caller}
 use Rattle.qx_machine.specs.declared.rows.Effect.{Effect}
+use Rattle.qx_machine.specs.declared.rows.Attribute.{Attribute}
+use Rattle.qx_machine.specs.declared.rows.Kind.{Kind}
+use Rattle.qx_machine.specs.declared.rows.Kind.TheVariants as kind
+use Rattle.qx_machine.specs.declared.rows.Kind.TheVariants.{Directory, File}
 use Rattle.qx_machine.specs.declared.rows.Manner.{Manner}
+use Rattle.qx_machine.specs.declared.rows.NewOpen.{NewOpen}
 use Rattle.qx_machine.specs.declared.rows.Opened.{Opened}
 use Rattle.qx_machine.specs.declared.rows.Sides.{Sides}
 use Rattle.qx_machine.specs.declared.rows.Target.{Target}
 use Rattle.qx_machine.specs.declared.rows.WaitingCall.{WaitingCall}
+use Rattle.qx_machine.specs.declared.rows.Wish.{Wish}
+use Rattle.qx_machine.specs.Defaults.{Made, allows, chmod_block, close, is_own, list_block, made_at, make_directory, open_at, open_existing, open_missing, open_path, opened, own_block, stat_block, stat_path, unlink_path, without_block, without_name, without_unused, writable}
+use Rattle.qx_machine.specs.Files.{base, moved_by}
 use Rattle.qx_machine.specs.Functions.{Deed, Reply, existing_coid, new_open, reply_alone, side_root}
-use Rattle.qx_machine.specs.Inodes.{Inodes, is_unused, reads, writes}
+use Rattle.qx_machine.specs.Inodes.{block_number, has, is_unused, new_attribute, new_inode, open_block, reads, writes}
 use Rattle.qx_machine.specs.Judgements.{◌>>=◌, found, need}
-use Rattle.qx_machine.specs.Managers.{manager_deed, pipe_replied, with_pipes}
-use Rattle.qx_machine.specs.Names.{Names}
-use Rattle.qx_machine.specs.Opening.{Opening}
-use Rattle.qx_machine.specs.Parts.{Part, Resources}
+use Rattle.qx_machine.specs.Managers.{manager_deed}
+use Rattle.qx_machine.specs.Names.{Spot, is_directory, is_empty, names_in, spot}
+use Rattle.qx_machine.specs.Parts.{Part}
 use Rattle.qx_machine.specs.Performing.{Served, answered_changes, deed_of, opened_by, read_message, serve_pulse, with_answers}
-use Rattle.qx_machine.specs.PipeManager.{Pipes, PipesGiven, cancel_call, cancel_waiting, holds, is_call, is_gone, offered, open_pipe, opened_pipe, read_call, read_pipe, release_pipe, released, unlink_pipe, waiting_call, wanted, with_after, with_pipe, without_unused, write_call, write_pipe}
+use Rattle.qx_machine.specs.PipeManager.{cancel_call, read_pipe, released, seek_pipe, with_after, write_pipe}
 use Rattle.qx_machine.specs.Pipes.{After, Pipe, all_answered, and_then, cancel, clean, clean_read, clean_write, dismissed, first_answered, fits, nobody_answered, one_answered, portion, read, readers_dismissed, readers_ended, release, removed, served, settle, waiting_unless, without_bytes, write, writers_dismissed, writers_ended}
 use Rattle.qx_machine.specs.Processes.{Process}
+use Rattle.qx_machine.specs.RamManager.{emptied, read_file, seek_file, write_file, written_at}
+use Rattle.qx_machine.specs.Resources.{Resources, with_empty, without_content}
 use Rattle.qx_machine.specs.Rows.{row_at}
 use Rattle.qx_machine.specs.Servers.{is_numbered}
+use Rattle.qx_machine.specs.Waiting.{Pipes, holds, is_call, is_gone, offered, waiting_call, wanted}
 use Rattle.qx_machine.proofs.Places.{row_at-set_cases}
 
 module _ {A : Type 0} (P : A → Type 0) where
@@ -183,8 +197,8 @@ module _ {W : Type 0} (P : W → Type 0) where
 -- ---- judgements
 
 -- what a judgement gives, if it gives anything, has the property
-record Gives {A E : Type 0} (Q : A → Type 0) (given : Result A E) : Type 0 where
-  gives : IfOk given Q
+pub record Gives {A E : Type 0} (Q : A → Type 0) (given : Result A E) : Type 0 where
+  pub gives : IfOk given Q
 
 gives_on : {A B E : Type 0} (Q : B → Type 0) (first : Result A E) (next : A → Result B E) → ((value : A) → first ≡ Ok value → Gives Q (next value)) → Gives Q (first >>= next)
 gives_on Q (Ok value) next h = h value refl
@@ -206,136 +220,212 @@ found-row : {A E : Type 0} (row : Option A) (error : E) (value : A) → found ro
 found-row None error value is = absurd (cc)
 found-row (Some there) error value is = cc
 
+-- a judgement whose first part gives what has a property
+gives_by : {A B E : Type 0} (Q : A → Type 0) (R : B → Type 0) (first : Result A E) (next : A → Result B E) → Gives Q first → ((value : A) → Q value → Gives R (next value)) → Gives R (first >>= next)
+gives_by Q R first next h each = gives_on R first next (λ value is. each value (gives-value Q first value is h))
+
 -- ---- the pipes of a user
 
-module _ {W : Type 0} (P : W → Type 0) where
+module _ (P : WaitingCall → Type 0) where
   -- who waits in any of the pipes has the property
-  pub record InPipes (pipes : Pipes W) : Type 0 where
-    pub each : (inode : ℕ) (pipe : Pipe W) → row_at pipes inode ≡ Some pipe → InPipe P pipe
+  pub record InPipes (pipes : Pipes) : Type 0 where
+    pub each : (inode : ℕ) (pipe : Pipe WaitingCall) → row_at pipes inode ≡ Some pipe → InPipe P pipe
 
-  -- who waits in any of the pipes as they are then, and who was answered
-  pub record InGiven (given : PipesGiven W) : Type 0 where
-    pub pipes : InPipes given.pipes
-    pub answers : Answered P given.answers
+  -- who waits in the pipes after a deed, and who is answered by it
+  pub record InDeed (deed : Deed Resources) : Type 0 where
+    pub pipes : InPipes deed.state.pipes
+    pub answers : Answered P deed.answers
 
-  nobody_given : (status : ℕ) (inodes : Inodes) (pipes : Pipes W) → InPipes pipes → InGiven (record { status = status; inodes = inodes; pipes = pipes; answers = [] })
-  nobody_given status inodes pipes h = record { pipes = h; answers = tt }
-
-  with_pipe-keeps : (pipes : Pipes W) (inode : ℕ) (row : Option (Pipe W)) → InPipes pipes → ((pipe : Pipe W) → row ≡ Some pipe → InPipe P pipe) → InPipes (with_pipe pipes inode row)
-  with_pipe-keeps pipes inode row h new = record {
+  set-keeps : (pipes : Pipes) (inode : ℕ) (row : Option (Pipe WaitingCall)) → InPipes pipes → ((pipe : Pipe WaitingCall) → row ≡ Some pipe → InPipe P pipe) → InPipes (slice_set pipes inode row)
+  set-keeps pipes inode row h new = record {
     each = λ other pipe here. elim (row_at-set_cases pipes inode other row pipe here) [ inl before ↦ h.each other pipe before | inr put ↦ new pipe put ];
   }
 
-  without_pipe-keeps : (pipes : Pipes W) (inode : ℕ) → InPipes pipes → InPipes (with_pipe pipes inode None)
-  without_pipe-keeps pipes inode h = with_pipe-keeps pipes inode None h (λ pipe none. absurd (cc))
+  empty-keeps : (kind : Kind) (inode : ℕ) (r : Resources) → InPipes r.pipes → InPipes (with_empty kind inode r).pipes
+  empty-keeps File inode r h = h
+  empty-keeps Directory inode r h = h
+  empty-keeps kind.Pipe inode r h = set-keeps r.pipes inode _ h (λ pipe made. subst (InPipe P) (same_Some _ _ made) (record { readers = tt; writers = tt }))
 
-  without_unused-keeps : (given : PipesGiven W) (inode : ℕ) → InGiven given → InGiven (without_unused given inode)
-  without_unused-keeps given inode h = record {
-    pipes = cond_both (is_unused given.inodes inode (row_at given.inodes.attributes inode)) _ _ InPipes (λ unused. without_pipe-keeps given.pipes inode h.pipes) (λ used. h.pipes);
-    answers = h.answers;
-  }
-
-  -- ---- what a path leads to
-
-  opened_pipe-keeps : (pipes : Pipes W) (opening : Opening) → InPipes pipes → InGiven (opened_pipe pipes opening)
-  opened_pipe-keeps pipes opening h = record {
-    pipes =
-        cond_both opening.is_new _ _ InPipes
-        (λ new. with_pipe-keeps pipes opening.inode _ h (λ pipe made. subst (InPipe P) (same_Some _ _ made) (record { readers = tt; writers = tt }))) (λ old. h);
-    answers = tt;
-  }
-
-  pub open_pipe-keeps : (inodes : Inodes) (names : Names) (pipes : Pipes W) (user root : ℕ) (rest : List (List ℕ)) (flags : OFlags) (mode moment : ℕ) (done : Names × PipesGiven W)
-      → open_pipe inodes names pipes user root rest flags mode moment ≡ Ok done → InPipes pipes → InGiven done.1
-  open_pipe-keeps inodes names pipes user root rest flags mode moment done is h =
-      gives-value (λ done. InGiven done.1) _ done is (search (gives_on, gives_done, opened_pipe-keeps))
-
-  pub unlink_pipe-keeps : (inodes : Inodes) (names : Names) (pipes : Pipes W) (user root : ℕ) (rest : List (List ℕ)) (moment : ℕ) (done : Names × PipesGiven W)
-      → unlink_pipe inodes names pipes user root rest moment ≡ Ok done → InPipes pipes → InGiven done.1
-  unlink_pipe-keeps inodes names pipes user root rest moment done is h =
-      gives-value (λ done. InGiven done.1) _ done is (search (gives_on, gives_done, without_unused-keeps, nobody_given))
+  content-keeps : (kind : Kind) (inode : ℕ) (r : Resources) → InPipes r.pipes → InPipes (without_content kind inode r).pipes
+  content-keeps File inode r h = h
+  content-keeps Directory inode r h = h
+  content-keeps kind.Pipe inode r h = set-keeps r.pipes inode None h (λ pipe none. absurd (cc))
 
   -- ---- what is done to a pipe
 
-  module _ (wanted : W → ℕ) (offered : W → List ℕ) (gone : W → Bool) where
-    with_after-keeps : (inodes : Inodes) (pipes : Pipes W) (inode moment : ℕ) (after : After W) → InPipes pipes → InAfter P after → InGiven (with_after wanted offered gone inodes pipes inode moment after)
-    with_after-keeps inodes pipes inode moment after h k = record {
-      pipes = with_pipe-keeps pipes inode (Some after.pipe) h (λ pipe put. subst (InPipe P) (same_Some _ _ put) k.pipe);
-      answers = k.answers;
-    }
+  after-keeps : (r : Resources) (inode moment : ℕ) (after : After WaitingCall) → InPipes r.pipes → InAfter P after → InDeed (with_after r inode moment after)
+  after-keeps r inode moment after h k = record {
+    pipes = set-keeps r.pipes inode (Some after.pipe) h (λ pipe put. subst (InPipe P) (same_Some _ _ put) k.pipe);
+    answers = k.answers;
+  }
 
-    pub read_pipe-keeps : (inodes : Inodes) (pipes : Pipes W) (number : ℕ) (is_asked : Bool) (reader : W) (moment : ℕ) (given : PipesGiven W)
-        → read_pipe wanted offered gone inodes pipes number is_asked reader moment ≡ Ok given → InPipes pipes → P reader → InGiven given
-    read_pipe-keeps inodes pipes number is_asked reader moment given is h own =
-        gives-value InGiven _ given is
-        (gives_on _ (found (row_at inodes.blocks number) EBADF) _ (λ block opened.
-        gives_on _ (need (reads block.flags) EBADF) _ (λ may allowed.
-        gives_on _ (found (row_at pipes block.inode) EISDIR) _ (λ pipe here.
-        gives_done _ _ (with_after-keeps inodes pipes block.inode moment _ h (read-keeps P wanted offered gone _ reader pipe own (h.each block.inode pipe (found-row _ _ pipe here))))))))
+  read-gives : (r : Resources) (over : Opened) (count moment : ℕ) → InPipes r.pipes → P (waiting_call over count []) → Gives InDeed (read_pipe r over count moment)
+  read-gives r over count moment h own =
+      gives_on _ (found (row_at r.inodes.blocks over.number) EBADF) _ (λ block opened.
+      gives_on _ (need (reads block.flags) EBADF) _ (λ may allowed.
+      gives_on _ (found (row_at r.pipes block.inode) EISDIR) _ (λ pipe here.
+      gives_done _ _ (after-keeps r block.inode moment _ h (read-keeps P wanted offered is_gone _ _ pipe own (h.each block.inode pipe (found-row _ _ pipe here)))))))
 
-    pub write_pipe-keeps : (inodes : Inodes) (pipes : Pipes W) (number : ℕ) (is_asked : Bool) (writer : W) (moment : ℕ) (given : PipesGiven W)
-        → write_pipe wanted offered gone inodes pipes number is_asked writer moment ≡ Ok given → InPipes pipes → P writer → InGiven given
-    write_pipe-keeps inodes pipes number is_asked writer moment given is h own =
-        gives-value InGiven _ given is
-        (gives_on _ (found (row_at inodes.blocks number) EBADF) _ (λ block opened.
-        gives_on _ (need (writes block.flags) EBADF) _ (λ may allowed.
-        gives_on _ (found (row_at pipes block.inode) EBADF) _ (λ pipe here.
-        gives_done _ _ (with_after-keeps inodes pipes block.inode moment _ h (write-keeps P wanted offered gone _ writer pipe own (h.each block.inode pipe (found-row _ _ pipe here))))))))
+  write-gives : (r : Resources) (over : Opened) (bytes : List ℕ) (moment : ℕ) → InPipes r.pipes → P (waiting_call over 0 bytes) → Gives InDeed (write_pipe r over bytes moment)
+  write-gives r over bytes moment h own =
+      gives_on _ (found (row_at r.inodes.blocks over.number) EBADF) _ (λ block opened.
+      gives_on _ (need (writes block.flags) EBADF) _ (λ may allowed.
+      gives_on _ (found (row_at r.pipes block.inode) EBADF) _ (λ pipe here.
+      gives_done _ _ (after-keeps r block.inode moment _ h (write-keeps P wanted offered is_gone _ _ pipe own (h.each block.inode pipe (found-row _ _ pipe here)))))))
 
-    released-keeps : (is_on_it : W → Bool) (inodes : Inodes) (pipes : Pipes W) (inode moment : ℕ) (row : Option (Pipe W)) → InPipes pipes → ((pipe : Pipe W) → row ≡ Some pipe → InPipe P pipe)
-        → InGiven (released wanted offered gone is_on_it inodes pipes inode moment row)
-    released-keeps is_on_it inodes pipes inode moment None h here = record { pipes = h; answers = tt }
-    released-keeps is_on_it inodes pipes inode moment (Some pipe) h here = with_after-keeps inodes pipes inode moment _ h (release-keeps P wanted offered gone is_on_it _ pipe (here pipe refl))
+  released-keeps : (r : Resources) (number inode moment : ℕ) (row : Option (Pipe WaitingCall)) → InPipes r.pipes → ((pipe : Pipe WaitingCall) → row ≡ Some pipe → InPipe P pipe) → InDeed (released r number inode moment row)
+  released-keeps r number inode moment None h here = record { pipes = h; answers = tt }
+  released-keeps r number inode moment (Some pipe) h here = after-keeps r inode moment _ h (release-keeps P wanted offered is_gone _ _ pipe (here pipe refl))
 
-    pub release_pipe-keeps : (block_of : W → ℕ) (inodes : Inodes) (pipes : Pipes W) (number moment : ℕ) (given : PipesGiven W)
-        → release_pipe wanted offered gone block_of inodes pipes number moment ≡ Ok given → InPipes pipes → InGiven given
-    release_pipe-keeps block_of inodes pipes number moment given is h =
-        gives-value InGiven _ given is (search (gives_on, gives_done, without_unused-keeps, released-keeps, h.each))
+  pub cancel-gives : (r : Resources) (process thread call moment : ℕ) → InPipes r.pipes → Gives InDeed (cancel_call r process thread call moment)
+  cancel-gives r process thread call moment h =
+      gives_on _ (found (position (holds (is_call process thread call)) r.pipes) WrongState) _ (λ inode at.
+      gives_on _ (found (row_at r.pipes inode) WrongState) _ (λ pipe here.
+      gives_done _ _ (after-keeps r inode moment _ h (cancel-keeps P wanted offered is_gone _ pipe (h.each inode pipe (found-row _ _ pipe here))))))
 
-    pub cancel_waiting-keeps : (inodes : Inodes) (pipes : Pipes W) (which : W → Bool) (moment : ℕ) (given : PipesGiven W)
-        → cancel_waiting wanted offered gone inodes pipes which moment ≡ Ok given → InPipes pipes → InGiven given
-    cancel_waiting-keeps inodes pipes which moment given is h =
-        gives-value InGiven _ given is
-        (gives_on _ (found (position (holds which) pipes) WrongState) _ (λ inode at.
-        gives_on _ (found (row_at pipes inode) WrongState) _ (λ pipe here.
-        gives_done _ _ (with_after-keeps inodes pipes inode moment _ h (cancel-keeps P wanted offered gone which pipe (h.each inode pipe (found-row _ _ pipe here)))))))
+-- ---- deeds that reply
 
--- ---- deeds
+-- the message is replied to, nobody else is answered, and the pipes have a property
+pub record Quiet (K : Pipes → Type 0) (deed : Deed Resources) : Type 0 where
+  pub replied : is_some deed.reply ≡ true
+  pub pipes : K deed.state.pipes
+  pub answers : deed.answers ≡ []
+
+module _ (K : Pipes → Type 0) where
+  reply-quiet : (status : ℕ) (bytes : List ℕ) (effect : Effect) (state : Resources) → K state.pipes → Quiet K (reply_alone status bytes effect state)
+  reply-quiet status bytes effect state h = record { replied = refl; pipes = h; answers = refl }
+
+  emptied-keeps : (flags : OFlags) (inode moment : ℕ) (r : Resources) → K r.pipes → K (emptied flags inode moment r).pipes
+  emptied-keeps flags inode moment r h = cond_both (has flags TRUNC && writes flags && is_some (row_at r.files inode)) _ r (λ (s : Resources). K s.pipes) (λ is. h) (λ is_not. h)
+
+  opened-gives : (coid : Coid) (flags : OFlags) (inode : ℕ) (r : Resources) → K r.pipes → Gives (Quiet K) (opened coid flags inode r)
+  opened-gives coid flags inode r h = gives_on _ (open_block r.inodes inode flags) _ (λ block is. gives_done _ _ (reply-quiet _ _ _ _ h))
+
+  existing-gives : (r : Resources) (coid : Coid) (inode : ℕ) (wish : Wish) → K r.pipes → Gives (Quiet K) (open_existing r coid inode wish)
+  existing-gives r coid inode wish h =
+      gives_on _ (found (row_at r.inodes.attributes inode) ENOENT) _ (λ attribute there.
+      gives_on _ (need (not (has wish.flags CREAT && has wish.flags EXCL)) EEXIST) _ (λ shared is_shared.
+      gives_on _ (need (not (is_directory attribute.kind && writes wish.flags)) EISDIR) _ (λ fitting is_fitting.
+      gives_on _ (need (allows attribute r.user wish.flags) EACCES) _ (λ allowed is_allowed.
+      opened-gives coid wish.flags inode (emptied wish.flags inode wish.moment r) (emptied-keeps wish.flags inode wish.moment r h)))))
+
+  made-gives : (r : Resources) (at : Spot) (parent : Attribute) (kind : Kind) (mode moment : ℕ) → ((inode : ℕ) (s : Resources) → K s.pipes → K (with_empty kind inode s).pipes) → K r.pipes
+      → Gives (λ (made : Made). K made.after.pipes) (made_at r at parent kind mode moment)
+  made-gives r at parent kind mode moment empty h = gives_on _ (new_inode r.inodes (new_attribute kind mode r.user moment)) _ (λ made is. gives_done _ _ (empty made.number _ h))
+
+  missing-gives : (r : Resources) (coid : Coid) (at : Spot) (wish : Wish) → ((inode : ℕ) (s : Resources) → K s.pipes → K (with_empty wish.kind inode s).pipes) → K r.pipes → Gives (Quiet K) (open_missing r coid at wish)
+  missing-gives r coid at wish empty h =
+      gives_on _ (need (has wish.flags CREAT) ENOENT) _ (λ making is_making.
+      gives_on _ (writable r.inodes r.user at.parent) _ (λ parent is_parent.
+      gives_on _ (block_number r.inodes) _ (λ free is_free.
+      gives_by (λ (made : Made). K made.after.pipes) _ (made_at r at parent wish.kind wish.mode wish.moment) _ (made-gives r at parent wish.kind wish.mode wish.moment empty h) (λ made kept.
+      opened-gives coid wish.flags made.inode made.after kept))))
+
+  open_at-gives : (r : Resources) (coid : Coid) (at : Spot) (there : Option ℕ) (wish : Wish) → ((inode : ℕ) (s : Resources) → K s.pipes → K (with_empty wish.kind inode s).pipes) → K r.pipes → Gives (Quiet K) (open_at r coid at there wish)
+  open_at-gives r coid at (Some inode) wish empty h = existing-gives r coid inode wish h
+  open_at-gives r coid at None wish empty h = missing-gives r coid at wish empty h
+
+  open-gives : (r : Resources) (over : NewOpen) (rest : List (List ℕ)) (wish : Wish) → ((inode : ℕ) (s : Resources) → K s.pipes → K (with_empty wish.kind inode s).pipes) → K r.pipes → Gives (Quiet K) (open_path r over rest wish)
+  open-gives r over [] wish empty h = existing-gives r over.coid over.root wish h
+  open-gives r over (name ∷ rest) wish empty h =
+      gives_on _ (spot r.inodes r.names r.user over.root (name ∷ rest) ENOENT) _ (λ at is. open_at-gives r over.coid at at.inode wish empty h)
+
+  directory-gives : (r : Resources) (root mode : ℕ) (rest : List (List ℕ)) (moment : ℕ) → K r.pipes → Gives (Quiet K) (make_directory r root mode rest moment)
+  directory-gives r root mode rest moment h =
+      gives_on _ (spot r.inodes r.names r.user root rest EEXIST) _ (λ at is.
+      gives_on _ (need (not (is_some at.inode)) EEXIST) _ (λ missing is_missing.
+      gives_on _ (writable r.inodes r.user at.parent) _ (λ parent is_parent.
+      gives_by (λ (made : Made). K made.after.pipes) _ (made_at r at parent Directory mode moment) _ (made-gives r at parent Directory mode moment (λ inode s k. k) h) (λ made kept. gives_done _ _ (reply-quiet _ _ _ _ kept)))))
+
+  -- ---- what goes
+
+  module _ (own : Kind) (content : (inode : ℕ) (s : Resources) → K s.pipes → K (without_content own inode s).pipes) where
+    unused-keeps : (inode : ℕ) (r : Resources) → K r.pipes → K (without_unused own inode r).pipes
+    unused-keeps inode r h = cond_both (is_unused r.inodes inode (row_at r.inodes.attributes inode)) _ r (λ (s : Resources). K s.pipes) (λ is. content inode _ h) (λ is_not. h)
+
+    unlink-gives : (r : Resources) (root : ℕ) (rest : List (List ℕ)) (moment : ℕ) → K r.pipes → Gives (Quiet K) (unlink_path own r root rest moment)
+    unlink-gives r root rest moment h =
+        gives_on _ (spot r.inodes r.names r.user root rest EBUSY) _ (λ at is.
+        gives_on _ (found at.inode ENOENT) _ (λ inode there.
+        gives_on _ (writable r.inodes r.user at.parent) _ (λ parent is_parent.
+        gives_on _ (need (is_empty (names_in r.names inode)) ENOTEMPTY) _ (λ empty is_empty.
+        gives_on _ (found (row_at r.inodes.attributes inode) ENOENT) _ (λ attribute has.
+        gives_on _ (need (is_own own attribute.kind) ENOENT) _ (λ mine is_mine. gives_done _ _ (reply-quiet _ _ _ _ (unused-keeps inode (without_name at parent inode attribute moment r) h))))))))
+
+  -- ---- what tells, and what moves
+
+  stat_path-gives : (r : Resources) (root : ℕ) (rest : List (List ℕ)) (moment : ℕ) → K r.pipes → Gives (Quiet K) (stat_path r root rest moment)
+  stat_path-gives r root rest moment h = search (gives_on, gives_done, reply-quiet, h)
+
+  stat_block-gives : (r : Resources) (over : Opened) (moment : ℕ) → K r.pipes → Gives (Quiet K) (stat_block r over moment)
+  stat_block-gives r over moment h = search (gives_on, gives_done, reply-quiet, h)
+
+  list-gives : (r : Resources) (over : Opened) (after : List ℕ) (moment : ℕ) → K r.pipes → Gives (Quiet K) (list_block r over after moment)
+  list-gives r over after moment h = search (gives_on, gives_done, reply-quiet, h)
+
+  chmod-gives : (r : Resources) (over : Opened) (mode moment : ℕ) → K r.pipes → Gives (Quiet K) (chmod_block r over mode moment)
+  chmod-gives r over mode moment h = search (gives_on, gives_done, reply-quiet, h)
+
+  seek_pipe-gives : (r : Resources) (over : Opened) (whence : Whence) (by : ℤ) (moment : ℕ) → Gives (Quiet K) (seek_pipe r over whence by moment)
+  seek_pipe-gives r over whence by moment = search (gives_on, gives_error)
+
+  read_file-gives : (r : Resources) (over : Opened) (count moment : ℕ) → K r.pipes → Gives (Quiet K) (read_file r over count moment)
+  read_file-gives r over count moment h = search (gives_on, gives_done, reply-quiet, h)
+
+  seek_file-gives : (r : Resources) (over : Opened) (whence : Whence) (by : ℤ) (moment : ℕ) → K r.pipes → Gives (Quiet K) (seek_file r over whence by moment)
+  seek_file-gives r over whence by moment h =
+      gives_on _ (found (row_at r.inodes.blocks over.number) EBADF) _ (λ block opened.
+      gives_on _ (found (row_at r.files block.inode) EINVAL) _ (λ bytes here.
+      gives_on _ (found (moved_by (base whence block bytes) by) EINVAL) _ (λ offset moved.
+      gives_on _ (need (nat_le offset OFFSET) EINVAL) _ (λ small is_small. gives_done _ _ (reply-quiet _ _ _ _ h)))))
+
+  written-gives : (r : Resources) (number inode : ℕ) (bytes : List ℕ) (offset : ℕ) (new : List ℕ) (moment : ℕ) → K r.pipes → Gives (Quiet K) (written_at r number inode bytes offset new moment)
+  written-gives r number inode bytes offset new moment h = search (gives_on, gives_done, reply-quiet, h)
+
+  write_file-gives : (r : Resources) (over : Opened) (new : List ℕ) (moment : ℕ) → K r.pipes → Gives (Quiet K) (write_file r over new moment)
+  write_file-gives r over new moment h =
+      gives_on _ (found (row_at r.inodes.blocks over.number) EBADF) _ (λ block opened.
+      gives_on _ (need (writes block.flags) EBADF) _ (λ may allowed.
+      gives_on _ (found (row_at r.files block.inode) EBADF) _ (λ bytes here.
+      cond_both (length new == 0) _ _ (Gives (Quiet K)) (λ none. gives_done _ _ (reply-quiet _ _ _ _ h)) (λ some. written-gives r over.number block.inode bytes _ new moment h))))
+
+-- ---- the managers
 
 -- the call of a thread over a block, to read so many bytes or to write these
 abbrev pub call_of : Caller → ℕ → ℕ → List ℕ → WaitingCall
 call_of caller block wanted bytes = record { process = caller.process; thread = caller.thread; call = caller.call; block = block; wanted = wanted; bytes = bytes }
 
--- who waits in the pipes after a deed, and who is answered by it
-pub record InDeed (P : WaitingCall → Type 0) (deed : Deed Resources) : Type 0 where
-  pub pipes : InPipes P deed.state.pipes
-  pub answers : Answered P deed.answers
-
 -- the message is replied to, nobody else is answered, and the pipes are as before
-pub record IsAlone (resources : Resources) (deed : Deed Resources) : Type 0 where
-  pub replied : is_some deed.reply ≡ true
-  pub pipes : deed.state.pipes ≡ resources.pipes
-  pub answers : deed.answers ≡ []
+abbrev pub IsAlone : Resources → Deed Resources → Type 0
+IsAlone r deed = Quiet (λ pipes. pipes ≡ r.pipes) deed
 
-pub alone-keeps : (P : WaitingCall → Type 0) (resources : Resources) (deed : Deed Resources) → IsAlone resources deed → InPipes P resources.pipes → InDeed P deed
-alone-keeps P resources deed alone h = record { pipes = subst (InPipes P) (sym alone.pipes) h; answers = subst (Answered P) (sym alone.answers) tt }
+pub alone-answers : (r : Resources) (deed : Deed Resources) → IsAlone r deed → deed.answers ≡ []
+alone-answers r deed alone = alone.answers
 
-reply-alone : (resources : Resources) (status : ℕ) (bytes : List ℕ) (effect : Effect) (state : Resources) → state.pipes ≡ resources.pipes → IsAlone resources (reply_alone status bytes effect state)
-reply-alone resources status bytes effect state same = record { replied = refl; pipes = same; answers = refl }
+pub alone-replied : (r : Resources) (deed : Deed Resources) → IsAlone r deed → is_some deed.reply ≡ true
+alone-replied r deed alone = alone.replied
 
 module _ (resources : Resources) (target : Target) (opened : Result Opened Errno) (moment : ℕ) where
+  abbrev Same : Pipes → Type 0
+  Same pipes = pipes ≡ resources.pipes
+
+  file-closed : (over : Opened) → Gives (Quiet Same) (close File resources over moment)
+  file-closed over =
+      gives_on _ (own_block resources.inodes over.number File) _ (λ block is.
+      gives_done _ _ (record { replied = refl; pipes = unused-keeps Same File (λ inode s h. h) block.inode (without_block over.number resources) refl; answers = refl }))
+
   ram-gives : (message : Message) → Gives (IsAlone resources) (manager_deed managers.Ram resources target opened moment message)
-  ram-gives (msg.Open flags mode rest) = gives_on _ (new_open target) _ (λ over is. search (gives_on, gives_done, reply-alone))
-  ram-gives (msg.Stat rest) = gives_on _ (side_root target) _ (λ over is. search (gives_on, gives_done, reply-alone))
-  ram-gives (msg.Unlink rest) = gives_on _ (side_root target) _ (λ over is. search (gives_on, gives_done, reply-alone))
-  ram-gives (msg.Mknod mode rest) = gives_on _ (side_root target) _ (λ over is. search (gives_on, gives_done, reply-alone))
-  ram-gives (msg.Read count) = gives_on _ opened _ (λ over is. search (gives_on, gives_done, reply-alone))
-  ram-gives (msg.Write bytes) = gives_on _ opened _ (λ over is. search (gives_on, gives_done, reply-alone))
-  ram-gives msg.Close = gives_on _ opened _ (λ over is. search (gives_on, gives_done, reply-alone))
-  ram-gives (msg.Lseek whence offset) = gives_on _ opened _ (λ over is. search (gives_on, gives_done, reply-alone))
-  ram-gives msg.Fstat = gives_on _ opened _ (λ over is. search (gives_on, gives_done, reply-alone))
-  ram-gives (msg.List after) = gives_on _ opened _ (λ over is. search (gives_on, gives_done, reply-alone))
-  ram-gives (msg.Chmod mode) = gives_on _ opened _ (λ over is. search (gives_on, gives_done, reply-alone))
+  ram-gives (msg.Open flags mode rest) = gives_on _ (new_open target) _ (λ over is. open-gives Same resources over rest _ (λ inode s h. h) refl)
+  ram-gives (msg.Stat rest) = gives_on _ (side_root target) _ (λ root is. stat_path-gives Same resources root rest moment refl)
+  ram-gives (msg.Unlink rest) = gives_on _ (side_root target) _ (λ root is. unlink-gives Same File (λ inode s h. h) resources root rest moment refl)
+  ram-gives (msg.Mknod mode rest) = gives_on _ (side_root target) _ (λ root is. directory-gives Same resources root mode rest moment refl)
+  ram-gives (msg.Read count) = gives_on _ opened _ (λ over is. read_file-gives Same resources over count moment refl)
+  ram-gives (msg.Write bytes) = gives_on _ opened _ (λ over is. write_file-gives Same resources over bytes moment refl)
+  ram-gives msg.Close = gives_on _ opened _ (λ over is. file-closed over)
+  ram-gives (msg.Lseek whence offset) = gives_on _ opened _ (λ over is. seek_file-gives Same resources over whence offset moment refl)
+  ram-gives msg.Fstat = gives_on _ opened _ (λ over is. stat_block-gives Same resources over moment refl)
+  ram-gives (msg.List after) = gives_on _ opened _ (λ over is. list-gives Same resources over after moment refl)
+  ram-gives (msg.Chmod mode) = gives_on _ opened _ (λ over is. chmod-gives Same resources over mode moment refl)
   ram-gives _ = gives_error _ _
 
   manager-alone : (manager : Manager) → manager ≡ managers.Ram → (message : Message) → Gives (IsAlone resources) (manager_deed manager resources target opened moment message)
@@ -354,39 +444,49 @@ module _ (P : WaitingCall → Type 0) (caller : Caller) where
   own-waits : (opened : Opened) (wanted : ℕ) (bytes : List ℕ) → opened.caller ≡ caller → Own → P (waiting_call opened wanted bytes)
   own-waits opened wanted bytes same own = subst (λ who. P (call_of who opened.number wanted bytes)) (sym same) (own opened.number wanted bytes)
 
-  alone-gives : (resources : Resources) (deed : Deed Resources) → InPipes P resources.pipes → IsAlone resources deed → DeedKeeps deed
-  alone-gives resources deed h alone = record { keeps = λ own. alone-keeps P resources deed alone h }
+  quiet-keeps : (deed : Deed Resources) → Quiet (InPipes P) deed → DeedKeeps deed
+  quiet-keeps deed quiet = record { keeps = λ own. record { pipes = quiet.pipes; answers = subst (Answered P) (sym quiet.answers) tt } }
 
-  reply-gives : (status : ℕ) (bytes : List ℕ) (effect : Effect) (state : Resources) → InPipes P state.pipes → DeedKeeps (reply_alone status bytes effect state)
-  reply-gives status bytes effect state h = record { keeps = λ own. record { pipes = h; answers = tt } }
+  alone-keeps : (resources : Resources) (deed : Deed Resources) → InPipes P resources.pipes → IsAlone resources deed → DeedKeeps deed
+  alone-keeps resources deed h alone = quiet-keeps deed (record { replied = alone.replied; pipes = subst (InPipes P) (sym alone.pipes) h; answers = alone.answers })
 
-  replied-gives : (resources : Resources) (reply : Reply) (given : PipesGiven WaitingCall) → InGiven P given → DeedKeeps (pipe_replied resources (Some reply) given)
-  replied-gives resources reply given h = record { keeps = λ own. record { pipes = h.pipes; answers = h.answers } }
+  quiet-gives : (given : Result (Deed Resources) Errno) → Gives (Quiet (InPipes P)) given → Gives DeedKeeps given
+  quiet-gives given h = gives_more (Quiet (InPipes P)) DeedKeeps given quiet-keeps h
 
-  passed-gives : (resources : Resources) (given : PipesGiven WaitingCall) → (Own → InGiven P given) → DeedKeeps (pipe_replied resources None given)
-  passed-gives resources given h = record { keeps = λ own. record { pipes = (h (own refl)).pipes; answers = (h (own refl)).answers } }
+  -- what is left without a reply may be the caller's own call
+  own-gives : (given : Result (Deed Resources) Errno) → ((deed : Deed Resources) → given ≡ Ok deed → deed.reply ≡ None) → (Own → Gives (InDeed P) given) → Gives DeedKeeps given
+  own-gives (Ok deed) none h = gives_done _ _ (record { keeps = λ own. gives-value (InDeed P) (Ok deed) deed refl (h (own (none deed refl))) })
+  own-gives (Err error) none h = gives_error _ _
 
   module _ (resources : Resources) (h : InPipes P resources.pipes) (target : Target) (opened : Result Opened Errno) (callers : (over : Opened) → opened ≡ Ok over → over.caller ≡ caller) (moment : ℕ) where
+    pipe-closed : (over : Opened) → Gives DeedKeeps (close kind.Pipe resources over moment)
+    pipe-closed over =
+        gives_on _ (own_block resources.inodes over.number kind.Pipe) _ (λ block is.
+        let left = released-keeps P (without_block over.number resources) over.number block.inode moment (row_at resources.pipes block.inode) h (h.each block.inode) in
+        gives_done _ _ (record { keeps = λ own. record { pipes = unused-keeps (InPipes P) kind.Pipe (content-keeps P kind.Pipe) block.inode (released (without_block over.number resources) over.number block.inode moment (row_at resources.pipes block.inode)).state left.pipes; answers = left.answers } }))
+
+    read-own : (over : Opened) (count : ℕ) → over.caller ≡ caller → Gives DeedKeeps (read_pipe resources over count moment)
+    read-own over count same = own-gives _ (λ deed is. gives-value (λ (d : Deed Resources). d.reply ≡ None) _ deed is (search (gives_on, gives_done))) (λ own. read-gives P resources over count moment h (own-waits over count [] same own))
+
+    write-own : (over : Opened) (bytes : List ℕ) → over.caller ≡ caller → Gives DeedKeeps (write_pipe resources over bytes moment)
+    write-own over bytes same = own-gives _ (λ deed is. gives-value (λ (d : Deed Resources). d.reply ≡ None) _ deed is (search (gives_on, gives_done))) (λ own. write-gives P resources over bytes moment h (own-waits over 0 bytes same own))
+
     pipe-gives : (message : Message) → Gives DeedKeeps (manager_deed managers.Pipe resources target opened moment message)
-    pipe-gives (msg.Open flags mode rest) = gives_on _ (new_open target) _ (λ over is. search (gives_on, gives_done, replied-gives, open_pipe-keeps))
-    pipe-gives (msg.Stat rest) = gives_on _ (side_root target) _ (λ over is. search (gives_on, gives_done, reply-gives))
-    pipe-gives (msg.Unlink rest) = gives_on _ (side_root target) _ (λ over is. search (gives_on, gives_done, replied-gives, unlink_pipe-keeps))
+    pipe-gives (msg.Open flags mode rest) = gives_on _ (new_open target) _ (λ over is. quiet-gives _ (open-gives (InPipes P) resources over rest _ (empty-keeps P kind.Pipe) h))
+    pipe-gives (msg.Stat rest) = gives_on _ (side_root target) _ (λ root is. quiet-gives _ (stat_path-gives (InPipes P) resources root rest moment h))
+    pipe-gives (msg.Unlink rest) = gives_on _ (side_root target) _ (λ root is. quiet-gives _ (unlink-gives (InPipes P) kind.Pipe (content-keeps P kind.Pipe) resources root rest moment h))
     pipe-gives (msg.Mknod mode rest) = gives_error _ _
-    pipe-gives (msg.Read count) =
-        gives_on _ opened _ (λ over is. gives_on _ (read_call resources.inodes resources.pipes over count moment) _ (λ given done.
-        gives_done _ _ (passed-gives resources given (λ own. read_pipe-keeps P wanted offered is_gone resources.inodes resources.pipes over.number over.caller.is_asked (waiting_call over count []) moment given done h (own-waits over count [] (callers over is) own)))))
-    pipe-gives (msg.Write bytes) =
-        gives_on _ opened _ (λ over is. gives_on _ (write_call resources.inodes resources.pipes over bytes moment) _ (λ given done.
-        gives_done _ _ (passed-gives resources given (λ own. write_pipe-keeps P wanted offered is_gone resources.inodes resources.pipes over.number over.caller.is_asked (waiting_call over 0 bytes) moment given done h (own-waits over 0 bytes (callers over is) own)))))
-    pipe-gives msg.Close = gives_on _ opened _ (λ over is. search (gives_on, gives_done, replied-gives, release_pipe-keeps))
-    pipe-gives (msg.Lseek whence offset) = gives_on _ opened _ (λ over is. search (gives_on, gives_done, reply-gives))
-    pipe-gives msg.Fstat = gives_on _ opened _ (λ over is. search (gives_on, gives_done, reply-gives))
-    pipe-gives (msg.List after) = gives_on _ opened _ (λ over is. search (gives_on, gives_done, reply-gives))
-    pipe-gives (msg.Chmod mode) = gives_on _ opened _ (λ over is. search (gives_on, gives_done, reply-gives))
+    pipe-gives (msg.Read count) = gives_on _ opened _ (λ over is. read-own over count (callers over is))
+    pipe-gives (msg.Write bytes) = gives_on _ opened _ (λ over is. write-own over bytes (callers over is))
+    pipe-gives msg.Close = gives_on _ opened _ (λ over is. pipe-closed over)
+    pipe-gives (msg.Lseek whence offset) = gives_on _ opened _ (λ over is. quiet-gives _ (seek_pipe-gives (InPipes P) resources over whence offset moment))
+    pipe-gives msg.Fstat = gives_on _ opened _ (λ over is. quiet-gives _ (stat_block-gives (InPipes P) resources over moment h))
+    pipe-gives (msg.List after) = gives_on _ opened _ (λ over is. quiet-gives _ (list-gives (InPipes P) resources over after moment h))
+    pipe-gives (msg.Chmod mode) = gives_on _ opened _ (λ over is. quiet-gives _ (chmod-gives (InPipes P) resources over mode moment h))
     pipe-gives _ = gives_error _ _
 
     manager-gives : (manager : Manager) (message : Message) → Gives DeedKeeps (manager_deed manager resources target opened moment message)
-    manager-gives managers.Ram message = gives_more (IsAlone resources) DeedKeeps _ (λ deed. alone-gives resources deed h) (ram-gives resources target opened moment message)
+    manager-gives managers.Ram message = gives_more (IsAlone resources) DeedKeeps _ (λ deed. alone-keeps resources deed h) (ram-gives resources target opened moment message)
     manager-gives managers.Pipe message = pipe-gives message
 
 opened_by-caller : (process : Process) (caller : Caller) (target : Target) (over : Opened) → opened_by process caller target ≡ Ok over → over.caller ≡ caller
@@ -422,20 +522,20 @@ module _ (resources : Resources) (process : Process) (caller : Caller) (target :
 
 -- what an unblock pulse does is what the cancelling gives
 pub record Pulsed (P : WaitingCall → Type 0) (part : Part) (process thread call moment : ℕ) (served : Served) : Type 0 where
-  pub given : PipesGiven WaitingCall
-  pub gives : cancel_call part.resources.inodes part.resources.pipes process thread call moment ≡ Ok given
-  pub keeps : InGiven P given
-  pub part_is : served.part ≡ with_answers given.answers (record part { resources = with_pipes part.resources given })
-  pub changes_are : served.changes ≡ answered_changes managers.Pipe given.answers
+  pub deed : Deed Resources
+  pub gives : cancel_call part.resources process thread call moment ≡ Ok deed
+  pub keeps : InDeed P deed
+  pub part_is : served.part ≡ with_answers deed.answers (record part { resources = deed.state })
+  pub changes_are : served.changes ≡ answered_changes managers.Pipe deed.answers
 
 pub serve_pulse-keeps : (P : WaitingCall → Type 0) (part : Part) (process thread call moment : ℕ) (served : Served) → serve_pulse part process thread call moment ≡ Ok served → InPipes P part.resources.pipes
     → Pulsed P part process thread call moment served
 serve_pulse-keeps P part process thread call moment served is h =
     gives-value (Pulsed P part process thread call moment) _ served is
-    (gives_on _ (cancel_call part.resources.inodes part.resources.pipes process thread call moment) _ (λ given cancels. gives_done _ _ (record {
-      given = given;
+    (gives_on _ (cancel_call part.resources process thread call moment) _ (λ deed cancels. gives_done _ _ (record {
+      deed = deed;
       gives = cancels;
-      keeps = cancel_waiting-keeps P wanted offered is_gone part.resources.inodes part.resources.pipes (is_call process thread call) moment given cancels h;
+      keeps = gives-value (InDeed P) _ deed cancels (cancel-gives P part.resources process thread call moment h);
       part_is = refl;
       changes_are = refl;
     })))

@@ -1,6 +1,7 @@
 pub mod Attributes
 pub mod Calls
 pub mod Clients
+pub mod Defaults
 pub mod Examples
 pub mod Files
 pub mod Inodes
@@ -13,13 +14,15 @@ pub mod Machine
 pub mod Managers
 pub mod Mounting
 pub mod Names
-pub mod Opening
 pub mod Parts
 pub mod Performing
 pub mod PipeManager
 pub mod Pipes
 pub mod Processes
+pub mod RamManager
+pub mod Resources
 pub mod Rows
 pub mod Runs
 pub mod Servers
 pub mod Users
+pub mod Waiting

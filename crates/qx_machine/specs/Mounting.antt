@@ -12,9 +12,9 @@ use Rattle.qx_machine.specs.Files.{no_files}
 use Rattle.qx_machine.specs.Inodes.{inode_number}
 use Rattle.qx_machine.specs.Judgements.{◌>>=◌, need}
 use Rattle.qx_machine.specs.Names.{with_root}
-use Rattle.qx_machine.specs.Parts.{Resources}
-use Rattle.qx_machine.specs.PipeManager.{no_pipes}
+use Rattle.qx_machine.specs.Resources.{Resources}
 use Rattle.qx_machine.specs.Rows.{put_row}
+use Rattle.qx_machine.specs.Waiting.{no_pipes}
 
 -- the top with its root, which is empty, and nothing open
 abbrev pub new_resources : ℕ → List ℕ → Resources

@@ -2,26 +2,12 @@
 use Rattle.std.specs.Prelude.{ℕ, List, Option, Some, None}
 use Rattle.qx_types.specs.declared.names.Manager.{Manager}
 use Rattle.qx_types.specs.declared.names.Thread.{Thread}
-use Rattle.qx_paths.specs.Prefixes.{MountPoint}
 use Rattle.qx_machine.specs.declared.rows.Connection.{Connection}
 use Rattle.qx_machine.specs.declared.rows.OwnItem.{OwnItem}
 use Rattle.qx_machine.specs.declared.rows.ThreadRow.{ThreadRow}
-use Rattle.qx_machine.specs.declared.rows.WaitingCall.{WaitingCall}
-use Rattle.qx_machine.specs.Files.{Files}
-use Rattle.qx_machine.specs.Inodes.{Inodes}
-use Rattle.qx_machine.specs.Names.{Names}
-use Rattle.qx_machine.specs.PipeManager.{Pipes}
 use Rattle.qx_machine.specs.Processes.{Process, with_thread}
+use Rattle.qx_machine.specs.Resources.{Resources}
 use Rattle.qx_machine.specs.Rows.{row_at, with_row}
-
--- what the managers keep for a user: where they are attached, inodes and open control blocks, the names in all mounts, files and pipes
-pub record Resources : Type 0 where
-  pub user : ℕ
-  pub mounts : List MountPoint
-  pub inodes : Inodes
-  pub names : Names
-  pub files : Files
-  pub pipes : Pipes WaitingCall
 
 -- a user's processes from 1, and resources
 pub record Part : Type 0 where

@@ -26,10 +26,11 @@ use Rattle.qx_machine.specs.declared.rows.ThreadRow.{ThreadRow}
 use Rattle.qx_machine.specs.declared.rows.WaitingCall.{WaitingCall}
 use Rattle.qx_machine.specs.Functions.{Deed, Reply, existing_coid}
 use Rattle.qx_machine.specs.Judgements.{◌>>=◌, found, need}
-use Rattle.qx_machine.specs.Managers.{manager_deed, with_pipes}
-use Rattle.qx_machine.specs.Parts.{Part, Change, Remove, Resources, with_process}
+use Rattle.qx_machine.specs.Managers.{manager_deed}
+use Rattle.qx_machine.specs.Parts.{Part, Change, Remove, with_process}
 use Rattle.qx_machine.specs.PipeManager.{cancel_call}
 use Rattle.qx_machine.specs.Processes.{Process, after_effect, after_error, after_reply, answered_thread, served_thread, with_thread}
+use Rattle.qx_machine.specs.Resources.{Resources}
 use Rattle.qx_machine.specs.Rows.{row_at}
 use Rattle.qx_machine.specs.Servers.{is_numbered}
 
@@ -120,10 +121,10 @@ serve_message part number thread moment = do
 -- an unblock pulse is for a call that waits in a pipe, and for no other (Writing a Resource Manager: the unblock pulse)
 abbrev pub serve_pulse : Part → ℕ → ℕ → ℕ → ℕ → Result Served Outcome
 serve_pulse part process thread call moment = do
-  given ← cancel_call part.resources.inodes part.resources.pipes process thread call moment
+  deed ← cancel_call part.resources process thread call moment
   Ok (record {
-    part = with_answers given.answers (record part { resources = with_pipes part.resources given });
-    changes = answered_changes Pipe given.answers;
+    part = with_answers deed.answers (record part { resources = deed.state });
+    changes = answered_changes Pipe deed.answers;
   })
 
 -- else nothing is done

@@ -8,5 +8,5 @@ pub mod rows;
 pub use rows::{
     Access, Addressed, Attribute, Caller, Connection, Content, Effect, Entry, Held, Kind, Manner,
     NewOpen, Ocb, Opened, Over, OwnItem, Queued, Seen, Sent, ServerConnection, Sides, State,
-    Target, ThreadRow, WaitingCall,
+    Target, ThreadRow, WaitingCall, Wish,
 };

@@ -131,6 +131,16 @@ pub struct NewOpen {
     pub root: u32,
 }
 
+/// What an open wishes: to be opened with these flags, and what is missing to be made of this kind and mode, at that moment
+/// (C Library Reference: `open`).
+#[derive(Clone, Copy, Debug, PartialEq, Eq)]
+pub struct Wish {
+    pub flags: OFlags,
+    pub kind: Kind,
+    pub mode: u16,
+    pub moment: u64,
+}
+
 /// What an inode is.
 #[derive(Clone, Copy, Debug, PartialEq, Eq)]
 pub enum Kind {

@@ -11,7 +11,7 @@ use Rattle.qx_types.specs.declared.outcome.Answer.{Answer}
 use Rattle.qx_types.specs.declared.outcome.Answer.TheVariants.{Failed, Reply}
 use Rattle.qx_machine.specs.declared.rows.Sides.{Sides}
 use Rattle.qx_machine.specs.declared.rows.WaitingCall.{WaitingCall}
-use Rattle.qx_machine.specs.PipeManager.{Pipes, is_written, no_pipes, with_pipe}
+use Rattle.qx_machine.specs.Waiting.{Pipes, is_written, no_pipes}
 use Rattle.qx_machine.specs.Pipes.{After, Pipe, all_answered, and_then, dismissed, nobody_answered, one_answered, readers_ended, writers_ended}
 use Rattle.qx_machine.specs.Rows.{row_at}
 use Rattle.qx_machine.proofs.Places.{set-row_at}
@@ -61,30 +61,30 @@ the-row d (Some row) has = refl
 
 -- a user who has a pipe is one of all
 module _ (inode : ℕ) where
-  pub get_or-set : (all : List (Pipes WaitingCall)) (user : ℕ) (pipes : Pipes WaitingCall) → IsSome (row_at (get_or all user no_pipes) inode) → get_or (slice_set all user pipes) user no_pipes ≡ pipes
+  pub get_or-set : (all : List Pipes) (user : ℕ) (pipes : Pipes) → IsSome (row_at (get_or all user no_pipes) inode) → get_or (slice_set all user pipes) user no_pipes ≡ pipes
   get_or-set [] user pipes has = absurd (false≢true (sym (no-pipe (INODES + 1) inode) ∙ has))
   get_or-set (first ∷ all) zero pipes has = refl
   get_or-set (first ∷ all) (suc user) pipes has = get_or-set all user pipes has
 
-module _ (all : List (Pipes WaitingCall)) (user inode : ℕ) (has : IsSome (row_at (get_or all user no_pipes) inode)) where
-  abbrev with_row : Pipe WaitingCall → List (Pipes WaitingCall)
-  with_row p = slice_set all user (with_pipe (get_or all user no_pipes) inode (Some p))
+module _ (all : List Pipes) (user inode : ℕ) (has : IsSome (row_at (get_or all user no_pipes) inode)) where
+  abbrev with_row : Pipe WaitingCall → List Pipes
+  with_row p = slice_set all user (slice_set (get_or all user no_pipes) inode (Some p))
 
   pub row_at-with_row : (p : Pipe WaitingCall) → row_at (get_or (with_row p) user no_pipes) inode ≡ Some p
   row_at-with_row p = ap (λ pipes. row_at pipes inode) (get_or-set inode all user _ has) ∙ row_at-set (get_or all user no_pipes) inode p has
 
-  pub with_row-twice : (p q : Pipe WaitingCall) → slice_set (with_row p) user (with_pipe (get_or (with_row p) user no_pipes) inode (Some q)) ≡ with_row q
+  pub with_row-twice : (p q : Pipe WaitingCall) → slice_set (with_row p) user (slice_set (get_or (with_row p) user no_pipes) inode (Some q)) ≡ with_row q
   with_row-twice p q =
       set-set all user _ _
-      ∙ ap (slice_set all user) (ap (λ pipes. with_pipe pipes inode (Some q)) (get_or-set inode all user _ has) ∙ set-set (get_or all user no_pipes) inode _ _)
+      ∙ ap (slice_set all user) (ap (λ pipes. slice_set pipes inode (Some q)) (get_or-set inode all user _ has) ∙ set-set (get_or all user no_pipes) inode _ _)
 
 -- ---- one pipe, after calls on it
 
 module _ (c : Shared) (user inode : ℕ) (has : HasPipe c user inode) where
   pub with_after-nobody : with_after c user inode (nobody_answered (pipe_at c user inode)) ≡ c
   with_after-nobody =
-      let pipes : slice_set c.pipes user (with_pipe (pipes_of c user) inode (Some (pipe_at c user inode))) ≡ c.pipes =
-      ap (λ row. slice_set c.pipes user (with_pipe (pipes_of c user) inode row)) (the-row _ (row_at (pipes_of c user) inode) has)
+      let pipes : slice_set c.pipes user (slice_set (pipes_of c user) inode (Some (pipe_at c user inode))) ≡ c.pipes =
+      ap (λ row. slice_set c.pipes user (slice_set (pipes_of c user) inode row)) (the-row _ (row_at (pipes_of c user) inode) has)
       ∙ ap (slice_set c.pipes user) (set-row_at (pipes_of c user) inode) ∙ set-get_or c.pipes user no_pipes in
       λ i. record c { pipes = pipes i; answered = append-nil c.answered i }
 

@@ -89,13 +89,13 @@ module _ {W : Type 0} (which : W → Bool) where
   counted-dismissed : (leaves : W → Bool) (answer : Answer) (p : Pipe W) → Counted 0 p (dismissed leaves answer p)
   counted-dismissed leaves answer p = counted-then (writers_dismissed leaves answer) (counted-readers_dismissed leaves answer p) (counted-writers_dismissed leaves answer _)
 
-  counted-readers_ended : (sides : Sides) (p : Pipe W) → Counted 0 p (readers_ended sides p)
+  pub counted-readers_ended : (sides : Sides) (p : Pipe W) → Counted 0 p (readers_ended sides p)
   counted-readers_ended sides p = counted-if sides.for_writing (counted-nobody p) (counted-readers_dismissed (λ who. true) (Reply 0 []) p)
 
-  counted-writers_ended : (sides : Sides) (p : Pipe W) → Counted 0 p (writers_ended sides p)
+  pub counted-writers_ended : (sides : Sides) (p : Pipe W) → Counted 0 p (writers_ended sides p)
   counted-writers_ended sides p = counted-if sides.for_reading (counted-nobody p) (counted-writers_dismissed (λ who. true) (Failed EPIPE) p)
 
-  counted-without_bytes : (sides : Sides) (p : Pipe W) → Counted 0 p (without_bytes sides p)
+  pub counted-without_bytes : (sides : Sides) (p : Pipe W) → Counted 0 p (without_bytes sides p)
   counted-without_bytes sides p = by_side (sides.for_reading || sides.for_writing)
     where
       by_side : (b : Bool) → Counted 0 p (nobody_answered (if b then p else record p { bytes = [] }))

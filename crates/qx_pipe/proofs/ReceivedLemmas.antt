@@ -1,5 +1,5 @@
 -- A call that was received is received still once others were answered.
-use Rattle.std.proofs.Common.{◌≡◌, inl, inr, ℕ, zero, suc, ◌+◌, ◌≤◌, Bool, true, false, ltb, ◌||◌, List, [], ◌∷◌, ◌++◌, Some, None, IsSome, map, unwrap_or, refl, sym, ap, ap₂, subst, ◌∙◌, arith}
+use Rattle.std.proofs.Common.{◌≡◌, inl, inr, ℕ, zero, suc, ◌+◌, ◌≤◌, Bool, true, false, ltb, ◌||◌, List, [], ◌∷◌, ◌++◌, Some, None, IsSome, map, slice_set, unwrap_or, refl, sym, ap, ap₂, subst, ◌∙◌, arith}
 use Rattle.std.specs.Prelude.{cond, not}
 use Rattle.std.specs.List.{count_by, list_any}
 use Rattle.std.proofs.lemmas.Bool.{cases_eq}
@@ -10,7 +10,7 @@ use Rattle.std.proofs.lemmas.List.Folds.{list_any-append}
 use Rattle.std.proofs.lemmas.List.Sums.{sum_by-append, sum_by-cons}
 use Rattle.qx_types.specs.declared.names.Thread.{Thread}
 use Rattle.qx_machine.specs.declared.rows.WaitingCall.{WaitingCall}
-use Rattle.qx_machine.specs.PipeManager.{Pipes, is_gone, no_pipes, offered, wanted, with_pipe}
+use Rattle.qx_machine.specs.Waiting.{Pipes, is_gone, no_pipes, offered, wanted}
 use Rattle.qx_machine.specs.Pipes.{After, Pipe, clean, pipe_of, removed}
 use Rattle.qx_machine.specs.Rows.{row_at}
 use Rattle.qx_queues.specs.Queues.{caller, has_call, is_same_thread}
@@ -41,14 +41,14 @@ module _ (which : WaitingCall → Bool) where
   waiting-append : (xs ys : List WaitingCall) → count_by which (xs ++ ys) ≡ count_by which xs + count_by which ys
   waiting-append xs ys = sum_by-append (λ call. cond (which call) 1 0) xs ys
 
-  waiting-with_pipe : (pipes : Pipes WaitingCall) (inode : ℕ) (new d : Pipe WaitingCall) → IsSome (row_at pipes inode)
-      → count_by which (waiting_calls (with_pipe pipes inode (Some new))) + waiting_of which (unwrap_or (row_at pipes inode) d) ≡ count_by which (waiting_calls pipes) + waiting_of which new
+  waiting-with_pipe : (pipes : Pipes) (inode : ℕ) (new d : Pipe WaitingCall) → IsSome (row_at pipes inode)
+      → count_by which (waiting_calls (slice_set pipes inode (Some new))) + waiting_of which (unwrap_or (row_at pipes inode) d) ≡ count_by which (waiting_calls pipes) + waiting_of which new
   waiting-with_pipe [] inode new d has = absurd (cc)
   waiting-with_pipe (None ∷ pipes) zero new d has = absurd (cc)
   waiting-with_pipe (Some old ∷ pipes) zero new d has =
       omega (arith, waiting-append (new.readers ++ new.writers) (waiting_calls pipes), waiting-append new.readers new.writers, waiting-append (old.readers ++ old.writers) (waiting_calls pipes), waiting-append old.readers old.writers)
   waiting-with_pipe (row ∷ pipes) (suc inode) new d has =
-      omega (arith, waiting-with_pipe pipes inode new d has, waiting-append (calls_at row) (waiting_calls pipes), waiting-append (calls_at row) (waiting_calls (with_pipe pipes inode (Some new))))
+      omega (arith, waiting-with_pipe pipes inode new d has, waiting-append (calls_at row) (waiting_calls pipes), waiting-append (calls_at row) (waiting_calls (slice_set pipes inode (Some new))))
 
 -- others are answered or leave, and nobody new waits
 record Lessens (p : Pipe WaitingCall) (after : After WaitingCall) : Type 0 where
@@ -65,7 +65,7 @@ module _ (c : Shared) (user inode : ℕ) (has : HasPipe c user inode) (after : A
     none-waits_at : waiting_of is_own (pipe_at c user inode) ≡ 0
     none-waits_at = omega (arith, none-waits_in, waiting-with_pipe is_own (pipes_of c user) inode (pipe_of [] [] []) (pipe_of [] [] []) has)
 
-    none-waits_after : count_by is_own (waiting_calls (with_pipe (pipes_of c user) inode (Some after.pipe))) ≡ 0
+    none-waits_after : count_by is_own (waiting_calls (slice_set (pipes_of c user) inode (Some after.pipe))) ≡ 0
     none-waits_after = omega (arith, none-waits_in, none-waits_at, less.lessens is_own, waiting-with_pipe is_own (pipes_of c user) inode after.pipe (pipe_of [] [] []) has)
 
     no_call-after : HasNoCall (with_after c user inode after) thread

@@ -7,7 +7,7 @@ use Rattle.std.proofs.lemmas.Bool.{le-leb, lt-leb}
 use Rattle.qx_types.specs.declared.limits.TheConstants.Limits.{PIPE}
 use Rattle.qx_machine.specs.declared.rows.Manner.{Manner}
 use Rattle.qx_machine.specs.declared.rows.WaitingCall.{WaitingCall}
-use Rattle.qx_machine.specs.PipeManager.{offered, wanted}
+use Rattle.qx_machine.specs.Waiting.{offered, wanted}
 use Rattle.qx_machine.specs.Pipes.{After, Pipe, and_then, clean_read, clean_write, nobody_answered, pipe_of, settle}
 use Rattle.qx_shared.specs.Shared.{HasPipe, Shared, passed_to, pipe_at, taken_from, went_in, with_after}
 use Rattle.qx_pipe.specs.Turns.{Turning, settling, waiting_count}

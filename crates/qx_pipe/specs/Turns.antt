@@ -2,7 +2,7 @@
 use Rattle.std.specs.Prelude.{◌≡◌, ◌+◌, ◌++◌, ◌∷◌, [], ◌||◌, ℕ, Bool, length}
 use Rattle.qx_machine.specs.declared.rows.Manner.{Manner}
 use Rattle.qx_machine.specs.declared.rows.WaitingCall.{WaitingCall}
-use Rattle.qx_machine.specs.PipeManager.{offered, wanted}
+use Rattle.qx_machine.specs.Waiting.{offered, wanted}
 use Rattle.qx_machine.specs.Pipes.{After, Pipe, settle, waiting_unless}
 use Rattle.qx_shared.specs.Shared.{HasPipe, Shared, pipe_at, waiting_on, went_in, with_after, with_waiting_on}
 use Rattle.qx_shared.specs.declared.side.Side.{Side}

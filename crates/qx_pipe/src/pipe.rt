@@ -2,7 +2,7 @@
 #![tactic(auto, using(crate::proofs::AfterLemmas::steps))]
 
 ghost use Rattle.std.specs.Prelude.{◌≡◌, ◌==◌, ◌<◌, IfNone, IfSome};
-ghost use Rattle.qx_machine.specs.PipeManager.{is_call, is_gone, offered, wanted};
+ghost use Rattle.qx_machine.specs.Waiting.{is_call, is_gone, offered, wanted};
 ghost use Rattle.qx_machine.specs.Pipes as machine;
 ghost use Rattle.qx_machine.specs.Pipes.{clean_read, clean_write, dismissed, nobody_answered, readers_ended, without_bytes, writers_ended};
 ghost use Rattle.qx_pipe.specs.Turns.{Turning, settling, unless_served, waiting_count};

@@ -1,6 +1,4 @@
 -- the pipe in which a call waits
 pub mod HolderLemmas
--- a path that is opened
-pub mod OpenLemmas
--- the pipes of a user, as one of them changes
+-- the pipes of a user and the user's store, as one pipe changes, and by an open and an unlink
 pub mod PipesLemmas

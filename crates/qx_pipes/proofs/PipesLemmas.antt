@@ -1,149 +1,267 @@
--- The pipes of a user among those of all, as one of them changes.
-use Rattle.std.proofs.Common.{◌≡◌, ℕ, ◌<◌, ◌++◌, Bool, true, false, List, [], ◌∷◌, length, map, Option, None, Some, IsSome, option_map, unwrap_or, Result, Ok, refl, sym, ap, ◌∙◌, append-nil, arith}
-use Rattle.std.specs.Prelude.{slice_set}
-use Rattle.std.specs.List.{filter}
-use Rattle.std.proofs.Math.ListN.{length-set}
+-- The pipes of a user among those of all, and the user's store beside them, as one pipe changes, and by an open and an unlink.
+use Rattle.std.proofs.Common.{◌≡◌, ℕ, ◌<◌, Bool, true, false, List, [], ◌∷◌, length, Option, None, Some, slice_set, Result, Ok, Err, refl, sym, ap, ◌∙◌, subst, append-nil, arith}
+use Rattle.std.proofs.lemmas.Bool.{cond_both}
 use Rattle.std.proofs.lemmas.Grind.{common_steps}
 use Rattle.std.proofs.lemmas.List.{get_or-set_same, set-get_or, set-set}
+use Rattle.std.proofs.Math.ListN.{length-set}
+use Rattle.std.specs.List.{filter}
+use Rattle.std.specs.Prelude.{if◌then◌else◌, option_map, IfOk, MatchOption}
+use Rattle.std.specs.Result.{result_map_both}
+use Rattle.qx_attr.proofs.CountLemmas.{row-set_same}
 use Rattle.qx_attr.specs.Flags.{block_for}
-use Rattle.qx_attr.proofs.CountLemmas.{within_table}
+use Rattle.qx_iofunc.proofs.PlaceLemmas.{row-freed}
+use Rattle.qx_iofunc.specs.declared.found.New.{New}
+use Rattle.qx_iofunc.specs.declared.found.Opening.{Opening}
+use Rattle.qx_iofunc.specs.Given as given
+use Rattle.qx_iofunc.specs.Makes.{may_make}
+use Rattle.qx_iofunc.specs.Sizes.{sized}
+use Rattle.qx_iofunc.specs.Store.{Stored, block_gone, unused_gone, within}
 use Rattle.qx_machine.proofs.Places.{set-row_at}
+use Rattle.qx_machine.specs.declared.rows.Attribute.{Attribute}
+use Rattle.qx_machine.specs.declared.rows.Effect.TheVariants.{Keeps, Opens}
+use Rattle.qx_machine.specs.declared.rows.Effect.{Effect}
+use Rattle.qx_machine.specs.declared.rows.Kind.TheVariants as kind
 use Rattle.qx_machine.specs.declared.rows.Ocb.{Ocb}
+use Rattle.qx_machine.specs.declared.rows.Opened.{Opened}
+use Rattle.qx_machine.specs.declared.rows.Sides.{Sides}
 use Rattle.qx_machine.specs.declared.rows.WaitingCall.{WaitingCall}
+use Rattle.qx_machine.specs.declared.rows.Wish.{Wish}
+use Rattle.qx_machine.specs.Defaults.{close, closed, open_existing, open_missing, own_block, without_unused}
+use Rattle.qx_machine.specs.Functions.{Deed, reply_alone}
 use Rattle.qx_machine.specs.Inodes.{Inodes, has, is_unused}
-use Rattle.qx_machine.specs.Judgements.{◌>>=◌, found, need}
+use Rattle.qx_machine.specs.Judgements.{◌>>=◌}
+use Rattle.qx_machine.specs.Names.{Key, Spot}
 use Rattle.qx_machine.specs.PipeManager as machine
-use Rattle.qx_machine.specs.PipeManager.{Pipes, PipesGiven, is_gone, no_pipes, nobody_answered, offered, wanted, with_pipe, without_unused}
-use Rattle.qx_machine.specs.Pipes as of_pipe
-use Rattle.qx_machine.specs.Pipes.{After, Pipe, pipe_of, removed}
+use Rattle.qx_machine.specs.Pipes.{After, Pipe, nobody_answered, pipe_of, release, removed}
+use Rattle.qx_machine.specs.Resources.{Resources, without_content}
 use Rattle.qx_machine.specs.Rows.{row_at, with_row}
-use Rattle.qx_pipes.specs.Pipes.{Stands, sized}
+use Rattle.qx_machine.specs.Waiting.{is_gone, is_over, no_pipes, offered, sides_of, wanted, Pipes}
+use Rattle.qx_pipes.specs.Pipes.{Follows, Stands, seen}
 use Rattle.qx_process.proofs.RowLemmas.{row_at-get_or}
-use Rattle.qx_shared.specs.Shared.{HasPipe, Shared, done, inodes_after, pipe_at, pipes_of, shared_after, users_given, went_in, with_after, with_given, with_pipes, with_row_at}
+use Rattle.qx_shared.proofs.AfterLemmas.{pipe_at-after, then-after}
+use Rattle.qx_shared.specs.Shared.{HasPipe, Shared, pipe_at, pipes_of, went_in, with_after, with_pipes, with_row_at}
 use Rattle.qx_types.specs.declared.errno.Errno.{Errno}
-use Rattle.qx_types.specs.declared.errno.Errno.TheVariants.{EBADF}
 use Rattle.qx_types.specs.declared.flags.OFlags.{OFlags}
+use Rattle.qx_types.specs.declared.names.Coid.{Coid}
 
--- a row that a change leaves as it is
-pub with_row-same : {A : Type 0} (rows : List (Option A)) (n : ℕ) (f : A → A) (x : A) → row_at rows n ≡ Some x → f x ≡ x → with_row rows n f ≡ rows
-with_row-same rows n f x is same = ap (λ o. slice_set rows n (option_map f o)) is ∙ ap (λ y. slice_set rows n (Some y)) same ∙ ap (slice_set rows n) (sym is) ∙ set-row_at rows n
-
--- what is done over a block that was opened with a flag
-block-then : {A : Type 0} (inodes : Inodes) (number : ℕ) (flag : OFlags) (block : Ocb) (rest : Ocb → Result A Errno) → Ok block ≡ block_for inodes number flag → (found (row_at inodes.blocks number) EBADF >>= λ block. need (has block.flags flag) EBADF >>= λ allowed. rest block) ≡ rest block
-block-then inodes number flag block rest is = grind (arith, common_steps)
-
-there-or : {A : Type 0} (row : Option A) (none : A) → IsSome row → row ≡ Some (unwrap_or row none)
-there-or row none is = grind (arith, common_steps)
+-- ---- one pipe among those of all
 
 nobody-stays : {A : Type 0} (all : List A) → filter (λ who. false) all ≡ []
 nobody-stays [] = refl
 nobody-stays (who ∷ all) = nobody-stays all
 
--- what the machine gives is done
-pub record IsDone {E : Type 0} (c : Shared) (user : ℕ) (inodes : Inodes) (meant : Result (PipesGiven WaitingCall) E) (new : Shared) (now : Inodes) : Type 0 where
-  pub done_is : Ok tt ≡ done meant
-  pub shared_is : new ≡ shared_after c user meant
-  pub inodes_are : now ≡ inodes_after inodes meant
+abbrev pub no_bytes : Pipe WaitingCall
+no_bytes = pipe_of [] [] []
 
 module _ (c : Shared) (user : ℕ) where
   -- no pipe changes
-  pub given-same : (pipes : Pipes WaitingCall) → pipes ≡ pipes_of c user → c ≡ with_pipes c user pipes []
-  given-same pipes same = λ i. record c { pipes = sym (ap (slice_set c.pipes user) same ∙ set-get_or c.pipes user no_pipes) i; answered = sym (append-nil c.answered) i }
+  pub given-same : c ≡ with_pipes c user (pipes_of c user) []
+  given-same = λ i. record c { pipes = sym (set-get_or c.pipes user no_pipes) i; answered = sym (append-nil c.answered) i }
 
   -- one row changes
-  pub given-row : (inode : ℕ) (row : Option (Pipe WaitingCall)) → with_pipes c user (with_pipe (pipes_of c user) inode row) [] ≡ with_row_at c user inode row
-  given-row inode row = λ i. record (with_row_at c user inode row) { answered = append-nil c.answered i }
-
-  pub there : (inode : ℕ) → HasPipe c user inode → row_at (pipes_of c user) inode ≡ Some (pipe_at c user inode)
-  there inode has = there-or (row_at (pipes_of c user) inode) (pipe_of [] [] []) has
-
-  -- an inode is still used, or had no pipe
-  pub unused-kept : (inodes : Inodes) (inode : ℕ) (unused : Bool) → is_unused inodes inode (row_at inodes.attributes inode) ≡ unused → (unused ≡ true → row_at (pipes_of c user) inode ≡ None)
-      → c ≡ with_given c user (without_unused (nobody_answered 0 inodes (pipes_of c user)) inode)
-  unused-kept inodes inode false is none = given-same _ (rw is refl)
-  unused-kept inodes inode true is none = given-same _ (rw is (ap (slice_set (pipes_of c user) inode) (sym (none refl)) ∙ set-row_at (pipes_of c user) inode))
+  pub given-row : (inode : ℕ) (row : Option (Pipe WaitingCall)) → with_row_at c user inode row ≡ with_pipes c user (slice_set (pipes_of c user) inode row) []
+  given-row inode row = λ i. record (with_row_at c user inode row) { answered = sym (append-nil c.answered) i }
 
   -- a row that was free is free again
   pub row-free : (inode : ℕ) → row_at (pipes_of c user) inode ≡ None → with_row_at c user inode None ≡ c
-  row-free inode none =
-      λ i. record c { pipes = (ap (slice_set c.pipes user) (ap (slice_set (pipes_of c user) inode) (sym none) ∙ set-row_at (pipes_of c user) inode) ∙ set-get_or c.pipes user no_pipes) i }
+  row-free inode none = given-row inode None ∙ ap (λ row. with_pipes c user (slice_set (pipes_of c user) inode row) []) (sym none) ∙ ap (λ pipes. with_pipes c user pipes []) (set-row_at (pipes_of c user) inode) ∙ sym given-same
 
-  module _ (within : user < length c.pipes) where
-    -- what is given first, and then as an inode goes
-    pub given-then : (given : PipesGiven WaitingCall) (inode : ℕ)
-        → with_given (with_given c user given) user (without_unused (nobody_answered 0 given.inodes (pipes_of (with_given c user given) user)) inode) ≡ with_given c user (without_unused given inode)
-    given-then given inode =
-        let pipes : pipes_of (with_given c user given) user ≡ given.pipes = get_or-set_same c.pipes user given.pipes no_pipes within in
-        let left : Pipes WaitingCall → Pipes WaitingCall = λ pipes. (without_unused (record given { pipes = pipes }) inode).pipes in
-        λ i. record c {
-          pipes = (ap (λ pipes. slice_set (slice_set c.pipes user given.pipes) user (left pipes)) pipes ∙ set-set c.pipes user given.pipes (left given.pipes)) i;
-          answered = append-nil (c.answered ++ map (users_given user) given.answers) i;
-        }
-
-    -- the row that stands there then
-    pub row-here : (inode : ℕ) (row : Option (Pipe WaitingCall)) → inode < length (pipes_of c user) → row_at (pipes_of (with_row_at c user inode row) user) inode ≡ row
-    row-here inode row inside =
-        ap (λ pipes. row_at pipes inode) (get_or-set_same c.pipes user (with_pipe (pipes_of c user) inode row) no_pipes within)
-        ∙ row_at-get_or (with_pipe (pipes_of c user) inode row) inode
-        ∙ get_or-set_same (pipes_of c user) inode row None inside
-
-    -- another row stands there last
-    pub row-last : (inode : ℕ) (row last : Option (Pipe WaitingCall)) → with_row_at (with_row_at c user inode row) user inode last ≡ with_row_at c user inode last
-    row-last inode row last =
-        let between : Pipes WaitingCall = with_pipe (pipes_of c user) inode row in
-        let pipes =
-        ap (λ pipes. slice_set (slice_set c.pipes user between) user (with_pipe pipes inode last)) (get_or-set_same c.pipes user between no_pipes within)
-        ∙ set-set c.pipes user between (with_pipe between inode last)
-        ∙ ap (slice_set c.pipes user) (set-set (pipes_of c user) inode row last) in
-        λ i. record c { pipes = pipes i }
+  module _ (inode : ℕ) where
+    pub there : HasPipe c user inode → row_at (pipes_of c user) inode ≡ Some (pipe_at c user inode)
+    there some = grind (arith, common_steps, some)
 
     -- an empty pipe that was made stands there
-    pub stands-new : (inode : ℕ) (new : Shared) → inode < length (pipes_of c user) → new ≡ with_row_at c user inode (Some (pipe_of [] [] [])) → Stands c new user inode
-    stands-new inode new inside is =
-        let here = row-here inode (Some (pipe_of [] [] [])) inside in
-        rw is (record { there = rw here refl; users = length-set c.pipes user (with_pipe (pipes_of c user) inode (Some (pipe_of [] [] []))); others = row-last inode (Some (pipe_of [] [] [])) })
+    pub stands-new : (new : Shared) → user < length c.pipes → inode < length (pipes_of c user) → new ≡ with_row_at c user inode (Some no_bytes) → Stands c new user inode
+    stands-new new inside place is =
+        let pipes = slice_set (pipes_of c user) inode (Some no_bytes) in
+        let got : pipes_of (with_row_at c user inode (Some no_bytes)) user ≡ pipes = get_or-set_same c.pipes user pipes no_pipes inside in
+        rw is (record {
+          there = rw (got, row_at-get_or pipes inode, get_or-set_same (pipes_of c user) inode (Some no_bytes) None place) refl;
+          users = length-set c.pipes user pipes;
+          others = λ last. rw (got, set-set (pipes_of c user) inode (Some no_bytes) last, set-set c.pipes user pipes (slice_set (pipes_of c user) inode last)) refl;
+        })
 
-    within-pipes : (inode : ℕ) → HasPipe c user inode → inode < length (pipes_of c user)
-    within-pipes inode has = within_table (pipes_of c user) inode (pipe_at c user inode) (there inode has)
+    -- a pipe that all calls left, and then all bytes
+    pub left-empty : (left new : Shared) → left ≡ with_after c user inode (nobody_answered (removed (λ who. true) (pipe_at c user inode))) → new ≡ with_after left user inode (nobody_answered (record (pipe_at left user inode) { bytes = [] }))
+        → HasPipe c user inode → new ≡ with_row_at c user inode (Some no_bytes)
+    left-empty left new left_is is some =
+        let pipe = pipe_at c user inode in
+        rw left_is at is
+        ∙ then-after c user inode some (nobody_answered (removed (λ who. true) pipe)) (λ p. nobody_answered (record p { bytes = [] }))
+        ∙ sym (given-row inode (Some (record (removed (λ who. true) pipe) { bytes = [] })))
+        ∙ (λ i. with_row_at c user inode (Some (record { bytes = []; readers = nobody-stays pipe.readers i; writers = nobody-stays pipe.writers i })))
 
-    -- the inode of a pipe to which something was done, once it has the size of the pipe
-    pub sized-after : (inodes now : Inodes) (inode moment : ℕ) (after : After WaitingCall) (filled : Bool) (new : Shared) → HasPipe c user inode → new ≡ with_after c user inode after → filled ≡ went_in after.answers
-        → now ≡ record inodes { attributes = with_row inodes.attributes inode (sized (length (pipe_at new user inode).bytes) filled moment) }
-        → now ≡ (machine.with_after wanted offered is_gone inodes (pipes_of c user) inode moment after).inodes
-    sized-after inodes now inode moment after filled new has became filled_is now_is =
-        let pipe : pipe_at new user inode ≡ after.pipe = ap (λ (c : Shared). pipe_at c user inode) became ∙ ap (λ row. unwrap_or row (pipe_of [] [] [])) (row-here inode (Some after.pipe) (within-pipes inode has)) in
-        now_is ∙ rw (pipe, filled_is) refl
+-- ---- another size of an inode, and an inode that goes
 
-    -- what is done over a block that was opened with a flag, where that may be
-    pub over-done : (inodes : Inodes) (number moment : ℕ) (flag : OFlags) (missing : Errno) (doing : Ocb → Pipe WaitingCall → After WaitingCall) (block : Ocb) → Ok block ≡ block_for inodes number flag → HasPipe c user block.inode
-        → (now : Inodes) (filled : Bool) (new : Shared) → new ≡ with_after c user block.inode (doing block (pipe_at c user block.inode)) → filled ≡ went_in (doing block (pipe_at c user block.inode)).answers
-        → now ≡ record inodes { attributes = with_row inodes.attributes block.inode (sized (length (pipe_at new user block.inode).bytes) filled moment) }
-        → IsDone c user inodes (found (row_at inodes.blocks number) EBADF >>= λ block. need (has block.flags flag) EBADF >>= λ allowed. found (row_at (pipes_of c user) block.inode) missing >>= λ pipe. Ok (machine.with_after wanted offered is_gone inodes (pipes_of c user) block.inode moment (doing block pipe))) new now
-    over-done inodes number moment flag missing doing block is has now filled new became filled_is now_is =
-        let rest : Ocb → Result (PipesGiven WaitingCall) Errno = λ block. found (row_at (pipes_of c user) block.inode) missing >>= λ pipe. Ok (machine.with_after wanted offered is_gone inodes (pipes_of c user) block.inode moment (doing block pipe)) in
-        rw (block-then inodes number flag block rest is, there block.inode has) (record { done_is = refl; shared_is = became; inodes_are = sized-after inodes now block.inode moment (doing block (pipe_at c user block.inode)) filled new has became filled_is now_is })
+abbrev resized : ℕ → (Attribute → Attribute) → Stored → Stored
+resized inode change s = record s { inodes = record s.inodes { attributes = with_row s.inodes.attributes inode change } }
 
--- a pipe that all calls leave, and then all bytes
-module _ (c : Shared) (user inode : ℕ) (within : user < length c.pipes) (has : HasPipe c user inode) (left : Shared) (left_is : left ≡ with_after c user inode (of_pipe.nobody_answered (removed (λ who. true) (pipe_at c user inode)))) where
-  abbrev nobody : Pipe WaitingCall
-  nobody = removed (λ who. true) (pipe_at c user inode)
+-- an inode goes, or not, and its pipe
+abbrev freed_if : Bool → ℕ → Inodes → Inodes
+freed_if gone inode inodes = if gone then record inodes { attributes = slice_set inodes.attributes inode None } else inodes
 
-  left-row : left ≡ with_row_at c user inode (Some nobody)
-  left-row = left_is ∙ given-row c user inode (Some nobody)
+abbrev gone_if : Bool → ℕ → Stored → Stored
+gone_if gone inode s = if gone then record s { inodes = freed_if gone inode s.inodes } else s
 
-  left-here : row_at (pipes_of left user) inode ≡ Some nobody
-  left-here = ap (λ (c : Shared). row_at (pipes_of c user) inode) left-row ∙ row-here c user within inode (Some nobody) (within-pipes c user within inode has)
+abbrev without_if : Bool → ℕ → Resources → Resources
+without_if gone inode r = if gone then without_content kind.Pipe inode (record r { inodes = freed_if gone inode r.inodes }) else r
 
-  pub left-there : HasPipe left user inode
-  left-there = rw left-here refl
+abbrev unused : Inodes → ℕ → Bool
+unused inodes inode = is_unused inodes inode (row_at inodes.attributes inode)
 
-  pub left-empty : (last : Shared) → last ≡ with_after left user inode (of_pipe.nobody_answered (record (pipe_at left user inode) { bytes = [] })) → last ≡ with_row_at c user inode (Some (pipe_of [] [] []))
-  left-empty last last_is =
-      let pipe : pipe_at left user inode ≡ nobody = ap (λ row. unwrap_or row (pipe_of [] [] [])) left-here in
-      let empty : record (pipe_at left user inode) { bytes = [] } ≡ pipe_of [] [] [] =
-      λ i. record { bytes = []; readers = (ap (λ (p : Pipe WaitingCall). p.readers) pipe ∙ nobody-stays (pipe_at c user inode).readers) i; writers = (ap (λ (p : Pipe WaitingCall). p.writers) pipe ∙ nobody-stays (pipe_at c user inode).writers) i } in
-      last_is
-      ∙ given-row left user inode (Some (record (pipe_at left user inode) { bytes = [] }))
-      ∙ ap (λ pipe. with_row_at left user inode (Some pipe)) empty
-      ∙ ap (λ c. with_row_at c user inode (Some (pipe_of [] [] []))) left-row
-      ∙ row-last c user within inode (Some nobody) (Some (pipe_of [] [] []))
+module _ (s : Stored) (inode size moment : ℕ) (filled : Bool) where
+  abbrev change : Attribute → Attribute
+  change = sized size filled moment
+
+  abbrev rows : List (Option Attribute)
+  rows = s.inodes.attributes
+
+  unused-sized : unused (resized inode change s).inodes inode ≡ unused s.inodes inode
+  unused-sized = grind (arith, common_steps, row-freed, row-set_same)
+
+  -- that an inode goes first makes no difference, and no open control block goes with it
+  gone-first : (let bare = unused_gone kind.Pipe inode s in (bare.user ≡ s.user) × (sides_of bare.inodes inode ≡ sides_of s.inodes inode) × (resized inode change bare ≡ unused_gone kind.Pipe inode (resized inode change s)))
+  gone-first = rw unused-sized (by_test (unused s.inodes inode))
+    where
+      by_test : (gone : Bool) → (let bare = gone_if gone inode s in (bare.user ≡ s.user) × (sides_of bare.inodes inode ≡ sides_of s.inodes inode) × (resized inode change bare ≡ gone_if gone inode (resized inode change s)))
+      by_test true =
+          let none = ap (λ row. slice_set (slice_set rows inode None) inode (option_map change row)) (row-freed rows inode) ∙ set-set rows inode None None ∙ sym (set-set rows inode (option_map change (row_at rows inode)) None) in
+          (refl, refl, ap (λ rows. record s { inodes = record s.inodes { attributes = rows } }) none)
+      by_test false = (refl, refl, refl)
+
+-- ---- a store and what all share follow the machine
+
+-- an error changes nothing
+pub refused : {E : Type 0} {s new : Stored} {c : Shared} {r : Resources} {error : E} {meant : Result (Deed Resources) E} → Err error ≡ meant → new ≡ s → Follows s c new c r meant
+refused {E} {s} {new} {c} {r} is same = subst (Follows s c new c r) is (record { state = ap (λ s. seen r s c) same; shared = refl })
+
+-- an open control block that was opened with a flag
+pub block-at : (inodes now : Inodes) (number : ℕ) (flag : OFlags) (block : Ocb) → Ok block ≡ block_for now number flag → now ≡ inodes → (row_at inodes.blocks number ≡ Some block) × (has block.flags flag ≡ true)
+block-at inodes now number flag block is same = grind (arith, common_steps, is, same)
+
+module _ {E : Type 0} (s new : Stored) (c left : Shared) (r : Resources) (inside : s.user < length c.pipes) where
+  -- the pipes are those that the machine leaves, and all else is in the store
+  pub follows : (deed : Deed Resources) → new.user ≡ s.user → left ≡ with_pipes c s.user deed.state.pipes deed.answers → deed.state ≡ record (within r new) { pipes = deed.state.pipes } → Follows {E = E} s c new left r (Ok deed)
+  follows deed user left_is state_is =
+      let pipes : pipes_of left new.user ≡ deed.state.pipes = ap (pipes_of left) user ∙ ap (λ (c : Shared). pipes_of c s.user) left_is ∙ get_or-set_same c.pipes s.user deed.state.pipes no_pipes inside in
+      record { state = ap (λ pipes. record (within r new) { pipes = pipes }) pipes ∙ sym state_is; shared = left_is }
+
+  -- something was done to a pipe, and its inode has its size
+  pub after-follows : (inode moment : ℕ) (after : After WaitingCall) (filled : Bool) → HasPipe c s.user inode → left ≡ with_after c s.user inode after → filled ≡ went_in after.answers → new ≡ resized inode (sized (length (pipe_at left s.user inode).bytes) filled moment) s
+      → Follows {E = E} s c new left r (Ok (machine.with_after (seen r s c) inode moment after))
+  after-follows inode moment after filled some left_is filled_is new_is =
+      let pipe : pipe_at left s.user inode ≡ after.pipe = ap (λ (c : Shared). pipe_at c s.user inode) left_is ∙ pipe_at-after c s.user inode some after in
+      let sized_is = rw (pipe, filled_is) at new_is in
+      let pipes = slice_set (pipes_of c s.user) inode (Some after.pipe) in
+      follows (machine.with_after (seen r s c) inode moment after) (ap (λ (s : Stored). s.user) sized_is) left_is (ap (λ new. record (within r new) { pipes = pipes }) (sym sized_is))
+
+-- ---- a close, once its block was judged
+
+module _ (s new : Stored) (c left : Shared) (r : Resources) (opened : Opened) (moment inode : ℕ) (inside : s.user < length c.pipes) (own : Ok inode ≡ result_map_both (λ (block : Ocb). block.inode) (λ error. error) (own_block s.inodes opened.number kind.Pipe)) where
+  abbrev freed : Stored
+  freed = block_gone opened.number s
+
+  -- what is done to the pipe, and then the rest
+  abbrev first : ℕ → Deed Resources
+  first inode = machine.released (seen r freed c) opened.number inode moment (row_at (pipes_of c s.user) inode)
+
+  abbrev and_rest : Resources → Deed Resources
+  and_rest state = record (closed kind.Pipe opened.coid inode (first inode)) { state = state }
+
+  close-is : (blocks : Result Ocb Errno) → Ok inode ≡ result_map_both (λ (block : Ocb). block.inode) (λ error. error) blocks → Ok (closed kind.Pipe opened.coid inode (first inode)) ≡ (blocks >>= λ block. Ok (closed kind.Pipe opened.coid block.inode (first block.inode)))
+  close-is blocks is = grind (arith, common_steps)
+
+  rest-follows : (inodes : Inodes) (between : Shared) (gone : Bool) → Follows {E = Errno} freed c (record freed { inodes = inodes }) between r (Ok (first inode)) → new ≡ unused_gone kind.Pipe inode (record freed { inodes = inodes }) → gone ≡ unused inodes inode
+      → left ≡ (if gone then with_row_at between s.user inode None else between) → Follows s c new left r (close kind.Pipe (seen r s c) opened moment)
+  rest-follows inodes between gone follow new_is gone_is left_is =
+      subst (Follows s c new left r) (close-is (own_block s.inodes opened.number kind.Pipe) own)
+      (subst (λ state. Follows {E = Errno} s c new left r (Ok (and_rest (without_unused kind.Pipe inode state)))) follow.state
+      (rw new_is (subst (λ gone. Follows {E = Errno} s c (gone_if gone inode mid) left r (Ok (and_rest (without_if gone inode (seen r mid between))))) gone_is (by_test gone left_is))))
+    where
+      mid : Stored
+      mid = record freed { inodes = inodes }
+
+      between_is : between ≡ with_pipes c s.user (pipes_of between s.user) (first inode).answers
+      between_is = follow.shared ∙ ap (λ (r : Resources). with_pipes c s.user r.pipes (first inode).answers) (sym follow.state)
+
+      by_test : (gone : Bool) → left ≡ (if gone then with_row_at between s.user inode None else between) → Follows {E = Errno} s c (gone_if gone inode mid) left r (Ok (and_rest (without_if gone inode (seen r mid between))))
+      by_test true left_is =
+          let pipes = pipes_of between s.user in
+          let row = slice_set pipes inode None in
+          follows s (gone_if true inode mid) c left r inside (and_rest (without_if true inode (seen r mid between))) refl
+          (left_is ∙ ap (λ (between : Shared). record between { pipes = slice_set between.pipes s.user row }) between_is ∙ ap (λ all. record (with_pipes c s.user pipes (first inode).answers) { pipes = all }) (set-set c.pipes s.user pipes row)) refl
+      by_test false left_is = follows s mid c left r inside (and_rest (seen r mid between)) refl (left_is ∙ between_is) refl
+
+  -- where there was a pipe
+  pub close-follows : (between : Shared) (filled gone : Bool) (bare : Stored) (sides : Sides) → HasPipe c s.user inode → bare ≡ unused_gone kind.Pipe inode freed → gone ≡ unused freed.inodes inode → sides ≡ sides_of bare.inodes inode
+      → (let after = release wanted offered is_gone (is_over opened.number) sides (pipe_at c s.user inode) in (between ≡ with_after c s.user inode after) × (filled ≡ went_in after.answers)) → new ≡ resized inode (sized (length (pipe_at between bare.user inode).bytes) filled moment) bare
+      → left ≡ (if gone then with_row_at between s.user inode None else between) → Follows s c new left r (close kind.Pipe (seen r s c) opened moment)
+  close-follows between filled gone bare sides some bare_is gone_is sides_is did new_is =
+      let size = length (pipe_at between s.user inode).bytes in
+      let change = sized size filled moment in
+      let first = gone-first freed inode size moment filled in
+      let done = rw (sides_is ∙ ap (λ (s : Stored). sides_of s.inodes inode) bare_is ∙ first.1) at did in
+      let after = release wanted offered is_gone (is_over opened.number) (sides_of freed.inodes inode) (pipe_at c s.user inode) in
+      let user : bare.user ≡ s.user = ap (λ (s : Stored). s.user) bare_is ∙ first.0 in
+      rest-follows (resized inode change freed).inodes between gone (rw (there c s.user inode some) (after-follows freed (resized inode change freed) c between r inside inode moment after filled some done.0 done.1 refl))
+      (new_is ∙ ap (λ user. resized inode (sized (length (pipe_at between user inode).bytes) filled moment) bare) user ∙ ap (resized inode change) bare_is ∙ first.2)
+      (gone_is ∙ sym (unused-sized freed inode size moment filled))
+
+  -- where there was none
+  pub close-follows-none : row_at (pipes_of c s.user) inode ≡ None → new ≡ unused_gone kind.Pipe inode freed → left ≡ c → Follows s c new left r (close kind.Pipe (seen r s c) opened moment)
+  close-follows-none none new_is left_is =
+      rest-follows freed.inodes c (unused freed.inodes inode) (rw none (record { state = refl; shared = given-same c s.user })) new_is refl
+      (cond_both (unused freed.inodes inode) _ c (λ d. left ≡ d) (λ _. left_is ∙ sym (row-free c s.user inode none)) (λ _. left_is))
+
+-- ---- an open and an unlink
+
+abbrev Leaves : Pipes → Result (Deed Resources) Errno → Type 0
+Leaves pipes meant = IfOk meant (λ deed. deed.state.pipes ≡ pipes)
+
+existing-keeps : (r : Resources) (coid : Coid) (inode : ℕ) (wish : Wish) → Leaves r.pipes (open_existing r coid inode wish)
+existing-keeps r coid inode wish = grind (arith, common_steps)
+
+missing-makes : (r : Resources) (coid : Coid) (at : Spot) (wish : Wish) (new : New) → wish.kind ≡ kind.Pipe → may_make r.inodes r.user at.parent wish.flags ≡ Ok new → Leaves (slice_set r.pipes new.inode (Some no_bytes)) (open_missing r coid at wish)
+missing-makes r coid at wish new pipe may = grind (arith, common_steps)
+
+-- what the machine gives, and what follows it
+pub record IsTold (s new : Stored) (c left : Shared) (r : Resources) (status : ℕ) (effect : Effect) (meant : Result (Deed Resources) Errno) : Type 0 where
+  pub told : Ok (reply_alone status [] effect (seen r new left)) ≡ meant
+  pub follow : Follows s c new left r meant
+
+module _ (s new : Stored) (c left : Shared) (r : Resources) (inside : s.user < length c.pipes) (user : new.user ≡ s.user) where
+  -- the machine's state, but for pipes
+  abbrev now : Resources
+  now = within (seen r s c) new
+
+  told-by : (meant : Result (Deed Resources) Errno) (status : ℕ) (effect : Effect) (state : Resources) → Ok (reply_alone status [] effect state) ≡ meant → left ≡ with_pipes c s.user state.pipes [] → state ≡ record (within r new) { pipes = state.pipes }
+      → IsTold s new c left r status effect meant
+  told-by meant status effect state is left_is state_is =
+      let follow = follows {E = Errno} s new c left r inside (reply_alone status [] effect state) user left_is state_is in
+      record { told = ap (λ state. Ok (reply_alone status [] effect state)) follow.state ∙ is; follow = subst (Follows s c new left r) is follow }
+
+  module _ (coid : Coid) (wish : Wish) (pipe : wish.kind ≡ kind.Pipe) (o : Opening) where
+    opened-told : (meant : Result (Deed Resources) Errno) (pipes : Pipes) → meant ≡ Ok (given.opened coid wish.kind o now) → Leaves pipes meant → left ≡ with_pipes c s.user pipes [] → IsTold s new c left r coid.0 (Opens coid o.number) meant
+    opened-told meant pipes is leaves left_is =
+        let as_pipe = is ∙ ap (λ kind. Ok (given.opened coid kind o now)) pipe in
+        let leaves = rw as_pipe at leaves in
+        told-by meant coid.0 (Opens coid o.number) (given.with_pipe_made kind.Pipe o now) (sym as_pipe) (left_is ∙ ap (λ pipes. with_pipes c s.user pipes []) (sym leaves))
+        (cond_both o.is_new _ now (λ state. state ≡ record (within r new) { pipes = state.pipes }) (λ _. refl) (λ _. refl))
+
+    -- what is there has its pipe already
+    pub found-told : (inode : ℕ) → open_existing (seen r s c) coid inode wish ≡ Ok (given.opened coid wish.kind o now) → left ≡ c → IsTold s new c left r coid.0 (Opens coid o.number) (open_existing (seen r s c) coid inode wish)
+    found-told inode is left_is = opened-told _ (pipes_of c s.user) is (existing-keeps (seen r s c) coid inode wish) (left_is ∙ given-same c s.user)
+
+    abbrev pub missing : ℕ → Key → Spot
+    missing parent key = record { parent = parent; key = key; inode = None }
+
+    -- what is missing is made with an empty pipe, under a key in its directory
+    pub missing-told : (parent : ℕ) (key : Key) (made : New) → may_make s.inodes s.user parent wish.flags ≡ Ok made → open_missing (seen r s c) coid (missing parent key) wish ≡ Ok (given.opened coid wish.kind o now)
+        → left ≡ with_row_at c s.user made.inode (Some no_bytes) → IsTold s new c left r coid.0 (Opens coid o.number) (open_missing (seen r s c) coid (missing parent key) wish)
+    missing-told parent key made may is left_is =
+        opened-told _ (slice_set (pipes_of c s.user) made.inode (Some no_bytes)) is (missing-makes (seen r s c) coid (missing parent key) wish made pipe may) (left_is ∙ given-row c s.user made.inode (Some no_bytes))
+
+  -- the pipe of an inode that went goes
+  pub unlinked-told : (meant : Result (Deed Resources) Errno) (gone : Option ℕ) → given.unlinked kind.Pipe now (Ok gone) ≡ meant → MatchOption gone (left ≡ c) (λ inode. left ≡ with_row_at c s.user inode None) → IsTold s new c left r 0 Keeps meant
+  unlinked-told meant (Some inode) is left_is = told-by meant 0 Keeps _ is (left_is ∙ given-row c s.user inode None) refl
+  unlinked-told meant None is left_is = told-by meant 0 Keeps now is (left_is ∙ given-same c s.user) refl

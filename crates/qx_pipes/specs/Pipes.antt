@@ -1,26 +1,34 @@
--- What is done to a pipe and its inode, as the steps of one message do it.
-use Rattle.std.specs.Prelude.{ℕ, ◌≡◌, ◌==◌, Bool, Option, length, not, if◌then◌else◌}
-use Rattle.qx_machine.specs.declared.rows.Attribute.{Attribute}
-use Rattle.qx_machine.specs.declared.rows.Kind.TheVariants as kind
+-- What the steps of a message to the pipe manager leave of a store and of what all users share.
+use Rattle.std.specs.Prelude.{ℕ, ◌≡◌, [], Option, Result, Ok, Err, length}
+use Rattle.qx_types.specs.declared.errno.Errno.{Errno}
+use Rattle.qx_types.specs.declared.names.Coid.{Coid}
+use Rattle.qx_iofunc.specs.Store.{Stored, within}
+use Rattle.qx_machine.specs.declared.rows.Effect.TheVariants.{Opens}
 use Rattle.qx_machine.specs.declared.rows.WaitingCall.{WaitingCall}
-use Rattle.qx_machine.specs.Files.{resized}
-use Rattle.qx_machine.specs.Inodes.{Inodes}
-use Rattle.qx_machine.specs.Names.{is_same_kind}
-use Rattle.qx_machine.specs.PipeManager.{Pipes, PipesGiven, is_gone, offered, released, wanted}
+use Rattle.qx_machine.specs.Functions.{Deed, reply_alone}
 use Rattle.qx_machine.specs.Pipes.{Pipe}
-use Rattle.qx_machine.specs.Rows.{row_at}
-use Rattle.qx_shared.specs.Shared.{HasPipe, Shared, with_row_at}
+use Rattle.qx_machine.specs.Resources.{Resources}
+use Rattle.qx_shared.specs.Shared.{HasPipe, Shared, pipes_of, shared_after, state_after, with_row_at}
 
--- a pipe's inode has another size, and where bytes went in the times of that
-abbrev pub sized : ℕ → Bool → ℕ → Attribute → Attribute
-sized size filled moment attribute =
-    if not (is_same_kind kind.Pipe attribute.kind) then attribute
-    else if filled then resized size moment attribute
-    else record attribute { size = size }
+-- what the managers keep for a user, with this of the user's in a store, and the pipes that the user has of what all share
+abbrev pub seen : Resources → Stored → Shared → Resources
+seen r s c = record (within r s) { pipes = pipes_of c s.user }
 
--- what is done to the pipe of an inode, if it is one, once the block of a number was closed
-abbrev pub released_call : Inodes → Pipes WaitingCall → ℕ → ℕ → ℕ → PipesGiven WaitingCall
-released_call inodes pipes number inode moment = released wanted offered is_gone (λ call. call.block == number) inodes pipes inode moment (row_at pipes inode)
+module _ {E : Type 0} where
+  -- that it was done
+  abbrev pub done : Result (Deed Resources) E → Result Unit E
+  done (Ok deed) = Ok tt
+  done (Err error) = Err error
+
+  -- a store and what all share are as the machine left them
+  pub record Follows (s : Stored) (c : Shared) (new : Stored) (left : Shared) (r : Resources) (meant : Result (Deed Resources) E) : Type 0 where
+    pub state : seen r new left ≡ state_after (seen r s c) meant
+    pub shared : left ≡ shared_after c s.user meant
+
+-- an open of a connection gave it this block
+abbrev pub opened : Coid → Resources → Result ℕ Errno → Result (Deed Resources) Errno
+opened coid r (Ok number) = Ok (reply_alone coid.0 [] (Opens coid number) r)
+opened coid r (Err error) = Err error
 
 -- a pipe stands under the number of an inode, and nothing else is different
 pub record Stands (old new : Shared) (user inode : ℕ) : Type 0 where

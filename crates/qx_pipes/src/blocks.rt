@@ -1,17 +1,25 @@
 //! What messages over an open control block do.
 
-ghost use Rattle.std.specs.Prelude.{◌≡◌, ◌<◌, ◌≤◌, IsSome, MatchResult, None, is_ok, length, position};
-ghost use Rattle.qx_machine.specs.Inodes.{free_inode, has};
-ghost use Rattle.qx_machine.specs.PipeManager.{cancel_call, close_call, holds, is_call, nobody_answered, read_call, seek_pipe, without_unused, write_call};
+ghost use Rattle.std.specs.Prelude.{◌≡◌, ◌<◌, ◌≤◌, ℕ, ℤ, IsSome, MatchResult, None, Err, if◌then◌else◌, is_ok, length, position};
+ghost use Rattle.qx_iofunc.specs.Sizes.{sized};
+ghost use Rattle.qx_iofunc.specs.Store.{within};
+ghost use Rattle.qx_machine.specs.Defaults as defaults;
+ghost use Rattle.qx_machine.specs.Inodes.{has};
+ghost use Rattle.qx_machine.specs.PipeManager as machine;
+ghost use Rattle.qx_machine.specs.Resources.{Resources};
 ghost use Rattle.qx_machine.specs.Rows.{with_row};
-ghost use Rattle.qx_pipes.specs.Pipes.{released_call, sized};
-ghost use Rattle.qx_shared.specs.Shared.{IsReceived, done, inodes_after, pipe_at, pipes_of, shared_after, thread_of, with_given};
+ghost use Rattle.qx_machine.specs.Waiting.{holds, is_call};
+ghost use Rattle.qx_machine.specs.declared.rows.Kind.TheVariants as kind;
+ghost use Rattle.qx_pipes.specs.Pipes.{Follows, done, seen};
+ghost use Rattle.qx_shared.specs.Shared.{IsReceived, pipe_at, pipes_of, thread_of, with_row_at};
 ghost use Rattle.qx_types.specs.declared.flags.TheConstants.OFlags.{NONBLOCK};
 ghost use Rattle.qx_types.specs.declared.limits.TheConstants.Limits.{TRANSFER};
+ghost use Rattle.qx_types.specs.declared.fields.Whence.{Whence as AnyWhence};
 
 use bitflags::Flags;
 use qx_attr::Inodes;
-use qx_machine::{Attribute, Kind, Manner, Ocb, Opened};
+use qx_iofunc::Store;
+use qx_machine::{Kind, Manner, Ocb, Opened};
 use qx_process::Room;
 use qx_queues::PipeCall;
 use qx_shared::Shared;
@@ -22,33 +30,33 @@ use qx_types::{Errno, Limits, OFlags, Thread, User};
 /// left then.
 pub fn read(
     shared: &mut Shared,
-    inodes: &mut Inodes,
-    user: User,
+    store: &mut Store,
     opened: Opened,
     wanted: u32,
     room: &mut Option<Room>,
     moment: u64,
 ) -> Result<(), Errno>
-    requires user { user.0 < length shared.old.pipes }
-    requires received { IsReceived shared.old (thread_of user.0 opened.caller) }
+    requires user { store.old.stored.user < length shared.old.pipes }
+    requires received { IsReceived shared.old (thread_of store.old.stored.user opened.caller) }
     requires room { IsSome room.old }
-    ensures done { result ≡ done (read_call inodes.old.inodes (pipes_of shared.old user.0) opened wanted moment) }
-    ensures shared { shared.new ≡ shared_after shared.old user.0 (read_call inodes.old.inodes (pipes_of shared.old user.0) opened wanted moment) }
-    ensures inodes { inodes.new.inodes ≡ inodes_after inodes.old.inodes (read_call inodes.old.inodes (pipes_of shared.old user.0) opened wanted moment) }
+    ensures user { store.new.stored.user ≡ store.old.stored.user }
+    ensures done { (r : Resources) → result ≡ done (machine.read_pipe (seen r store.old.stored shared.old) opened wanted moment) }
+    ensures left { (r : Resources) → Follows store.old.stored shared.old store.new.stored shared.new r (machine.read_pipe (seen r store.old.stored shared.old) opened wanted moment) }
     ensures room { MatchResult result (λ done. room.new ≡ None) (λ error. room.new ≡ room.old) }
 {
-    let block = inodes.block_for(opened.number, OFlags::READ)?;
+    let block = store.inodes().block_for(opened.number, OFlags::READ)?;
+    let user = store.user();
     if !shared.has_pipe(user, block.inode) {
         return Err(Errno::EISDIR);
     }
     let Some(own_room) = room.take() else {
         unreachable!();
     };
-    let sides = inodes.sides(block.inode);
+    let sides = store.inodes().sides(block.inode);
     let manner = manner(sides.for_writing, &block, opened.caller.is_asked);
     let call = PipeCall::reading(opened, wanted, own_room);
     let filled = qx_pipe::pipe::read(shared, user, block.inode, call, manner);
-    set_size(shared, inodes, user, block.inode, filled, moment);
+    set_size(shared, store, block.inode, filled, moment);
     Ok(())
 }
 
@@ -57,23 +65,23 @@ pub fn read(
 /// writing; the room is left then.
 pub fn write(
     shared: &mut Shared,
-    inodes: &mut Inodes,
-    user: User,
+    store: &mut Store,
     opened: Opened,
     bytes: &[u8],
     room: &mut Option<Room>,
     moment: u64,
 ) -> Result<(), Errno>
-    requires user { user.0 < length shared.old.pipes }
-    requires received { IsReceived shared.old (thread_of user.0 opened.caller) }
+    requires user { store.old.stored.user < length shared.old.pipes }
+    requires received { IsReceived shared.old (thread_of store.old.stored.user opened.caller) }
     requires fits { length bytes.now ≤ TRANSFER }
     requires room { IsSome room.old }
-    ensures done { result ≡ done (write_call inodes.old.inodes (pipes_of shared.old user.0) opened bytes.now moment) }
-    ensures shared { shared.new ≡ shared_after shared.old user.0 (write_call inodes.old.inodes (pipes_of shared.old user.0) opened bytes.now moment) }
-    ensures inodes { inodes.new.inodes ≡ inodes_after inodes.old.inodes (write_call inodes.old.inodes (pipes_of shared.old user.0) opened bytes.now moment) }
+    ensures user { store.new.stored.user ≡ store.old.stored.user }
+    ensures done { (r : Resources) → result ≡ done (machine.write_pipe (seen r store.old.stored shared.old) opened bytes.now moment) }
+    ensures left { (r : Resources) → Follows store.old.stored shared.old store.new.stored shared.new r (machine.write_pipe (seen r store.old.stored shared.old) opened bytes.now moment) }
     ensures room { MatchResult result (λ done. room.new ≡ None) (λ error. room.new ≡ room.old) }
 {
-    let block = inodes.block_for(opened.number, OFlags::WRITE)?;
+    let block = store.inodes().block_for(opened.number, OFlags::WRITE)?;
+    let user = store.user();
     if !shared.has_pipe(user, block.inode) {
         return Err(Errno::EBADF);
     }
@@ -81,79 +89,51 @@ pub fn write(
         unreachable!();
     };
     own_room.keep(bytes);
-    let sides = inodes.sides(block.inode);
+    let sides = store.inodes().sides(block.inode);
     let manner = manner(sides.for_reading, &block, opened.caller.is_asked);
     let call = PipeCall::writing(opened, own_room);
     let filled = qx_pipe::pipe::write(shared, user, block.inode, call, manner);
-    set_size(shared, inodes, user, block.inode, filled, moment);
+    set_size(shared, store, block.inode, filled, moment);
     Ok(())
 }
 
 /// A pipe has no offset: ESPIPE; on the mount's root EINVAL (C Library Reference: `lseek`).
-pub fn seek(inodes: &Inodes, number: u16) -> Result<u64, Errno>
-    ensures { result ≡ seek_pipe inodes.now.inodes number }
+pub fn seek(store: &Store, opened: Opened) -> Errno
+    ensures refused { (r : Resources) (whence : AnyWhence) (by : ℤ) (moment : ℕ) → machine.seek_pipe (within r store.now.stored) opened whence by moment ≡ Err result }
 {
-    let Some(block) = inodes.block(number) else {
-        return Err(Errno::EBADF);
+    let Some(block) = store.inodes().block(opened.number) else {
+        return Errno::EBADF;
     };
-    match inodes.attr(block.inode) {
-        None => Err(Errno::EBADF),
-        Some(attr) if attr.attribute.kind == Kind::Directory => Err(Errno::EINVAL),
-        Some(_) => Err(Errno::ESPIPE),
+    match store.inodes().attr(block.inode) {
+        None => Errno::EBADF,
+        Some(attr) if attr.attribute.kind == Kind::Directory => Errno::EINVAL,
+        Some(_) => Errno::ESPIPE,
     }
 }
 
 /// Takes an open control block of a user away (C Library Reference: `close`): the calls that wait over it are answered, and
 /// those whom that concerns; what was open with it goes, with its pipe, where nothing names that and nothing else has it
 /// open. EBADF without a block of a pipe or of a directory.
-pub fn release(
+pub fn close(
     shared: &mut Shared,
-    inodes: &mut Inodes,
-    user: User,
-    number: u16,
+    store: &mut Store,
+    opened: Opened,
     moment: u64,
 ) -> Result<(), Errno>
-    requires user { user.0 < length shared.old.pipes }
-    ensures done { result ≡ done (close_call inodes.old.inodes (pipes_of shared.old user.0) number moment) }
-    ensures shared { shared.new ≡ shared_after shared.old user.0 (close_call inodes.old.inodes (pipes_of shared.old user.0) number moment) }
-    ensures inodes { inodes.new.inodes ≡ inodes_after inodes.old.inodes (close_call inodes.old.inodes (pipes_of shared.old user.0) number moment) }
+    requires user { store.old.stored.user < length shared.old.pipes }
+    ensures user { store.new.stored.user ≡ store.old.stored.user }
+    ensures done { (r : Resources) → result ≡ done (defaults.close kind.Pipe (seen r store.old.stored shared.old) opened moment) }
+    ensures left { (r : Resources) → Follows store.old.stored shared.old store.new.stored shared.new r (defaults.close kind.Pipe (seen r store.old.stored shared.old) opened moment) }
 {
-    let block = qx_iofunc::own_block(inodes, number, Kind::Pipe)?;
-    inodes.close_block(number);
-    released(shared, inodes, user, number, block.inode, moment);
-    free(shared, inodes, user, block.inode);
+    let user = store.user();
+    let closed = store.close(Kind::Pipe, opened.number)?;
+    if shared.has_pipe(user, closed.inode) {
+        let sides = store.inodes().sides(closed.inode);
+        let filled = qx_pipe::pipe::release(shared, user, closed.inode, opened.number, sides);
+        set_size(shared, store, closed.inode, filled, moment);
+        remove(shared, user, closed.inode, closed.is_gone);
+    }
     Ok(())
-}
-
-// What is done to the pipe of an inode, if it is one, once a block of it was closed.
-fn released(
-    shared: &mut Shared,
-    inodes: &mut Inodes,
-    user: User,
-    number: u16,
-    inode: u32,
-    moment: u64,
-)
-    requires user { user.0 < length shared.old.pipes }
-    ensures shared { shared.new ≡ with_given shared.old user.0 (released_call inodes.old.inodes (pipes_of shared.old user.0) number inode moment) }
-    ensures inodes { inodes.new.inodes ≡ (released_call inodes.old.inodes (pipes_of shared.old user.0) number inode moment).inodes }
-{
-    if !shared.has_pipe(user, inode) {
-        return;
-    }
-    let sides = inodes.sides(inode);
-    let filled = qx_pipe::pipe::release(shared, user, inode, number, sides);
-    set_size(shared, inodes, user, inode, filled, moment);
-}
-
-// An inode that nothing names and nothing has open goes, with its pipe.
-pub(crate) fn free(shared: &mut Shared, inodes: &mut Inodes, user: User, inode: u32)
-    ensures shared { shared.new ≡ with_given shared.old user.0 (without_unused (nobody_answered 0 inodes.old.inodes (pipes_of shared.old user.0)) inode) }
-    ensures inodes { inodes.new.inodes ≡ free_inode inodes.old.inodes inode }
-{
-    if inodes.free_inode(inode) && shared.has_pipe(user, inode) {
-        shared.remove_pipe(user, inode);
-    }
 }
 
 /// A thread's call is asked to unblock: if it waits in a pipe, it is answered EINTR, unless it is served as the pipe is
@@ -161,22 +141,23 @@ pub(crate) fn free(shared: &mut Shared, inodes: &mut Inodes, user: User, inode: 
 /// Where it waits over its open control block's pipe, no other pipe is looked at.
 pub fn cancel(
     shared: &mut Shared,
-    inodes: &mut Inodes,
+    store: &mut Store,
     thread: Thread,
     call: u64,
     moment: u64,
 ) -> bool
-    requires user { thread.proc.user.0 < length shared.old.pipes }
-    ensures waited { result ≡ is_ok (cancel_call inodes.old.inodes (pipes_of shared.old thread.proc.user.0) thread.proc.num thread.tid call moment) }
-    ensures shared { shared.new ≡ shared_after shared.old thread.proc.user.0 (cancel_call inodes.old.inodes (pipes_of shared.old thread.proc.user.0) thread.proc.num thread.tid call moment) }
-    ensures inodes { inodes.new.inodes ≡ inodes_after inodes.old.inodes (cancel_call inodes.old.inodes (pipes_of shared.old thread.proc.user.0) thread.proc.num thread.tid call moment) }
+    requires own { store.old.stored.user ≡ thread.proc.user.0 }
+    requires user { store.old.stored.user < length shared.old.pipes }
+    ensures user { store.new.stored.user ≡ store.old.stored.user }
+    ensures waited { (r : Resources) → result ≡ is_ok (machine.cancel_call (seen r store.old.stored shared.old) thread.proc.num thread.tid call moment) }
+    ensures left { (r : Resources) → Follows store.old.stored shared.old store.new.stored shared.new r (machine.cancel_call (seen r store.old.stored shared.old) thread.proc.num thread.tid call moment) }
 {
     let user = thread.proc.user;
-    let Some(inode) = holder(shared, inodes, thread, call) else {
+    let Some(inode) = holder(shared, store.inodes(), thread, call) else {
         return false;
     };
     let filled = qx_pipe::pipe::cancel(shared, user, inode, thread.proc.num, thread.tid, call);
-    set_size(shared, inodes, user, inode, filled, moment);
+    set_size(shared, store, inode, filled, moment);
     true
 }
 
@@ -198,6 +179,18 @@ fn holder(shared: &Shared, inodes: &Inodes, thread: Thread, call: u64) -> Option
     None
 }
 
+// Takes away the pipe of an inode that is gone, if one stands there.
+pub(crate) fn remove(shared: &mut Shared, user: User, inode: u32, is_gone: bool)
+    ensures { shared.new ≡ (if is_gone then with_row_at shared.old user.0 inode None else shared.old) }
+{
+    if !is_gone {
+        return;
+    }
+    if shared.has_pipe(user, inode) {
+        shared.remove_pipe(user, inode);
+    }
+}
+
 // How a message over a block is done.
 fn manner(has_other_side: bool, block: &Ocb, is_asked: bool) -> Manner
     ensures { result ≡ record { has_other_side = has_other_side; is_nonblock = has block.now.flags NONBLOCK; is_asked = is_asked } }
@@ -210,22 +203,9 @@ fn manner(has_other_side: bool, block: &Ocb, is_asked: bool) -> Manner
 }
 
 // Gives a pipe's inode the size of the pipe, and where bytes went in the times of that.
-fn set_size(shared: &Shared, inodes: &mut Inodes, user: User, inode: u32, filled: bool, moment: u64)
-    ensures { inodes.new.inodes ≡ record inodes.old.inodes { attributes = with_row inodes.old.inodes.attributes inode (sized (length (pipe_at shared.now user.0 inode).bytes) filled moment) } }
+fn set_size(shared: &Shared, store: &mut Store, inode: u32, filled: bool, moment: u64)
+    ensures { store.new ≡ record store.old { stored = record store.old.stored { inodes = record store.old.stored.inodes { attributes = with_row store.old.stored.inodes.attributes inode (sized (length (pipe_at shared.now store.old.stored.user inode).bytes) filled moment) } } } }
 {
-    let Some(attr) = inodes.attr(inode) else {
-        return;
-    };
-    if attr.attribute.kind != Kind::Pipe {
-        return;
-    }
-    let mut attribute = Attribute {
-        size: shared.pipe_len(user, inode) as u64,
-        ..attr.attribute
-    };
-    if filled {
-        attribute.mtime = moment;
-        attribute.ctime = moment;
-    }
-    inodes.set_attribute(inode, attribute);
+    let size = shared.pipe_len(store.user(), inode) as u64;
+    store.set_size(inode, size, filled, moment);
 }

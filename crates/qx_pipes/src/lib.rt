@@ -4,5 +4,5 @@
 pub mod blocks;
 pub mod paths;
 
-pub use blocks::{cancel, read, release, seek, write};
+pub use blocks::{cancel, close, read, seek, write};
 pub use paths::{open, unlink};

@@ -28,7 +28,8 @@ use Rattle.qx_wire.specs.Reading.{meaning}
 use Rattle.qx_machine.specs.declared.rows.Caller.{Caller}
 use Rattle.qx_machine.specs.declared.rows.WaitingCall.{WaitingCall}
 use Rattle.qx_machine.specs.Functions.{Deed}
-use Rattle.qx_machine.specs.Parts.{Part, Change, Put, Remove, Resources}
+use Rattle.qx_machine.specs.Parts.{Part, Change, Put, Remove}
+use Rattle.qx_machine.specs.Resources.{Resources}
 use Rattle.qx_machine.specs.PipeManager.{cancel_call}
 use Rattle.qx_machine.specs.Judgements.{◌>>=◌, found}
 use Rattle.qx_machine.specs.Performing.{Served, answered_changes, caller_of, deed_of, or_kept, own_change, served_changes, taken_in}
@@ -143,7 +144,7 @@ serve_takes c user held part (Message process thread) moment =
     takes_on part (found (row_at part.processes process) WrongState) _ (λ its. takes_on part (found (row_at its.threads thread) WrongState) _ (λ row. takes_on part (found (taken_in row.state) WrongState) _ (λ sent.
     served_takes sent.target.manager (caller_of process thread row sent) (deed_of part.resources its (caller_of process thread row sent) sent.target moment (meaning sent.bytes)))))
 serve_takes c user held part (Unblock process thread call) moment =
-    takes_on part (cancel_call part.resources.inodes part.resources.pipes process thread call moment) _ (λ given. answers_take Pipe given.answers)
+    takes_on part (cancel_call part.resources process thread call moment) _ (λ deed. answers_take Pipe deed.answers)
 
 without_fewer : (user : ℕ) (item : OwnItem) (line : List Queued) → length (line_without user item line) ≤ length line
 without_fewer user item [] = omega arith

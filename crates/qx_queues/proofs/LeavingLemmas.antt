@@ -7,7 +7,7 @@ use Rattle.std.specs.Ordering.{nat_cmp}
 use Rattle.std.proofs.lemmas.Bool.Decides.{eqb_tells}
 use Rattle.qx_lists.proofs.MapLemmas.{get-insert_other, get-insert_same, get-remove_other, get-remove_same, insert-there, same_map}
 use Rattle.qx_types.specs.declared.outcome.Answer.{Answer}
-use Rattle.qx_machine.specs.PipeManager.{is_written}
+use Rattle.qx_machine.specs.Waiting.{is_written}
 use Rattle.qx_machine.specs.Pipes.{staying}
 use Rattle.qx_queues.specs.Queues.{HasList, Queues, UsersCall, answer_to, waiting_in, with_answers, with_waiting}
 use Rattle.qx_queues.specs.Waits.{without_first}

@@ -6,7 +6,7 @@ use Rattle.qx_types.specs.declared.errno.Errno.{Errno}
 use Rattle.qx_types.specs.declared.outcome.Answer.{Answer}
 use Rattle.qx_types.specs.declared.outcome.Answer.TheVariants.{Failed, Reply}
 use Rattle.qx_machine.specs.declared.rows.WaitingCall.{WaitingCall}
-use Rattle.qx_machine.specs.PipeManager.{is_call, is_gone}
+use Rattle.qx_machine.specs.Waiting.{is_call, is_gone}
 use Rattle.qx_queues.specs.Queues.{UsersCall, caller, is_same_thread}
 use Rattle.qx_queues.specs.declared.leaving.Leaving.{Leaving}
 use Rattle.qx_queues.specs.declared.leaving.Leaving.TheVariants as leaving

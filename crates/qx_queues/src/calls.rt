@@ -1,7 +1,7 @@
 //! Calls that wait in pipes.
 
 ghost use Rattle.std.specs.Prelude.{◌≡◌, []};
-ghost use Rattle.qx_machine.specs.PipeManager.{is_call, waiting_call};
+ghost use Rattle.qx_machine.specs.Waiting.{is_call, waiting_call};
 ghost use Rattle.qx_queues.specs.Calls.{wanted_by, written_by};
 ghost use Rattle.qx_queues.specs.Queues.{caller};
 

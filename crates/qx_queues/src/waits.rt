@@ -8,7 +8,7 @@ ghost use Rattle.std.specs.Result.{ForOk};
 ghost use Rattle.qx_types.specs.declared.limits.TheConstants.Limits.{TRANSFER};
 ghost use Rattle.qx_types.specs.declared.names.Thread.{Thread as TheThread};
 ghost use Rattle.qx_lists.specs.Table.{ContainsList, IsFree, IsIn, nodes_of, with_nodes, with_value};
-ghost use Rattle.qx_machine.specs.PipeManager.{is_written as is_written_by};
+ghost use Rattle.qx_machine.specs.Waiting.{is_written as is_written_by};
 ghost use Rattle.qx_machine.specs.Pipes.{staying};
 ghost use Rattle.qx_queues.specs.Kept.{HasLoad, entry_at, waiting_at};
 ghost use Rattle.qx_queues.specs.Nodes.{Message, node_of, nodes_at};

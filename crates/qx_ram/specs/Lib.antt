@@ -1,4 +1,2 @@
-pub mod Fits
-pub mod Lends
+-- what a write is judged by
 pub mod Given
-pub mod Laws

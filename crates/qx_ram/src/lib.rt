@@ -1,11 +1,6 @@
-//! The RAM manager's files: the bytes of one user's files, under the numbers of their inodes.
+//! The RAM manager: what messages do to the bytes of a user's files.
 #![tactic(auto)]
 
-mod contents;
-mod data;
-pub mod files;
-pub mod laws;
-mod opening;
-mod target;
+mod files;
 
-pub use files::Files;
+pub use files::{read, seek, write};

@@ -1,7 +1,7 @@
 -- What the managers keep for the users at boot.
 use Rattle.std.specs.Prelude.{ℕ, ◌+◌, List, [], ◌∷◌, Option, Some}
 use Rattle.qx_types.specs.Configuration.{Configuration}
-use Rattle.qx_machine.specs.Parts.{Resources}
+use Rattle.qx_machine.specs.Resources.{Resources}
 use Rattle.qx_machine.specs.Users.{boot_part}
 use Rattle.qx_resources.specs.State.{Kept}
 

@@ -7,7 +7,7 @@ use Rattle.qx_machine.specs.declared.rows.WaitingCall.{WaitingCall}
 use Rattle.qx_machine.specs.Files.{Files}
 use Rattle.qx_machine.specs.Inodes.{Inodes}
 use Rattle.qx_machine.specs.Names.{Names}
-use Rattle.qx_machine.specs.Parts.{Resources}
+use Rattle.qx_machine.specs.Resources.{Resources}
 use Rattle.qx_shared.specs.Shared.{thread_of}
 use Rattle.qx_resmgr.specs.declared.state.State.{Ghosts}
 use Rattle.qx_shared.specs.Shared.{IsReceived, Shared, pipes_of, with_pipes}

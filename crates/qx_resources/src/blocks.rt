@@ -1,15 +1,17 @@
 //! What both managers do alike with what is open, and with what a path leads to.
 
-ghost use Rattle.std.specs.Prelude.{◌≡◌, ℕ, []};
+ghost use Rattle.std.specs.Prelude.{◌≡◌, ℕ, [], OnErr};
+ghost use Rattle.qx_iofunc.specs.Given as given;
 ghost use Rattle.qx_machine.specs.Functions.{function_deed};
 ghost use Rattle.qx_machine.specs.Managers.{ram_connect, ram_io};
+ghost use Rattle.qx_machine.specs.Resources as machine;
 ghost use Rattle.qx_machine.specs.declared.rows.Effect.TheVariants.{Closes, Opens};
 ghost use Rattle.qx_resmgr.specs.Deeds.{Did, IsReplied};
 ghost use Rattle.qx_resources.specs.State as kept;
 ghost use Rattle.qx_shared.specs.Shared.{Shared};
 
 use crate::resources::Resources;
-use qx_attr::Reply;
+use qx_attr::{Reply, Status};
 use qx_machine::{Effect, Opened};
 use qx_resmgr::Done;
 use qx_types::{Coid, Errno};
@@ -35,6 +37,16 @@ pub fn closed(coid: Coid) -> Done
     }
 }
 
+/// Puts the bytes of a status into a reply, whose own status is 0.
+fn tell(status: Result<Status, Errno>, reply: &mut Reply) -> Result<u64, Errno>
+    requires empty { reply.old ≡ [] }
+    ensures told { (r : machine.Resources) → given.replied reply.new r result ≡ given.status_told r status }
+    ensures kept { OnErr result (reply.new ≡ []) }
+{
+    reply.push(status?.as_slice());
+    Ok(0)
+}
+
 /// Tells the status of what a path leads to (C Library Reference: `stat`).
 pub fn stat(
     state: &Resources,
@@ -46,9 +58,7 @@ pub fn stat(
     ensures did { (waits : Shared) (moment : ℕ) → Did kept.state state.now waits state.now waits reply.new result (function_deed ram_connect.stat root (λ f root. f (kept.told state.now waits) root rest.now moment)) }
     ensures replied { IsReplied result }
 {
-    let status = qx_iofunc::stat(&state.inodes, &state.names, state.user, root?, rest)?;
-    reply.push(status.as_slice());
-    Ok(Done::keeps(0))
+    tell(state.store.stat(root?, rest), reply).map(Done::keeps)
 }
 
 /// Tells the status of what is open (C Library Reference: `fstat`).
@@ -61,9 +71,7 @@ pub fn fstat(
     ensures did { (waits : Shared) (moment : ℕ) → Did kept.state state.now waits state.now waits reply.new result (function_deed ram_io.fstat opened (λ f o. f (kept.told state.now waits) o moment)) }
     ensures replied { IsReplied result }
 {
-    let status = qx_iofunc::fstat(&state.inodes, opened?.number)?;
-    reply.push(status.as_slice());
-    Ok(Done::keeps(0))
+    tell(state.store.fstat(opened?), reply).map(Done::keeps)
 }
 
 /// Tells the names of a directory that is open, behind one (C Library Reference: `readdir`).
@@ -77,8 +85,7 @@ pub fn list(
     ensures did { (waits : Shared) (moment : ℕ) → Did kept.state state.now waits state.now waits reply.new result (function_deed ram_io.list opened (λ f o. f (kept.told state.now waits) o after.now moment)) }
     ensures replied { IsReplied result }
 {
-    let count = qx_iofunc::list(&state.inodes, &state.names, opened?.number, after, reply)?;
-    Ok(Done::keeps(count))
+    state.store.list(opened?, after, reply).map(Done::keeps)
 }
 
 /// Sets the mode of what is open (C Library Reference: `fchmod`).
@@ -91,6 +98,6 @@ pub fn chmod(
     ensures did { (waits : Shared) → Did kept.state state.old waits state.new waits [] result (function_deed ram_io.chmod opened (λ f o. f (kept.told state.old waits) o mode moment)) }
     ensures replied { IsReplied result }
 {
-    qx_iofunc::chmod(&mut state.inodes, opened?.number, moment, mode)?;
-    Ok(Done::keeps(0))
+    let changed = state.store.chmod(opened?, mode, moment);
+    changed.map(|_| Done::keeps(0))
 }

@@ -31,14 +31,14 @@ impl Connect<Resources, Shared, Told> for Pipe {
             Ok(over) => over,
             Err(error) => return Ok(Err(error)),
         };
-        let Resources {
-            user,
-            inodes,
-            names,
-            ..
-        } = state;
         let opened = qx_pipes::open(
-            waits, inodes, names, *user, over.root, rest, flags, mode, moment,
+            waits,
+            &mut state.store,
+            over.root,
+            rest,
+            flags,
+            mode,
+            moment,
         )?;
         Ok(opened.map(|block| blocks::opened(over.coid, block)))
     }
@@ -61,14 +61,8 @@ impl Connect<Resources, Shared, Told> for Pipe {
         rest: &Rest<'_>,
         moment: u64,
     ) -> Result<Done, Errno> {
-        let Resources {
-            user,
-            inodes,
-            names,
-            ..
-        } = state;
-        qx_pipes::unlink(waits, inodes, names, *user, root?, rest, moment)?;
-        Ok(Done::keeps(0))
+        let unlinked = qx_pipes::unlink(waits, &mut state.store, root?, rest, moment);
+        unlinked.map(|_| Done::keeps(0))
     }
 
     fn mknod(
@@ -99,9 +93,8 @@ impl Io<Resources, Shared, Told> for Pipe {
         _reply: &mut Reply,
         room: &mut Option<Room>,
     ) -> Result<Done, Errno> {
-        let Resources { user, inodes, .. } = state;
-        qx_pipes::read(waits, inodes, *user, opened?, count, room, moment)?;
-        Ok(Done::NoReply)
+        let read = qx_pipes::read(waits, &mut state.store, opened?, count, room, moment);
+        read.map(|_| Done::NoReply)
     }
 
     fn write(
@@ -116,8 +109,7 @@ impl Io<Resources, Shared, Told> for Pipe {
             Ok(opened) => opened,
             Err(error) => return Ok(Err(error)),
         };
-        let Resources { user, inodes, .. } = state;
-        let written = qx_pipes::write(waits, inodes, *user, opened, bytes, room, moment);
+        let written = qx_pipes::write(waits, &mut state.store, opened, bytes, room, moment);
         Ok(written.map(|_| Done::NoReply))
     }
 
@@ -128,8 +120,8 @@ impl Io<Resources, Shared, Told> for Pipe {
         moment: u64,
     ) -> Result<Done, Errno> {
         let opened = opened?;
-        qx_pipes::release(waits, &mut state.inodes, state.user, opened.number, moment)?;
-        Ok(blocks::closed(opened.coid))
+        let closed = qx_pipes::close(waits, &mut state.store, opened, moment);
+        closed.map(|_| blocks::closed(opened.coid))
     }
 
     fn lseek(
@@ -140,8 +132,7 @@ impl Io<Resources, Shared, Told> for Pipe {
         _offset: i64,
         _moment: u64,
     ) -> Result<Done, Errno> {
-        let status = qx_pipes::seek(&state.inodes, opened?.number)?;
-        Ok(Done::keeps(status))
+        Err(qx_pipes::seek(&state.store, opened?))
     }
 
     fn fstat(

@@ -5,7 +5,7 @@ use crate::blocks;
 use crate::resources::Resources;
 use crate::state::Told;
 use qx_attr::Reply;
-use qx_machine::{NewOpen, Opened};
+use qx_machine::{Kind, NewOpen, Opened, Wish};
 use qx_process::Room;
 use qx_resmgr::{Connect, Done, Io};
 use qx_shared::Shared;
@@ -32,15 +32,18 @@ impl Connect<Resources, Shared, Told> for Ram {
             Ok(over) => over,
             Err(error) => return Ok(Err(error)),
         };
-        let Resources {
-            user,
-            inodes,
-            names,
-            files,
-            ..
-        } = state;
-        let opened = files.connect(inodes, names, *user, over.root, rest, flags, mode, moment)?;
-        Ok(opened.map(|block| blocks::opened(over.coid, block)))
+        let lookup = match state.store.lookup(over.root, rest, flags) {
+            Ok(lookup) => lookup,
+            Err(error) => return Ok(Err(error)),
+        };
+        let wish = Wish {
+            flags,
+            kind: Kind::File,
+            mode,
+            moment,
+        };
+        let opening = state.store.open(lookup, wish)?;
+        Ok(Ok(blocks::opened(over.coid, opening.number)))
     }
 
     fn stat(
@@ -61,15 +64,8 @@ impl Connect<Resources, Shared, Told> for Ram {
         rest: &Rest<'_>,
         moment: u64,
     ) -> Result<Done, Errno> {
-        let Resources {
-            user,
-            inodes,
-            names,
-            files,
-            ..
-        } = state;
-        let status = files.unlink(inodes, names, *user, root?, rest, moment)?;
-        Ok(Done::keeps(status))
+        let unlinked = state.store.unlink(Kind::File, root?, rest, moment);
+        unlinked.map(|_| Done::keeps(0))
     }
 
     fn mknod(
@@ -84,13 +80,7 @@ impl Connect<Resources, Shared, Told> for Ram {
             Ok(root) => root,
             Err(error) => return Ok(Err(error)),
         };
-        let Resources {
-            user,
-            inodes,
-            names,
-            ..
-        } = state;
-        let made = qx_iofunc::mkdir(inodes, names, *user, root, rest, mode, moment)?;
+        let made = state.store.mkdir(root, rest, mode, moment)?;
         Ok(made.map(|_| Done::keeps(0)))
     }
 }
@@ -109,9 +99,7 @@ impl Io<Resources, Shared, Told> for Ram {
         reply: &mut Reply,
         _room: &mut Option<Room>,
     ) -> Result<Done, Errno> {
-        let bytes = state.files.read(&mut state.inodes, opened?.number, count)?;
-        reply.push(bytes);
-        Ok(Done::keeps(bytes.len() as u64))
+        qx_ram::read(&mut state.store, opened?, count, reply).map(Done::keeps)
     }
 
     fn write(
@@ -126,9 +114,7 @@ impl Io<Resources, Shared, Told> for Ram {
             Ok(opened) => opened,
             Err(error) => return Ok(Err(error)),
         };
-        let written = state
-            .files
-            .write(&mut state.inodes, opened.number, moment, bytes)?;
+        let written = qx_ram::write(&mut state.store, opened, bytes, moment)?;
         Ok(written.map(Done::keeps))
     }
 
@@ -139,7 +125,7 @@ impl Io<Resources, Shared, Told> for Ram {
         _moment: u64,
     ) -> Result<Done, Errno> {
         let opened = opened?;
-        state.files.release(&mut state.inodes, opened.number)?;
+        state.store.close(Kind::File, opened.number)?;
         Ok(blocks::closed(opened.coid))
     }
 
@@ -151,10 +137,7 @@ impl Io<Resources, Shared, Told> for Ram {
         offset: i64,
         _moment: u64,
     ) -> Result<Done, Errno> {
-        let status = state
-            .files
-            .seek(&mut state.inodes, opened?.number, whence, offset)?;
-        Ok(Done::keeps(status))
+        qx_ram::seek(&mut state.store, opened?, whence, offset).map(Done::keeps)
     }
 
     fn fstat(

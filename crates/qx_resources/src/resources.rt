@@ -1,9 +1,6 @@
 //! What the managers keep for a user, and what messages do to it.
 
-ghost use Rattle.std.specs.Prelude.{◌≡◌, ◌<◌, is_ok, IsFalse, IsOk, IsSome, IfOk, OnErr, OnOk};
-ghost use Rattle.qx_machine.specs.Attributes as attributes;
-ghost use Rattle.qx_attr.specs.Counts.{numbered};
-ghost use Rattle.qx_machine.specs.Inodes.{inode_number, new_inode};
+ghost use Rattle.std.specs.Prelude.{◌≡◌, is_ok, IsFalse, IsOk, IsSome, IfOk, OnErr, OnOk};
 ghost use Rattle.qx_machine.specs.Mounting as mounting;
 ghost use Rattle.qx_machine.specs.Performing as performing;
 ghost use Rattle.qx_machine.specs.Performing.{deed_of};
@@ -15,17 +12,16 @@ ghost use Rattle.qx_resources.specs.Boot.{without_pipes};
 ghost use Rattle.qx_resources.specs.Memory.{IsInRanges, wants_memory};
 ghost use Rattle.qx_resources.specs.Mounts.{CanMount, with_new_mount};
 ghost use Rattle.qx_resources.specs.State.{Fits, state, told};
-ghost use Rattle.qx_shared.specs.Shared.{IsReceived, Shared, inodes_after, shared_after};
+ghost use Rattle.qx_shared.specs.Shared.{IsReceived, Shared, shared_after, state_after};
 
 use crate::pipe::Pipe;
 use crate::ram::Ram;
 use crate::state::Told;
-use qx_attr::{Inodes, Reply};
-use qx_machine::{Attribute, Caller, Kind, Opened, Over, Target};
-use qx_names::Names;
+use qx_attr::Reply;
+use qx_iofunc::Store;
+use qx_machine::{Caller, Opened, Over, Target};
 use qx_paths::{MountFault, Mounts, Path, read_path};
 use qx_process::{Process, Room};
-use qx_ram::Files;
 use qx_resmgr::{Done, serve};
 use qx_shared::Shared;
 use qx_types::{Config, Errno, Manager, NoMemory, Thread, User};
@@ -36,30 +32,24 @@ use std::marker::Model;
 /// The root of a user's top.
 const TOP_INODE: u32 = 1;
 
-/// What the managers keep for a user: where they are attached, inodes and open control blocks, the names in all mounts, files
-/// and pipes.
+/// What the managers keep for a user: where they are attached, and what is under names and numbers there. The pipes stand in
+/// what all users share.
 #[derive(Drop)]
 pub struct Resources {
-    pub(crate) user: User,
     mounts: Mounts,
-    pub(crate) inodes: Inodes,
-    pub(crate) names: Names,
-    pub(crate) files: Files,
+    pub(crate) store: Store,
 }
 
 impl Model for Resources {
     ghost use Rattle.std.specs.Coded.{codes};
     ghost use Rattle.qx_names.specs.Paths.{names_code};
-    ghost use Rattle.qx_ram.specs.Fits.{Fits};
     ghost use Rattle.qx_resources.specs.State.{Kept};
 
     ghost Value = { Kept };
 
     ghost coded = { Prim.hlevel (codes, names_code) };
 
-    ghost view = { λ r. record { user = r.user.0; mounts = r.mounts; inodes = r.inodes.inodes; names = r.names; files = r.files } };
-
-    ghost invariant = { λ r. Fits r.inodes.inodes r.names r.files };
+    ghost view = { λ r. record { user = r.store.stored.user; mounts = r.mounts; inodes = r.store.stored.inodes; names = r.store.stored.names; files = r.store.stored.files } };
 }
 
 /// A mount that is judged and not made yet: its path, its manager, and the inode that its root will have.
@@ -83,17 +73,9 @@ impl Resources {
     pub fn boot(alloc: Global, config: &Config, user: User) -> Result<Self, NoMemory>
         ensures { IfOk result (λ resources. resources ≡ without_pipes (boot_part config.now user.0).resources) }
     {
-        let mut inodes = Inodes::new(alloc)?;
-        inodes.reserve(1)?;
-        make_root(&mut inodes, user);
-        let mut names = Names::new(alloc);
-        names.add_root(TOP_INODE)?;
         Ok(Resources {
-            user,
             mounts: Mounts::boot(alloc, config.name_bytes(user), TOP_INODE)?,
-            inodes,
-            names,
-            files: Files::new(alloc)?,
+            store: Store::boot(alloc, user)?,
         })
     }
 
@@ -123,7 +105,7 @@ impl Resources {
         if let Some(errno) = self.mounts.fault(&path) {
             return Err(errno);
         }
-        let root = self.inodes.inode_number()?;
+        let root = self.store.inodes().inode_number()?;
         Ok(NewMount {
             path,
             manager,
@@ -137,7 +119,6 @@ impl Resources {
         ensures ok { OnOk result (self.new ≡ with_new_mount mount.now self.old) }
         ensures err { OnErr result (self.new ≡ self.old) }
     {
-        self.inodes.reserve(1)?;
         match self
             .mounts
             .add(alloc, &mount.path, mount.manager, mount.root)
@@ -146,11 +127,10 @@ impl Resources {
             Err(MountFault::NoMemory) => return Err(NoMemory),
             Err(MountFault::Refused(_)) => unreachable!(),
         }
-        if self.names.add_root(mount.root).is_err() {
+        if self.store.add_root(mount.root).is_err() {
             self.mounts.take_last();
             return Err(NoMemory);
         }
-        make_root(&mut self.inodes, self.user);
         Ok(())
     }
 
@@ -200,23 +180,12 @@ impl Resources {
     pub fn cancel(&mut self, all: &mut Shared, thread: Thread, call: u64, moment: u64) -> bool
         requires user { self.old.user ≡ thread.proc.user.0 }
         requires fits { Fits self.old all.old }
-        ensures waited { result ≡ is_ok (cancel_call (told self.old all.old).inodes (told self.old all.old).pipes thread.proc.num thread.tid call moment) }
-        ensures resources { self.new ≡ record self.old { inodes = inodes_after self.old.inodes (cancel_call (told self.old all.old).inodes (told self.old all.old).pipes thread.proc.num thread.tid call moment) } }
-        ensures shared { all.new ≡ shared_after all.old self.old.user (cancel_call (told self.old all.old).inodes (told self.old all.old).pipes thread.proc.num thread.tid call moment) }
+        ensures user { self.new.user ≡ self.old.user }
+        ensures waited { result ≡ is_ok (cancel_call (told self.old all.old) thread.proc.num thread.tid call moment) }
+        ensures state { told self.new all.new ≡ state_after (told self.old all.old) (cancel_call (told self.old all.old) thread.proc.num thread.tid call moment) }
+        ensures shared { all.new ≡ shared_after all.old self.old.user (cancel_call (told self.old all.old) thread.proc.num thread.tid call moment) }
     {
-        qx_pipes::cancel(all, &mut self.inodes, thread, call, moment)
-    }
-}
-
-/// Makes the inode of a mount's root, for which there is a number and room.
-fn make_root(inodes: &mut Inodes, user: User)
-    requires room { 0 < inodes.old.room }
-    requires number { IsOk (inode_number inodes.old.inodes) }
-    ensures made { numbered inodes.new.inodes (inode_number inodes.old.inodes) ≡ new_inode inodes.old.inodes (attributes.root_attribute user.0) }
-{
-    match inodes.new_inode(root_attribute(user)) {
-        Ok(Ok(_)) => {}
-        _ => unreachable!(),
+        qx_pipes::cancel(all, &mut self.store, thread, call, moment)
     }
 }
 
@@ -240,20 +209,5 @@ fn opened_by(process: &Process, caller: Caller, target: Target) -> Result<Opened
             number,
         }),
         None => Err(Errno::EBADF),
-    }
-}
-
-/// The root of a mount of a user, at first.
-fn root_attribute(user: User) -> Attribute
-    ensures { result ≡ attributes.root_attribute user.0 }
-{
-    Attribute {
-        kind: Kind::Directory,
-        mode: 0o700,
-        links: 1,
-        owner: user.0 as u32,
-        size: 0,
-        mtime: 0,
-        ctime: 0,
     }
 }

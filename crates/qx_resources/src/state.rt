@@ -12,10 +12,10 @@ impl Model for Told {
     ghost use Rattle.std.specs.Coded.{codes};
     ghost use Rattle.std.specs.Prelude.{[]};
     ghost use Rattle.qx_machine.specs.Mounting.{new_resources};
-    ghost use Rattle.qx_machine.specs.Parts as parts;
+    ghost use Rattle.qx_machine.specs.Resources as machine;
     ghost use Rattle.qx_names.specs.Paths.{names_code};
 
-    ghost Value = { parts.Resources };
+    ghost Value = { machine.Resources };
 
     ghost coded = { Prim.hlevel (codes, names_code) };
 

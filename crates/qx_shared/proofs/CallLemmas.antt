@@ -7,7 +7,7 @@ use Rattle.std.proofs.lemmas.Bool.Decides.{eqb_tells}
 use Rattle.std.proofs.lemmas.List.Folds.{list_any-append}
 use Rattle.qx_types.specs.declared.names.Thread.{Thread}
 use Rattle.qx_machine.specs.declared.rows.WaitingCall.{WaitingCall}
-use Rattle.qx_machine.specs.PipeManager.{Pipes, holds, is_call}
+use Rattle.qx_machine.specs.Waiting.{Pipes, holds, is_call}
 use Rattle.qx_machine.specs.Pipes.{Pipe}
 use Rattle.qx_machine.specs.Rows.{row_at}
 use Rattle.qx_queues.proofs.TableLemmas.{none_some}
@@ -40,7 +40,7 @@ waiting_on-in c Writing row = refl
 
 -- a user's pipes, side by side
 module _ (which : WaitingCall → Bool) where
-  none-at : (pipes : Pipes WaitingCall) → list_any which (waiting_calls pipes) ≡ false → (inode : ℕ) (side : Side) (pipe : Pipe WaitingCall) → row_at pipes inode ≡ Some pipe → list_any which (waiting_on side pipe) ≡ false
+  none-at : (pipes : Pipes) → list_any which (waiting_calls pipes) ≡ false → (inode : ℕ) (side : Side) (pipe : Pipe WaitingCall) → row_at pipes inode ≡ Some pipe → list_any which (waiting_on side pipe) ≡ false
   none-at [] none inode side pipe is = absurd (none_some pipe None refl is)
   none-at (first ∷ pipes) none (suc inode) side pipe is = none-at pipes (any_both which (calls_at first) (waiting_calls pipes) none).1 inode side pipe is
   none-at (first ∷ pipes) none zero side pipe is = on side
@@ -52,7 +52,7 @@ module _ (which : WaitingCall → Bool) where
       on Reading = both.0
       on Writing = both.1
 
-  none-waits : (pipes : Pipes WaitingCall) → ((inode : ℕ) (side : Side) (pipe : Pipe WaitingCall) → row_at pipes inode ≡ Some pipe → list_any which (waiting_on side pipe) ≡ false) → list_any which (waiting_calls pipes) ≡ false
+  none-waits : (pipes : Pipes) → ((inode : ℕ) (side : Side) (pipe : Pipe WaitingCall) → row_at pipes inode ≡ Some pipe → list_any which (waiting_on side pipe) ≡ false) → list_any which (waiting_calls pipes) ≡ false
   none-waits [] none = refl
   none-waits (None ∷ pipes) none = none-waits pipes (λ inode. none (suc inode))
   none-waits (Some pipe ∷ pipes) none =

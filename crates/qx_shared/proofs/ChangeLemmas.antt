@@ -12,7 +12,7 @@ use Rattle.qx_types.specs.declared.limits.TheConstants.Limits.{PIPE}
 use Rattle.qx_types.specs.declared.outcome.Answer.{Answer}
 use Rattle.qx_types.specs.declared.outcome.Answer.TheVariants.{Reply}
 use Rattle.qx_machine.specs.declared.rows.WaitingCall.{WaitingCall}
-use Rattle.qx_machine.specs.PipeManager.{is_written, with_pipe}
+use Rattle.qx_machine.specs.Waiting.{is_written}
 use Rattle.qx_machine.specs.Pipes.{After, Pipe, all_answered, nobody_answered, pipe_of, removed, staying}
 use Rattle.qx_machine.specs.Rows.{row_at}
 use Rattle.qx_queues.specs.Queues.{Queues, UsersCall, answer_to, waiting_in, with_answers, with_waiting}
@@ -46,7 +46,7 @@ module _ (c d : Queues) (all : List Rows) (user inode : ℕ) where
   abbrev pub SameElsewhere : Type 0
   SameElsewhere = (p : Place) (list : ℕ) → list_at all p ≡ Some list → (IsAt user inode p → ⊥) → maps.get d.pipes list ≡ maps.get c.pipes list
 
-  pub pipes-set : (row : Option Row) → user < length all → SameElsewhere → map (pipes_in d) (with_row_of all user inode row) ≡ slice_set (map (pipes_in c) all) user (with_pipe (pipes_of (told c all) user) inode (option_map (pipe_in d) row))
+  pub pipes-set : (row : Option Row) → user < length all → SameElsewhere → map (pipes_in d) (with_row_of all user inode row) ≡ slice_set (map (pipes_in c) all) user (slice_set (pipes_of (told c all) user) inode (option_map (pipe_in d) row))
   pipes-set row within same = told-set c d all user inode row within (λ other at r differs is.
       let readers = calls-agree c d r.readers (same (place other at Reading) r.readers (ap (option_map (list_on Reading)) is) differs) in
       let writers = calls-agree c d r.writers (same (place other at Writing) r.writers (ap (option_map (list_on Writing)) is) differs) in
@@ -213,11 +213,11 @@ module _ (c : Queues) (all : List Rows) (are : AreAllPipes c all) (user inode : 
           (calls-agree c next (list_on (opposite side) row_there.0) (other c all are here list is calls (list_on (opposite side) row_there.0) (λ same. opposite-not side (ap (λ p. p.side) (are.apart (place user inode (opposite side)) here list (ap (option_map (list_on (opposite side))) row_there.1 ∙ ap Some same) is)))))
           ∙ ap (λ p. with_waiting_on side calls (record p { bytes = bytes })) (sym old-is)
 
-      pipes : map (pipes_in next) (with_row_of all user inode (Some (with_bytes row_there.0 bytes))) ≡ slice_set (map (pipes_in c) all) user (with_pipe (pipes_of (told c all) user) inode (Some (with_waiting_on side calls (record old { bytes = bytes }))))
+      pipes : map (pipes_in next) (with_row_of all user inode (Some (with_bytes row_there.0 bytes))) ≡ slice_set (map (pipes_in c) all) user (slice_set (pipes_of (told c all) user) inode (Some (with_waiting_on side calls (record old { bytes = bytes }))))
       pipes =
           pipes-set c next all user inode (Some (with_bytes row_there.0 bytes)) (row_of-within all user inode row_there.0 row_there.1).0
           (λ p other_list at differs. other c all are here list is calls other_list (λ same. let q = are.apart p here list (at ∙ ap Some same) is in differs (ap (λ p. p.user) q, ap (λ p. p.inode) q)))
-          ∙ ap (λ p. slice_set (map (pipes_in c) all) user (with_pipe (pipes_of (told c all) user) inode (Some p))) pipe
+          ∙ ap (λ p. slice_set (map (pipes_in c) all) user (slice_set (pipes_of (told c all) user) inode (Some p))) pipe
 
   pub same-bytes : all ≡ with_bytes_of all user inode old.bytes
   same-bytes =

@@ -7,7 +7,7 @@ use Rattle.std.proofs.lemmas.Option.{get_or_from_slice_get, same_Some}
 use Rattle.qx_types.specs.declared.limits.TheConstants.Limits.{INODES}
 use Rattle.qx_types.specs.declared.names.Proc.{Proc}
 use Rattle.qx_machine.specs.declared.rows.WaitingCall.{WaitingCall}
-use Rattle.qx_machine.specs.PipeManager.{Pipes, no_pipes, with_pipe}
+use Rattle.qx_machine.specs.Waiting.{Pipes, no_pipes}
 use Rattle.qx_machine.specs.Pipes.{Pipe, pipe_of}
 use Rattle.qx_machine.specs.Rows.{row_at}
 use Rattle.qx_machine.proofs.Places.{row_at-set_other, set-row_at}
@@ -106,17 +106,17 @@ row-same all user inode row is = ap (slice_set all user) (ap (slice_set (get_or 
 
 -- pipes that are read alike, but the one that was written
 pub told-set : (c d : Queues) (all : List Rows) (user inode : ℕ) (row : Option Row) → user < length all → ((other at : ℕ) (r : Row) → ((other ≡ user) × (at ≡ inode) → ⊥) → row_of all other at ≡ Some r → pipe_in d r ≡ pipe_in c r) →
-    map (pipes_in d) (with_row_of all user inode row) ≡ slice_set (map (pipes_in c) all) user (with_pipe (pipes_of (told c all) user) inode (option_map (pipe_in d) row))
+    map (pipes_in d) (with_row_of all user inode row) ≡ slice_set (map (pipes_in c) all) user (slice_set (pipes_of (told c all) user) inode (option_map (pipe_in d) row))
 told-set c d all user inode row within same = read-set (pipes_in d) (pipes_in c) all user (slice_set (get_or all user []) inode row) _ own others
   where
     one : (at : ℕ) (o : Option Row) → (at ≡ inode → ⊥) → slice_get (get_or all user []) at ≡ Some o → option_map (pipe_in d) o ≡ option_map (pipe_in c) o
     one at None differs is = refl
     one at (Some r) differs is = ap Some (same user at r (λ both. differs both.1) (ap (λ o. unwrap_or o None) is))
 
-    own : pipes_in d (slice_set (get_or all user []) inode row) ≡ with_pipe (pipes_of (told c all) user) inode (option_map (pipe_in d) row)
+    own : pipes_in d (slice_set (get_or all user []) inode row) ≡ slice_set (pipes_of (told c all) user) inode (option_map (pipe_in d) row)
     own =
         read-set (option_map (pipe_in d)) (option_map (pipe_in c)) (get_or all user []) inode row _ refl one
-        ∙ ap (λ (pipes : Pipes WaitingCall). with_pipe pipes inode (option_map (pipe_in d) row)) (sym (get_or-map (pipes_in c) all user [] no_pipes within))
+        ∙ ap (λ (pipes : Pipes). slice_set pipes inode (option_map (pipe_in d) row)) (sym (get_or-map (pipes_in c) all user [] no_pipes within))
 
     others : (other : ℕ) (rows : Rows) → (other ≡ user → ⊥) → slice_get all other ≡ Some rows → pipes_in d rows ≡ pipes_in c rows
     others other rows differs is = rows-agree (pipe_in d) (pipe_in c) rows (λ at r there. same other at r (λ both. differs both.0) (ap (λ (p : Rows). row_at p at) (get_or_from_slice_get all other rows [] is) ∙ there))

@@ -6,7 +6,6 @@ use Rattle.std.proofs.lemmas.List.{get_or_default, length-map, length-set}
 use Rattle.std.proofs.lemmas.Option.{same_Some}
 use Rattle.qx_lists.proofs.MapLemmas.{get-insert_same, get-insert_other, get-remove_same, get-remove_other, same_map}
 use Rattle.qx_types.specs.declared.limits.TheConstants.Limits.{INODES}
-use Rattle.qx_machine.specs.PipeManager.{with_pipe}
 use Rattle.qx_machine.specs.Pipes.{pipe_of}
 use Rattle.qx_machine.specs.Rows.{row_at}
 use Rattle.qx_queues.specs.Queues.{HasList, Queues, UsersCall, waiting_in, with_waiting, without_list}
@@ -153,7 +152,7 @@ module _ (c : Queues) (all : List Rows) (are : AreAllPipes c all) (user inode : 
       let calls : (side : Side) → calls_of made (list_on side made_row) ≡ [] = λ side. ap (λ o. map (λ own. own.call) (unwrap_or o [])) (got side) in
       let pipes =
       pipes-set c made all user inode (Some made_row) placed.within placed.others
-      ∙ (λ i. slice_set (map (pipes_in c) all) user (with_pipe (pipes_of (told c all) user) inode (Some (pipe_of [] (calls Reading i) (calls Writing i))))) in
+      ∙ (λ i. slice_set (map (pipes_in c) all) user (slice_set (pipes_of (told c all) user) inode (Some (pipe_of [] (calls Reading i) (calls Writing i))))) in
       λ i. record (told c all) { pipes = pipes i }
 
   pub added : (d : Queues) (own changed : Rows) → d ≡ made → own ≡ get_or all user own → changed ≡ slice_set own inode (Some made_row) → (told d (slice_set all user changed) ≡ with_row_at (told c all) user inode (Some (pipe_of [] [] []))) × AreAllPipes d (slice_set all user changed)

@@ -2,7 +2,7 @@
 use Rattle.std.specs.Prelude.{◌≡◌, ◌<◌, ◌+◌, ℕ, List, [], Some, get_or, length, map, option_map}
 use Rattle.qx_types.specs.declared.limits.TheConstants.Limits.{INODES}
 use Rattle.qx_machine.specs.declared.rows.WaitingCall.{WaitingCall}
-use Rattle.qx_machine.specs.PipeManager.{Pipes}
+use Rattle.qx_machine.specs.Waiting.{Pipes}
 use Rattle.qx_machine.specs.Pipes.{Pipe}
 use Rattle.qx_queues.specs.Queues.{HasList, Queues, waiting_in}
 use Rattle.qx_queues.specs.Waits.{users_call}
@@ -16,7 +16,7 @@ calls_of c list = map (λ own. own.call) (waiting_in c list)
 abbrev pub pipe_in : Queues → Row → Pipe WaitingCall
 pipe_in c row = record { bytes = row.bytes; readers = calls_of c row.readers; writers = calls_of c row.writers }
 
-abbrev pub pipes_in : Queues → Rows → Pipes WaitingCall
+abbrev pub pipes_in : Queues → Rows → Pipes
 pipes_in c rows = map (option_map (pipe_in c)) rows
 
 abbrev pub told : Queues → List Rows → Shared

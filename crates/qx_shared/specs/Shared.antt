@@ -14,11 +14,11 @@ use Rattle.qx_machine.specs.contracts.rows.Queued as queued_row
 use Rattle.qx_machine.specs.contracts.rows.WaitingCall as call_row
 use Rattle.qx_machine.specs.declared.rows.Queued.{Queued}
 use Rattle.qx_machine.specs.declared.rows.WaitingCall.{WaitingCall}
-use Rattle.qx_machine.specs.Inodes.{Inodes}
+use Rattle.qx_machine.specs.Functions.{Deed}
 use Rattle.qx_machine.specs.Lines.{line_at, with_line}
-use Rattle.qx_machine.specs.Names.{Names}
-use Rattle.qx_machine.specs.PipeManager.{Pipes, PipesGiven, is_written, no_pipes, with_pipe}
+use Rattle.qx_machine.specs.Waiting.{Pipes, is_written, no_pipes}
 use Rattle.qx_machine.specs.Pipes.{After, Pipe, pipe_of, readers_dismissed, writers_dismissed}
+use Rattle.qx_machine.specs.Resources.{Resources}
 use Rattle.qx_machine.specs.Rows.{row_at}
 use Rattle.qx_queues.specs.Queues.{UsersAnswer, UsersCall, answer_code, answer_to, caller, has_call, is_answered, server_cmp, stands, thread_cmp}
 use Rattle.qx_queues.specs.Waits.{users_call}
@@ -33,7 +33,7 @@ pub record Shared : Type 0 where
   pub threads : set.FinSet thread_cmp
   pub servers : set.FinSet server_cmp
   pub room : ℕ
-  pub pipes : List (Pipes WaitingCall)
+  pub pipes : List Pipes
   pub answered : List UsersAnswer
 
 abbrev pub pipe_code : Coded (Pipe WaitingCall)
@@ -45,13 +45,13 @@ pipe_code =
     (λ p. record { bytes = p.0; readers = p.1.0; writers = p.1.1 })
     (λ _. refl)
 
-abbrev pub all_pipes_code : Coded (List (Pipes WaitingCall))
+abbrev pub all_pipes_code : Coded (List Pipes)
 all_pipes_code = coded_list (coded_list (coded_option pipe_code))
 
 abbrev pub shared_code : Coded Shared
 shared_code =
     code_by
-    (List (List Queued) × (set.FinSet thread_cmp × (set.FinSet server_cmp × (ℕ × (List (Pipes WaitingCall) × List UsersAnswer)))))
+    (List (List Queued) × (set.FinSet thread_cmp × (set.FinSet server_cmp × (ℕ × (List Pipes × List UsersAnswer)))))
     (coded× (coded_list (coded_list (queued_row.the_row).coded)) (coded× (set.code (thread_row.the_row).coded) (coded× (set.code (coded× (proc_row.the_row).coded coded_ℕ)) (coded× coded_ℕ (coded× all_pipes_code (coded_list answer_code))))))
     (λ c. (c.lines, (c.threads, (c.servers, (c.room, (c.pipes, c.answered))))))
     (λ p. record { lines = p.0; threads = p.1.0; servers = p.1.1.0; room = p.1.1.1.0; pipes = p.1.1.1.1.0; answered = p.1.1.1.1.1 })
@@ -103,7 +103,7 @@ without_server c proc number = record c { servers = set.remove c.servers (proc, 
 -- ---- pipes
 
 -- a user's pipes
-abbrev pub pipes_of : Shared → ℕ → Pipes WaitingCall
+abbrev pub pipes_of : Shared → ℕ → Pipes
 pipes_of c user = get_or c.pipes user no_pipes
 
 -- who waits in a pipe, and in all of a user's
@@ -111,11 +111,11 @@ abbrev pub calls_at : Option (Pipe WaitingCall) → List WaitingCall
 calls_at None = []
 calls_at (Some pipe) = pipe.readers ++ pipe.writers
 
-abbrev pub waiting_calls : Pipes WaitingCall → List WaitingCall
+abbrev pub waiting_calls : Pipes → List WaitingCall
 waiting_calls pipes = flat_map calls_at pipes
 
 -- who waits in a user's pipes, with the user
-abbrev pub waiting_at : List (Pipes WaitingCall) → ℕ → List UsersCall
+abbrev pub waiting_at : List Pipes → ℕ → List UsersCall
 waiting_at pipes user = map (λ call. record { user = user; call = call }) (waiting_calls (get_or pipes user no_pipes))
 
 abbrev pub waiting_in : Shared → ℕ → List UsersCall
@@ -140,12 +140,8 @@ abbrev pub thread_of : ℕ → Caller → Thread
 thread_of user caller = record { proc = record { user = record { 0 = user }; num = caller.process }; tid = caller.thread }
 
 -- a user's pipes are these, and who was answered stands last, in order
-abbrev pub with_pipes : Shared → ℕ → Pipes WaitingCall → List (WaitingCall × Answer) → Shared
+abbrev pub with_pipes : Shared → ℕ → Pipes → List (WaitingCall × Answer) → Shared
 with_pipes c user pipes answers = record c { pipes = slice_set c.pipes user pipes; answered = c.answered ++ map (users_given user) answers }
-
--- they are what the machine gives
-abbrev pub with_given : Shared → ℕ → PipesGiven WaitingCall → Shared
-with_given c user given = with_pipes c user given.pipes given.answers
 
 -- ---- one pipe
 
@@ -159,11 +155,11 @@ pipe_at c user inode = unwrap_or (row_at (pipes_of c user) inode) (pipe_of [] []
 
 -- another pipe stands under the number of an inode of a user, or none
 abbrev pub with_row_at : Shared → ℕ → ℕ → Option (Pipe WaitingCall) → Shared
-with_row_at c user inode row = record c { pipes = slice_set c.pipes user (with_pipe (pipes_of c user) inode row) }
+with_row_at c user inode row = record c { pipes = slice_set c.pipes user (slice_set (pipes_of c user) inode row) }
 
 -- a pipe as it is once something was done to it, and who was answered stands last, in order
 abbrev pub with_after : Shared → ℕ → ℕ → After WaitingCall → Shared
-with_after c user inode after = with_pipes c user (with_pipe (pipes_of c user) inode (Some after.pipe)) after.answers
+with_after c user inode after = with_pipes c user (slice_set (pipes_of c user) inode (Some after.pipe)) after.answers
 
 -- who waits on a side of a pipe, in order
 abbrev pub waiting_on : Side → Pipe WaitingCall → List WaitingCall
@@ -200,30 +196,12 @@ taken_from writers p = record { pipe = record p { bytes = p.bytes ++ flat_map (�
 abbrev pub went_in : List (WaitingCall × Answer) → Bool
 went_in answers = list_any (λ answer. is_written answer.0.bytes answer.1) answers
 
--- what there is once the machine gave that, or its error
+-- what there is once the machine did that for a user, or gave its error
 module _ {E : Type 0} where
-  abbrev pub shared_after : Shared → ℕ → Result (PipesGiven WaitingCall) E → Shared
-  shared_after c user (Ok given) = with_given c user given
+  abbrev pub state_after : Resources → Result (Deed Resources) E → Resources
+  state_after r (Ok deed) = deed.state
+  state_after r (Err error) = r
+
+  abbrev pub shared_after : Shared → ℕ → Result (Deed Resources) E → Shared
+  shared_after c user (Ok deed) = with_pipes c user deed.state.pipes deed.answers
   shared_after c user (Err error) = c
-
-  abbrev pub inodes_after : Inodes → Result (PipesGiven WaitingCall) E → Inodes
-  inodes_after inodes (Ok given) = given.inodes
-  inodes_after inodes (Err error) = inodes
-
-  abbrev pub names_after : Names → Result (Names × PipesGiven WaitingCall) E → Names
-  names_after names (Ok given) = given.0
-  names_after names (Err error) = names
-
-  -- what it gave beside names
-  abbrev pub beside_names : Result (Names × PipesGiven WaitingCall) E → Result (PipesGiven WaitingCall) E
-  beside_names (Ok given) = Ok given.1
-  beside_names (Err error) = Err error
-
-  -- its status, and that it was done
-  abbrev pub status_of : Result (PipesGiven WaitingCall) E → Result ℕ E
-  status_of (Ok given) = Ok given.status
-  status_of (Err error) = Err error
-
-  abbrev pub done : Result (PipesGiven WaitingCall) E → Result Unit E
-  done (Ok given) = Ok tt
-  done (Err error) = Err error

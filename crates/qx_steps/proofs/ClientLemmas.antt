@@ -20,7 +20,8 @@ use Rattle.qx_machine.specs.declared.rows.ThreadRow.{ThreadRow}
 use Rattle.qx_machine.specs.Clients.{answer_in, is_prio, outcome_of, spawn_number, target_by}
 use Rattle.qx_machine.specs.Laws.{is_refusal}
 use Rattle.qx_machine.specs.Machine.{World, step}
-use Rattle.qx_machine.specs.Parts.{Resources, thread_of}
+use Rattle.qx_machine.specs.Parts.{thread_of}
+use Rattle.qx_machine.specs.Resources.{Resources}
 use Rattle.qx_machine.specs.Processes.{Process}
 use Rattle.qx_machine.specs.Rows.{row_at}
 use Rattle.qx_machine.specs.Users.{client, settle}

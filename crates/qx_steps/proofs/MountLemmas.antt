@@ -16,7 +16,8 @@ use Rattle.qx_machine.specs.Clients.{mount_by, or_unchanged}
 use Rattle.qx_machine.specs.Judgements.{or_refused}
 use Rattle.qx_machine.specs.Machine.{World, client_end, step}
 use Rattle.qx_machine.specs.Mounting.{new_mount, with_mount}
-use Rattle.qx_machine.specs.Parts.{Part, Resources, thread_of}
+use Rattle.qx_machine.specs.Parts.{Part, thread_of}
+use Rattle.qx_machine.specs.Resources.{Resources}
 use Rattle.qx_machine.specs.Processes.{Process}
 use Rattle.qx_machine.specs.Rows.{row_at, with_row}
 use Rattle.qx_machine.specs.Users.{client, settle}

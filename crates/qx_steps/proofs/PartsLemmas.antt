@@ -5,11 +5,12 @@ use Rattle.qx_types.specs.Configuration.{Configuration}
 use Rattle.qx_types.specs.declared.names.Proc.{Proc}
 use Rattle.qx_types.specs.declared.names.Thread.{Thread}
 use Rattle.qx_machine.specs.Machine.{boot, boot_parts}
-use Rattle.qx_machine.specs.Parts.{Resources, thread_of}
+use Rattle.qx_machine.specs.Parts.{thread_of}
+use Rattle.qx_machine.specs.Resources.{Resources}
 use Rattle.qx_machine.specs.Processes.{Process}
 use Rattle.qx_machine.specs.Rows.{row_at, with_row}
 use Rattle.qx_machine.specs.Users.{boot_part}
-use Rattle.qx_machine.specs.PipeManager.{no_pipes}
+use Rattle.qx_machine.specs.Waiting.{no_pipes}
 use Rattle.qx_shared.proofs.RowLemmas.{row_at-mapped, rows-agree}
 use Rattle.qx_shared.specs.Shared.{Shared, pipes_of}
 use Rattle.qx_resources.specs.Boot.{boot_resources, without_pipes}

@@ -7,12 +7,13 @@ use Rattle.qx_types.specs.Configuration.{Configuration}
 use Rattle.qx_machine.specs.declared.rows.Held.{Held}
 use Rattle.qx_machine.specs.declared.rows.Queued.{Queued}
 use Rattle.qx_machine.specs.Machine.{lines_after, serve_end}
-use Rattle.qx_machine.specs.Parts.{Part, Resources}
+use Rattle.qx_machine.specs.Parts.{Part}
+use Rattle.qx_machine.specs.Resources.{Resources}
 use Rattle.qx_machine.specs.Performing.{Served}
 use Rattle.qx_machine.specs.Processes.{Process}
 use Rattle.qx_machine.specs.Rows.{row_at, with_row}
 use Rattle.qx_machine.specs.Users.{settle}
-use Rattle.qx_machine.specs.PipeManager.{no_pipes}
+use Rattle.qx_machine.specs.Waiting.{no_pipes}
 use Rattle.qx_resources.specs.State.{told, Kept}
 use Rattle.qx_chan.specs.Channel.{Channel, lists}
 use Rattle.qx_chan.specs.Serving.{part_in, PartServed, Serves}

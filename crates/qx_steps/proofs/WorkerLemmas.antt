@@ -13,7 +13,7 @@ use Rattle.qx_machine.specs.declared.rows.OwnItem.TheVariants as item
 use Rattle.qx_machine.specs.declared.rows.Queued.{Queued}
 use Rattle.qx_machine.specs.Lines.{line_at}
 use Rattle.qx_machine.specs.Machine.{World, is_worker, named_thread, performed_part, receive_hand, receive_line, received_part, shown_item, step, with_empty_hand, with_taken}
-use Rattle.qx_machine.specs.Parts.{Resources}
+use Rattle.qx_machine.specs.Resources.{Resources}
 use Rattle.qx_machine.specs.Processes.{taken_thread, with_thread}
 use Rattle.qx_machine.specs.Rows.{row_at, with_row}
 use Rattle.qx_machine.specs.Users.{serve, settle, take}

@@ -15,7 +15,8 @@ use Rattle.qx_machine.specs.Clients.{mount_by, target_by}
 use Rattle.qx_machine.specs.Inodes.{inode_number}
 use Rattle.qx_machine.specs.Machine.{World, serve_end}
 use Rattle.qx_machine.specs.Mounting.{with_mount}
-use Rattle.qx_machine.specs.Parts.{Part, Resources}
+use Rattle.qx_machine.specs.Parts.{Part}
+use Rattle.qx_machine.specs.Resources.{Resources}
 use Rattle.qx_machine.specs.Performing.{Served, or_kept, serve_message, serve_pulse}
 use Rattle.qx_machine.specs.Rows.{row_at, with_row}
 

@@ -1,6 +1,6 @@
 use Rattle.qx_types.specs.declared.errno.Errno.TheVariants.{EINTR}
 use Rattle.qx_types.specs.declared.outcome.Answer.TheVariants.{Failed}
-use Rattle.qx_machine.specs.PipeManager.{is_call, is_gone, offered, wanted}
+use Rattle.qx_machine.specs.Waiting.{is_call, is_gone, offered, wanted}
 use Rattle.qx_machine.specs.Pipes.{clean, dismissed, settle}
 use Rattle.qx_pipe.proofs.AfterLemmas.{done-nothing, done-quietly, done-then, went_in-dismissed}
 use Rattle.qx_pipe.proofs.pipe.cancel.Goals as goal

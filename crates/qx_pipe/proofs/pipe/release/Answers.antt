@@ -1,7 +1,7 @@
 use Rattle.std.proofs.Common.{refl, ◌==◌}
 use Rattle.qx_types.specs.declared.errno.Errno.TheVariants.{EBADF}
 use Rattle.qx_types.specs.declared.outcome.Answer.TheVariants.{Failed}
-use Rattle.qx_machine.specs.PipeManager.{is_gone, offered, wanted}
+use Rattle.qx_machine.specs.Waiting.{is_gone, offered, wanted}
 use Rattle.qx_machine.specs.Pipes.{clean, dismissed, readers_ended, settle, without_bytes, writers_ended}
 use Rattle.qx_pipe.proofs.AfterLemmas.{done-nothing, done-quietly, done-then, went_in-dismissed, went_in-readers_ended, went_in-writers_ended}
 use Rattle.qx_pipe.proofs.pipe.release.Goals as goal

@@ -1,24 +1,13 @@
-use Rattle.std.proofs.Common.{rules, ◌≡◌, ◌∙◌, ap}
-use Rattle.qx_machine.specs.declared.rows.Sides.{Sides}
-use Rattle.qx_machine.specs.Inodes.{has, readers_of}
-use Rattle.qx_machine.specs.PipeManager.{is_gone, manner_of, offered, waiting_call, wanted}
-use Rattle.qx_machine.specs.Pipes.{write}
-use Rattle.qx_shared.specs.Shared.{HasPipe}
-use Rattle.qx_types.specs.declared.errno.Errno.TheVariants.{EBADF}
-use Rattle.qx_types.specs.declared.flags.TheConstants.OFlags.{NONBLOCK, WRITE}
-use Rattle.qx_pipes.proofs.PipesLemmas.{over-done}
+use Rattle.std.proofs.Common.{sym, ap}
+use Rattle.qx_iofunc.specs.Store.{Store}
+use Rattle.qx_pipes.proofs.PipesLemmas.{after-follows, block-at, there}
 use Rattle.qx_pipes.proofs.blocks.write.Goals as goal
 
-pub returns : goal.returns
-returns c =
-    let inodes = c.args.inodes.now.inodes in
+pub returns-clause-left : goal.returns-clause-left
+returns-clause-left c = λ r.
+    let store = c.args.store.now.stored in
     let block = c.in_ok-block.block in
-    let opened = c.args.opened in
-    let there : HasPipe c.args.shared.now c.args.user.0 block.inode = search rules in
-    let manner : c.manner-manner.result ≡ manner_of (readers_of inodes block.inode) block opened.caller.is_asked =
-    c.manner-manner.ensures ∙ ap (λ (sides : Sides). record { has_other_side = sides.for_reading; is_nonblock = has block.flags NONBLOCK; is_asked = opened.caller.is_asked }) c.sides-sides.ensures in
-    let written = rw (manner, c.writing-call.ensures.call, c.keep.ensures.kept) at c.write-filled.ensures in
-    let did =
-    over-done c.args.shared.now c.args.user.0 c.requires.user inodes opened.number c.args.moment WRITE EBADF (λ block. write wanted offered is_gone (manner_of (readers_of inodes block.inode) block opened.caller.is_asked) (waiting_call opened 0 c.args.bytes.now))
-    block c.in_ok-block.ensures there c.set_size.new.inodes.inodes c.write-filled.result c.write-filled.new.shared written.after written.filled c.set_size.ensures in
-    record { done = did.done_is; shared = did.shared_is; inodes = did.inodes_are; room = search rules }
+    let at = block-at store.inodes _ _ _ block c.in_ok-block.ensures c.inodes.ensures in
+    let some = sym (rw c.user-user.ensures at c.if-not-has_pipe.ensures.is) in
+    let did = rw (c.user-user.ensures, c.manner-manner.ensures, c.sides-sides.ensures, c.inodes-2.ensures, c.writing-call.ensures.call, c.keep.ensures.kept) at c.write-filled.ensures in
+    rw (at.0, at.1, there c.args.shared.now store.user block.inode some) (after-follows store _ _ _ r c.requires.user _ _ _ _ some did.after did.filled (ap (λ (s : Store). s.stored) c.set_size.ensures))

@@ -1,6 +1,6 @@
 use Rattle.std.proofs.Common.{◌≡◌, Some, refl, sym, ◌∙◌, ap}
 use Rattle.qx_machine.specs.Rows.{row_at}
-use Rattle.qx_chan.proofs.PulseLemmas.{pulse-answering, pulse-serves, user-fits}
+use Rattle.qx_chan.proofs.PulseLemmas.{pulsed, user-fits}
 use Rattle.qx_chan.proofs.channel.Channel.cancel.Goals as goal
 
 pub cancel-requires-clause-fits : goal.cancel-requires-clause-fits
@@ -12,12 +12,12 @@ pub invariant_of-self : goal.invariant_of-self
 invariant_of-self c =
     let there : row_at c.self.inside.users c.args.resources.now.user ≡ Some c.in-Some.field-0.now = ap (row_at c.self.inside.users) c.requires.user ∙ sym c.in-Some.ensures.row in
     c.give_answers.ensures.kept
-    (pulse-answering c.self.inside.users c.self.inside.queues c.args.resources.now c.in-Some.field-0.now there c.self.invariant c.cancel.new.self c.cancel.new.all c.args.thread.proc.num c.args.thread.tid c.args.call c.args.moment _ refl (c.cancel.ensures.resources, c.cancel.ensures.shared))
+    (pulsed c.self.inside.users c.self.inside.queues c.args.resources.now c.cancel.new.self c.cancel.new.all c.in-Some.field-0.now there c.self.invariant c.args.thread.proc.num c.args.thread.tid c.args.call c.args.moment _ refl c.cancel.ensures.state c.cancel.ensures.shared).0
 
 pub returns : goal.returns
 returns c =
     let there : row_at c.self.inside.users c.args.resources.now.user ≡ Some c.in-Some.field-0.now = ap (row_at c.self.inside.users) c.requires.user ∙ sym c.in-Some.ensures.row in
     record {
       cancelled = rw (← c.self.view_is, c.give_answers.ensures.users, c.give_answers.ensures.queues)
-          (pulse-serves c.self.inside.users c.self.inside.queues c.args.resources.now c.in-Some.field-0.now there c.self.invariant c.cancel.new.self c.cancel.new.all c.args.thread.proc.num c.args.thread.tid c.args.call c.args.moment _ refl (c.cancel.ensures.resources, c.cancel.ensures.shared));
+          (pulsed c.self.inside.users c.self.inside.queues c.args.resources.now c.cancel.new.self c.cancel.new.all c.in-Some.field-0.now there c.self.invariant c.args.thread.proc.num c.args.thread.tid c.args.call c.args.moment _ refl c.cancel.ensures.state c.cancel.ensures.shared).1;
     }

@@ -12,8 +12,7 @@ use Rattle.qx_chan.proofs.channel.Channel.serve.Goals as goal
 pub returns-in_default-clause-ok : goal.returns-in_default-clause-ok
 returns-in_default-clause-ok c =
     rw (← c.self.view_is)
-    (Serves-untaken c.self.inside.users c.self.inside.queues c.args.resources.now
-    c.args.thread c.requires.user (rw (← c.self.view_is) at (sym c.taken.ensures.call ∙ c.in_default.is)) c.args.moment)
+    (Serves-untaken c.args.thread c.args.moment c.self.inside.users c.self.inside.queues c.args.resources.now c.requires.user (rw (← c.self.view_is) at (sym c.taken.ensures.call ∙ c.in_default.is)))
 
 pub perform-requires-clause-received : goal.perform-requires-clause-received
 perform-requires-clause-received c = received-alone c.self.inside.users c.self.inside.queues c.args.thread c.in-Some.call (rw (← c.self.view_is) at c.in-Some.ensures.call) c.self.invariant

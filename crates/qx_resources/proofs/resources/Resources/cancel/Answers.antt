@@ -1,8 +1,9 @@
-use Rattle.qx_ram.proofs.KeepLemmas.{cancel_fits}
-use Rattle.qx_resources.proofs.KeptLemmas.{followed_fits}
-use Rattle.qx_shared.specs.Shared.{pipes_of}
+use Rattle.qx_resources.specs.State.{told}
+use Rattle.qx_resources.specs.contracts.resources.Resources.{the_view}
 use Rattle.qx_resources.proofs.resources.Resources.cancel.Goals as goal
 
-pub invariant_of-self : goal.invariant_of-self
-invariant_of-self c =
-    followed_fits _ _ _ _ _ c.cancel.ensures.inodes (cancel_fits _ _ _ (pipes_of c.args.all.now c.args.thread.proc.user.0) c.args.moment c.self.invariant c.args.thread.proc.num c.args.thread.tid c.args.call) c.self.invariant
+pub returns : goal.returns
+returns c =
+    let r = told (the_view c.self.inside) c.args.all.now in
+    let left = c.cancel.ensures.left r in
+    rw (← c.self.view_is) (record { user = c.cancel.ensures.user; waited = c.cancel.ensures.waited r; state = left.state; shared = left.shared })

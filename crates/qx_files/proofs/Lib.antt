@@ -1,0 +1,4 @@
+-- bytes that are put into a file
+pub mod PutLemmas
+-- the sum of the sizes
+pub mod SizeLemmas

@@ -1,0 +1,121 @@
+-- What holds of each user's resources in each world that a run reaches.
+use Rattle.std.proofs.Common.{◌≡◌, ℕ, ◌+◌, ◌-◌, ◌<◌, ◌≤◌, ◌==◌, ◌&&◌, not, true, List, [], ◌∷◌, length, arith, refl, sym, ap, subst}
+use Rattle.std.specs.Prelude.{All, nat_le, Some}
+use Rattle.std.specs.List.{AllByRecursion, list_all}
+use Rattle.std.proofs.lemmas.Bool.{and_parts, cond_both, leb-true}
+use Rattle.std.proofs.lemmas.Bool.Decides.{nat_tests}
+use Rattle.std.proofs.lemmas.List.Elements.{All-filter, All-from_recursion, recursion_from_All}
+use Rattle.qx_types.specs.declared.limits.TheConstants.Limits.{COMPONENT, TRANSFER}
+use Rattle.qx_wire.specs.Rests.{is_component, is_dots, is_name_byte}
+use Rattle.qx_machine.specs.Listings.{HasSizedNames, IsZeroFree}
+use Rattle.qx_machine.specs.Names.{behind, fitting, listed, listing, names_in}
+use Rattle.qx_machine.specs.Resources.{Resources}
+use Rattle.qx_invariants.specs.Holds.{HasTree, HasContents, HasMounts, HasOpenWaiters, HasRoom, HasSettledPipes, HoldsInRuns, HoldsOfParts, IsOwnedBy}
+use Rattle.qx_invariants.proofs.Keys.{all_names}
+use Rattle.qx_types.specs.Configuration.{Configuration, name_bytes}
+use Rattle.qx_types.specs.declared.step.Step.{Step}
+use Rattle.qx_machine.specs.Mounting.{new_resources}
+use Rattle.qx_machine.specs.Parts.{Part}
+use Rattle.qx_machine.specs.Rows.{row_at}
+use Rattle.qx_machine.specs.Runs.{run}
+use Rattle.qx_invariants.specs.Changes.{Become, Change, MayHappen, changed}
+use Rattle.qx_machine.proofs.Listings.{listed_end, listed_to_end}
+use Rattle.qx_invariants.proofs.Steps.{client-keeps, serve-keeps, take-keeps, IsKept, run-holds}
+use Rattle.qx_machine.specs.Users.{boot_part}
+use Rattle.qx_invariants.proofs.Together.{Holds, boot_holds, boot_owned}
+use Rattle.qx_invariants.proofs.Rooms.{owner-keeps, room-keeps}
+use Rattle.qx_invariants.proofs.Once.{Stands, stands_boot, stands_kept}
+use Rattle.qx_machine.proofs.Listings as listings
+
+-- ---- listings
+
+module _ (name : List ℕ) (component : is_component name ≡ true) where
+  sizes : (nat_le 1 (length name) && nat_le (length name) COMPONENT) ≡ true
+  sizes = (and_parts (nat_le 1 (length name) && nat_le (length name) COMPONENT) (not (is_dots name)) ((and_parts (nat_le 1 (length name) && nat_le (length name) COMPONENT && not (is_dots name)) (list_all is_name_byte name) component).0)).0
+
+  component_sized : (0 < length name) × (length name ≤ COMPONENT)
+  component_sized = (leb-true 1 (length name) ((and_parts (nat_le 1 (length name)) (nat_le (length name) COMPONENT) sizes).0), leb-true (length name) COMPONENT ((and_parts (nat_le 1 (length name)) (nat_le (length name) COMPONENT) sizes).1))
+
+  zero_free : IsZeroFree name
+  zero_free = All-from_recursion (λ byte. 0 < byte) name (each name ((and_parts (nat_le 1 (length name) && nat_le (length name) COMPONENT && not (is_dots name)) (list_all is_name_byte name) component).1))
+    where
+      some : (byte : ℕ) → not (byte == 0) ≡ true → 0 < byte
+      some byte is = grind (arith, nat_tests, is)
+
+      each : (bytes : List ℕ) → list_all is_name_byte bytes ≡ true → AllByRecursion (λ byte. 0 < byte) bytes
+      each [] is = tt
+      each (byte ∷ bytes) is = (some byte ((and_parts (not (byte == 0)) (not (byte == 47)) ((and_parts (is_name_byte byte) (list_all is_name_byte bytes) is).0)).0), each bytes ((and_parts (is_name_byte byte) (list_all is_name_byte bytes) is).1))
+
+module _ (r : Resources) (h : HasTree r) (directory : ℕ) where
+  pub sized_names : HasSizedNames r.names directory
+  sized_names = All-from_recursion _ (names_in r.names directory)
+      (all_names r.names directory (λ name. (0 < length name) × (length name ≤ COMPONENT)) (λ above name inode leads is. component_sized name (h.entries above name inode leads).component))
+
+  zero_free_names : All IsZeroFree (names_in r.names directory)
+  zero_free_names = All-from_recursion _ (names_in r.names directory) (all_names r.names directory IsZeroFree (λ above name inode leads is. zero_free name (h.entries above name inode leads).component))
+
+  fitting_all : (P : List ℕ → Type 0) (room : ℕ) (names : List (List ℕ)) → AllByRecursion P names → AllByRecursion P (fitting room names)
+  fitting_all P room [] all = tt
+  fitting_all P room (name ∷ names) all =
+      cond_both (nat_le (length name + 1) room) (name ∷ fitting (room - (length name + 1)) names) [] (AllByRecursion P) (λ fits. (all.0, fitting_all P (room - (length name + 1)) names all.1)) (λ full. tt)
+
+  zero_free_listed : (after : List ℕ) → All IsZeroFree (listed r.names directory after)
+  zero_free_listed after =
+      All-from_recursion _ (listed r.names directory after)
+      (fitting_all IsZeroFree TRANSFER (behind after (names_in r.names directory)) (recursion_from_All IsZeroFree (behind after (names_in r.names directory)) (All-filter _ IsZeroFree (names_in r.names directory) zero_free_names)))
+
+pub told_listings : (r : Resources) → HasTree r → (directory other : ℕ) (after before : List ℕ) → listing (listed r.names directory after) ≡ listing (listed r.names other before) → listed r.names directory after ≡ listed r.names other before
+told_listings r h directory other after before same = listings.listing_told _ _ (zero_free_listed r h directory after) (zero_free_listed r h other before) same
+
+-- ---- what can happen
+
+become-keeps : (start : Resources) (change : Change) (r : Resources) → MayHappen change r → Become start r → Become start (changed change r)
+become-keeps start change r may h = record {
+  changes = change ∷ h.changes;
+  may = (subst (MayHappen change) (sym h.are) may, h.may);
+  are = ap (changed change) h.are;
+}
+
+-- a property of the resources that each change keeps
+resources_kept : (K : ℕ → Resources → Type 0) → ((user : ℕ) (change : Change) (r : Resources) → MayHappen change r → K user r → K user (changed change r)) → IsKept (λ user part. K user part.resources)
+resources_kept K keeps = record {
+  client_step = λ config user held part e h. client-keeps (K user) (keeps user) config user held part e h;
+  taking = λ user part own h. take-keeps (K user) (keeps user) part own h;
+  serving = λ config user held part own moment h. serve-keeps (K user) (keeps user) config user held part own moment h;
+}
+
+pub run_becomes : (config : Configuration) (steps : List Step) (user : ℕ) (part : Part) → row_at (run config steps).world.parts user ≡ Some part → Become (new_resources user (name_bytes config user)) part.resources
+unfolding boot_part
+run_becomes config steps =
+    run-holds (λ user part. Become (new_resources user (name_bytes config user)) part.resources)
+    (resources_kept (λ user. Become (new_resources user (name_bytes config user))) (λ user. become-keeps (new_resources user (name_bytes config user)))) config
+    (λ user. record { changes = []; may = tt; are = refl }) steps
+
+-- ---- how things stand
+
+pub run_stands : HoldsOfParts Stands
+run_stands config steps = run-holds (λ user. Stands) stands_kept config (stands_boot config) steps
+
+pub run_holds : HoldsInRuns Holds
+run_holds config steps user part there = (run_stands config steps user part there).holds
+
+pub run_contents : HoldsInRuns HasContents
+run_contents config steps user part there = (run_holds config steps user part there).contents
+
+pub run_owned : (config : Configuration) (steps : List Step) (user : ℕ) (part : Part) → row_at (run config steps).world.parts user ≡ Some part → IsOwnedBy user part.resources
+unfolding boot_part
+run_owned config steps user part there =
+    (run-holds (λ user part. HasRoom part.resources × IsOwnedBy user part.resources)
+    (resources_kept (λ user r. HasRoom r × IsOwnedBy user r) (λ user change r may h. (room-keeps change r may h.0, owner-keeps user change r may h.0 h.1))) config
+    (λ user. ((boot_holds user (name_bytes config user)).room, boot_owned user (name_bytes config user))) steps user part there).1
+
+pub run_settled : HoldsInRuns HasSettledPipes
+run_settled config steps user part there = (run_holds config steps user part there).settled
+
+pub run_mounts : HoldsInRuns HasMounts
+run_mounts config steps user part there = (run_holds config steps user part there).mounts
+
+-- ---- calls that wait
+
+pub run_waiters : HoldsInRuns HasOpenWaiters
+run_waiters config steps user part there = (run_holds config steps user part there).waiters

@@ -1,0 +1,149 @@
+-- Inodes and open control blocks have their numbers and a place each for what is in them, and each inode of a user is owned by that user, whatever happens.
+use Rattle.std.proofs.Common.{◌≡◌, inl, inr, ℕ, ◌+◌, ◌<◌, ◌≤◌, List, length, ◌∙◌, arith, refl, sym, ap}
+use Rattle.std.specs.Prelude.{Option, Some, None, option_map, slice_set}
+use Rattle.std.proofs.Math.ListN.{length-set}
+use Rattle.qx_types.specs.declared.limits.TheConstants.Limits.{BLOCKS, INODES}
+use Rattle.qx_machine.specs.declared.rows.Kind.{Kind}
+use Rattle.qx_machine.specs.declared.rows.WaitingCall.{WaitingCall}
+use Rattle.qx_machine.specs.Defaults.{without_unused, without_block}
+use Rattle.qx_machine.specs.Inodes.{Inodes, new_attribute}
+use Rattle.qx_machine.specs.Pipes.{Pipe}
+use Rattle.qx_machine.specs.Resources.{Resources, resized}
+use Rattle.qx_machine.specs.Rows.{put_row, row_at, with_row}
+use Rattle.qx_machine.proofs.Places.{row_at-set_cases}
+use Rattle.qx_invariants.specs.Changes.{Change, Closes, Comes, Fills, MayHappen, Mounts, Moves, Opens, Touches, Unlinks, Writes, changed, touched, unlinked, with_changed, with_named, with_unlinked}
+use Rattle.qx_invariants.specs.Holds.{HasRoom, IsOwnedBy}
+use Rattle.qx_iofunc.proofs.PlaceLemmas.{put_differ}
+use Rattle.qx_invariants.proofs.Rows.{IsNew, content_cases, empty_cases, freed, block_is_new, inode_is_new, unused_cases, put_cases, with_row-was, filled-same}
+use Rattle.qx_machine.specs.declared.rows.Attribute.{Attribute}
+use Rattle.qx_machine.specs.Attributes.{root_attribute}
+use Rattle.qx_machine.specs.Names.{under}
+use Rattle.qx_machine.specs.PipeManager.{filled}
+
+-- rows are numbered from 1 to the greatest, in a table that begins with the place 0
+pub record AreNumbered {A : Type 0} (most : ℕ) (rows : List (Option A)) : Type 0 where
+  pub each : (n : ℕ) (row : A) → row_at rows n ≡ Some row → (1 ≤ n) × (n ≤ most)
+  pub some : 0 < length rows
+
+module _ {A : Type 0} (most : ℕ) (rows : List (Option A)) (h : AreNumbered most rows) where
+  put_numbered : (number : ℕ) (row : A) → IsNew rows most number → AreNumbered most (put_row rows number row)
+  put_numbered number row new = record {
+    each = λ n there is. elim (put_cases rows number row new.within n there is) [
+      | inl put ↦ let same = put.0 in let from = new.from in let most_is = new.most_is in (omega (arith, from, same), omega (arith, most_is, same))
+      | inr was ↦ h.each n there was
+    ];
+    some = let longer = (put_differ rows number row new.within).longer in let some = h.some in omega (arith, longer, some);
+  }
+
+  freed_numbered : (number : ℕ) → AreNumbered most (slice_set rows number None)
+  freed_numbered number = record {
+    each = λ n there is. elim (row_at-set_cases rows number n None there is) [ inl was ↦ h.each n there was | inr none ↦ absurd (cc) ];
+    some = let same = length-set rows number None in let some = h.some in omega (arith, same, some);
+  }
+
+  -- a row changes, if it is there
+  changed_numbered : (number : ℕ) (change : A → A) → AreNumbered most (with_row rows number change)
+  changed_numbered number change = record {
+    each = λ n there is. let was = with_row-was rows number change n there is in h.each n was.0 was.1;
+    some = let same = length-set rows number (option_map change (row_at rows number)) in let some = h.some in omega (arith, same, some);
+  }
+
+-- the parts of what is to be shown
+record Parts (r : Resources) : Type 0 where
+  inodes : AreNumbered INODES r.inodes.attributes
+  blocks : AreNumbered BLOCKS r.inodes.blocks
+  files : length r.files ≡ INODES + 1
+  pipes : length r.pipes ≡ INODES + 1
+
+parts : (r : Resources) → HasRoom r → Parts r
+parts r h = record { inodes = record { each = h.inodes; some = h.some_inodes }; blocks = record { each = h.blocks; some = h.some_blocks }; files = h.files; pipes = h.pipes }
+
+whole : (r : Resources) → Parts r → HasRoom r
+whole r h = record { inodes = h.inodes.each; some_inodes = h.inodes.some; blocks = h.blocks.each; some_blocks = h.blocks.some; files = h.files; pipes = h.pipes }
+
+with_inodes : (r : Resources) (inodes : Inodes) → AreNumbered INODES inodes.attributes → AreNumbered BLOCKS inodes.blocks → Parts r → Parts (record r { inodes = inodes })
+with_inodes r inodes attributes blocks h = record { inodes = attributes; blocks = blocks; files = h.files; pipes = h.pipes }
+
+with_files : (r : Resources) (inode : ℕ) (row : Option (List ℕ)) → Parts r → Parts (record r { files = slice_set r.files inode row })
+with_files r inode row h = record { inodes = h.inodes; blocks = h.blocks; files = length-set r.files inode row ∙ h.files; pipes = h.pipes }
+
+with_pipes : (r : Resources) (inode : ℕ) (row : Option (Pipe WaitingCall)) → Parts r → Parts (record r { pipes = slice_set r.pipes inode row })
+with_pipes r inode row h = record { inodes = h.inodes; blocks = h.blocks; files = h.files; pipes = length-set r.pipes inode row ∙ h.pipes }
+
+unused_parts : (own : Kind) (inode : ℕ) (r : Resources) → Parts r → Parts (without_unused own inode r)
+unused_parts own inode r h =
+    unused_cases Parts own inode r
+    (λ gone. let less : Parts (freed inode r) = with_inodes r _ (freed_numbered INODES r.inodes.attributes h.inodes inode) h.blocks h in
+    content_cases Parts own inode (freed inode r) (λ is. with_files _ inode None less) (λ is. with_pipes _ inode None less) (λ is. less)) (λ stays. h)
+
+parts-keep : (change : Change) (r : Resources) → MayHappen change r → Parts r → Parts (changed change r)
+parts-keep (Mounts mount) r may h = record {
+  inodes = put_numbered INODES r.inodes.attributes h.inodes mount.root _ (inode_is_new r.inodes mount.root h.inodes.some may);
+  blocks = h.blocks;
+  files = h.files;
+  pipes = h.pipes;
+}
+parts-keep (Comes inode directory name kind mode moment) r may h =
+    let more : Parts _ = record { inodes = put_numbered INODES r.inodes.attributes h.inodes inode _ (inode_is_new r.inodes inode h.inodes.some may.0); blocks = h.blocks; files = h.files; pipes = h.pipes } in
+    empty_cases Parts kind inode _ (λ is. with_files _ inode _ more) (λ is. with_pipes _ inode _ more) (λ is. more)
+parts-keep (Touches inode mode mtime ctime) r may h = with_inodes r _ (changed_numbered INODES r.inodes.attributes h.inodes inode _) h.blocks h
+parts-keep (Opens number block) r may h = with_inodes r _ h.inodes (put_numbered BLOCKS r.inodes.blocks h.blocks number block (block_is_new r.inodes number h.blocks.some may.0)) h
+parts-keep (Moves number offset) r may h = with_inodes r _ h.inodes (changed_numbered BLOCKS r.inodes.blocks h.blocks number _) h
+parts-keep (Writes inode moment bytes) r may h = with_files _ inode _ (with_inodes r _ (changed_numbered INODES r.inodes.attributes h.inodes inode _) h.blocks h)
+parts-keep (Fills inode moment after came) r may h = with_pipes _ inode _ (with_inodes r _ (changed_numbered INODES r.inodes.attributes h.inodes inode _) h.blocks h)
+parts-keep (Unlinks own directory name inode mtime ctime) r may h =
+    let with_names = with_inodes r _ (changed_numbered INODES r.inodes.attributes h.inodes inode _) h.blocks h in
+    unused_parts own inode _ (record { inodes = with_names.inodes; blocks = with_names.blocks; files = with_names.files; pipes = with_names.pipes })
+parts-keep (Closes own number block) r may h = unused_parts own block.inode _ (with_inodes r _ h.inodes (freed_numbered BLOCKS r.inodes.blocks h.blocks number) h)
+
+pub room-keeps : (change : Change) (r : Resources) → MayHappen change r → HasRoom r → HasRoom (changed change r)
+room-keeps change r may h = whole (changed change r) (parts-keep change r may (parts r h))
+
+-- ---- owners
+
+-- an attribute's owner stays
+abbrev SameOwner : (Attribute → Attribute) → Type 0
+SameOwner change = (a : Attribute) → (change a).owner ≡ a.owner
+
+module _ (user : ℕ) where
+  -- what stands in the user and in attributes alone is seen
+  seen_owner : (r now : Resources) → now.user ≡ r.user → now.inodes.attributes ≡ r.inodes.attributes → IsOwnedBy user r → IsOwnedBy user now
+  seen_owner r now same attributes h = record { user = same ∙ h.user; inodes = λ inode attribute there. h.inodes inode attribute (ap (λ rows. row_at rows inode) (sym attributes) ∙ there) }
+
+  module _ (r : Resources) (h : IsOwnedBy user r) where
+    same_owner : (inode : ℕ) (change : Attribute → Attribute) → SameOwner change → IsOwnedBy user (with_changed inode change r)
+    same_owner inode change same = record {
+      user = h.user;
+      inodes = λ m now there. let was = with_row-was r.inodes.attributes inode change m now there in
+          elim was.2 [ inl stays ↦ ap (λ (a : Attribute). a.owner) (sym stays.1) | inr is ↦ ap (λ (a : Attribute). a.owner) (sym is.1) ∙ same was.0 ] ∙ h.inodes m was.0 was.1;
+    }
+
+    come_owner : (inode : ℕ) (attribute : Attribute) → attribute.owner ≡ r.user → IsNew r.inodes.attributes INODES inode → (now : Resources) → now.user ≡ r.user → now.inodes.attributes ≡ put_row r.inodes.attributes inode attribute → IsOwnedBy user now
+    come_owner inode attribute own new now same attributes = record {
+      user = same ∙ h.user;
+      inodes = λ m other there. elim (put_cases r.inodes.attributes inode attribute new.within m other (ap (λ rows. row_at rows m) (sym attributes) ∙ there)) [
+        | inl is ↦ ap (λ (a : Attribute). a.owner) (sym is.1) ∙ (own ∙ h.user)
+        | inr was ↦ h.inodes m other was
+      ];
+    }
+
+    unused_owner : (own : Kind) (inode : ℕ) → IsOwnedBy user (without_unused own inode r)
+    unused_owner own inode =
+        unused_cases (IsOwnedBy user) own inode r
+        (λ gone. let less : IsOwnedBy user (freed inode r) = record { user = h.user; inodes = λ m attribute there. elim (row_at-set_cases r.inodes.attributes inode m None attribute there) [ inl was ↦ h.inodes m attribute was | inr none ↦ absurd (cc) ] } in
+        content_cases (IsOwnedBy user) own inode (freed inode r) (λ is. seen_owner (freed inode r) _ refl refl less) (λ is. seen_owner (freed inode r) _ refl refl less) (λ is. less))
+        (λ stays. h)
+
+  pub owner-keeps : (change : Change) (r : Resources) → MayHappen change r → HasRoom r → IsOwnedBy user r → IsOwnedBy user (changed change r)
+  owner-keeps (Mounts mount) r may room h = come_owner r h mount.root (root_attribute r.user) refl (inode_is_new r.inodes mount.root room.some_inodes may) _ refl refl
+  owner-keeps (Comes inode directory name which mode moment) r may room h =
+      let named = with_named inode (under directory name) (new_attribute which mode r.user moment) r in
+      let more = come_owner r h inode (new_attribute which mode r.user moment) refl (inode_is_new r.inodes inode room.some_inodes may.0) named refl refl in
+      empty_cases (IsOwnedBy user) which inode named (λ is. seen_owner named _ refl refl more) (λ is. seen_owner named _ refl refl more) (λ is. more)
+  owner-keeps (Touches inode mode mtime ctime) r may room h = same_owner r h inode (touched mode mtime ctime) (λ a. refl)
+  owner-keeps (Writes inode moment bytes) r may room h = seen_owner (with_changed inode (resized (length bytes) moment) r) _ refl refl (same_owner r h inode (resized (length bytes) moment) (λ a. refl))
+  owner-keeps (Fills inode moment after came) r may room h = seen_owner (with_changed inode (filled moment after) r) _ refl refl (same_owner r h inode (filled moment after) (λ a. filled-same moment after a (λ (b : Attribute). b.owner) refl refl))
+  owner-keeps (Unlinks own directory name inode mtime ctime) r may room h =
+      unused_owner (with_unlinked inode (under directory name) mtime ctime r) (seen_owner (with_changed inode (unlinked mtime ctime) r) _ refl refl (same_owner r h inode (unlinked mtime ctime) (λ a. refl))) own inode
+  owner-keeps (Closes own number block) r may room h = unused_owner (without_block number r) (seen_owner r _ refl refl h) own block.inode
+  owner-keeps _ r may room h = seen_owner r _ refl refl h

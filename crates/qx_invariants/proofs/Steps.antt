@@ -1,0 +1,256 @@
+-- What steps do to a user's resources and to every user's part: a property that each change which may happen keeps, each step keeps in every user's part, and so each run.
+use Rattle.std.proofs.Common.{◌≡◌, true, ℕ, List, [], ◌∷◌, refl, sym, subst, inl, inr, zero, suc, ◌+◌, ◌∙◌, arith}
+use Rattle.std.specs.Prelude.{Result, Ok, Err, Option, Some, None}
+use Rattle.std.proofs.lemmas.Bool.{cond_both, cases_eq}
+use Rattle.qx_types.specs.Configuration.{Configuration, name_bytes}
+use Rattle.qx_types.specs.declared.errno.Errno.{Errno}
+use Rattle.qx_types.specs.declared.errno.Errno.TheVariants.{EACCES, EBADF, EINVAL}
+use Rattle.qx_types.specs.declared.names.Manager.{Manager}
+use Rattle.qx_types.specs.declared.names.Thread.{Thread}
+use Rattle.qx_types.specs.declared.outcome.Answer.{Answer}
+use Rattle.qx_types.specs.declared.outcome.Outcome.{Outcome}
+use Rattle.qx_types.specs.declared.outcome.Outcome.TheVariants.{WrongState}
+use Rattle.qx_types.specs.declared.step.Step.{Step}
+use Rattle.qx_types.specs.declared.step.Step.TheVariants.{Spawn, Call, TakeReply, SetPrio, Interrupt, Mount, Receive, Perform}
+use Rattle.qx_wire.specs.declared.message.Meaning.{Meaning}
+use Rattle.qx_wire.specs.declared.message.Meaning.TheVariants.{Known, Unknown, Malformed}
+use Rattle.qx_wire.specs.Reading.{meaning}
+use Rattle.qx_paths.specs.Mounts.{mount_fault}
+use Rattle.qx_paths.specs.Paths.{read_path, unless}
+use Rattle.qx_paths.specs.Prefixes.{MountPoint, is_under}
+use Rattle.qx_machine.specs.declared.rows.Caller.{Caller}
+use Rattle.qx_machine.specs.declared.rows.OwnItem.{OwnItem}
+use Rattle.qx_machine.specs.declared.rows.Over.{Over}
+use Rattle.qx_machine.specs.declared.rows.State.{State}
+use Rattle.qx_machine.specs.declared.rows.Target.{Target}
+use Rattle.qx_machine.specs.declared.rows.WaitingCall.{WaitingCall}
+use Rattle.qx_machine.specs.Clients.{ClientStep, client_given, interrupt_in, mount, mount_by, or_unchanged}
+use Rattle.qx_machine.specs.declared.rows.Opened.{Opened}
+use Rattle.qx_machine.specs.Functions.{Deed, existing_coid}
+use Rattle.qx_machine.specs.Servers.{is_numbered}
+use Rattle.qx_types.specs.Managers.{manager_number}
+use Rattle.qx_machine.specs.Inodes.{inode_number}
+use Rattle.qx_machine.specs.Judgements.{found, need, or_refused}
+use Rattle.qx_machine.specs.Mounting.{new_mount}
+use Rattle.qx_machine.specs.Parts.{Part, thread_at, Change as LineChange}
+use Rattle.qx_machine.specs.Performing.{Served, after_answer, deed_of, opened_by, or_kept, read_message, serve_message, serve_pulse, taken_in, with_answers}
+use Rattle.qx_machine.specs.PipeManager.{cancel_call}
+use Rattle.qx_machine.specs.Processes.{Process}
+use Rattle.qx_machine.specs.Resources.{Resources}
+use Rattle.qx_machine.specs.Rows.{row_at}
+use Rattle.qx_machine.specs.Users.{client, serve, take, boot_part, settle}
+use Rattle.qx_invariants.specs.Changes.{Change, MayHappen, Mounts, changed}
+use Rattle.qx_invariants.proofs.Deeds.{Kept, NamesComponents, Told, cancel-gives, manager-gives, nothing, told_by}
+use Rattle.qx_invariants.proofs.Gives.{Gives, gives_by, gives_done, gives_error, gives_more, gives_on, gives-value}
+use Rattle.qx_invariants.proofs.Messages.{meaning-components}
+use Rattle.std.proofs.lemmas.Option.{same_Some}
+use Rattle.qx_types.specs.Step.{actor_of, user_of}
+use Rattle.qx_types.specs.declared.names.Actor.{Actor}
+use Rattle.qx_machine.specs.declared.rows.Held.{Held}
+use Rattle.qx_machine.specs.declared.rows.Queued.{Queued}
+use Rattle.qx_machine.specs.Machine.{After, World, boot, boot_parts, client_step, is_worker, line_of, own_held, perform_hand, performed_part, receive_hand, receive_line, received_part, server_step, step, step_end, step_of, with_empty_hand, with_taken}
+use Rattle.qx_machine.specs.Runs.{run, world_after}
+use Rattle.qx_machine.proofs.Places.{row_at-set_cases, row_at-set_other}
+use Rattle.qx_machine.specs.declared.rows.OwnItem.TheVariants as item
+use Rattle.qx_machine.specs.declared.rows.State.TheVariants as state
+
+pub answers-resources : (answers : List (WaitingCall × Answer)) (part : Part) → (with_answers answers part).resources ≡ part.resources
+answers-resources [] part = refl
+answers-resources ((waiting, given) ∷ answers) part = answers-resources answers _
+
+read-components : (bytes : List ℕ) (given : Meaning) → meaning bytes ≡ given → Gives NamesComponents (read_message given)
+read-components bytes (Known message) is = gives_done _ _ (meaning-components bytes message is)
+read-components bytes Unknown is = gives_error _ _
+read-components bytes Malformed is = gives_error _ _
+
+opened_by-caller : (process : Process) (caller : Caller) (target : Target) (over : Opened) → opened_by process caller target ≡ Ok over → over.caller ≡ caller
+opened_by-caller process caller target over is =
+    gives-value (λ (over : Opened). over.caller ≡ caller) _ over is
+    (gives_on _ (found (existing_coid target.over) EINVAL) _ (λ coid is_over.
+    gives_on _ (found (row_at process.connections coid.0) EBADF) _ (λ connection there.
+    gives_on _ (need (is_numbered (manager_number target.manager) connection.manager) EBADF) _ (λ here is_here.
+    gives_on _ (found connection.block EBADF) _ (λ number has_block.
+    gives_done _ _ refl)))))
+
+-- what a property of the resources and of what was answered is after a deed
+pub deed_kept : (K : Resources → Told → Type 0) (keeps : (change : Change) (r : Resources) (told : Told) → MayHappen change r → K r told → K (changed change r) (told_by change told)) (caller : Caller) (r : Resources) → K r nothing
+    → (process : Process) (target : Target) (moment : ℕ) (bytes : List ℕ) → Gives (Kept K keeps caller) (deed_of r process caller target moment (meaning bytes))
+deed_kept K keeps caller r h process target moment bytes =
+    gives_by NamesComponents _ (read_message (meaning bytes)) _ (read-components bytes (meaning bytes) refl)
+    (λ message names. manager-gives K keeps caller r h target (opened_by process caller target) (opened_by-caller process caller target) moment target.manager message names)
+
+-- what holds of a part that was given holds of what is kept where none was
+pub kept-keeps : (P : Part → Type 0) (part : Part) → P part → (given : Result Served Outcome) → Gives (λ (served : Served). P served.part) given → P (or_kept part given).part
+kept-keeps P part h (Ok served) kept = gives-value (λ (served : Served). P served.part) (Ok served) served refl kept
+kept-keeps P part h (Err outcome) kept = h
+
+pub unchanged-keeps : (P : Part → Type 0) (part : Part) → P part → (given : Result ClientStep Outcome) → Gives (λ (given : ClientStep). P given.part) given → P (or_unchanged part given).part
+unchanged-keeps P part h (Ok given) kept = gives-value (λ (given : ClientStep). P given.part) (Ok given) given refl kept
+unchanged-keeps P part h (Err outcome) kept = h
+
+module _ (K : Resources → Type 0) (keeps : (change : Change) (r : Resources) → MayHappen change r → K r → K (changed change r)) where
+  abbrev Keeps : Part → Type 0
+  Keeps part = K part.resources
+
+  -- ---- what a worker does
+
+  deed-gives : (r : Resources) → K r → (process : Process) (caller : Caller) (target : Target) (moment : ℕ) (bytes : List ℕ) → Gives (λ (deed : Deed Resources). K deed.state) (deed_of r process caller target moment (meaning bytes))
+  deed-gives r h process caller target moment bytes =
+      gives_more _ (λ (deed : Deed Resources). K deed.state) _ (λ deed kept. kept.kept) (deed_kept (λ r told. K r) (λ change r told. keeps change r) caller r h process target moment bytes)
+
+  answer-keeps : (part : Part) (process thread : ℕ) (over : Over) (given : Result (Deed Resources) Errno) → Keeps part → Gives (λ (deed : Deed Resources). K deed.state) given → Keeps (after_answer part process thread over given)
+  answer-keeps part process thread over (Ok deed) h kept = subst K (sym (answers-resources deed.answers _)) (gives-value (λ (deed : Deed Resources). K deed.state) (Ok deed) deed refl kept)
+  answer-keeps part process thread over (Err error) h kept = h
+
+  message-gives : (part : Part) → Keeps part → (number thread moment : ℕ) → Gives (λ (served : Served). Keeps served.part) (serve_message part number thread moment)
+  message-gives part h number thread moment =
+      gives_on _ (found (row_at part.processes number) WrongState) _ (λ process is_process.
+      gives_on _ (found (row_at process.threads thread) WrongState) _ (λ row is_row.
+      gives_on _ (found (taken_in row.state) WrongState) _ (λ sent is_sent.
+      gives_done _ _ (answer-keeps part _ _ _ _ h (deed-gives part.resources h process _ sent.target moment sent.bytes)))))
+
+  pulse-gives : (part : Part) → Keeps part → (process thread number moment : ℕ) → Gives (λ (served : Served). Keeps served.part) (serve_pulse part process thread number moment)
+  pulse-gives part h process thread number moment =
+      gives_by (λ (deed : Deed Resources). K deed.state) _ (cancel_call part.resources process thread number moment) _ (cancel-gives (λ r told. K r) (λ change r told. keeps change r) (record { process = process; thread = thread; call = number; is_asked = true }) part.resources h process thread number moment) (λ deed kept.
+      gives_done _ _ (subst K (sym (answers-resources deed.answers _)) kept))
+
+  pub serve-keeps : (config : Configuration) (user : ℕ) (held : List OwnItem) (part : Part) (own : OwnItem) (moment : ℕ) → Keeps part → Keeps (serve config user held part own moment).part
+  unfolding serve
+  serve-keeps config user held part (item.Message process thread) moment h = kept-keeps Keeps part h _ (message-gives part h process thread moment)
+  serve-keeps config user held part (item.Unblock process thread number) moment h = kept-keeps Keeps part h _ (pulse-gives part h process thread number moment)
+
+  pub take-keeps : (part : Part) (own : OwnItem) → Keeps part → Keeps (take part own)
+  unfolding take
+  take-keeps part (item.Message process thread) h = h
+  take-keeps part (item.Unblock process thread number) h = h
+
+  -- ---- what a client does
+
+  abbrev Gave : ClientStep → Type 0
+  Gave given = Keeps given.part
+
+  interrupt-keeps : (part : Part) (thread : Thread) (number : ℕ) (doing : State) → Keeps part → Gave (interrupt_in part thread number doing)
+  interrupt-keeps part thread number (state.Queued sent) h = h
+  interrupt-keeps part thread number (state.Taken sent) h = cond_both sent.is_asked _ _ Gave (λ is. h) (λ is. h)
+  interrupt-keeps part thread number (state.Waiting sent) h = cond_both sent.is_asked _ _ Gave (λ is. h) (λ is. h)
+  interrupt-keeps part thread number _ h = h
+
+  refused-gives : (r : Resources) (given : Result MountPoint Errno) → Gives (λ (mount : MountPoint). inode_number r.inodes ≡ Ok mount.root) given → Gives (λ (mount : MountPoint). inode_number r.inodes ≡ Ok mount.root) (or_refused given)
+  refused-gives r (Ok mount) h = gives_done _ _ (gives-value _ (Ok mount) mount refl h)
+  refused-gives r (Err error) h = gives_error _ _
+
+  new_mount-gives : (name path : List ℕ) (manager : Manager) (r : Resources) → Gives (λ (mount : MountPoint). inode_number r.inodes ≡ Ok mount.root) (new_mount name path manager r)
+  new_mount-gives name path manager r =
+      gives_on _ (read_path path) _ (λ names is_path.
+      gives_on _ (need (is_under name names) EACCES) _ (λ own is_own.
+      gives_on _ (unless (mount_fault r.mounts names) names) _ (λ free is_free.
+      gives_on _ (inode_number r.inodes) _ (λ root is. gives_done _ _ is))))
+
+  pub mount-gives : (config : Configuration) (user : ℕ) (part : Part) (thread : Thread) (path : List ℕ) (manager : Manager) → Keeps part → Gives Gave (mount config user part thread path manager)
+  mount-gives config user part thread path manager h =
+      gives_by (λ (mount : MountPoint). inode_number part.resources.inodes ≡ Ok mount.root) _ (mount_by config user part thread path manager) _
+      (gives_on _ (found (thread_at part thread.proc.num thread.tid) WrongState) _ (λ row is_row.
+      gives_on _ (need _ WrongState) _ (λ ready is_one. refused-gives part.resources _ (new_mount-gives (name_bytes config user) path manager part.resources))))
+      (λ mount is. gives_done _ _ (keeps (Mounts mount) part.resources is h))
+
+  client-gives : (config : Configuration) (user : ℕ) (held : List OwnItem) (part : Part) (e : Step) → Keeps part → Gives Gave (client_given config user held part e)
+  client-gives config user held part (Spawn of_user threads prio) h = search (gives_on, gives_done, h)
+  client-gives config user held part (Call thread request) h = search (gives_on, gives_done, h)
+  client-gives config user held part (TakeReply thread) h = search (gives_on, gives_done, h)
+  client-gives config user held part (SetPrio thread prio) h = search (gives_on, gives_done, h)
+  client-gives config user held part (Interrupt thread) h = gives_on _ (found (thread_at part thread.proc.num thread.tid) WrongState) _ (λ row is. gives_done _ _ (interrupt-keeps part thread row.calls row.state h))
+  client-gives config user held part (Mount thread path manager) h = mount-gives config user part thread path manager h
+  client-gives config user held part _ h = gives_error _ _
+
+  pub client-keeps : (config : Configuration) (user : ℕ) (held : List OwnItem) (part : Part) (e : Step) → Keeps part → Gave (client config user held part e)
+  unfolding client
+  client-keeps config user held part e h = unchanged-keeps Keeps part h _ (client-gives config user held part e h)
+
+-- ---- every user's part
+
+-- each way to change a user's part keeps the property
+pub record IsKept (P : ℕ → Part → Type 0) : Type 0 where
+  pub client_step : (config : Configuration) (user : ℕ) (held : List OwnItem) (part : Part) (e : Step) → P user part → P user (client config user held part e).part
+  pub taking : (user : ℕ) (part : Part) (own : OwnItem) → P user part → P user (take part own)
+  pub serving : (config : Configuration) (user : ℕ) (held : List OwnItem) (part : Part) (own : OwnItem) (moment : ℕ) → P user part → P user (serve config user held part own moment).part
+
+module _ (P : ℕ → Part → Type 0) (keeps : IsKept P) where
+  abbrev pub HoldsIn : List (Option Part) → Type 0
+  HoldsIn parts = (user : ℕ) (part : Part) → row_at parts user ≡ Some part → P user part
+
+  end-holds : (user : ℕ) (before after : Part) (changes : List LineChange) (w : World) → HoldsIn w.parts → P user after → HoldsIn (step_end user before after changes w).parts
+  unfolding settle
+  end-holds user before after changes w h own other part there = elim (cases_eq other user) [
+    | inl same ↦ elim (row_at-set_cases w.parts user other (Some after) part there) [
+      | inl was ↦ h other part was
+      | inr put ↦ let is : after ≡ part = same_Some _ _ put in subst (λ number. P number part) (sym same) (subst (P user) is own)
+    ]
+    | inr apart ↦ h other part (sym (row_at-set_other w.parts user other (Some after) apart) ∙ there)
+  ]
+
+  client-holds : (w : World) (user : ℕ) (e : Step) (row : Option Part) → row_at w.parts user ≡ row → HoldsIn w.parts → HoldsIn (client_step w user e row).world.parts
+  client-holds w user e None is h = h
+  client-holds w user e (Some part) is h =
+      let given = client w.config user (own_held user w.hands) part e in
+      end-holds user part given.part given.changes w h (keeps.client_step w.config user (own_held user w.hands) part e (h user part is))
+
+  received-holds : (w : World) (first : Queued) (row : Option Part) → row_at w.parts first.user.0 ≡ row → HoldsIn w.parts → HoldsIn (received_part w first row).parts
+  received-holds w first None is h = h
+  received-holds w first (Some part) is h = end-holds first.user.0 part (take part first.item) [] w h (keeps.taking first.user.0 part first.item (h first.user.0 part is))
+
+  line-holds : (w : World) (worker : ℕ) (manager : Manager) (line : List Queued) → HoldsIn w.parts → HoldsIn (receive_line w worker manager line).world.parts
+  line-holds w worker manager [] h = h
+  line-holds w worker manager (first ∷ rest) h = received-holds (with_taken w worker first rest manager) first (row_at w.parts first.user.0) refl h
+
+  hand-holds : (w : World) (worker : ℕ) (manager : Manager) (hand : Option Held) → HoldsIn w.parts → HoldsIn (receive_hand w worker manager hand).world.parts
+  hand-holds w worker manager None h = line-holds w worker manager (line_of w manager) h
+  hand-holds w worker manager (Some held) h = h
+
+  performed-holds : (w : World) (held : Held) (moment : ℕ) (row : Option Part) → row_at w.parts held.user.0 ≡ row → HoldsIn w.parts → HoldsIn (performed_part w held moment row).parts
+  performed-holds w held moment None is h = h
+  performed-holds w held moment (Some part) is h =
+      let user = held.user.0 in
+      let given = serve w.config user (own_held user w.hands) part held.item moment in
+      end-holds user part given.part given.changes w h (keeps.serving w.config user (own_held user w.hands) part held.item moment (h user part is))
+
+  perform-holds : (w : World) (worker moment : ℕ) (hand : Option Held) → HoldsIn w.parts → HoldsIn (perform_hand w worker moment hand).world.parts
+  perform-holds w worker moment None h = h
+  perform-holds w worker moment (Some held) h = performed-holds (with_empty_hand w worker) held moment (row_at w.parts held.user.0) refl h
+
+  server-holds : (w : World) (e : Step) → HoldsIn w.parts → HoldsIn (server_step w e).world.parts
+  server-holds w (Receive worker manager) h =
+      cond_both {A = After} (is_worker w.config worker.0) _ _ (λ after. HoldsIn after.world.parts) (λ is. hand-holds w worker.0 manager (row_at w.hands worker.0) h) (λ is. h)
+  server-holds w (Perform worker moment) h =
+      cond_both {A = After} (is_worker w.config worker.0) _ _ (λ after. HoldsIn after.world.parts) (λ is. perform-holds w worker.0 moment (row_at w.hands worker.0) h) (λ is. h)
+  server-holds w _ h = h
+
+  step_of-holds : (w : World) (e : Step) (actor : Option Actor) → HoldsIn w.parts → HoldsIn (step_of w e actor).world.parts
+  step_of-holds w e None h = server-holds w e h
+  step_of-holds w e (Some actor) h = client-holds w (user_of actor) e (row_at w.parts (user_of actor)) refl h
+
+  step-holds : (w : World) (e : Step) → HoldsIn w.parts → HoldsIn (step w e).world.parts
+  unfolding step
+  step-holds w e h = step_of-holds w e (actor_of e) h
+
+  after-holds : (w : World) (steps : List Step) → HoldsIn w.parts → HoldsIn (world_after w steps).parts
+  after-holds w [] h = h
+  after-holds w (e ∷ steps) h = after-holds (step w e).world steps (step-holds w e h)
+
+  -- ---- from boot
+
+  module _ (config : Configuration) (starts : (user : ℕ) → P user (boot_part config user)) where
+    boot-parts-hold : (first : ℕ) (names : List (List ℕ)) (place : ℕ) (part : Part) → row_at (boot_parts config first names) place ≡ Some part → P (first + place) part
+    boot-parts-hold first [] place part there = absurd (cc)
+    boot-parts-hold first (name ∷ names) zero part there =
+        subst (λ user. P user part) (omega arith) (subst (P first) (same_Some _ _ there) (starts first))
+    boot-parts-hold first (name ∷ names) (suc place) part there =
+        subst (λ user. P user part) (omega arith) (boot-parts-hold (first + 1) names place part there)
+
+    boot-holds : HoldsIn (boot config).parts
+    unfolding boot
+    boot-holds zero part there = absurd (cc)
+    boot-holds (suc place) part there = subst (λ user. P user part) (omega arith) (boot-parts-hold 1 config.users place part there)
+
+    -- in each world that a run reaches
+    pub run-holds : (steps : List Step) → HoldsIn (run config steps).world.parts
+    run-holds steps = after-holds (boot config) steps boot-holds

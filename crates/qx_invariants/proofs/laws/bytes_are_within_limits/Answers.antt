@@ -1,0 +1,5 @@
+use Rattle.qx_invariants.proofs.Reached.{run_holds}
+use Rattle.qx_invariants.proofs.laws.bytes_are_within_limits.Goals as goal
+
+pub returns : goal.returns
+returns c = λ config steps user part there. (run_holds config steps user part there).limits

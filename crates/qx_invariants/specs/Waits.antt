@@ -1,0 +1,48 @@
+-- How many calls wait in pipes.
+use Rattle.std.specs.Prelude.{ℕ, ◌+◌, ◌==◌, ◌&&◌, not, Bool, true, List, Option, Some, None}
+use Rattle.std.specs.List.{count_by, sum_by}
+use Rattle.qx_types.specs.declared.outcome.Answer.{Answer}
+use Rattle.qx_machine.specs.declared.rows.Ocb.{Ocb}
+use Rattle.qx_machine.specs.declared.rows.State.{State}
+use Rattle.qx_machine.specs.declared.rows.State.TheVariants.{Waiting}
+use Rattle.qx_machine.specs.declared.rows.ThreadRow.{ThreadRow}
+use Rattle.qx_machine.specs.declared.rows.WaitingCall.{WaitingCall}
+use Rattle.qx_machine.specs.Inodes.{is_open}
+use Rattle.qx_machine.specs.Pipes.{Pipe}
+use Rattle.qx_machine.specs.Rows.{row_at}
+use Rattle.qx_machine.specs.Waiting.{Pipes}
+
+module _ {W : Type 0} where
+  -- how many of those who wait in a pipe are such
+  abbrev pub waiting_of : (W → Bool) → Pipe W → ℕ
+  waiting_of which p = count_by which p.readers + count_by which p.writers
+
+  -- how many of the answers are to such
+  abbrev pub answers_to : (W → Bool) → List (W × Answer) → ℕ
+  answers_to which answers = count_by (λ answer. which answer.0) answers
+
+-- the same where a pipe may be
+abbrev pub waiting_in : (WaitingCall → Bool) → Option (Pipe WaitingCall) → ℕ
+waiting_in which None = 0
+waiting_in which (Some pipe) = waiting_of which pipe
+
+-- the same in all pipes of a user
+abbrev pub waiting : (WaitingCall → Bool) → Pipes → ℕ
+waiting which pipes = sum_by (waiting_in which) pipes
+
+-- a call of this thread
+abbrev pub is_of : ℕ → ℕ → WaitingCall → Bool
+is_of process thread call = (call.process == process) && (call.thread == thread)
+
+-- a call over an open control block that has another inode open, or over none
+abbrev pub is_astray : List (Option Ocb) → ℕ → WaitingCall → Bool
+is_astray blocks inode call = not (is_open (λ flags. true) inode (row_at blocks call.block))
+
+-- 1 for a thread whose call waits, else 0
+abbrev pub waits_in : State → ℕ
+waits_in (Waiting sent) = 1
+waits_in _ = 0
+
+abbrev pub waits : Option ThreadRow → ℕ
+waits None = 0
+waits (Some row) = waits_in row.state

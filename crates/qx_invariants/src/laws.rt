@@ -1,0 +1,94 @@
+//! What holds of each user's resources in every world that a run reaches.
+
+ghost use Rattle.std.specs.Prelude.{◌≡◌, ℕ, ◌≤◌, List, [], Some, length};
+ghost use Rattle.std.specs.Cmp.Lexicographic.{slice_cmp};
+ghost use Rattle.std.specs.List.Sorted.{IsStrictlySortedBy};
+ghost use Rattle.std.specs.Ordering.{nat_cmp};
+ghost use Rattle.qx_types.specs.Configuration.{Configuration, name_bytes};
+ghost use Rattle.qx_types.specs.declared.step.Step.{Step};
+ghost use Rattle.qx_machine.specs.Listings.{listed_by, listed_next};
+ghost use Rattle.qx_machine.specs.Names.{listed, listing, names_in};
+ghost use Rattle.qx_machine.specs.Mounting.{new_resources};
+ghost use Rattle.qx_machine.specs.Parts.{Part};
+ghost use Rattle.qx_machine.specs.Rows.{row_at};
+ghost use Rattle.qx_machine.specs.Runs.{run};
+ghost use Rattle.qx_machine.specs.Waiting.{is_call};
+ghost use Rattle.qx_invariants.specs.Changes.{Become};
+ghost use Rattle.qx_invariants.specs.Holds.{HasContents, HasLimits, HasMounts, HasNames, HasOpenWaiters, HasRoom, HasSettledPipes, HasTree, HoldsInRuns, HoldsOfParts, IsOwnedBy, WaitsOnce};
+ghost use Rattle.qx_invariants.specs.Waits.{waiting};
+
+/// A user's resources become what they are by a few kinds of change alone, one after another, each where it may happen.
+#[tactic(auto, using(crate::proofs::Reached::run_becomes))]
+pub fn only_changes_happen()
+    ensures { (config : Configuration) (steps : List Step) (user : ℕ) (part : Part) → row_at (run config steps).world.parts user ≡ Some part → Become (new_resources user (name_bytes config user)) part.resources }
+{}
+
+/// Inodes and open control blocks are numbered from 1 within their limits, and each inode has a place for what is in it.
+pub fn numbers_are_within_limits()
+    ensures { HoldsInRuns HasRoom }
+{}
+
+/// Each inode among a user's resources is owned by that user.
+#[tactic(auto, using(crate::proofs::Reached::run_owned))]
+pub fn users_own_their_inodes()
+    ensures { (config : Configuration) (steps : List Step) (user : ℕ) (part : Part) → row_at (run config steps).world.parts user ≡ Some part → IsOwnedBy user part.resources }
+{}
+
+/// A file has bytes and a pipe is there, as many as the size of their inode says; nothing else has any.
+#[tactic(auto, using(crate::proofs::Reached::run_contents))]
+pub fn sizes_tell_contents()
+    ensures { HoldsInRuns HasContents }
+{}
+
+/// No file has more than 65,536 bytes, nor have all files of a user more than 1,048,576, and no more than 4,096 stand in a
+/// pipe.
+pub fn bytes_are_within_limits()
+    ensures { HoldsInRuns HasLimits }
+{}
+
+/// Nobody waits in a pipe who could be served: to settle it changes nothing and answers nobody.
+#[tactic(auto, using(crate::proofs::Reached::run_settled))]
+pub fn nobody_waits_in_vain()
+    ensures { HoldsInRuns HasSettledPipes }
+{}
+
+/// An inode is there only while a name leads to it or it is open; its links are 1 exactly while a name leads to it, and else
+/// 0; and each name leads to an inode that is there, no two names to one.
+pub fn links_tell_names()
+    ensures { HoldsInRuns HasNames }
+{}
+
+/// Each name is a component of 1 to 64 bytes with no zero byte and no `/`, and neither `.` nor `..`, in a directory to which a
+/// path leads.
+pub fn names_form_a_tree()
+    ensures { HoldsInRuns HasTree }
+{}
+
+/// The path of each mount's root leads to a directory, however many steps were taken.
+#[tactic(auto, using(crate::proofs::Reached::run_mounts))]
+pub fn mounts_are_there()
+    ensures { HoldsInRuns HasMounts }
+{}
+
+/// Whoever reads any directory listing by listing, each behind the last name given before, the first behind the empty name,
+/// has all its names once a listing gives nothing, each once and in the order of their bytes (C Library Reference:
+/// `readdir`). After as many listings as there are names, the next gives nothing. The bytes of a listing tell its names.
+pub fn directories_are_listed_whole()
+    ensures rising { HoldsInRuns (λ r. (directory : ℕ) → IsStrictlySortedBy (slice_cmp nat_cmp) (names_in r.names directory)) }
+    ensures whole { HoldsInRuns (λ r. (directory listings : ℕ) → listed_next r.names directory (listed_by listings r.names directory) ≡ [] → listed_by listings r.names directory ≡ names_in r.names directory) }
+    ensures ends { HoldsInRuns (λ r. (directory listings : ℕ) → length (names_in r.names directory) ≤ listings → listed_next r.names directory (listed_by listings r.names directory) ≡ []) }
+    ensures told { HoldsInRuns (λ r. (directory other : ℕ) (after before : List ℕ) → listing (listed r.names directory after) ≡ listing (listed r.names other before) → listed r.names directory after ≡ listed r.names other before) }
+{}
+
+/// Each call that waits in a pipe is over an open control block of that pipe; so nobody waits in what is not open.
+#[tactic(auto, using(crate::proofs::Reached::run_waiters))]
+pub fn who_waits_has_it_open()
+    ensures { HoldsInRuns HasOpenWaiters }
+{}
+
+/// Of each thread that waits one call waits in the user's pipes, and of any other thread none; so a call waits at most once,
+/// and no thread waits whose call is nowhere.
+pub fn threads_wait_once()
+    ensures threads { HoldsOfParts WaitsOnce }
+    ensures calls { HoldsInRuns (λ r. (process thread number : ℕ) → waiting (is_call process thread number) r.pipes ≤ 1) }
+{}

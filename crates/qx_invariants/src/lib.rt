@@ -1,0 +1,4 @@
+//! What holds in every world that a run of the written machine reaches.
+#![tactic(auto)]
+
+pub mod laws;

@@ -1,0 +1,68 @@
+use Rattle.std.proofs.Common.{◌≡◌, ◌∙◌, Ok, false, ap, refl, subst, sym}
+use Rattle.std.specs.Option.{IsSome}
+use Rattle.std.specs.Result.{IsOk}
+use Rattle.qx_attr.specs.Counts.{Reserved, numbered}
+use Rattle.qx_iofunc.proofs.StoreLemmas.{StoreFits, emptied_fits, emptied_in, emptied_number, emptied_there}
+use Rattle.qx_iofunc.proofs.OpenLemmas.{all_allowed, done, existing_done, may_open_is, opened_fits}
+use Rattle.qx_iofunc.specs.declared.store.Store.TheInside.{Inside}
+use Rattle.qx_iofunc.specs.Store.{Store, Stored, with_truncated, within}
+use Rattle.qx_iofunc.specs.Given as given
+use Rattle.qx_machine.specs.Defaults.{open_existing}
+use Rattle.qx_machine.specs.Inodes.{block_number, open_block}
+use Rattle.qx_machine.specs.Rows.{row_at}
+use Rattle.qx_iofunc.proofs.store.Store.open_existing.Goals as goal
+use Rattle.qx_iofunc.proofs.store.Store.open_existing.Goals.{Joined-contains, then-contains+then-contains-2, else-contains, else-contains-via-then-contains+else-contains-2, else-contains-via-else-contains}
+
+emptied : (c : Joined-contains) → c.if-contains.self-inside.tables.stored ≡ emptied_in c.args.wish.flags c.args.inode c.args.wish.moment c.args.self.now.stored
+emptied c =
+    let inside = c.self-inside.inside.0.0 in
+    let reserved = ap (λ (reserve : Reserved). record { user = inside.user.0; inodes = reserve.inodes; names = inside.names; files = inside.files }) c.in_ok-reserve.ensures.ok
+    ∙ (ap (λ (inside : Inside). inside.tables.stored) c.self-inside.view_is ∙ ap (λ (store : Store). store.stored) c.self.view_is) in
+    let truncates = sym (c.contains.ensures tt) in
+    elim c.if-contains.branch [
+      | then-contains+then-contains-2 w ↦
+          ap (λ (inside : Inside). inside.tables.stored) w.self-inside-is
+          ∙ (ap (λ (store : Store). store.stored) w.truncate.ensures
+          ∙ (ap (with_truncated c.args.inode c.args.wish.moment) reserved ∙ rw (truncates ∙ w.if-contains.true, sym (w.contains-then-contains.ensures tt) ∙ w.if-contains-2.true) refl))
+      | else-contains w ↦
+          let kept = ap (λ (inside : Inside). inside.tables.stored) w.self-inside-is ∙ reserved in
+          elim w.else-contains.branch [
+            | else-contains-via-then-contains+else-contains-2 other ↦ kept ∙ rw (truncates ∙ other.if-contains.true, sym (other.contains-then-contains.ensures tt) ∙ other.if-contains-2.false) refl
+            | else-contains-via-else-contains other ↦ kept ∙ rw (truncates ∙ other.if-contains.false) refl
+          ]
+    ]
+
+-- and it may still be opened
+opens : (c : Joined-contains) → IsSome (row_at c.if-contains.self-inside.tables.stored.inodes.attributes c.args.inode) × IsOk (block_number c.if-contains.self-inside.tables.stored.inodes)
+opens c =
+    let stored = c.args.self.now.stored in
+    let wish = c.args.wish in
+    let may = may_open_is stored.inodes stored.user c.args.inode wish.flags done (all_allowed stored c.args.inode wish c.requires.allowed) in
+    subst (λ (s : Stored). IsSome (row_at s.inodes.attributes c.args.inode) × IsOk (block_number s.inodes)) (sym (emptied c))
+    (emptied_there wish.flags c.args.inode wish.moment stored may.0, emptied_number wish.flags c.args.inode wish.moment stored may.1)
+
+pub opened-requires-clause-there : goal.opened-requires-clause-there
+opened-requires-clause-there c = rw (← c.self-inside-2.view_is) at (opens (goal.at.opened-requires-clause-there c).Joined-contains).0
+
+pub opened-requires-clause-number : goal.opened-requires-clause-number
+opened-requires-clause-number c = rw (← c.self-inside-2.view_is) at (opens (goal.at.opened-requires-clause-number c).Joined-contains).1
+
+pub invariant_of-self-2 : goal.invariant_of-self-2
+invariant_of-self-2 c =
+    let inside = c.self-inside-2.inside.0.0 in
+    let before = subst (λ (store : Store). StoreFits store.stored) c.self.view_is c.self.invariant in
+    let fits = subst StoreFits (sym (emptied (goal.at.invariant_of-self-2 c).Joined-contains)) (emptied_fits c.args.wish.flags c.args.inode c.args.wish.moment c.args.self.now.stored before) in
+    opened_fits inside.inodes.inodes c.opened.new.inodes.inodes c.args.inode c.opened.result c.args.wish.flags c.opened.ensures.opened inside.names inside.files (rw (← c.self-inside-2.view_is) at fits)
+
+pub returns-clause-opened : goal.returns-clause-opened
+returns-clause-opened c = λ r coid.
+    let wish = c.args.wish in
+    let inode = c.args.inode in
+    let stored = c.args.self.now.stored in
+    let number = c.opened.result in
+    let now = c.opened.new.inodes.inodes in
+    let after = ap (λ (inside : Inside). inside.tables.stored) c.self-inside-2.view_is ∙ emptied (goal.at.returns-clause-opened c).Joined-contains in
+    let opened = subst (λ (stored : Stored). numbered now (Ok number) ≡ open_block stored.inodes inode wish.flags) after c.opened.ensures.opened in
+    let may = all_allowed stored inode wish c.requires.allowed in
+    subst (λ (after : Stored). open_existing (within r stored) coid inode wish ≡ Ok (given.opened coid wish.kind (record { number = number; inode = inode; is_new = false }) (within r (record after { inodes = now })))) (sym after)
+    (existing_done stored now number inode wish may opened r coid)

@@ -1,5 +1,0 @@
-use Rattle.qx_ram.proofs.PutLemmas as lemmas
-use Rattle.qx_ram.proofs.laws.kept_before.Goals as goal
-
-pub returns : goal.returns
-returns c = record { kept_before = lemmas.kept_before }

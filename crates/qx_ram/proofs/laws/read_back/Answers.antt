@@ -1,5 +1,0 @@
-use Rattle.qx_ram.proofs.PutLemmas as lemmas
-use Rattle.qx_ram.proofs.laws.read_back.Goals as goal
-
-pub returns : goal.returns
-returns c = record { read_back = lemmas.read_back }

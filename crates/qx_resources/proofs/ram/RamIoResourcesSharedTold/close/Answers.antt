@@ -1,4 +1,0 @@
-use Rattle.qx_resources.proofs.ram.RamIoResourcesSharedTold.close.Goals as goal
-
-pub invariant_of-state-2 : goal.invariant_of-state-2
-invariant_of-state-2 c = c.release.ensures.fits c.state.inside.names c.state.invariant
