@@ -7,10 +7,10 @@ use Rattle.qx_types.specs.declared.request.Request.{Request}
 use Rattle.qx_types.specs.declared.step.Step.{Step}
 use Rattle.qx_types.specs.declared.step.Step.TheVariants.{Call, Receive, Perform}
 
-abbrev pub first_worker : Worker
-first_worker = record { 0 = 1 }
+abbrev pub asked_worker : Worker
+asked_worker = record { 0 = 1 }
 
 -- earlier steps, the call, and what the first worker does
 abbrev pub before_answer : List Step → Thread → Request → ℕ → List Step
 before_answer steps thread request moment =
-    ((steps ++ Call thread request ∷ []) ++ Receive first_worker Ram ∷ []) ++ Perform first_worker moment ∷ []
+    ((steps ++ Call thread request ∷ []) ++ Receive asked_worker Ram ∷ []) ++ Perform asked_worker moment ∷ []

@@ -23,8 +23,8 @@ pub record Told : Type 0 where
   pub write_failed : Bool
   pub flushed : Bool
 
-abbrev pub told : {R W : Type 0} → (R → Option (List ℕ)) → (W → Option (List ℕ)) → Watched R → Watched R → Watched W → Watched W → Told
-told remaining contents reader_old reader_new writer_old writer_new = record {
+abbrev pub told_by : {R W : Type 0} → (R → Option (List ℕ)) → (W → Option (List ℕ)) → Watched R → Watched R → Watched W → Watched W → Told
+told_by remaining contents reader_old reader_new writer_old writer_new = record {
   there = held remaining reader_old;
   read_failed = has_failed reader_new;
   before = held contents writer_old;

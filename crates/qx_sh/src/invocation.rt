@@ -1,7 +1,7 @@
 ghost use Rattle.std.specs.Prelude.{◌≡◌, ◌≢◌, MatchResult, map};
 ghost use Rattle.std.specs.IoError.{error_kind};
 ghost use Rattle.qx_sh.specs.Invocation.{EndsOn, EndsUnread, Exits};
-ghost use Rattle.qx_sh.specs.Watched.{has_failed, held, told};
+ghost use Rattle.qx_sh.specs.Watched.{has_failed, held, told_by};
 
 use crate::ending::{End, report};
 use crate::options::{OptionsFault, options};
@@ -56,7 +56,7 @@ fn run_as_asked<S: AsStr, R: Read, W: Write>(
     input: &mut Watched<R>,
     output: &mut Watched<W>,
 ) -> End
-    ensures ends { EndsOn (map S.text words.now) (told R.remaining W.contents input.old input.new output.old output.new) result }
+    ensures ends { EndsOn (map S.text words.now) (told_by R.remaining W.contents input.old input.new output.old output.new) result }
 {
     match options(alloc, words) {
         Ok(options) => run(alloc, input, output, &options),
