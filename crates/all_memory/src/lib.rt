@@ -1,4 +1,6 @@
 //! Takes all memory that can be had, for tests of what needs none.
+//!
+//! While what `take_all_memory` gave is kept, each request for memory fails.
 #![tactic(auto)]
 
 use std::alloc::{AllocError, Global};

@@ -1,4 +1,6 @@
 //! A resource manager whose reads wait: each until somebody writes (`docs/MANAGER.md`).
+//!
+//! `bell.rt` has what it keeps, `ringing.rt` its functions, `Bell.antt` their tables.
 #![tactic(auto)]
 
 mod bell;

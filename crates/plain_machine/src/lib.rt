@@ -1,4 +1,12 @@
 //! The rules of the machine over plain vectors, with no number of a row being its place.
+//!
+//! Every row is found by its whole name, and nothing is shared with `qx_world` but the types.
+//!
+//! - `rows.rt`: the rows and the lines
+//! - `serving.rt`: what a performed message comes to
+//! - `steps.rt`: the steps that are tried: numbers of a linear congruential generator (`steps/dice.rt`), the steps that
+//!   they choose (`steps/choice.rt`), and what these ask: `steps/requests.rt`, `steps/pipes.rt`, `steps/paths.rt`,
+//!   `steps/raws.rt`, `steps/texts.rt`
 #![tactic(auto)]
 
 mod rows;

@@ -1,4 +1,10 @@
 //! Takes a fixed pseudo-random sequence of steps in a world and in plain vectors, and compares outcomes and reads.
+//!
+//! Each step is taken in both. The program ends in an error, with status 1, at the first difference; at an outcome, a
+//! deed or an answer that is none of those that have to come (`tally.rt`); and where one of these did not come or the
+//! line stayed short. What a step is about to do, and how a message and a call that waited were answered, is told in
+//! `deeds.rt`. A perform is tried first with other work, which has to be stale. What is printed doesn't change with the
+//! rules.
 #![tactic(auto)]
 
 mod deeds;

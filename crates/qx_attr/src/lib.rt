@@ -1,4 +1,11 @@
 //! The inodes and open control blocks of one user, at all managers.
+//!
+//! - `inodes.rt`: `Inodes`, with one call for each way in which inodes and blocks come, change and go
+//! - `attr.rt`: `Attr`, an inode's attribute with its three counts
+//! - `blocks.rt`: open control blocks under their numbers, in a slab
+//! - `access.rt`: who may do what with an inode
+//! - `status.rt`: the 40 bytes of a status
+//! - `reply.rt`: the bytes of a reply, with room for all that one may have
 #![tactic(auto)]
 
 pub mod access;

@@ -1,4 +1,6 @@
 //! Bytes as plain data.
+//!
+//! `Bytes`, of a path, a name or a request, stands here; `MessageBytes`, of a message or an answer, in `message.rt`.
 #![tactic(auto)]
 
 pub mod message;

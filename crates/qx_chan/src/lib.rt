@@ -1,4 +1,21 @@
 //! The channel: the processes of all users, and the managers' lines in which their messages wait.
+//!
+//! - `channel.rt`: `Channel`, with the calls of message passing
+//! - `serving.rt`: a received message served by its manager and answered, an unblock pulse performed
+//! - `answers.rt`: the answers to calls that waited, as their threads get them
+//! - `users.rt`: the processes of all users: a row that is lent, and what a call changes in it
+//! - `call.rt`: the call that a thread waits for: where its message went, its number, and whether it was asked to
+//!   unblock
+//! - `servers.rt`: the disconnect nodes of a process, as what it has attached comes and goes
+//!
+//! What contracts see is `Channel.antt`, over `Users.antt` and `Calls.antt`, and of serving `Serving.antt` and
+//! `Answers.antt`. That rows, lines and nodes stand together is the crate's own (`Kept.antt`), and no layer above
+//! speaks of a node.
+//!
+//! In `proofs/`, that they stand together still is in a file for each call: `StartLemmas.antt`, `SendLemmas.antt`,
+//! `ReceiveLemmas.antt`, `AnswerLemmas.antt`, `AskLemmas.antt`, `GivenLemmas.antt`, `PrioLemmas.antt`. That serving
+//! follows the machine: `MessageLemmas.antt`, `OutcomeLemmas.antt`, `ServeLemmas.antt`, `ServedLemmas.antt`,
+//! `PulseLemmas.antt`. The others stand below these: one row that changes, the calls that wait, what is attached.
 #![tactic(auto)]
 
 mod answers;

@@ -1,4 +1,8 @@
 //! The bytes of one user's files, under the numbers of their inodes.
+//!
+//! - `files.rt`: `Files`, with one call for each way in which files come, change and go; the sum of their sizes
+//! - `data.rt`, `contents.rt`: the bytes of one file; those of all
+//! - `laws.rt`: what was written is read back; what stands before and behind it stays
 #![tactic(auto)]
 
 mod contents;

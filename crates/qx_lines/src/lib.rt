@@ -1,4 +1,8 @@
 //! Priority lines: the item that goes first stands in front, in order of priority, and first in first out among equals.
+//!
+//! What contracts see of a line is `Line.antt`. A caller uses the ruleset `line_facts` (`proofs/LineFacts.antt`), which
+//! holds `table_facts` of `qx_lists`, as `put_and_remove` in `times`. Of what it speaks `IsInRankOrder` stays closed to the
+//! prover: `in_rank_order` opens it, `ranked_from` closes it.
 #![tactic(auto)]
 
 ghost use Rattle.std.specs.Prelude.{◌≡◌, ℕ, IfOk, OnErr, IfSome, IfNone, IsFalse, None, [], drop, slice_get, ◌↔◌};

@@ -1,6 +1,15 @@
 //! Many doubly linked lists in one table of nodes, shared by all users of the table.
 //!
 //! A list and a node are named by numbers. A node has a value and stands in at most one list.
+//!
+//! `Table` stands here, over the links of `rings.rt`: each list is a ring through the list itself, whose links are its
+//! first and its last node, so taking a node out is one `join` and putting one in is two, with no case for the ends.
+//! All writes of links stand in two functions there.
+//!
+//! What contracts see is `Table.antt`, and of a value that is lent `Lends.antt`. A caller uses the ruleset
+//! `table_facts` (`proofs/TableFacts.antt`): named in `using(..)`, calls in a row need no answer, as `linked` in
+//! `lower_tests`. What it speaks of stays closed to the prover: `StandsNowhere`, which `stands_nowhere` and
+//! `nowhere_from` open and close.
 #![tactic(auto)]
 
 ghost use Rattle.std.specs.Prelude.{◌≡◌, ◌+◌, ◌-◌, ◌≤◌, ◌<◌, ◌^◌, ◌++◌, ◌∷◌, ℕ, List, [], None, Some, IfOk, IfErr, IfSome, OnOk, OnErr, IsOk, max, drop, length, slice_get, nat_eq};

@@ -1,4 +1,21 @@
 //! The written machine: what the system does, as definitions, and the laws about them.
+//!
+//! The files of `specs/`, lowest first; `Machine.antt` is where to begin:
+//!
+//! - `Rows.antt`, `Lines.antt`: rows under small numbers; priority lines
+//! - `Attributes.antt`, `Inodes.antt`, `Names.antt`, `Listings.antt`, `Files.antt`, `Pipes.antt`, `Waiting.antt`,
+//!   `Resources.antt`: what the managers keep for a user
+//! - `Servers.antt`, `Processes.antt`: processes; `Parts.antt`: all rows of a user, and what a step changes in the lines
+//! - `Judgements.antt`, `Calls.antt`, `Mounting.antt`, `Clients.antt`: the six steps of clients
+//! - `Functions.antt`, `RamManager.antt`, `PipeManager.antt`, `Defaults.antt`, `Managers.antt`: what managers do
+//! - `Performing.antt`: what bytes that a worker holds come to
+//! - `Users.antt`: all that the machine knows of a user's rows: `boot_part`, `client`, `take`, `serve`, `settle`
+//! - `Machine.antt`, `Runs.antt`: the world and the step; run, received and erase
+//! - `Laws.antt`, `Examples.antt`: the words of the laws; a run that is worked out
+//!
+//! `rows.rt` has the types of the rows, `laws.rt` the laws, `examples.rt` the worked run. Isolation is carried by
+//! `proofs/Views.antt`, `Changes.antt`, `Receives.antt`, `Performs.antt`, `Steps.antt` and `Runs.antt`; the others are
+//! a law's own, or of rows.
 #![tactic(auto)]
 
 pub mod examples;

@@ -1,4 +1,8 @@
 //! The pipe manager: what messages do to the pipes of a user, to their inodes and names and to the calls that wait.
+//!
+//! It stands over what all users share and a user's store: `paths.rt` has an open and an unlink, `blocks.rt` what goes
+//! over an open control block, and an unblock. `Pipes.antt` says how the user's resources are seen in the two (`seen`),
+//! and that both are afterwards as the machine left them (`Follows`).
 #![tactic(auto)]
 
 pub mod blocks;

@@ -1,4 +1,12 @@
 //! One process of a user: its threads, connections, side connections and server connections.
+//!
+//! - `process.rt`: `Process`, with the calls of the crate
+//! - `threads.rt`, `thread.rt`: the threads of a process; one, with the room for its replies
+//! - `room.rt`: memory for a reply, there when a message is sent, which may keep a call's bytes until then; the bytes
+//!   of a reply, with the room or without
+//! - `connections.rt`, `servers.rt`: connections; server connections, and at which manager threads have side
+//!   connections
+//! - `places.rt`: rows under small numbers; the lowest free number
 #![tactic(auto)]
 
 mod connections;

@@ -1,4 +1,16 @@
 //! The names, requests, steps and outcomes that every other crate speaks of.
+//!
+//! - `names.rt`: users, processes, threads, connections, priorities, managers with their numbers, workers, actors,
+//!   items
+//! - `request.rt`, `step.rt`, `outcome.rt`: requests; steps, and who takes one; answers and outcomes
+//! - `errno.rt`: the names of errors
+//! - `limits.rt`: every limit, under the name by which definitions and code cite it
+//! - `config.rt`: a configuration, accepted or not
+//! - `flags.rt`: the flags of an open; the conditions of a notification
+//! - `fields.rt`: where a seek counts from; what a notification is to do
+//! - `nodes.rt`: what a value has to tell to stand in a line, or to wait in a pipe
+//!
+//! `Bytes` and `MessageBytes` are those of `qx_bytes`, handed on.
 #![tactic(auto)]
 
 pub mod config;

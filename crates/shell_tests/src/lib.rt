@@ -1,4 +1,6 @@
 //! Tests of the shell's edge: its options, its run and report, and the whole of it.
+//!
+//! The readers and writers that fail stand in `streams.rt`.
 #![tactic(auto)]
 
 #[cfg(test)]

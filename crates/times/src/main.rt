@@ -1,6 +1,13 @@
 //! Does one thing so many times, for a count of instructions from outside. With no words it does a little of each.
 //!
 //! The words are `script`, a file and the rounds; or `line`, `encode` or `read`, a count and the rounds.
+//!
+//! - `script.rt`: the lines before the first `show` are played once, and those from it on so many times; where none are
+//!   before it, each round begins with a new world
+//! - `calls.rt`: the calls that no script reaches alone: those of a line, and messages that are spelled and read
+//!
+//! With no words the scripts of `data/` are played and some of the calls made, which is what the gate runs.
+//! `scripts.sh` writes the scripts that are played, and `counts.sh` counts the instructions of their rounds.
 #![tactic(auto)]
 
 mod calls;

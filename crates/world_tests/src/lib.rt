@@ -1,4 +1,11 @@
 //! Tests of a traced world through its public calls.
+//!
+//! - `script.rt`, `same.rt`: the tests' steps, from lines of a script; two traces compared by all that can be seen of
+//!   them
+//! - `memory.rt`, `served.rt`: the steps whose memory is refused; those that are taken with no memory at all
+//! - `reads.rt`: what a script does not ask a trace and a world for
+//! - `nodes.rt`: nodes of `Queues` that come back
+//! - `asked.rt`: a request that `calling` takes from its call to its answer
 #![tactic(auto)]
 
 #[cfg(test)]
