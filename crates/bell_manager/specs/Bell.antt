@@ -12,14 +12,14 @@ use Rattle.qx_machine.specs.declared.rows.WaitingCall.{WaitingCall}
 use Rattle.qx_machine.specs.Functions.{ConnectFunctions, Deed, IoFunctions, Reply, no_connect, no_io}
 use Rattle.qx_machine.specs.Judgements.{◌>>=◌, need}
 use Rattle.qx_machine.specs.Waiting.{waiting_call}
-use Rattle.qx_machine.specs.Pipes.{After, Pipe, nobody_answered, readers_dismissed, with_reader}
-use Rattle.qx_shared.specs.Shared.{HasPipe, IsReceived, Shared, pipe_at, thread_of, with_after}
+use Rattle.qx_machine.specs.Pipes.{PipeAfter, Pipe, nobody_answered, readers_dismissed, with_reader}
+use Rattle.qx_shared.specs.Shared.{HasPipe, IsReceived, Shared, pipe_at, callers_thread, with_pipe_after}
 use Rattle.qx_resmgr.specs.declared.state.State.{Ghosts}
 use Rattle.null_manager.specs.Null as null
 use Rattle.null_manager.specs.Null.{Blocks}
 
 -- what the manager keeps for a user: which inode of the user its place is under, and the open control blocks, from 1
-pub record Kept : Type 0 where
+pub record KeptBells : Type 0 where
   pub user : ℕ
   pub inode : ℕ
   pub blocks : Blocks
@@ -30,41 +30,41 @@ pub record Bells : Type 0 where
   pub place : Pipe WaitingCall
 
 -- nothing is open
-abbrev pub new_bell : ℕ → ℕ → Kept
+abbrev pub new_bell : ℕ → ℕ → KeptBells
 new_bell user inode = record { user = user; inode = inode; blocks = None ∷ [] }
 
 -- ---- how it stands together with what all users share
 
-abbrev pub told : Kept → Shared → Bells
-told k c = record { blocks = k.blocks; place = pipe_at c k.user k.inode }
+abbrev pub bells_told : KeptBells → Shared → Bells
+bells_told k c = record { blocks = k.blocks; place = pipe_at c k.user k.inode }
 
-abbrev pub shared : Kept → Shared → Bells → List (WaitingCall × Answer) → Shared
-shared k c bells answers = with_after c k.user k.inode (record { pipe = bells.place; answers = answers })
+abbrev pub bells_shared : KeptBells → Shared → Bells → List (WaitingCall × Answer) → Shared
+bells_shared k c bells answers = with_pipe_after c k.user k.inode (record { pipe = bells.place; answers = answers })
 
 -- the place is there
-abbrev pub Fits : Kept → Shared → Type 0
-Fits k c = HasPipe c k.user k.inode
+abbrev pub HasOwnPlace : KeptBells → Shared → Type 0
+HasOwnPlace k c = HasPipe c k.user k.inode
 
-abbrev pub SamePlace : Kept → Kept → Type 0
+abbrev pub SamePlace : KeptBells → KeptBells → Type 0
 SamePlace k l = (l.user ≡ k.user) × (l.inode ≡ k.inode)
 
 -- how the tables see the two
-abbrev pub state : Ghosts Kept Shared Bells
-state = record { told = told; shared = shared; fits = Fits; same = SamePlace }
+abbrev pub bells_state : Ghosts KeptBells Shared Bells
+bells_state = record { told = bells_told; shared = bells_shared; fits = HasOwnPlace; same = SamePlace }
 
 -- the message of an opened connection's caller was received, and no call of it waits
-abbrev pub IsReady : Kept → Shared → Opened → Type 0
-IsReady k c opened = IsReceived c (thread_of k.user opened.caller)
+abbrev pub CanWork : KeptBells → Shared → Opened → Type 0
+CanWork k c opened = IsReceived c (callers_thread k.user opened.caller)
 
 -- ---- the tables
 
 -- a message comes to that reply, these blocks, and what was done to who waits
-abbrev pub comes_to : Option Reply → Blocks → After WaitingCall → Result (Deed Bells) Errno
+abbrev pub comes_to : Option Reply → Blocks → PipeAfter WaitingCall → Result (Deed Bells) Errno
 comes_to reply blocks after = Ok (record { reply = reply; state = record { blocks = blocks; place = after.pipe }; answers = after.answers })
 
 -- the null manager's open
-abbrev pub open_deed : Bells → NewOpen → OFlags → List (List ℕ) → Result (Deed Bells) Errno
-open_deed bells over flags rest = do
+abbrev pub bell_open_deed : Bells → NewOpen → OFlags → List (List ℕ) → Result (Deed Bells) Errno
+bell_open_deed bells over flags rest = do
   opened ← null.open_deed bells.blocks over flags rest
   comes_to opened.reply opened.state (nobody_answered bells.place)
 
@@ -87,7 +87,7 @@ close_deed bells opened =
     (readers_dismissed (λ call. call.block == opened.number) (answer.Failed EBADF) bells.place)
 
 abbrev pub bell_connect : ConnectFunctions Bells
-bell_connect = record no_connect { «open» = Some (λ bells over flags mode rest moment. open_deed bells over flags rest) }
+bell_connect = record no_connect { «open» = Some (λ bells over flags mode rest moment. bell_open_deed bells over flags rest) }
 
 abbrev pub bell_io : IoFunctions Bells
 bell_io = record no_io {

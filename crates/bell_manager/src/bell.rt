@@ -25,7 +25,7 @@ pub struct Bell {
 impl Model for Bell {
     ghost use Rattle.bell_manager.specs.Bell as bell;
 
-    ghost Value = { bell.Kept };
+    ghost Value = { bell.KeptBells };
 
     ghost view = { λ b. record { user = b.user.0; inode = b.inode; blocks = b.blocks } };
 }
@@ -44,11 +44,11 @@ impl Model for Bells {
 }
 
 impl State<Shared, Bells> for Bell {
-    ghost told = { bell.told };
+    ghost told = { bell.bells_told };
 
-    ghost shared = { bell.shared };
+    ghost shared = { bell.bells_shared };
 
-    ghost fits = { bell.Fits };
+    ghost fits = { bell.HasOwnPlace };
 
     ghost same = { bell.SamePlace };
 }
@@ -62,7 +62,7 @@ impl Bell {
         requires none { row_at (pipes_of shared.old user.0) inode ≡ None }
         ensures bell { IfOk result (λ b. b ≡ bell.new_bell user.0 inode) }
         ensures place { OnOk result (shared.new ≡ with_row_at shared.old user.0 inode (Some (pipe_of [] [] []))) }
-        ensures fits { IfOk result (λ b. bell.Fits b shared.new) }
+        ensures fits { IfOk result (λ b. bell.HasOwnPlace b shared.new) }
         ensures err { OnErr result (shared.new ≡ shared.old) }
     {
         let blocks = Blocks::new(alloc)?;

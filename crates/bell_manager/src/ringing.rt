@@ -64,11 +64,11 @@ impl Connect<Bell, Shared, Bells> for Ringing {
 }
 
 impl Io<Bell, Shared, Bells> for Ringing {
-    ghost use Rattle.bell_manager.specs.Bell.{IsReady};
+    ghost use Rattle.bell_manager.specs.Bell.{CanWork};
 
     ghost io = { bell_io };
 
-    ghost ready = { IsReady };
+    ghost ready = { CanWork };
 
     fn read(
         state: &mut Bell,

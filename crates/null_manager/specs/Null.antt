@@ -25,22 +25,22 @@ opened_at blocks caller coid number = do
   Ok (record { caller = caller; coid = coid; number = number })
 
 -- a reply without bytes
-abbrev pub replied : ℕ → Blocks → Effect → Result (Deed Blocks) Errno
-replied status blocks effect = Ok (reply_alone status [] effect blocks)
+abbrev pub reply_deed : ℕ → Blocks → Effect → Result (Deed Blocks) Errno
+reply_deed status blocks effect = Ok (reply_alone status [] effect blocks)
 
 -- the mount's root alone is there (C Library Reference: open, ENOENT and ENFILE)
 abbrev pub open_deed : Blocks → NewOpen → OFlags → List (List ℕ) → Result (Deed Blocks) Errno
 open_deed blocks over flags rest = do
   there ← need (length rest == 0) ENOENT
   free ← need (nat_le (lowest_from 1 blocks) BLOCKS) ENFILE
-  replied over.coid.0 (put_row blocks (lowest_from 1 blocks) (record { inode = over.root; flags = flags; offset = 0 })) (Opens over.coid (lowest_from 1 blocks))
+  reply_deed over.coid.0 (put_row blocks (lowest_from 1 blocks) (record { inode = over.root; flags = flags; offset = 0 })) (Opens over.coid (lowest_from 1 blocks))
 
 abbrev pub null_connect : ConnectFunctions Blocks
 null_connect = record no_connect { «open» = Some (λ blocks over flags mode rest moment. open_deed blocks over flags rest) }
 
 abbrev pub null_io : IoFunctions Blocks
 null_io = record no_io {
-  read = Some (λ blocks opened count moment. replied 0 blocks Keeps);
-  write = Some (λ blocks opened bytes moment. replied (length bytes) blocks Keeps);
-  close = Some (λ blocks opened moment. replied 0 (slice_set blocks opened.number None) (Closes opened.coid));
+  read = Some (λ blocks opened count moment. reply_deed 0 blocks Keeps);
+  write = Some (λ blocks opened bytes moment. reply_deed (length bytes) blocks Keeps);
+  close = Some (λ blocks opened moment. reply_deed 0 (slice_set blocks opened.number None) (Closes opened.coid));
 }

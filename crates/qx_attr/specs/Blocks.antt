@@ -5,7 +5,7 @@ use Rattle.qx_machine.specs.declared.rows.Ocb.{Ocb}
 use Rattle.qx_machine.specs.Rows.{row_at}
 
 -- rows under their numbers, and how many more can be put there with no memory
-pub record Table : Type 0 where
+pub record NumberedRows : Type 0 where
   pub rows : List (Option Ocb)
   pub room : ℕ
 

@@ -14,9 +14,9 @@ pub record Reserved : Type 0 where
   pub room : ℕ
 
 -- a number that was given, with what there is then
-abbrev pub numbered : Inodes → Result ℕ Errno → Result Numbered Errno
-numbered inodes (Ok number) = Ok (record { number = number; inodes = inodes })
-numbered inodes (Err error) = Err error
+abbrev pub with_number : Inodes → Result ℕ Errno → Result Numbered Errno
+with_number inodes (Ok number) = Ok (record { number = number; inodes = inodes })
+with_number inodes (Err error) = Err error
 
 abbrev pub attribute_of : Option Attr → Option Attribute
 attribute_of = option_map (λ attr. attr.attribute)

@@ -21,9 +21,9 @@ pub struct Blocks {
 impl Model for Blocks {
     ghost use Rattle.std.specs.Prelude.{◌≡◌, ◌+◌, ◌≤◌, count_by, is_some, vec_len, vec_capacity};
     ghost use Rattle.slab.specs.Slab.{HasRoomFor, slab_len};
-    ghost use Rattle.qx_attr.specs.Blocks.{IsKeyed, Table, rows_of};
+    ghost use Rattle.qx_attr.specs.Blocks.{IsKeyed, NumberedRows, rows_of};
 
-    ghost Value = { Table };
+    ghost Value = { NumberedRows };
 
     ghost view = { λ b. record { rows = rows_of b.values b.keys.items; room = b.room } };
 

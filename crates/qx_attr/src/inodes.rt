@@ -1,6 +1,6 @@
 ghost use Rattle.std.specs.Prelude.{◌≡◌, ◌+◌, ◌-◌, ◌<◌, ◌≤◌, Bool, None, Some, IfOk, IfSome, OnOk, OnErr, IsOk, IsSome, max, option_map, slice_set};
 ghost use Rattle.std.specs.Option.{option_copied};
-ghost use Rattle.qx_attr.specs.Counts.{numbered};
+ghost use Rattle.qx_attr.specs.Counts.{with_number};
 ghost use Rattle.qx_attr.specs.Flags.{block_for};
 ghost use Rattle.qx_machine.specs.Attributes.{stat_bytes};
 ghost use Rattle.qx_machine.specs.Inodes as machine;
@@ -147,7 +147,7 @@ impl Inodes {
     /// Makes an inode, which nothing has open, under the lowest free number: ENOSPC where the user has 1,024 (Writing a
     /// Resource Manager: `iofunc_attr_init`). Where an error comes or memory is short, nothing changes.
     pub fn new_inode(&mut self, attribute: Attribute) -> Result<Result<u32, Errno>, AllocError>
-        ensures made { IfOk result (λ given. numbered self.new.inodes given ≡ machine.new_inode self.old.inodes attribute) }
+        ensures made { IfOk result (λ given. with_number self.new.inodes given ≡ machine.new_inode self.old.inodes attribute) }
         ensures room { IfOk result (λ given. OnOk given (self.new.room ≡ self.old.room - 1)) }
         ensures kept { IfOk result (λ given. OnErr given (self.new ≡ self.old)) }
         ensures err { OnErr result (self.new ≡ self.old) }
@@ -172,7 +172,7 @@ impl Inodes {
         flags: OFlags,
     ) -> Result<Result<u16, Errno>, AllocError>
         requires there { IsSome (row_at self.old.inodes.attributes inode) }
-        ensures opened { IfOk result (λ given. numbered self.new.inodes given ≡ machine.open_block self.old.inodes inode flags) }
+        ensures opened { IfOk result (λ given. with_number self.new.inodes given ≡ machine.open_block self.old.inodes inode flags) }
         ensures room { IfOk result (λ given. OnOk given (self.new.room ≡ self.old.room - 1)) }
         ensures kept { IfOk result (λ given. OnErr given (self.new ≡ self.old)) }
         ensures err { OnErr result (self.new ≡ self.old) }

@@ -6,15 +6,15 @@ use Rattle.qx_types.specs.Configuration.{Configuration, IsConfiguration}
 use Rattle.qx_types.specs.declared.names.Thread.{Thread}
 use Rattle.qx_types.specs.declared.request.Request.{Request}
 use Rattle.qx_types.specs.declared.request.Request.TheVariants.{OpenPath, StatPath, Unlink, Mkdir, Read, Write, Close, Dup, Seek, Fstat, List as ListNames, Chmod, Notify, Raw}
-use Rattle.qx_calls.specs.Calls.{CanSayCall, call_of, call_over_of, call_said, chmod_line, close_line, dup_line, fstat_line, lines_at_path, lines_over, list_line, mkdir_line, name_given, notify_line, open_line, raw_line, read_line, seek_line, stat_line, unlink_line, write_line}
+use Rattle.qx_calls.specs.Calls.{CanSayCall, call_in_line, call_over_of, call_said, chmod_line, close_line, dup_line, fstat_line, lines_at_path, lines_over, list_line, mkdir_line, name_given, notify_line, open_line, raw_line, read_line, seek_line, stat_line, unlink_line, write_line}
 use Rattle.qx_calls.specs.Forms.{CanBeSaid, CanBeWords, at_most, words_for}
 use Rattle.qx_words.specs.Kinds.{AHexByte, APath, SomeBytes, CanName, is_word}
 use Rattle.qx_calls.proofs.ReadForms.{Makes, line_again, one_of_within}
 
 -- a call's line is read as that call
 pub call_again : (config : Configuration) (thread : Thread) (request : Request) → IsConfiguration config.users config.workers → CanBeSaid config.users (call_said thread request)
-    → call_of config.users (call_said thread request).name (words_for (call_said thread request).form config (call_said thread request).values) ≡ Some (thread, request)
-unfolding call_of call_over_of
+    → call_in_line config.users (call_said thread request).name (words_for (call_said thread request).form config (call_said thread request).values) ≡ Some (thread, request)
+unfolding call_in_line call_over_of
 call_again config thread (OpenPath path flags mode) valid can = line_again open_line config (thread, (path, (flags, (mode, tt)))) valid can
 call_again config thread (StatPath path) valid can = line_again stat_line config (thread, (path, tt)) valid can
 call_again config thread (Unlink path) valid can = line_again unlink_line config (thread, (path, tt)) valid can
@@ -77,8 +77,8 @@ unfolding call_over_of
 call_over_within users name words call all is = one_of_within (CanSayCall users) lines_over None users name words call all (over_make users) (λ none. cc) is
 
 pub call_within : (users : List (List ℕ)) (name : List ℕ) (words : List (List ℕ)) (call : Thread × Request) → list_all is_word words ≡ true
-    → call_of users name words ≡ Some call → CanSayCall users call
-unfolding call_of
+    → call_in_line users name words ≡ Some call → CanSayCall users call
+unfolding call_in_line
 call_within users name words call all is =
     one_of_within (CanSayCall users) lines_at_path (call_over_of users name words) users name words call all (at_path_make users)
     (call_over_within users name words call all) is

@@ -3,7 +3,7 @@ use Rattle.std.proofs.Common.{◌≡◌, ℕ, Bool, true, false, cond, List, [],
 use Rattle.std.specs.List.{list_all}
 use Rattle.std.specs.Str.{bytes_eq}
 use Rattle.qx_types.specs.Configuration.{Configuration, IsConfiguration}
-use Rattle.qx_calls.specs.Forms.{CanBeSaid, CanBeWords, Form, Line, Made, Saying, Values, at_most, end, line_text, made_of, read, read_one_of, read_words, words_for, words_said, ◌then◌}
+use Rattle.qx_calls.specs.Forms.{CanBeSaid, CanBeWords, Form, Line, Maker, Saying, Values, at_most, end, line_text, made_of, read, read_one_of, read_words, words_for, words_said, ◌then◌}
 use Rattle.qx_words.specs.Kinds.{is_word, value_of, value_text}
 use Rattle.qx_words.specs.Words.{words_of}
 use Rattle.qx_words.proofs.PlainWords.{and_true, both_true, words_again}
@@ -12,7 +12,7 @@ use Rattle.qx_words.proofs.ReadValues.{bind_some, mapped, of_some}
 
 -- words after the first
 
-form_again : {A : Type 0} (form : Form) (made : Made form A) (config : Configuration) (values : Values form) → IsConfiguration config.users config.workers
+form_again : {A : Type 0} (form : Form) (made : Maker form A) (config : Configuration) (values : Values form) → IsConfiguration config.users config.workers
     → CanBeWords form config.users values → read_words form made config.users (words_for form config values) ≡ Some (made_of form made values)
 form_again end made config values valid can = refl
 form_again (kind then form) made config values valid can =
@@ -28,7 +28,7 @@ are_words_for (kind then form) config values valid can =
 are_words_for (at_most kind) config None valid can = refl
 are_words_for (at_most kind) config (Some value) valid can = and_true (is_word (value_text kind config value)) true (value_is_word kind config value valid can) refl
 
-words_within : {A : Type 0} (form : Form) (made : Made form A) (users words : List (List ℕ)) (a : A) → list_all is_word words ≡ true
+words_within : {A : Type 0} (form : Form) (made : Maker form A) (users words : List (List ℕ)) (a : A) → list_all is_word words ≡ true
     → read_words form made users words ≡ Some a → (values : Values form) × CanBeWords form users values × (made_of form made values ≡ a)
 words_within end made users [] a all is = (tt, tt, of_some made a is)
 words_within end made users (word ∷ words) a all is = cc

@@ -5,21 +5,21 @@ use Rattle.qx_types.specs.declared.names.Coid.{Coid}
 use Rattle.qx_types.specs.declared.names.Thread.{Thread}
 use Rattle.qx_types.specs.declared.request.Request.{Request}
 use Rattle.qx_types.specs.declared.request.Request.TheVariants.{OpenPath, StatPath, Unlink, Mkdir, Read, Write, Close, Dup, Seek, Fstat, List as ListNames, Chmod, Notify, Raw}
-use Rattle.qx_calls.specs.Forms.{◌then◌, at_most, end, Form, Line, Made, Saying, CanBeSaid, by, line_text, made_into, read_one_of}
+use Rattle.qx_calls.specs.Forms.{◌then◌, at_most, end, Form, Line, Maker, Saying, CanBeSaid, by, line_text, made_into, read_one_of}
 use Rattle.qx_words.specs.Kinds.{AThread, AByte, ATwoByteNumber, AFourByteNumber, AnOffset, APath, SomeFlags, AMode, SomeBytes, AHexByte, AWhence, AnAction, SomeConditions, CanNameThread}
 
 -- a line of a thread, and of the words that a request is made of
-abbrev pub call_line : List ℕ → (form : Form) → Made form Request → Line (Thread × Request)
+abbrev pub call_line : List ℕ → (form : Form) → Maker form Request → Line (Thread × Request)
 call_line name form request =
     record { name = name; form = AThread then form; made = λ thread. made_into form (λ request. (thread, request)) request }
 
 -- a connection of that number
-abbrev pub connection : ℕ → Coid
-connection number = record { 0 = number }
+abbrev pub connection_numbered : ℕ → Coid
+connection_numbered number = record { 0 = number }
 
 -- a call's line whose request goes over a connection
-abbrev pub line_over : List ℕ → (form : Form) → (Coid → Made form Request) → Line (Thread × Request)
-line_over name form request = call_line name (AByte then form) (λ number. request (connection number))
+abbrev pub line_over : List ℕ → (form : Form) → (Coid → Maker form Request) → Line (Thread × Request)
+line_over name form request = call_line name (AByte then form) (λ number. request (connection_numbered number))
 
 abbrev pub open_line : Line (Thread × Request)
 open_line = call_line (codes "open") (APath then SomeFlags then AMode then end) OpenPath
@@ -80,8 +80,8 @@ unfoldable pub call_over_of : List (List ℕ) → List ℕ → List (List ℕ) �
 call_over_of users name words = read_one_of lines_over None users name words
 
 -- a call, by the first word of its line and the others
-unfoldable pub call_of : List (List ℕ) → List ℕ → List (List ℕ) → Option (Thread × Request)
-call_of users name words = read_one_of lines_at_path (call_over_of users name words) users name words
+unfoldable pub call_in_line : List (List ℕ) → List ℕ → List (List ℕ) → Option (Thread × Request)
+call_in_line users name words = read_one_of lines_at_path (call_over_of users name words) users name words
 
 -- no word for the empty name
 abbrev pub name_given : List ℕ → Option (List ℕ)

@@ -19,17 +19,17 @@ Values (kind then form) = Value kind × Values form
 Values (at_most kind) = Option (Value kind)
 
 -- what makes an A of the values
-abbrev pub Made : Form → Type 0 → Type 0
-Made end A = A
-Made (kind then form) A = Value kind → Made form A
-Made (at_most kind) A = Option (Value kind) → A
+abbrev pub Maker : Form → Type 0 → Type 0
+Maker end A = A
+Maker (kind then form) A = Value kind → Maker form A
+Maker (at_most kind) A = Option (Value kind) → A
 
-abbrev pub made_of : {A : Type 0} (form : Form) → Made form A → Values form → A
+abbrev pub made_of : {A : Type 0} (form : Form) → Maker form A → Values form → A
 made_of end made values = made
 made_of (kind then form) made values = made_of form (made values.0) values.1
 made_of (at_most kind) made values = made values
 
-abbrev pub read_words : {A : Type 0} (form : Form) → Made form A → List (List ℕ) → List (List ℕ) → Option A
+abbrev pub read_words : {A : Type 0} (form : Form) → Maker form A → List (List ℕ) → List (List ℕ) → Option A
 read_words end made users [] = Some made
 read_words end made users (word ∷ words) = None
 read_words (kind then form) made users [] = None
@@ -51,7 +51,7 @@ CanBeWords (at_most kind) users None = Unit {0}
 CanBeWords (at_most kind) users (Some value) = CanName kind users value
 
 -- what makes a B of the values, by way of what makes an A of them
-abbrev pub made_into : {A B : Type 0} (form : Form) → (A → B) → Made form A → Made form B
+abbrev pub made_into : {A B : Type 0} (form : Form) → (A → B) → Maker form A → Maker form B
 made_into end next made = next made
 made_into (kind then form) next made = λ value. made_into form next (made value)
 made_into (at_most kind) next made = λ value. next (made value)
@@ -60,7 +60,7 @@ made_into (at_most kind) next made = λ value. next (made value)
 pub record Line (A : Type 0) : Type 0 where
   pub name : List ℕ
   pub form : Form
-  pub made : Made form A
+  pub made : Maker form A
 
 -- what the words after the first make, where the users have these names
 abbrev pub read : {A : Type 0} → Line A → List (List ℕ) → List (List ℕ) → Option A

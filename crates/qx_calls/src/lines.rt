@@ -1,7 +1,7 @@
 //! What the lines that call ask for.
 
 ghost use Rattle.std.specs.Prelude.{◌≡◌, ◌∷◌, [], IfOk, map};
-ghost use Rattle.qx_calls.specs.Calls.{call_of, call_over_of, chmod_line, close_line, connection, dup_line, fill_line, fstat_line, list_line, mkdir_line, notify_line, open_line, raw_line, read_line, seek_line, stat_line, unlink_line, write_line};
+ghost use Rattle.qx_calls.specs.Calls.{call_in_line, call_over_of, chmod_line, close_line, connection_numbered, dup_line, fill_line, fstat_line, list_line, mkdir_line, notify_line, open_line, raw_line, read_line, seek_line, stat_line, unlink_line, write_line};
 ghost use Rattle.qx_calls.specs.Forms.{◌then◌, end, read, read_words};
 ghost use Rattle.qx_words.specs.Kinds.{AThread, AByte, APath, SomeBytes};
 
@@ -18,7 +18,7 @@ pub type Call = (Thread, Request);
 
 /// A thread and its connection.
 fn over(users: &Users, thread_word: &[u8], coid_word: &[u8]) -> Option<(Thread, Coid)>
-    ensures found { result ≡ read_words (AThread then AByte then end) (λ thread number. (thread, connection number)) users.now (thread_word.now ∷ coid_word.now ∷ []) }
+    ensures found { result ≡ read_words (AThread then AByte then end) (λ thread number. (thread, connection_numbered number)) users.now (thread_word.now ∷ coid_word.now ∷ []) }
 {
     let thread = thread(users, thread_word)?;
     let coid = Coid(byte(coid_word)?);
@@ -27,7 +27,7 @@ fn over(users: &Users, thread_word: &[u8], coid_word: &[u8]) -> Option<(Thread, 
 
 /// `THREAD CONNECTION`
 fn over_alone(users: &Users, words: &[&[u8]]) -> Option<(Thread, Coid)>
-    ensures found { result ≡ read_words (AThread then AByte then end) (λ thread number. (thread, connection number)) users.now (map (λ word. word.now) words.now) }
+    ensures found { result ≡ read_words (AThread then AByte then end) (λ thread number. (thread, connection_numbered number)) users.now (map (λ word. word.now) words.now) }
 {
     let [thread_word, coid_word] = words else {
         return None;
@@ -41,7 +41,7 @@ fn over_with_bytes(
     users: &Users,
     words: &[&[u8]],
 ) -> Result<Option<(Thread, Coid, Bytes)>, NoMemory>
-    ensures found { IfOk result (λ found. found ≡ read_words (AThread then AByte then SomeBytes then end) (λ thread number bytes. (thread, connection number, bytes)) users.now (map (λ word. word.now) words.now)) }
+    ensures found { IfOk result (λ found. found ≡ read_words (AThread then AByte then SomeBytes then end) (λ thread number bytes. (thread, connection_numbered number, bytes)) users.now (map (λ word. word.now) words.now)) }
 {
     let [thread_word, coid_word, bytes_word] = words else {
         return Ok(None);
@@ -324,7 +324,7 @@ pub fn call(
     name: &[u8],
     words: &[&[u8]],
 ) -> Result<Option<Call>, NoMemory>
-    ensures call { IfOk result (λ call. call ≡ call_of users.now name.now (map (λ word. word.now) words.now)) }
+    ensures call { IfOk result (λ call. call ≡ call_in_line users.now name.now (map (λ word. word.now) words.now)) }
 {
     if name == b"open".as_slice() {
         open(alloc, users, words)

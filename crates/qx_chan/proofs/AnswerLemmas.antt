@@ -23,8 +23,8 @@ use Rattle.qx_queues.specs.Queues.{stands, unblock_call}
 use Rattle.qx_shared.specs.Shared.{Shared, with_shared_line}
 use Rattle.qx_queues.proofs.LineLemmas.{call-replied_other, call-withdrawn, replied-none, stands-replied, stands-withdrawn_other}
 use Rattle.qx_chan.specs.Calls.{queued_call, taken_call}
-use Rattle.qx_chan.specs.Channel.{failed, replied}
-use Rattle.qx_chan.specs.Kept.{Kept, asked_at, attached_at, settled, stands_at, waits_for}
+use Rattle.qx_chan.specs.Channel.{failed, process_replied}
+use Rattle.qx_chan.specs.Kept.{StandTogether, asked_call, attached_at, servers_settled, stands_at, waits_for}
 use Rattle.qx_chan.specs.Users.{Users, process_of, thread_row, with_process_of, with_thread_row}
 use Rattle.qx_chan.specs.declared.call.Call.{Call}
 use Rattle.qx_chan.proofs.AttachedLemmas.{fewer-done, fewer-given_back, fewer-let_go, threads-done, threads-given_back, threads-let_go}
@@ -41,7 +41,7 @@ pub record IsAnswer (thread : ℕ) (answer : Answer) (f : Process → Process) :
   pub threads : (x : Process) → (f x).threads ≡ with_row x.threads thread (answered_thread answer)
   pub fewer : (x : Process) (number : ℕ) → attached_at number (Some (f x)) ≡ true → attached_at number (Some x) ≡ true
 
-pub replies : (thread : ℕ) (effect : Effect) (status : ℕ) (bytes : List ℕ) (over : Over) → IsAnswer thread (Reply status bytes) (replied thread effect status bytes over)
+pub replies : (thread : ℕ) (effect : Effect) (status : ℕ) (bytes : List ℕ) (over : Over) → IsAnswer thread (Reply status bytes) (process_replied thread effect status bytes over)
 replies thread effect status bytes over = record {
   threads = λ x. threads-let_go thread over (with_thread thread (answered_thread (Reply status bytes)) (after_effect effect x)) ∙ ap (λ t. with_row t thread (answered_thread (Reply status bytes))) (threads-done effect x);
   fewer = λ x number is. fewer-done effect x number (fewer-let_go thread over (with_thread thread (answered_thread (Reply status bytes)) (after_effect effect x)) number is);
@@ -59,15 +59,15 @@ done-served Keeps thread x = refl
 done-served (Opens coid block) thread x = refl
 done-served (Closes coid) thread x = refl
 
-replied-served : (thread : ℕ) (effect : Effect) (status : ℕ) (bytes : List ℕ) (over : Over) (x : Process) → replied thread effect status bytes over (with_thread thread served_thread x) ≡ replied thread effect status bytes over x
+replied-served : (thread : ℕ) (effect : Effect) (status : ℕ) (bytes : List ℕ) (over : Over) (x : Process) → process_replied thread effect status bytes over (with_thread thread served_thread x) ≡ process_replied thread effect status bytes over x
 replied-served thread effect status bytes over x =
     ap (λ y. after_reply thread over (with_thread thread (answered_thread (Reply status bytes)) y)) (done-served effect thread x)
     ∙ ap (λ threads. after_reply thread over (record (after_effect effect x) { threads = threads })) (with_row-twice (after_effect effect x).threads thread served_thread (answered_thread (Reply status bytes)))
 
 pub reply_served : (users : Users) (thread : Thread) (effect : Effect) (status : ℕ) (bytes : List ℕ) (over : Over)
-    → with_process_of (with_thread_row users thread served_thread) thread.proc (replied thread.tid effect status bytes over) ≡ with_process_of users thread.proc (replied thread.tid effect status bytes over)
+    → with_process_of (with_thread_row users thread served_thread) thread.proc (process_replied thread.tid effect status bytes over) ≡ with_process_of users thread.proc (process_replied thread.tid effect status bytes over)
 reply_served users thread effect status bytes over =
-    with_process-twice users thread.proc (with_thread thread.tid served_thread) (replied thread.tid effect status bytes over)
+    with_process-twice users thread.proc (with_thread thread.tid served_thread) (process_replied thread.tid effect status bytes over)
     ∙ with_process-alike users thread.proc _ _ (replied-served thread.tid effect status bytes over)
 
 -- and one that gets an error is answered so all the same
@@ -82,7 +82,7 @@ pub answered_row : (answer : Answer) (row : Option ThreadRow) (number : ℕ) →
 answered_row answer None number = refl
 answered_row answer (Some row) number = refl
 
-module _ (users : Users) (queues : Shared) (thread : Thread) (f : Process → Process) (answer : Answer) (answers : IsAnswer thread.tid answer f) (kept : Kept users queues)
+module _ (users : Users) (queues : Shared) (thread : Thread) (f : Process → Process) (answer : Answer) (answers : IsAnswer thread.tid answer f) (kept : StandTogether users queues)
     (manager : Manager) (change : List Queued → List Queued) where
   abbrev new : Users
   new = with_process_of users thread.proc f
@@ -116,7 +116,7 @@ module _ (users : Users) (queues : Shared) (thread : Thread) (f : Process → Pr
       waits = waits-told users new queues thread f (answered_thread answer) one kept (no-wait (thread_row users thread) (option_map (answered_thread answer) (thread_row users thread)) left.unwaiting);
     }
 
-    pub Kept-left : Kept new (settled thread.proc (process_of new thread.proc) managers (with_shared_line queues number change))
+    pub Kept-left : StandTogether new (servers_settled thread.proc (process_of new thread.proc) managers (with_shared_line queues number change))
     Kept-left = Kept-settled new (with_shared_line queues number change) thread.proc
         (Unsettled-changed users new queues thread f (answered_thread answer) one kept manager change own
         (with_shared_line queues number change) refl refl refl refl (λ t. refl) (λ other at differs. refl)
@@ -128,7 +128,7 @@ module _ (users : Users) (queues : Shared) (thread : Thread) (f : Process → Pr
 
 -- ---- a queued message goes
 
-module _ (users : Users) (queues : Shared) (thread : Thread) (call : Call) (is : Some call ≡ queued_call (thread_row users thread)) (kept : Kept users queues) where
+module _ (users : Users) (queues : Shared) (thread : Thread) (call : Call) (is : Some call ≡ queued_call (thread_row users thread)) (kept : StandTogether users queues) where
   abbrev its_line : ℕ
   its_line = manager_number call.target.manager
 
@@ -139,7 +139,7 @@ module _ (users : Users) (queues : Shared) (thread : Thread) (call : Call) (is :
   at_target = queued-at_target (thread_row users thread) call is
 
   pub Kept-withdrawn : (f : Process → Process) (answer : Answer) → IsAnswer thread.tid answer f → stands (drop_message (line_at queues.lines its_line)) thread ≡ false
-      → Kept (with_process_of users thread.proc f) (settled thread.proc (process_of (with_process_of users thread.proc f) thread.proc) managers
+      → StandTogether (with_process_of users thread.proc f) (servers_settled thread.proc (process_of (with_process_of users thread.proc f) thread.proc) managers
       (with_shared_line queues (manager_number call.target.manager) (line_without thread.proc.user.0 (item.Message thread.proc.num thread.tid))))
   Kept-withdrawn f answer answers gone = Kept-left users queues thread f answer answers kept call.target.manager drop_message
       (record {
@@ -173,7 +173,7 @@ and_middle true false c is = cc
 and_middle false b c is = cc
 
 -- what is known of the thread's pulses: they are of this call, in its line
-pulse_of_call : (number call : ℕ) (row : Option ThreadRow) (its : Call) → Some its ≡ taken_call row → asked_at number call row ≡ true → (manager_number its.target.manager ≡ number) × (its.number ≡ call)
+pulse_of_call : (number call : ℕ) (row : Option ThreadRow) (its : Call) → Some its ≡ taken_call row → asked_call number call row ≡ true → (manager_number its.target.manager ≡ number) × (its.number ≡ call)
 pulse_of_call number call row its is asked =
     let it = waits taken_in row its is in
     let both : (it.sent.is_asked && (manager_number it.sent.target.manager == number) && (it.row.calls == call)) ≡ true = rw (it.there, taken_is it.row.state it.sent it.is) at asked in
@@ -189,7 +189,7 @@ taken-unwaiting row call is other =
     let it = waits taken_in row call is in
     rw (it.there, taken_is it.row.state it.sent it.is) refl
 
-module _ (users : Users) (queues : Shared) (thread : Thread) (call : Call) (is : Some call ≡ taken_call (thread_row users thread)) (kept : Kept users queues) where
+module _ (users : Users) (queues : Shared) (thread : Thread) (call : Call) (is : Some call ≡ taken_call (thread_row users thread)) (kept : StandTogether users queues) where
   abbrev call_line : ℕ
   call_line = manager_number call.target.manager
 
@@ -198,7 +198,7 @@ module _ (users : Users) (queues : Shared) (thread : Thread) (call : Call) (is :
 
   pub Kept-answered : (f : Process → Process) (answer : Answer) → IsAnswer thread.tid answer f
       → (unblock_call (line_at queues.lines call_line) thread ≡ Some call.number → unblock_call (drop_pulse (line_at queues.lines call_line)) thread ≡ None)
-      → Kept (with_process_of users thread.proc f) (settled thread.proc (process_of (with_process_of users thread.proc f) thread.proc) managers
+      → StandTogether (with_process_of users thread.proc f) (servers_settled thread.proc (process_of (with_process_of users thread.proc f) thread.proc) managers
       (with_shared_line queues (manager_number call.target.manager) (line_without thread.proc.user.0 (item.Unblock thread.proc.num thread.tid call.number))))
   Kept-answered f answer answers gone = Kept-left users queues thread f answer answers kept call.target.manager drop_pulse
       (record {

@@ -16,14 +16,14 @@ use Rattle.qx_shared.specs.Shared.{Shared, with_shared_line}
 use Rattle.qx_queues.proofs.EntryLemmas.{is_same_thread-differs, is_same_thread-self}
 use Rattle.qx_queues.proofs.LineLemmas.{call-asked, stands-asked}
 use Rattle.qx_chan.specs.Calls.{unasked_call, unasked_in}
-use Rattle.qx_chan.specs.Kept.{Kept, asked_at, is_waiting_for, stands_at, waits_for}
+use Rattle.qx_chan.specs.Kept.{StandTogether, asked_call, is_waiting_for, stands_at, waits_for}
 use Rattle.qx_chan.specs.Users.{Users, thread_row, with_thread_row}
 use Rattle.qx_chan.specs.declared.call.Call.{Call}
 use Rattle.qx_chan.proofs.CallLemmas.{unasked_is, waits}
 use Rattle.qx_chan.proofs.RowReads.{option_cases}
 use Rattle.qx_chan.proofs.ThreadLemmas.{Kept-changed, OneThread, Own, one_thread, waits-told}
 
-asked_after : {number call : ℕ} (place : Option ThreadRow) (row : ThreadRow) (sent : Sent) → place ≡ Some row → (row.state ≡ Taken sent) ⊎ (row.state ≡ Waiting sent) → manager_number sent.target.manager ≡ number → row.calls ≡ call → asked_at number call (option_map asked_thread place) ≡ true
+asked_after : {number call : ℕ} (place : Option ThreadRow) (row : ThreadRow) (sent : Sent) → place ≡ Some row → (row.state ≡ Taken sent) ⊎ (row.state ≡ Waiting sent) → manager_number sent.target.manager ≡ number → row.calls ≡ call → asked_call number call (option_map asked_thread place) ≡ true
 asked_after {number = number} {call = call} place row sent there is to its = elim is [
   | inl taken ↦ rw (there, taken, eq-eqb (manager_number sent.target.manager) number to) (eq-eqb row.calls call its)
   | inr waiting ↦ rw (there, waiting, eq-eqb (manager_number sent.target.manager) number to) (eq-eqb row.calls call its)
@@ -41,7 +41,7 @@ asked-waits (Some row) call is = by_state row.state is
     by_state (Waiting sent) is = is
     by_state (Answered answer) is = is
 
-module _ (users : Users) (queues : Shared) (thread : Thread) (call : Call) (unasked : Some call ≡ unasked_call (thread_row users thread)) (kept : Kept users queues) where
+module _ (users : Users) (queues : Shared) (thread : Thread) (call : Call) (unasked : Some call ≡ unasked_call (thread_row users thread)) (kept : StandTogether users queues) where
   abbrev number : ℕ
   number = manager_number call.target.manager
 
@@ -83,10 +83,10 @@ module _ (users : Users) (queues : Shared) (thread : Thread) (call : Call) (unas
         ]
       ]
 
-  asked_own : asked_at number call.number (thread_row (with_thread_row users thread asked_thread) thread) ≡ true
+  asked_own : asked_call number call.number (thread_row (with_thread_row users thread asked_thread) thread) ≡ true
   asked_own =
       let it = waits unasked_in (thread_row users thread) call unasked in
-      ap (asked_at number call.number) one.own ∙ asked_after (thread_row users thread) it.row it.sent it.there (unasked_is it.row.state it.sent it.is).0 (ap (λ target. manager_number target.manager) (sym it.target)) (sym it.number)
+      ap (asked_call number call.number) one.own ∙ asked_after (thread_row users thread) it.row it.sent it.there (unasked_is it.row.state it.sent it.is).0 (ap (λ target. manager_number target.manager) (sym it.target)) (sym it.number)
 
   own : Own users (with_thread_row users thread asked_thread) queues thread (with_thread thread.tid asked_thread) asked_thread one kept call.target.manager change
   own = record {
@@ -104,5 +104,5 @@ module _ (users : Users) (queues : Shared) (thread : Thread) (call : Call) (unas
     waits = waits-told users (with_thread_row users thread asked_thread) queues thread (with_thread thread.tid asked_thread) asked_thread one kept (asked-waits (thread_row users thread));
   }
 
-  pub Kept-asked : Kept (with_thread_row users thread asked_thread) (with_shared_line queues (manager_number call.target.manager) (λ line. into rank line (unblock_of thread call.number call.target.prio.0)))
+  pub Kept-asked : StandTogether (with_thread_row users thread asked_thread) (with_shared_line queues (manager_number call.target.manager) (λ line. into rank line (unblock_of thread call.number call.target.prio.0)))
   Kept-asked = Kept-changed users (with_thread_row users thread asked_thread) queues thread (with_thread thread.tid asked_thread) asked_thread one kept call.target.manager change own (λ x at. refl)

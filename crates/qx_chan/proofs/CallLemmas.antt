@@ -7,7 +7,7 @@ use Rattle.qx_machine.specs.declared.rows.State.{State}
 use Rattle.qx_machine.specs.declared.rows.State.TheVariants.{Answered, Queued, Ready, Taken, Waiting}
 use Rattle.qx_machine.specs.declared.rows.ThreadRow.{ThreadRow}
 use Rattle.qx_machine.specs.Performing.{taken_in}
-use Rattle.qx_chan.specs.Calls.{call_of, queued_call, queued_in, unasked_in}
+use Rattle.qx_chan.specs.Calls.{sent_call, queued_call, queued_in, unasked_in}
 use Rattle.qx_chan.specs.Kept.{stands_at}
 use Rattle.qx_chan.specs.declared.call.Call.{Call}
 use Rattle.qx_chan.proofs.RowReads.{option_cases}
@@ -22,7 +22,7 @@ pub record Waits (message : State → Option Sent) (place : Option ThreadRow) (c
   pub number : call.number ≡ row.calls
   pub asked : call.is_asked ≡ sent.is_asked
 
-pub waits : (message : State → Option Sent) (place : Option ThreadRow) (call : Call) → Some call ≡ call_of message place → Waits message place call
+pub waits : (message : State → Option Sent) (place : Option ThreadRow) (call : Call) → Some call ≡ sent_call message place → Waits message place call
 waits message None call is = let clash : None ≡ Some call = sym is in absurd (cc)
 waits message (Some row) call is = elim (option_cases (message row.state)) [
   | inl none ↦ let clash : Some call ≡ None = rw none at is in absurd (cc)

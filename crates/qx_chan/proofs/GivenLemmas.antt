@@ -22,7 +22,7 @@ use Rattle.qx_queues.specs.Queues.{UsersAnswer, caller, has_call, unblock_call}
 use Rattle.qx_shared.specs.Shared.{HasNoCall, Shared, users_given, waiting_in, with_shared_line}
 use Rattle.qx_queues.proofs.LineLemmas.{call-replied_other, replied-none, stands-replied}
 use Rattle.qx_chan.specs.Answers.{given_lines, given_users}
-use Rattle.qx_chan.specs.Kept.{Answering, IsAwaited, Kept, asked_at, is_asked_at, is_queued_at, is_waiting_for, stands_at, waits_for}
+use Rattle.qx_chan.specs.Kept.{Answering, IsAwaited, StandTogether, asked_call, is_asked_at, is_queued_at, is_waiting_for, stands_at, waits_for}
 use Rattle.qx_chan.specs.Users.{Users, thread_row, with_thread_row}
 use Rattle.qx_chan.proofs.AnswerLemmas.{and_last, and_middle, answered_row}
 use Rattle.qx_chan.proofs.RowReads.{option_cases, row_at-with_same, with_row-fixed, with_row-twice}
@@ -46,7 +46,7 @@ both : (a b : Bool) → (a && b) ≡ true → (a ≡ true) × (b ≡ true)
 both true b is = (refl, is)
 both false b is = cc
 
-waiting-pulse : (number other call : ℕ) (row : Option ThreadRow) → waits_for call row ≡ true → asked_at number other row ≡ true → (manager_number Pipe ≡ number) × (call ≡ other)
+waiting-pulse : (number other call : ℕ) (row : Option ThreadRow) → waits_for call row ≡ true → asked_call number other row ≡ true → (manager_number Pipe ≡ number) × (call ≡ other)
 waiting-pulse number other call None is asked = let clash : false ≡ true = is in absurd (cc)
 waiting-pulse number other call (Some row) is asked = by_state row.state is asked
   where
@@ -63,7 +63,7 @@ waiting-pulse number other call (Some row) is asked = by_state row.state is aske
 
 -- ---- one answer
 
-module _ (users : Users) (queues : Shared) (to : UsersAnswer) (is : IsAwaited users to) (kept : Kept users queues)
+module _ (users : Users) (queues : Shared) (to : UsersAnswer) (is : IsAwaited users to) (kept : StandTogether users queues)
     (none : (list : ℕ) → has_call (waiting_in queues list) to.thread ≡ false) where
   abbrev new : Users
   new = with_thread_row users to.thread (answered_thread to.answer)
@@ -103,7 +103,7 @@ module _ (users : Users) (queues : Shared) (to : UsersAnswer) (is : IsAwaited us
       waits = λ list. waits-others caller (λ own. own.call.call) users new to.thread one.others (waiting_in queues list) (none list) (kept.waits list);
     }
 
-    pub Kept-given : Kept (with_thread_row users to.thread (answered_thread to.answer)) (with_shared_line queues (manager_number Pipe) (line_without to.thread.proc.user.0 (item.Unblock to.thread.proc.num to.thread.tid to.call)))
+    pub Kept-given : StandTogether (with_thread_row users to.thread (answered_thread to.answer)) (with_shared_line queues (manager_number Pipe) (line_without to.thread.proc.user.0 (item.Unblock to.thread.proc.num to.thread.tid to.call)))
     Kept-given = Kept-changed users new queues to.thread (with_thread to.thread.tid (answered_thread to.answer)) (answered_thread to.answer) one kept Pipe drop_pulse told (λ x at. refl)
 
 -- ---- all answers, the first and then the others
@@ -131,7 +131,7 @@ module _ (users : Users) (queues : Shared) where
   Gone to = unblock_call (line_at queues.lines (manager_number Pipe)) to.thread ≡ Some to.call
       → unblock_call (line_without to.thread.proc.user.0 (item.Unblock to.thread.proc.num to.thread.tid to.call) (line_at queues.lines (manager_number Pipe))) to.thread ≡ None
 
-  by_first : (answered : List UsersAnswer) → Kept users (record queues { answered = [] }) → AllByRecursion (IsAwaited users) answered
+  by_first : (answered : List UsersAnswer) → StandTogether users (record queues { answered = [] }) → AllByRecursion (IsAwaited users) answered
       → (to : UsersAnswer) → Some to ≡ slice_get answered 0 → HasNoCall (record queues { answered = drop 1 answered }) to.thread → Gone to
       → Answering (with_thread_row users to.thread (answered_thread to.answer)) (after_reply answered to)
   by_first [] kept waiting to is none gone = let clash : None ≡ Some to = sym is in absurd (cc)

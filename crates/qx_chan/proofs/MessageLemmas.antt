@@ -13,18 +13,18 @@ use Rattle.qx_machine.specs.Performing.{caller_of, deed_of, or_kept, serve_messa
 use Rattle.qx_machine.specs.Processes.{Process, served_state, served_thread, with_thread}
 use Rattle.qx_machine.specs.Rows.{row_at}
 use Rattle.qx_process.specs.Reads.{unserved_state, unserved_thread}
-use Rattle.qx_queues.specs.Queues.{caller, is_answered}
+use Rattle.qx_queues.specs.Queues.{caller, has_answer_among}
 use Rattle.qx_shared.specs.Shared.{IsReceived, Shared, waiting_in}
 use Rattle.qx_resmgr.specs.Deeds.{HasRoomAfter, IsReplied}
 use Rattle.qx_resmgr.specs.declared.functions.Done.{Done}
 use Rattle.qx_resmgr.specs.declared.functions.Done.TheVariants.{NoReply, Reply}
-use Rattle.qx_resources.specs.Memory.{wants_memory}
+use Rattle.qx_resources.specs.Memory.{bytes_want_memory}
 use Rattle.qx_resources.specs.State as state
 use Rattle.qx_resources.specs.State.{told}
 use Rattle.qx_chan.specs.Calls.{taken_bytes, taken_call}
-use Rattle.qx_chan.specs.Kept.{Kept}
-use Rattle.qx_chan.specs.Serving.{Sends, Serves, caller_in, deed_in, part_in, part_wants_memory, process_wants_memory, row_wants_memory, sent_wants_memory}
-use Rattle.qx_chan.specs.Users.{Users, process_in, process_of, thread_row, with_thread_row}
+use Rattle.qx_chan.specs.Kept.{StandTogether}
+use Rattle.qx_chan.specs.Serving.{Sends, Serves, caller_of_call, deed_in, part_in, part_wants_memory, process_wants_memory, row_wants_memory, sent_wants_memory}
+use Rattle.qx_chan.specs.Users.{Users, process_of_user, process_of, thread_row, with_thread_row}
 use Rattle.qx_chan.specs.declared.call.Call.{Call}
 use Rattle.qx_chan.proofs.AnswerLemmas.{taken-stands, taken-unwaiting}
 use Rattle.qx_chan.proofs.CallLemmas.{taken_is, waits}
@@ -36,13 +36,13 @@ use Rattle.qx_chan.proofs.WaitLemmas.{no-call}
 -- ---- before
 
 -- a thread whose message was received has nodes, stands in no line, and no call of it waits or is answered
-pub received-alone : (users : Users) (queues : Shared) (thread : Thread) (call : Call) → Some call ≡ taken_call (thread_row users thread) → Kept users queues → IsReceived queues thread
+pub received-alone : (users : Users) (queues : Shared) (thread : Thread) (call : Call) → Some call ≡ taken_call (thread_row users thread) → StandTogether users queues → IsReceived queues thread
 received-alone users queues thread call is kept = record {
   own = kept.threads thread ∙ (let it = waits taken_in (thread_row users thread) call is in rw it.there refl);
   idle = λ number. kept.lines thread number ∙ taken-stands number (thread_row users thread) call is;
   no_call = record {
     waiting = λ list. no-call caller (λ own. own.call.call) users thread (taken-unwaiting (thread_row users thread) call is) (waiting_in queues list) (kept.waits list);
-    answered = ap (λ answers. is_answered answers thread) kept.answered;
+    answered = ap (λ answers. has_answer_among answers thread) kept.answered;
   };
 }
 
@@ -82,7 +82,7 @@ received users thread call is = elim (option_cases (row_at users thread.proc.use
 -- its process, and its bytes
 pub sends : (users : Users) (thread : Thread) (call : Call) (its : Received users thread call) → Sends users thread its.process its.sent.bytes
 sends users thread call its = record {
-  there = ap (process_in thread.proc.num) its.user ∙ its.there;
+  there = ap (process_of_user thread.proc.num) its.user ∙ its.there;
   bytes_are = rw (its.user, its.there, its.at, its.is) refl;
 }
 
@@ -96,14 +96,14 @@ serves-message part number thread moment process row sent there at is = rw (ther
 -- it comes to the same as before
 pub deed-served : (k : state.Kept) (queues : Shared) (users new : Users) (thread : Thread) (call : Call) (moment : ℕ) (process found : Process) (bytes given : List ℕ) (means : Meaning) → Sends users thread process bytes
     → new ≡ with_thread_row users thread served_thread → Some found ≡ process_of new thread.proc → Some given ≡ taken_bytes (thread_row users thread) → means ≡ meaning given
-    → deed_of (told k queues) found (caller_in thread call) call.target moment means ≡ deed_in k queues process thread call moment bytes
+    → deed_of (told k queues) found (caller_of_call thread call) call.target moment means ≡ deed_in k queues process thread call moment bytes
 deed-served k queues users new thread call moment process found bytes given means of served there read is =
     let here : process_of (with_thread_row users thread served_thread) thread.proc ≡ Some (with_thread thread.tid served_thread process) = process_of-same users thread.proc (with_thread thread.tid served_thread) ∙ ap (option_map (with_thread thread.tid served_thread)) of.there in
     let both : Some found ≡ Some (with_thread thread.tid served_thread process) = there ∙ ap (λ users. process_of users thread.proc) served ∙ here in
     let its : found ≡ with_thread thread.tid served_thread process = cc in
     let same : Some given ≡ Some bytes = read ∙ of.bytes_are in
     let bytes_are : given ≡ bytes = cc in
-    ap (λ process. deed_of (told k queues) process (caller_in thread call) call.target moment means) its ∙ ap (deed_of (told k queues) process (caller_in thread call) call.target moment) (is ∙ ap meaning bytes_are)
+    ap (λ process. deed_of (told k queues) process (caller_of_call thread call) call.target moment means) its ∙ ap (deed_of (told k queues) process (caller_of_call thread call) call.target moment) (is ∙ ap meaning bytes_are)
 
 -- ---- memory is refused
 
@@ -146,18 +146,18 @@ module _ (thread : Thread) (moment : ℕ) where
   pub Serves-untaken : (users : Users) (queues : Shared) (k : state.Kept) → k.user ≡ thread.proc.user.0 → taken_call (thread_row users thread) ≡ None
       → Serves (shown users queues) (shown users queues) k k (λ part. or_kept part (serve_message part thread.proc.num thread.tid moment))
   Serves-untaken users queues k of none = Serves-nothing users queues k (λ part. or_kept part (serve_message part thread.proc.num thread.tid moment)) (λ processes there.
-      let idle : taken_call (thread_of thread.tid (process_in thread.proc.num (Some processes))) ≡ None = ap (λ rows. taken_call (thread_of thread.tid (process_in thread.proc.num rows))) (sym there ∙ ap (row_at users) of) ∙ none in
+      let idle : taken_call (thread_of thread.tid (process_of_user thread.proc.num (Some processes))) ≡ None = ap (λ rows. taken_call (thread_of thread.tid (process_of_user thread.proc.num rows))) (sym there ∙ ap (row_at users) of) ∙ none in
       untaken (record { processes = processes; resources = told k queues }) idle)
 
 -- doing a received message may want memory, where its function may and the message is done
 pub received-wants : (users : Users) (queues : Shared) (k : state.Kept) (thread : Thread) (call : Call) (its : Received users thread call) → k.user ≡ thread.proc.user.0 → (moment : ℕ)
-    → part_wants_memory thread moment (part_in (shown users queues) k) ≡ (wants_memory call.target.manager (meaning its.sent.bytes) && is_ok (deed_in k queues its.process thread call moment its.sent.bytes))
+    → part_wants_memory thread moment (part_in (shown users queues) k) ≡ (bytes_want_memory call.target.manager (meaning its.sent.bytes) && is_ok (deed_in k queues its.process thread call moment its.sent.bytes))
 received-wants users queues k thread call its of moment =
     ap (λ row. part_wants_memory thread moment (option_map (λ processes. record { processes = processes; resources = told k queues }) row)) (ap (row_at users) of ∙ its.user)
     ∙ ap (process_wants_memory (told k queues) thread moment) its.there
     ∙ ap (row_wants_memory (told k queues) its.process thread moment) its.at
     ∙ ap (sent_wants_memory (told k queues) its.process thread its.row moment) (ap taken_in its.is)
-    ∙ ap (λ (call : Call). wants_memory call.target.manager (meaning its.sent.bytes) && is_ok (deed_in k queues its.process thread call moment its.sent.bytes)) its.call_is
+    ∙ ap (λ (call : Call). bytes_want_memory call.target.manager (meaning its.sent.bytes) && is_ok (deed_in k queues its.process thread call moment its.sent.bytes)) its.call_is
 
 -- the room for a reply is there still, where there is a reply
 pub room-there : {R : Type 0} (before room : Option R) (given : Result Done Errno) → IsSome before → HasRoomAfter before room given → IsReplied given → IsSome room

@@ -27,7 +27,7 @@ use Rattle.qx_machine.specs.Processes.{Process, served_state, served_thread, wit
 use Rattle.qx_machine.specs.Rows.{with_row}
 use Rattle.qx_machine.proofs.Waiters.{InDeed, IsAlone, alone-answers, alone-replied, deed-keeps, deed-keeps_replied, ram_deed-alone}
 use Rattle.qx_queues.specs.Queues.{unblock_call}
-use Rattle.qx_shared.specs.Shared.{Shared, users_given, with_shared_line, without_server}
+use Rattle.qx_shared.specs.Shared.{Shared, users_given, with_shared_line, without_shared_server}
 use Rattle.qx_resmgr.specs.Deeds.{Did, IsReplied}
 use Rattle.qx_resmgr.specs.declared.functions.Done.{Done}
 use Rattle.qx_resmgr.specs.declared.functions.Done.TheVariants as done
@@ -35,10 +35,10 @@ use Rattle.qx_resources.specs.State as state
 use Rattle.qx_resources.specs.State.{told}
 use Rattle.qx_chan.specs.Answers.{answered_queues, answered_users, given_lines, given_users, without_pulse}
 use Rattle.qx_chan.specs.Calls.{taken_call}
-use Rattle.qx_chan.specs.Channel.{failed, replied}
-use Rattle.qx_chan.specs.Kept.{Answering, Kept, asked_at, is_asked_at, is_queued_at, is_waiting_for, stands_at, waits_for}
-use Rattle.qx_chan.specs.Serving.{Serves, caller_in, deed_in}
-use Rattle.qx_chan.specs.Users.{Users, process_in, process_of, thread_row, with_process_of, with_thread_row}
+use Rattle.qx_chan.specs.Channel.{failed, process_replied}
+use Rattle.qx_chan.specs.Kept.{Answering, StandTogether, asked_call, is_asked_at, is_queued_at, is_waiting_for, stands_at, waits_for}
+use Rattle.qx_chan.specs.Serving.{Serves, caller_of_call, deed_in}
+use Rattle.qx_chan.specs.Users.{Users, process_of_user, process_of, thread_row, with_process_of, with_thread_row}
 use Rattle.qx_chan.specs.declared.call.Call.{Call}
 use Rattle.qx_chan.proofs.AnswerLemmas.{IsAnswer, fail_served, fails, replies, reply_served}
 use Rattle.qx_chan.proofs.GivenLemmas.{resources-machine}
@@ -61,7 +61,7 @@ served-stands at (Some row) = by_state row.state
     by_state (Waiting sent) = refl
     by_state (Answered answer) = refl
 
-served-asked : (at call : ℕ) (row : Option ThreadRow) → asked_at at call (option_map served_thread row) ≡ asked_at at call row
+served-asked : (at call : ℕ) (row : Option ThreadRow) → asked_call at call (option_map served_thread row) ≡ asked_call at call row
 served-asked at call None = refl
 served-asked at call (Some row) = by_state row.state
   where
@@ -87,7 +87,7 @@ pipe_or_ram : (manager : Manager) → (manager ≡ Pipe) ⊎ (manager ≡ Ram)
 pipe_or_ram Pipe = inl refl
 pipe_or_ram Ram = inr refl
 
-module _ (users : Users) (queues : Shared) (thread : Thread) (call : Call) (taken : Some call ≡ taken_call (thread_row users thread)) (kept : Kept users queues) where
+module _ (users : Users) (queues : Shared) (thread : Thread) (call : Call) (taken : Some call ≡ taken_call (thread_row users thread)) (kept : StandTogether users queues) where
   abbrev its : Received users thread call
   its = received users thread call taken
 
@@ -109,7 +109,7 @@ module _ (users : Users) (queues : Shared) (thread : Thread) (call : Call) (take
   abbrev served_users : Users
   served_users = with_thread_row users thread served_thread
 
-  Kept-served : Kept served_users queues
+  Kept-served : StandTogether served_users queues
   Kept-served = Kept-thread users queues thread served_thread kept (λ at. served-stands at (thread_row users thread)) (λ at call. served-asked at call (thread_row users thread)) (λ call. served-waits call (thread_row users thread))
 
   -- the thread waits for the answer to its call at the pipe manager
@@ -119,7 +119,7 @@ module _ (users : Users) (queues : Shared) (thread : Thread) (call : Call) (take
     where
       row_is : thread_row served_users thread ≡ Some (record its.row { state = Waiting (record its.sent { bytes = [] }) })
       row_is = (one_thread users thread (with_thread thread.tid served_thread) served_thread (λ x. refl)).own
-          ∙ ap (option_map served_thread) (ap (λ processes. thread_of thread.tid (process_in thread.proc.num processes)) its.user ∙ ap (thread_of thread.tid) its.there ∙ its.at)
+          ∙ ap (option_map served_thread) (ap (λ processes. thread_of thread.tid (process_of_user thread.proc.num processes)) its.user ∙ ap (thread_of thread.tid) its.there ∙ its.at)
           ∙ ap (λ (s : State). Some (record its.row { state = served_state s })) its.is
 
   -- ---- what it comes to
@@ -139,18 +139,18 @@ module _ (users : Users) (queues : Shared) (thread : Thread) (call : Call) (take
 
     -- what the machine makes of the part, by what the message comes to
     abbrev served_by : Result (Deed Resources) Errno → Served
-    served_by r = record { part = after_answer part thread.proc.num thread.tid call.target.over r; changes = served_changes manager (caller_in thread call) r }
+    served_by r = record { part = after_answer part thread.proc.num thread.tid call.target.over r; changes = served_changes manager (caller_of_call thread call) r }
 
     served_is : served part ≡ served_by meant
     served_is = subst (λ (c : Call). served part ≡ record {
       part = after_answer part thread.proc.num thread.tid c.target.over (deed_in k queues its.process thread c moment its.sent.bytes);
-      changes = served_changes c.target.manager (caller_in thread c) (deed_in k queues its.process thread c moment its.sent.bytes);
+      changes = served_changes c.target.manager (caller_of_call thread c) (deed_in k queues its.process thread c moment its.sent.bytes);
     }) its.call_is
         (ap (or_kept part) (serves-message part thread.proc.num thread.tid moment its.process its.row its.sent its.there its.at (ap taken_in its.is)))
 
     -- the RAM manager replies to it, and answers no other
     alone : (deed : Deed Resources) → meant ≡ Ok deed → manager ≡ Ram → IsAlone (told k queues) deed
-    alone deed is ram = ram_deed-alone (told k queues) its.process (caller_in thread call) call.target moment (meaning its.sent.bytes) deed is ram
+    alone deed is ram = ram_deed-alone (told k queues) its.process (caller_of_call thread call) call.target moment (meaning its.sent.bytes) deed is ram
 
     only : (deed : Deed Resources) → meant ≡ Ok deed → (manager ≡ Pipe) ⊎ (deed.answers ≡ [])
     only deed is = elim (pipe_or_ram manager) [
@@ -187,7 +187,7 @@ module _ (users : Users) (queues : Shared) (thread : Thread) (call : Call) (take
           rows : Users
           rows = with_process_of users thread.proc f
 
-          same : {A : Type 0} (read : Shared → A) → ((c : Shared) (number : ℕ) → read (without_server c thread.proc number) ≡ read c) → read (without_pulse d rows thread call) ≡ read (with_shared_line d (manager_number manager) drop_pulse)
+          same : {A : Type 0} (read : Shared → A) → ((c : Shared) (number : ℕ) → read (without_shared_server c thread.proc number) ≡ read c) → read (without_pulse d rows thread call) ≡ read (with_shared_line d (manager_number manager) drop_pulse)
           same read alike = settled-fields thread.proc (process_of rows thread.proc) read alike managers (with_shared_line d (manager_number manager) drop_pulse)
 
     module _ (deed : Deed Resources) (left : Left k queues l d deed) (is : meant ≡ Ok deed) where
@@ -195,22 +195,22 @@ module _ (users : Users) (queues : Shared) (thread : Thread) (call : Call) (take
       rows_by : (reply : Option Reply) → reply ≡ deed.reply → given_users (with_process_of users thread.proc (after_serving thread.tid call.target.over reply)) (map (users_given user) deed.answers) ≡ with_row users user (λ _. (served_by (Ok deed)).part.processes)
       rows_by reply reply_is = ap (λ r. given_users (with_process_of users thread.proc (after_serving thread.tid call.target.over r)) (map (users_given user) deed.answers)) reply_is ∙ users-done users thread.proc thread.tid call.target.over part its.user deed
 
-      lines_by : (reply : Option Reply) → reply ≡ deed.reply → lines_after user queues.lines ((if is_some reply then own_change manager (caller_in thread call) ∷ [] else []) ++ answered_changes manager deed.answers) ≡ lines_after user queues.lines (served_by (Ok deed)).changes
-      lines_by reply reply_is = ap (λ r. lines_after user queues.lines ((if is_some r then own_change manager (caller_in thread call) ∷ [] else []) ++ answered_changes manager deed.answers)) reply_is
+      lines_by : (reply : Option Reply) → reply ≡ deed.reply → lines_after user queues.lines ((if is_some reply then own_change manager (caller_of_call thread call) ∷ [] else []) ++ answered_changes manager deed.answers) ≡ lines_after user queues.lines (served_by (Ok deed)).changes
+      lines_by reply reply_is = ap (λ r. lines_after user queues.lines ((if is_some r then own_change manager (caller_of_call thread call) ∷ [] else []) ++ answered_changes manager deed.answers)) reply_is
 
       reply_after : (status : ℕ) (bytes : List ℕ) (effect : Effect) → Some (record { status = status; bytes = bytes; effect = effect }) ≡ deed.reply → Gone d
-          → After (with_process_of users thread.proc (replied thread.tid effect status bytes call.target.over)) (without_pulse d (with_process_of users thread.proc (replied thread.tid effect status bytes call.target.over)) thread call) k l served
+          → After (with_process_of users thread.proc (process_replied thread.tid effect status bytes call.target.over)) (without_pulse d (with_process_of users thread.proc (process_replied thread.tid effect status bytes call.target.over)) thread call) k l served
       reply_after status bytes effect reply_is gone =
           let reply : Reply = record { status = status; bytes = bytes; effect = effect } in
-          answered deed left (Ok deed) is (resources-machine deed.answers _) (replied thread.tid effect status bytes call.target.over) (answer.Reply status bytes) (replies thread.tid effect status bytes call.target.over)
-          (deed-keeps_replied (told k queues) its.process (caller_in thread call) call.target moment (meaning its.sent.bytes) deed is (Waits users k.user) (waits-before users k.user queues kept.waits) reply (sym reply_is))
-          gone (rows_by (Some reply) reply_is) (lines-done user manager deed.answers (only deed is) queues.lines (caller_in thread call) ∙ lines_by (Some reply) reply_is)
+          answered deed left (Ok deed) is (resources-machine deed.answers _) (process_replied thread.tid effect status bytes call.target.over) (answer.Reply status bytes) (replies thread.tid effect status bytes call.target.over)
+          (deed-keeps_replied (told k queues) its.process (caller_of_call thread call) call.target moment (meaning its.sent.bytes) deed is (Waits users k.user) (waits-before users k.user queues kept.waits) reply (sym reply_is))
+          gone (rows_by (Some reply) reply_is) (lines-done user manager deed.answers (only deed is) queues.lines (caller_of_call thread call) ∙ lines_by (Some reply) reply_is)
 
       -- where it is left without a reply, its own call waits or is answered
       waiting_after : None ≡ deed.reply → After served_users d k l served
       waiting_after reply_is = (
         Answering-left served_users k.user queues d deed Kept-served left.shared
-            (deed-keeps (told k queues) its.process (caller_in thread call) call.target moment (meaning its.sent.bytes) deed is (Waits served_users k.user) (waits-before served_users k.user queues Kept-served.waits)
+            (deed-keeps (told k queues) its.process (caller_of_call thread call) call.target moment (meaning its.sent.bytes) deed is (Waits served_users k.user) (waits-before served_users k.user queues Kept-served.waits)
             (λ block wanted bytes. ap (λ u. waits_for call.number (thread_row served_users (record { proc = record { user = record { 0 = u }; num = thread.proc.num }; tid = thread.tid }))) of ∙ own-waits (piped deed is reply_is))),
         serves deed left (Ok deed) is (resources-machine deed.answers _) served_users d refl refl (rows_by None reply_is)
             (ap (λ q. given_lines q.lines (map (users_given user) deed.answers)) left.shared ∙ lines-others user manager deed.answers (only deed is) queues.lines ∙ lines_by None reply_is),
@@ -222,7 +222,7 @@ module _ (users : Users) (queues : Shared) (thread : Thread) (call : Call) (take
   error_after k of moment error is gone =
       answered k k queues of moment (nothing_done (told k queues)) (left-same k queues) (Err error) is refl (failed thread.tid error call.target.over) (answer.Failed error) (fails thread.tid error call.target.over)
       (record { pipes = waits-before users k.user queues kept.waits; answers = tt })
-      gone (users-refused users thread.proc thread.tid call.target.over (part k k queues of moment) its.user error) (lines-done user manager [] (inr refl) queues.lines (caller_in thread call))
+      gone (users-refused users thread.proc thread.tid call.target.over (part k k queues of moment) its.user error) (lines-done user manager [] (inr refl) queues.lines (caller_of_call thread call))
 
   -- the rows and the queues once the message is answered, unless it is left without a reply
   abbrev Outcome : state.Kept → state.Kept → Shared → ℕ → List ℕ → Result Done Errno → Type 0

@@ -16,7 +16,7 @@ use Rattle.qx_machine.specs.Waiting.{Pipes}
 use Rattle.qx_shared.specs.Shared.{Shared}
 use Rattle.qx_machine.specs.declared.rows.Queued.{Queued as Item}
 use Rattle.qx_chan.specs.Channel.{Channel, after_taking}
-use Rattle.qx_chan.specs.Kept.{Kept, asked_at, is_asked_at, is_queued_at, is_waiting_for, stands_at, waits_for}
+use Rattle.qx_chan.specs.Kept.{StandTogether, asked_call, is_asked_at, is_queued_at, is_waiting_for, stands_at, waits_for}
 use Rattle.qx_chan.specs.Users.{Users, thread_row, with_thread_row}
 use Rattle.qx_chan.proofs.ProcessLemmas.{with_thread-put, with_thread-same}
 use Rattle.qx_chan.proofs.RowReads.{option_cases}
@@ -45,17 +45,17 @@ answered_unwaiting (Waiting sent) given is call calls = let clash : None ≡ Som
 answered_unwaiting (Answered answer) given is call calls = refl
 
 -- a row that was lent to take its answer
-module _ (users : Users) (queues : Shared) (thread : Thread) (row after : ThreadRow) (there : Some row ≡ thread_row users thread) (kept : Kept users queues) where
-  stays : after ≡ row → Kept (with_thread_row users thread (λ _. after)) queues
+module _ (users : Users) (queues : Shared) (thread : Thread) (row after : ThreadRow) (there : Some row ≡ thread_row users thread) (kept : StandTogether users queues) where
+  stays : after ≡ row → StandTogether (with_thread_row users thread (λ _. after)) queues
   stays same = Kept-thread users queues thread (λ _. after) kept (λ at. rw (← there, same) refl) (λ at call. rw (← there, same) refl) (λ call is. rw (← there, same) (rw (← there) at is))
 
-  readies : (given : Answer) → Some given ≡ answer_in row.state → after ≡ ready_thread row → Kept (with_thread_row users thread (λ _. after)) queues
+  readies : (given : Answer) → Some given ≡ answer_in row.state → after ≡ ready_thread row → StandTogether (with_thread_row users thread (λ _. after)) queues
   readies given is same = Kept-thread users queues thread (λ _. after) kept
       (λ at. rw (← there, same) (sym (answered_waits row.state given (sym is) at)))
       (λ at call. rw (← there, same) (sym (answered_unasked row.state given (sym is) at call row.calls)))
       (no-wait (thread_row users thread) (option_map (λ _. after) (thread_row users thread)) (λ call. rw (← there) (answered_unwaiting row.state given (sym is) call row.calls)))
 
-  pub Kept-answer : (result : Option Answer) → result ≡ answer_in row.state → MatchOption result (after ≡ row) (λ _. after ≡ ready_thread row) → Kept (with_thread_row users thread (λ _. after)) queues
+  pub Kept-answer : (result : Option Answer) → result ≡ answer_in row.state → MatchOption result (after ≡ row) (λ _. after ≡ ready_thread row) → StandTogether (with_thread_row users thread (λ _. after)) queues
   Kept-answer None is same = stays same
   Kept-answer (Some given) is same = readies given is same
 
@@ -84,7 +84,7 @@ still_stands : (prio at : ℕ) (o : Option ThreadRow) → stands_at at (option_m
 still_stands prio at None = refl
 still_stands prio at (Some row) = refl
 
-still_asked : (prio at call : ℕ) (o : Option ThreadRow) → asked_at at call (option_map (ranked_thread prio) o) ≡ asked_at at call o
+still_asked : (prio at call : ℕ) (o : Option ThreadRow) → asked_call at call (option_map (ranked_thread prio) o) ≡ asked_call at call o
 still_asked prio at call None = refl
 still_asked prio at call (Some row) = refl
 
@@ -92,8 +92,8 @@ still_waits : (prio call : ℕ) (o : Option ThreadRow) → waits_for call (optio
 still_waits prio call None = refl
 still_waits prio call (Some row) = refl
 
-pub Kept-ranked : (users : Users) (queues : Shared) (thread : Thread) (prio : ℕ) (rows : List (Option Process)) → Some rows ≡ row_at users thread.proc.user.0 → Kept users queues
-    → Kept (slice_set users thread.proc.user.0 (Some (after_or rows (with_prio rows thread.proc.num thread.tid prio)))) queues
+pub Kept-ranked : (users : Users) (queues : Shared) (thread : Thread) (prio : ℕ) (rows : List (Option Process)) → Some rows ≡ row_at users thread.proc.user.0 → StandTogether users queues
+    → StandTogether (slice_set users thread.proc.user.0 (Some (after_or rows (with_prio rows thread.proc.num thread.tid prio)))) queues
 Kept-ranked users queues thread prio rows there kept = elim (ranked rows thread.proc.num thread.tid prio) [
   | inl same ↦ rw (same, set-row users thread.proc.user.0 rows (sym there)) kept
   | inr changed ↦ rw (changed, ← put) (Kept-thread users queues thread (ranked_thread prio) kept (λ at. still_stands prio at (thread_row users thread)) (λ at call. still_asked prio at call (thread_row users thread)) (λ call is. still_waits prio call (thread_row users thread) ∙ is))

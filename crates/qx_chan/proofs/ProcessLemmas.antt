@@ -8,13 +8,13 @@ use Rattle.qx_machine.specs.declared.rows.ThreadRow.{ThreadRow}
 use Rattle.qx_machine.specs.Processes.{Process, with_thread}
 use Rattle.qx_machine.specs.Rows.{row_at, with_row}
 use Rattle.qx_process.proofs.RowLemmas.{set-row, with_row-none}
-use Rattle.qx_chan.specs.Users.{Users, process_in, process_of, thread_row, with_process_of, with_thread_row}
+use Rattle.qx_chan.specs.Users.{Users, process_of_user, process_of, thread_row, with_process_of, with_thread_row}
 use Rattle.qx_chan.proofs.RowReads.{option_cases, row_at-with_other, row_at-with_same, with_row-alike, with_row-twice}
 
 pub process_of-same : (users : Users) (proc : Proc) (f : Process → Process) → process_of (with_process_of users proc f) proc ≡ option_map f (process_of users proc)
 process_of-same users proc f = rw (row_at-with_same users proc.user.0 (λ rows. with_row rows proc.num f)) (by_user (row_at users proc.user.0))
   where
-    by_user : (o : Option (List (Option Process))) → process_in proc.num (option_map (λ rows. with_row rows proc.num f) o) ≡ option_map f (process_in proc.num o)
+    by_user : (o : Option (List (Option Process))) → process_of_user proc.num (option_map (λ rows. with_row rows proc.num f) o) ≡ option_map f (process_of_user proc.num o)
     by_user None = refl
     by_user (Some rows) = row_at-with_same rows proc.num f
 
@@ -22,14 +22,14 @@ module _ (users : Users) (proc : Proc) (h : List (Option Process) → List (Opti
     (others : (rows : List (Option Process)) → row_at users proc.user.0 ≡ Some rows → (n : ℕ) → n ≢ proc.num → row_at (h rows) n ≡ row_at rows n) where
   pub process_of-other : (other : Proc) → other ≢ proc → process_of (with_row users proc.user.0 h) other ≡ process_of users other
   process_of-other other differs = elim (cases_eq other.user.0 proc.user.0) [
-    | inr apart ↦ ap (process_in other.num) (row_at-with_other users proc.user.0 other.user.0 h apart)
+    | inr apart ↦ ap (process_of_user other.num) (row_at-with_other users proc.user.0 other.user.0 h apart)
     | inl user ↦ elim (cases_eq other.num proc.num) [
       | inl num ↦ absurd (differs (λ i. record { user = record { 0 = user i }; num = num i }))
       | inr apart ↦ rw (user, row_at-with_same users proc.user.0 h) (by_user (row_at users proc.user.0) refl apart)
     ]
   ]
     where
-      by_user : (o : Option (List (Option Process))) → row_at users proc.user.0 ≡ o → other.num ≢ proc.num → process_in other.num (option_map h o) ≡ process_in other.num o
+      by_user : (o : Option (List (Option Process))) → row_at users proc.user.0 ≡ o → other.num ≢ proc.num → process_of_user other.num (option_map h o) ≡ process_of_user other.num o
       by_user None there apart = refl
       by_user (Some rows) there apart = others rows there other.num apart
 

@@ -14,9 +14,9 @@ use Rattle.qx_machine.specs.Rows.{row_at}
 use Rattle.qx_machine.proofs.Waiters.{InDeed, cancel-gives}
 use Rattle.qx_shared.specs.Shared.{Shared, shared_after, state_after, users_given}
 use Rattle.qx_resources.specs.State as state
-use Rattle.qx_resources.specs.State.{Fits, told}
+use Rattle.qx_resources.specs.State.{HasUser, told}
 use Rattle.qx_chan.specs.Answers.{given_lines}
-use Rattle.qx_chan.specs.Kept.{Answering, Kept}
+use Rattle.qx_chan.specs.Kept.{Answering, StandTogether}
 use Rattle.qx_chan.specs.Serving.{Serves}
 use Rattle.qx_chan.specs.Users.{Users}
 use Rattle.qx_chan.proofs.GivenLemmas.{lines-machine, resources-machine, users-machine}
@@ -24,14 +24,14 @@ use Rattle.qx_chan.proofs.RowReads.{row_within}
 use Rattle.qx_chan.proofs.ServeLemmas.{Answering-left, Left, Serves-given, Waits, given_all, left-same, nothing_done, shown, waits-before}
 
 -- a user who has processes is one of those who share
-pub user-fits : (users : Users) (queues : Shared) (k : state.Kept) (processes : List (Option Process)) → row_at users k.user ≡ Some processes → Kept users queues → Fits k queues
+pub user-fits : (users : Users) (queues : Shared) (k : state.Kept) (processes : List (Option Process)) → row_at users k.user ≡ Some processes → StandTogether users queues → HasUser k queues
 user-fits users queues k processes there kept = rw kept.users (row_within users k.user processes there)
 
 -- the resources are the user's still
 cancel-user : (r : Resources) (process thread call moment : ℕ) → IfOk (cancel_call r process thread call moment) (λ deed. deed.state.user ≡ r.user)
 cancel-user r process thread call moment = search rules
 
-module _ (users : Users) (queues : Shared) (k l : state.Kept) (d : Shared) (processes : List (Option Process)) (there : row_at users k.user ≡ Some processes) (kept : Kept users queues) (process thread call moment : ℕ) where
+module _ (users : Users) (queues : Shared) (k l : state.Kept) (d : Shared) (processes : List (Option Process)) (there : row_at users k.user ≡ Some processes) (kept : StandTogether users queues) (process thread call moment : ℕ) where
   abbrev part : Part
   part = record { processes = processes; resources = told k queues }
 

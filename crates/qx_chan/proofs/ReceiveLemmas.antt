@@ -15,9 +15,9 @@ use Rattle.qx_machine.specs.Lines.{line_at}
 use Rattle.qx_machine.specs.Processes.{taken_state, taken_thread, with_thread}
 use Rattle.qx_queues.specs.Queues.{IsGone, sender, sender_of, stands, unblock_call}
 use Rattle.qx_shared.specs.Shared.{Shared, with_shared_line}
-use Rattle.qx_chan.specs.Channel.{with_taken}
+use Rattle.qx_chan.specs.Channel.{users_with_taken}
 use Rattle.qx_chan.specs.Users.{Users, thread_row, with_thread_row}
-use Rattle.qx_chan.specs.Kept.{Kept, asked_at, is_asked_at, is_queued_at, is_waiting_for, stands_at, waits_for}
+use Rattle.qx_chan.specs.Kept.{StandTogether, asked_call, is_asked_at, is_queued_at, is_waiting_for, stands_at, waits_for}
 use Rattle.qx_queues.proofs.EntryLemmas.{is_same_thread-self}
 use Rattle.qx_queues.proofs.LineLemmas.{call-received, call-received_other, stands-received, stands-received_other}
 use Rattle.qx_chan.proofs.AttachedLemmas.{eqb-differs}
@@ -52,7 +52,7 @@ stands_once (Some row) number at differs is = by_state row.state is
     by_state (state.Answered answer) is = refl
 
 -- a thread whose message stands in a line has no unblock pulse
-pub queued-unasked : (row : Option ThreadRow) (number : ℕ) → stands_at number row ≡ true → (at call : ℕ) → asked_at at call row ≡ true → ⊥
+pub queued-unasked : (row : Option ThreadRow) (number : ℕ) → stands_at number row ≡ true → (at call : ℕ) → asked_call at call row ≡ true → ⊥
 queued-unasked None number is at call asked = cc
 queued-unasked (Some row) number is at call asked = by_state row.state is asked
   where
@@ -75,7 +75,7 @@ queued-unwaiting (Some row) number is call = by_state row.state is
     by_state (state.Waiting sent) is = let clash : false ≡ true = is in absurd (cc)
     by_state (state.Answered answer) is = refl
 
-module _ (users : Users) (queues : Shared) (manager : Manager) (user : ℕ) (prio : ℕ) (rest : List Queued) (kept : Kept users queues) where
+module _ (users : Users) (queues : Shared) (manager : Manager) (user : ℕ) (prio : ℕ) (rest : List Queued) (kept : StandTogether users queues) where
   abbrev number : ℕ
   number = manager_number manager
 
@@ -112,7 +112,7 @@ module _ (users : Users) (queues : Shared) (manager : Manager) (user : ℕ) (pri
         none : (at call : ℕ) → unblock_call (line_at queues.lines at) thread ≡ Some call → ⊥
         none at call is = queued-unasked (thread_row users thread) number stood at call (kept.pulses thread at call is)
 
-    message-taken : Kept (with_thread_row users thread taken_thread) (with_shared_line queues number (drop 1))
+    message-taken : StandTogether (with_thread_row users thread taken_thread) (with_shared_line queues number (drop 1))
     message-taken = Kept-changed users (with_thread_row users thread taken_thread) queues thread (with_thread tid taken_thread) taken_thread one kept manager (drop 1) own (λ x at. refl)
 
   -- an unblock pulse, which changes no row
@@ -136,21 +136,21 @@ module _ (users : Users) (queues : Shared) (manager : Manager) (user : ℕ) (pri
       waits = kept.waits;
     }
 
-    pulse-taken : Kept users (with_shared_line queues number (drop 1))
+    pulse-taken : StandTogether users (with_shared_line queues number (drop 1))
     pulse-taken = Kept-changed users users queues asked (λ x. x) (λ row. row) (no_thread users asked) kept manager (drop 1) pulse_own (λ x at. refl)
 
-pub Kept-taken : (users : Users) (queues : Shared) (manager : Manager) (first : Queued) (rest : List Queued) → line_at queues.lines (manager_number manager) ≡ first ∷ rest → IsGone first rest → Kept users queues
-    → Kept (with_taken users (sender first) first.item) (with_shared_line queues (manager_number manager) (drop 1))
+pub Kept-taken : (users : Users) (queues : Shared) (manager : Manager) (first : Queued) (rest : List Queued) → line_at queues.lines (manager_number manager) ≡ first ∷ rest → IsGone first rest → StandTogether users queues
+    → StandTogether (users_with_taken users (sender first) first.item) (with_shared_line queues (manager_number manager) (drop 1))
 Kept-taken users queues manager first rest line gone kept = by_item first.item line gone
   where
     by_item : (own : OwnItem) → line_at queues.lines (manager_number manager) ≡ record { user = first.user; item = own; prio = first.prio } ∷ rest → IsGone (record { user = first.user; item = own; prio = first.prio }) rest
-        → Kept (with_taken users (sender_of first.user.0 own) own) (with_shared_line queues (manager_number manager) (drop 1))
+        → StandTogether (users_with_taken users (sender_of first.user.0 own) own) (with_shared_line queues (manager_number manager) (drop 1))
     by_item (item.Message process tid) is gone = message-taken users queues manager first.user.0 first.prio.0 rest kept process tid is gone
     by_item (item.Unblock process tid call) is gone = pulse-taken users queues manager first.user.0 first.prio.0 rest kept process tid call is gone
 
 -- by what the first item is
 module _ (users : Users) (queues : Shared) (manager : Manager) (first : Queued) (own : OwnItem) (is : first.item ≡ own)
-    (at_front : Some first ≡ slice_get (line_at queues.lines (manager_number manager)) 0) (gone : IsGone first (drop 1 (line_at queues.lines (manager_number manager)))) (kept : Kept users queues) where
-  pub Kept-received : Kept (with_taken users (sender_of first.user.0 own) own) (with_shared_line queues (manager_number manager) (drop 1))
-  Kept-received = subst (λ its. Kept (with_taken users (sender_of first.user.0 its) its) (with_shared_line queues (manager_number manager) (drop 1))) is
+    (at_front : Some first ≡ slice_get (line_at queues.lines (manager_number manager)) 0) (gone : IsGone first (drop 1 (line_at queues.lines (manager_number manager)))) (kept : StandTogether users queues) where
+  pub Kept-received : StandTogether (users_with_taken users (sender_of first.user.0 own) own) (with_shared_line queues (manager_number manager) (drop 1))
+  Kept-received = subst (λ its. StandTogether (users_with_taken users (sender_of first.user.0 its) its) (with_shared_line queues (manager_number manager) (drop 1))) is
       (Kept-taken users queues manager first (drop 1 (line_at queues.lines (manager_number manager))) (first_of-line _ first at_front) gone kept)

@@ -20,12 +20,12 @@ use Rattle.qx_machine.specs.Waiting.{Pipes, no_pipes}
 use Rattle.qx_machine.proofs.Waiters.{InDeed, InPipe, InPipes}
 use Rattle.qx_queues.specs.Queues.{stands, unblock_call}
 use Rattle.qx_queues.specs.Waits.{users_call}
-use Rattle.qx_shared.specs.Shared.{Shared, calls_at, has_server, has_thread, nothing_shared, pipes_of, users_given, waiting_calls, waiting_in, with_pipes}
+use Rattle.qx_shared.specs.Shared.{Shared, calls_at, has_disconnect_node, has_thread, nothing_shared, pipes_of, users_given, waiting_calls, waiting_in, with_pipes}
 use Rattle.qx_resources.specs.State as state
 use Rattle.qx_resources.specs.State.{told}
 use Rattle.qx_chan.specs.Answers.{given_lines, given_users}
 use Rattle.qx_chan.specs.Channel.{Channel, lists}
-use Rattle.qx_chan.specs.Kept.{Answering, IsAwaited, IsWaiting, Kept}
+use Rattle.qx_chan.specs.Kept.{Answering, IsAwaited, IsWaiting, StandTogether}
 use Rattle.qx_chan.specs.Serving.{PartServed, Serves, part_in}
 use Rattle.qx_chan.specs.Users.{Users}
 use Rattle.qx_chan.proofs.RowReads.{with_row-fixed}
@@ -85,7 +85,7 @@ module _ (users : Users) (user : ℕ) where
   waits-before c wait = record { each = in-pipes Waits (pipes_of c user) (mapped-each (IsWaiting users) (users_call user) (waiting_calls (pipes_of c user)) (wait user)) }
 
   -- once a deed was done to the user's resources
-  module _ (c d : Shared) (deed : Deed Resources) (kept : Kept users c) (shared : d ≡ with_pipes c user deed.state.pipes deed.answers) (keeps : InDeed Waits deed) where
+  module _ (c d : Shared) (deed : Deed Resources) (kept : StandTogether users c) (shared : d ≡ with_pipes c user deed.state.pipes deed.answers) (keeps : InDeed Waits deed) where
     waits-after : (other : ℕ) → AllByRecursion (IsWaiting users) (waiting_in d other)
     waits-after other = subst (λ all. AllByRecursion (IsWaiting users) (waiting_in all other)) (sym shared) (elim (place-cases c.pipes user other deed.state.pipes no_pipes) [
       | inl here ↦ rw (here.1, here.0) (each-mapped (IsWaiting users) (users_call user) (waiting_calls deed.state.pipes) (from-pipes Waits deed.state.pipes keeps.pipes.each))
@@ -100,7 +100,7 @@ module _ (users : Users) (user : ℕ) where
         threads = λ thread. ap (λ q. has_thread q thread) shared ∙ kept.threads thread;
         lines = λ thread number. ap (λ q. stands (line_at q.lines number) thread) shared ∙ kept.lines thread number;
         pulses = λ thread number call is. kept.pulses thread number call (ap (λ q. unblock_call (line_at q.lines number) thread) (sym shared) ∙ is);
-        servers = λ proc manager. ap (λ q. has_server q proc (manager_number manager)) shared ∙ kept.servers proc manager;
+        servers = λ proc manager. ap (λ q. has_disconnect_node q proc (manager_number manager)) shared ∙ kept.servers proc manager;
         waits = waits-after;
         answered = refl;
       };
@@ -163,7 +163,7 @@ module _ (users : Users) (queues : Shared) (k : state.Kept) (served : Part → S
           subst (DidAll (shown users queues) k) (sym (same processes there)) (λ i. record { users = users_are i; lines = queues.lines; pipes = same_pipes queues k.user i }, refl)
 
   -- once a deed is done, and the answers are given
-  module _ (kept : Kept users queues) (l : state.Kept) (d : Shared) (deed : Deed Resources) (left : Left k queues l d deed) (user : ℕ) (of : k.user ≡ user) (processes : List (Option Process)) (there : row_at users user ≡ Some processes) where
+  module _ (kept : StandTogether users queues) (l : state.Kept) (d : Shared) (deed : Deed Resources) (left : Left k queues l d deed) (user : ℕ) (of : k.user ≡ user) (processes : List (Option Process)) (there : row_at users user ≡ Some processes) where
     answered_are : d.answered ≡ map (users_given user) deed.answers
     answered_are = ap (λ q. q.answered) left.shared ∙ ap (λ before. before ++ map (users_given k.user) deed.answers) kept.answered ∙ ap (λ user. map (users_given user) deed.answers) of
 

@@ -22,11 +22,11 @@ use Rattle.qx_machine.specs.Performing.{after_answer, after_serving, answered_ch
 use Rattle.qx_machine.specs.Processes.{Process, answered_thread}
 use Rattle.qx_machine.specs.Rows.{row_at, with_row}
 use Rattle.qx_queues.specs.Queues.{unblock_call}
-use Rattle.qx_shared.specs.Shared.{Shared, users_given, with_shared_line, without_server}
+use Rattle.qx_shared.specs.Shared.{Shared, users_given, with_shared_line, without_shared_server}
 use Rattle.qx_chan.specs.Answers.{given_lines, given_users}
 use Rattle.qx_chan.specs.Calls.{taken_call}
 use Rattle.qx_chan.specs.Channel.{failed}
-use Rattle.qx_chan.specs.Kept.{Answering, attached_at, settled, settled_at}
+use Rattle.qx_chan.specs.Kept.{Answering, attached_at, servers_settled, settled_at}
 use Rattle.qx_chan.specs.Users.{Users, process_of, thread_row, with_process_of}
 use Rattle.qx_chan.specs.declared.call.Call.{Call}
 use Rattle.qx_chan.proofs.AnswerLemmas.{IsAnswer, Kept-answered, taken-unwaiting}
@@ -76,13 +76,13 @@ without_answers c = record c { answered = [] }
 settled_at-cleared : (proc : Proc) (process : Option Process) (manager : Manager) (c : Shared) → without_answers (settled_at proc process manager c) ≡ settled_at proc process manager (without_answers c)
 settled_at-cleared proc process manager c = by_test (attached_at (manager_number manager) process)
   where
-    by_test : (b : Bool) → without_answers (if b then c else without_server c proc (manager_number manager)) ≡ (if b then without_answers c else without_server (without_answers c) proc (manager_number manager))
+    by_test : (b : Bool) → without_answers (if b then c else without_shared_server c proc (manager_number manager)) ≡ (if b then without_answers c else without_shared_server (without_answers c) proc (manager_number manager))
     by_test true = refl
     by_test false = refl
 
-settled-cleared : (proc : Proc) (process : Option Process) (all : List Manager) (c : Shared) → without_answers (settled proc process all c) ≡ settled proc process all (without_answers c)
+settled-cleared : (proc : Proc) (process : Option Process) (all : List Manager) (c : Shared) → without_answers (servers_settled proc process all c) ≡ servers_settled proc process all (without_answers c)
 settled-cleared proc process [] c = refl
-settled-cleared proc process (manager ∷ all) c = settled-cleared proc process all (settled_at proc process manager c) ∙ ap (settled proc process all) (settled_at-cleared proc process manager c)
+settled-cleared proc process (manager ∷ all) c = settled-cleared proc process all (settled_at proc process manager c) ∙ ap (servers_settled proc process all) (settled_at-cleared proc process manager c)
 
 module _ (users : Users) (queues : Shared) (thread : Thread) (call : Call) (is : Some call ≡ taken_call (thread_row users thread)) (answering : Answering users queues) where
   abbrev drop_pulse : List Queued → List Queued
@@ -91,7 +91,7 @@ module _ (users : Users) (queues : Shared) (thread : Thread) (call : Call) (is :
   -- a received message is answered while other answers are on their way
   pub Answering-answered : (f : Process → Process) (answer : Answer) → IsAnswer thread.tid answer f
       → (unblock_call (line_at queues.lines (manager_number call.target.manager)) thread ≡ Some call.number → unblock_call (drop_pulse (line_at queues.lines (manager_number call.target.manager))) thread ≡ None)
-      → Answering (with_process_of users thread.proc f) (settled thread.proc (process_of (with_process_of users thread.proc f) thread.proc) managers
+      → Answering (with_process_of users thread.proc f) (servers_settled thread.proc (process_of (with_process_of users thread.proc f) thread.proc) managers
       (with_shared_line queues (manager_number call.target.manager) (line_without thread.proc.user.0 (item.Unblock thread.proc.num thread.tid call.number))))
   Answering-answered f answer answers gone = record {
     kept = rw (settled-cleared thread.proc (process_of new thread.proc) managers changed) (Kept-answered users (without_answers queues) thread call is answering.kept f answer answers gone);

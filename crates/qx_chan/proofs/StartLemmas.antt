@@ -23,15 +23,15 @@ use Rattle.qx_machine.specs.Rows.{row_at, lowest_from, put_row, with_row}
 use Rattle.qx_machine.proofs.Places.{lowest_from_free}
 use Rattle.qx_procs.specs.Calls.{spawned}
 use Rattle.qx_queues.specs.Queues.{is_thread_of, stands, unblock_call, thread_cmp, server_cmp}
-use Rattle.qx_shared.specs.Shared.{Shared, has_thread, nothing_shared, waiting_in, with_process, waiting_at, waiting_calls}
+use Rattle.qx_shared.specs.Shared.{Shared, has_thread, nothing_shared, waiting_in, with_shared_process, users_waiting, waiting_calls}
 use Rattle.qx_machine.specs.declared.rows.WaitingCall.{WaitingCall}
 use Rattle.qx_machine.specs.Waiting.{no_pipes}
 use Rattle.qx_types.specs.declared.limits.TheConstants.Limits.{INODES}
 use Rattle.qx_shared.proofs.PresenceLemmas.{has-process, lines-process, servers-process}
 use Rattle.qx_chan.specs.Channel.{Channel, after_spawn}
-use Rattle.qx_chan.specs.Users.{HasPlace, Users, no_processes, process_in, process_of, spawn_number_in, thread_row}
+use Rattle.qx_chan.specs.Users.{HasPlace, Users, no_processes, process_of_user, process_of, spawn_number_in, thread_row}
 use Rattle.qx_process.proofs.RowLemmas.{row_at-get_or, set-row, with_row-none}
-use Rattle.qx_chan.specs.Kept.{IsWaiting, Kept, asked_at, attached_at, stands_at, waits_for}
+use Rattle.qx_chan.specs.Kept.{IsWaiting, StandTogether, asked_call, attached_at, stands_at, waits_for}
 use Rattle.qx_queues.proofs.EntryLemmas.{or_false}
 use Rattle.qx_queues.proofs.NodesLemmas.{same_proc}
 use Rattle.qx_chan.proofs.ProcessLemmas.{process_of-other}
@@ -105,11 +105,11 @@ new_is threads (suc k) x = elim (cases_lt k threads) [
 
 -- what waits and is answered stays as a process gets its nodes
 
-pub pipes-process : (c : Shared) (proc : Proc) (threads : ℕ) → (with_process c proc threads).pipes ≡ c.pipes
+pub pipes-process : (c : Shared) (proc : Proc) (threads : ℕ) → (with_shared_process c proc threads).pipes ≡ c.pipes
 pipes-process c proc zero = refl
 pipes-process c proc (suc threads) = pipes-process c proc threads
 
-answered-process : (c : Shared) (proc : Proc) (threads : ℕ) → (with_process c proc threads).answered ≡ c.answered
+answered-process : (c : Shared) (proc : Proc) (threads : ℕ) → (with_shared_process c proc threads).answered ≡ c.answered
 answered-process c proc zero = refl
 answered-process c proc (suc threads) = answered-process c proc threads
 
@@ -134,10 +134,10 @@ module _ (users : Users) (proc : Proc) (threads prio : ℕ) (begun : Starts user
   old_none = rw (begun.row, begun.facts.lowest) (lowest_from_free 1 begun.processes)
 
   -- no thread of it has nodes
-  pub fresh : (queues : Shared) → Kept users queues → (tid : ℕ) → has_thread queues (record { proc = proc; tid = tid }) ≡ false
+  pub fresh : (queues : Shared) → StandTogether users queues → (tid : ℕ) → has_thread queues (record { proc = proc; tid = tid }) ≡ false
   fresh queues kept tid = kept.threads (record { proc = proc; tid = tid }) ∙ ap (λ o. is_some (thread_of tid o)) old_none
 
-  pub user_within : (queues : Shared) → Kept users queues → proc.user.0 < length queues.pipes
+  pub user_within : (queues : Shared) → StandTogether users queues → proc.user.0 < length queues.pipes
   user_within queues kept = rw kept.users (row_within users proc.user.0 begun.processes begun.row)
 
   module _ (place : HasPlace (row_at users proc.user.0)) where
@@ -160,7 +160,7 @@ module _ (users : Users) (proc : Proc) (threads prio : ℕ) (begun : Starts user
         some_same : (one other : List (Option Process)) → Some one ≡ Some other → one ≡ other
         some_same one other is = cc
 
-    pub Kept-started : (queues : Shared) → Kept users queues → Kept (with_row users proc.user.0 (λ processes. spawned processes threads prio (spawn_number processes threads prio))) (with_process queues proc threads)
+    pub Kept-started : (queues : Shared) → StandTogether users queues → StandTogether (with_row users proc.user.0 (λ processes. spawned processes threads prio (spawn_number processes threads prio))) (with_shared_process queues proc threads)
     Kept-started queues kept = record {
       users = ap length (pipes-process queues proc threads) ∙ kept.users ∙ sym (length-with_row users proc.user.0 started);
       managers = ap length (lines-process queues proc threads) ∙ kept.managers;
@@ -173,16 +173,16 @@ module _ (users : Users) (proc : Proc) (threads prio : ℕ) (begun : Starts user
         | inl same ↦ rw (same, old_none, here) (sym (new_waits threads other.tid prio number))
       ];
       pulses = λ other number call is.
-          let before : asked_at number call (thread_row users other) ≡ true = kept.pulses other number call (ap (λ lines. unblock_call (line_at lines number) other) (sym (lines-process queues proc threads)) ∙ is) in
+          let before : asked_call number call (thread_row users other) ≡ true = kept.pulses other number call (ap (λ lines. unblock_call (line_at lines number) other) (sym (lines-process queues proc threads)) ∙ is) in
           elim (same_proc other.proc proc) [
-            | inr differs ↦ ap (λ o. asked_at number call (thread_of other.tid o)) (elsewhere other.proc differs) ∙ before
+            | inr differs ↦ ap (λ o. asked_call number call (thread_of other.tid o)) (elsewhere other.proc differs) ∙ before
             | inl same ↦ let clash : false ≡ true = rw (same, old_none) at before in absurd (cc)
           ];
       servers = λ other manager. ap (λ s. set.contains s (other, manager_number manager)) (servers-process queues proc threads) ∙ kept.servers other manager ∙ elim (same_proc other proc) [
         | inr differs ↦ ap (attached_at (manager_number manager)) (sym (elsewhere other differs))
         | inl same ↦ rw (same, old_none, here) (sym (new_attached threads prio manager))
       ];
-      waits = λ list. subst (λ p. AllByRecursion (IsWaiting new) (waiting_at p list)) (sym (pipes-process queues proc threads)) (waits-all users new still (waiting_in queues list) (kept.waits list));
+      waits = λ list. subst (λ p. AllByRecursion (IsWaiting new) (users_waiting p list)) (sym (pipes-process queues proc threads)) (waits-all users new still (waiting_in queues list) (kept.waits list));
       answered = answered-process queues proc threads ∙ kept.answered;
     }
       where
@@ -215,12 +215,12 @@ none_at_boot users proc = by_user users proc.user.0
     empty zero = refl
     empty (suc number) = refl
 
-    in_rows : (count user : ℕ) → process_in proc.num (row_at (replicate count (Some no_rows)) user) ≡ None
+    in_rows : (count user : ℕ) → process_of_user proc.num (row_at (replicate count (Some no_rows)) user) ≡ None
     in_rows zero user = refl
     in_rows (suc count) zero = empty proc.num
     in_rows (suc count) (suc user) = in_rows count user
 
-    by_user : (count user : ℕ) → process_in proc.num (row_at (None ∷ replicate count (Some no_rows)) user) ≡ None
+    by_user : (count user : ℕ) → process_of_user proc.num (row_at (None ∷ replicate count (Some no_rows)) user) ≡ None
     by_user count zero = refl
     by_user count (suc user) = in_rows count user
 
@@ -243,10 +243,10 @@ no_calls : (n : ℕ) → waiting_calls (replicate n None) ≡ []
 no_calls zero = refl
 no_calls (suc n) = no_calls n
 
-none_waits : (n user : ℕ) → waiting_at (replicate n no_pipes) user ≡ []
+none_waits : (n user : ℕ) → users_waiting (replicate n no_pipes) user ≡ []
 none_waits n user = ap (λ pipes. map (λ (call : WaitingCall). record { user = user; call = call }) (waiting_calls pipes)) (get_same n user no_pipes) ∙ ap (map (λ (call : WaitingCall). record { user = user; call = call })) (no_calls (INODES + 1))
 
-pub Kept-empty : (users : ℕ) → Kept (no_processes users) (nothing_shared users)
+pub Kept-empty : (users : ℕ) → StandTogether (no_processes users) (nothing_shared users)
 Kept-empty users = record {
   users = length-replicate (users + 1) no_pipes ∙ add-one users ∙ ap suc (sym (length-replicate users (Some no_rows)));
   managers = refl;

@@ -15,9 +15,9 @@ use Rattle.qx_machine.specs.Parts.{thread_of}
 use Rattle.qx_machine.specs.Processes.{Process, with_thread}
 use Rattle.qx_machine.specs.Rows.{with_row}
 use Rattle.qx_queues.specs.Queues.{stands, unblock_call}
-use Rattle.qx_shared.specs.Shared.{Shared, has_server, has_thread, waiting_in, waiting_at}
+use Rattle.qx_shared.specs.Shared.{Shared, has_disconnect_node, has_thread, waiting_in, users_waiting}
 use Rattle.qx_chan.specs.Users.{Users, process_of, thread_row, with_process_of, with_thread_row}
-use Rattle.qx_chan.specs.Kept.{IsWaiting, Kept, asked_at, attached_at, stands_at, waits_for}
+use Rattle.qx_chan.specs.Kept.{IsWaiting, StandTogether, asked_call, attached_at, stands_at, waits_for}
 use Rattle.qx_queues.proofs.EntryLemmas.{line_at-other, line_at-same}
 use Rattle.qx_queues.proofs.NodesLemmas.{same_or_not, same_proc}
 use Rattle.qx_chan.proofs.AttachedLemmas.{number-below}
@@ -82,7 +82,7 @@ no_thread users thread = record {
 }
 
 -- a call that waits does so still, where the thread whose row changes does
-module _ (users new : Users) (queues : Shared) (thread : Thread) (f : Process → Process) (g : ThreadRow → ThreadRow) (one : OneThread new users thread f g) (kept : Kept users queues)
+module _ (users new : Users) (queues : Shared) (thread : Thread) (f : Process → Process) (g : ThreadRow → ThreadRow) (one : OneThread new users thread f g) (kept : StandTogether users queues)
     (wait : (call : ℕ) → waits_for call (thread_row users thread) ≡ true → waits_for call (option_map g (thread_row users thread)) ≡ true) where
   waits-one : (other : Thread) (call : ℕ) → waits_for call (thread_row users other) ≡ true → waits_for call (thread_row new other) ≡ true
   waits-one other call is = elim (same_or_not other thread) [
@@ -96,9 +96,9 @@ module _ (users new : Users) (queues : Shared) (thread : Thread) (f : Process �
   waits-told list = waits-all users new waits-one (waiting_in queues list) (kept.waits list)
 
 -- a thread whose message stands where it stood, and is asked as it was
-module _ (users : Users) (queues : Shared) (thread : Thread) (g : ThreadRow → ThreadRow) (kept : Kept users queues)
+module _ (users : Users) (queues : Shared) (thread : Thread) (g : ThreadRow → ThreadRow) (kept : StandTogether users queues)
     (stand : (at : ℕ) → stands_at at (option_map g (thread_row users thread)) ≡ stands_at at (thread_row users thread))
-    (pulse : (at call : ℕ) → asked_at at call (option_map g (thread_row users thread)) ≡ asked_at at call (thread_row users thread))
+    (pulse : (at call : ℕ) → asked_call at call (option_map g (thread_row users thread)) ≡ asked_call at call (thread_row users thread))
     (wait : (call : ℕ) → waits_for call (thread_row users thread) ≡ true → waits_for call (option_map g (thread_row users thread)) ≡ true) where
   one : OneThread (with_thread_row users thread g) users thread (with_thread thread.tid g) g
   one = one_thread users thread (with_thread thread.tid g) g (λ x. refl)
@@ -113,13 +113,13 @@ module _ (users : Users) (queues : Shared) (thread : Thread) (g : ThreadRow → 
   still_attached at None = refl
   still_attached at (Some x) = refl
 
-  pub Kept-thread : Kept (with_thread_row users thread g) queues
+  pub Kept-thread : StandTogether (with_thread_row users thread g) queues
   Kept-thread = record {
     users = kept.users ∙ sym one.users;
     managers = kept.managers;
     threads = λ other. kept.threads other ∙ sym (read_as is_some (there_with g (thread_row users thread)) other);
     lines = λ other at. kept.lines other at ∙ sym (read_as (stands_at at) (stand at) other);
-    pulses = λ other at call is. read_as (asked_at at call) (pulse at call) other ∙ kept.pulses other at call is;
+    pulses = λ other at call is. read_as (asked_call at call) (pulse at call) other ∙ kept.pulses other at call is;
     servers = λ other m. kept.servers other m ∙ elim (same_proc other thread.proc) [
       | inr differs ↦ ap (attached_at (manager_number m)) (sym (one.elsewhere other differs))
       | inl equal ↦ rw (equal, one.here) (sym (still_attached (manager_number m) (process_of users thread.proc)))
@@ -134,7 +134,7 @@ pub record OwnLine (new old : List Queued) (thread : Thread) : Type 0 where
   pub calls : (other : Thread) → other ≢ thread → unblock_call new other ≡ unblock_call old other
 
 module _ (users new : Users) (queues : Shared) (thread : Thread) (f : Process → Process) (g : ThreadRow → ThreadRow)
-    (one : OneThread new users thread f g) (kept : Kept users queues) (manager : Manager) (change : List Queued → List Queued) where
+    (one : OneThread new users thread f g) (kept : StandTogether users queues) (manager : Manager) (change : List Queued → List Queued) where
   abbrev number : ℕ
   number = manager_number manager
 
@@ -155,8 +155,8 @@ module _ (users new : Users) (queues : Shared) (thread : Thread) (f : Process �
     pub line : OwnLine (change (line_at queues.lines number)) (line_at queues.lines number) thread
     pub stand : stands (change (line_at queues.lines number)) thread ≡ stands_at number (thread_row new thread)
     pub stand_other : (at : ℕ) → at ≢ number → stands (line_at queues.lines at) thread ≡ stands_at at (thread_row new thread)
-    pub calls : (call : ℕ) → unblock_call (change (line_at queues.lines number)) thread ≡ Some call → asked_at number call (thread_row new thread) ≡ true
-    pub calls_other : (at call : ℕ) → at ≢ number → unblock_call (line_at queues.lines at) thread ≡ Some call → asked_at at call (thread_row new thread) ≡ true
+    pub calls : (call : ℕ) → unblock_call (change (line_at queues.lines number)) thread ≡ Some call → asked_call number call (thread_row new thread) ≡ true
+    pub calls_other : (at call : ℕ) → at ≢ number → unblock_call (line_at queues.lines at) thread ≡ Some call → asked_call at call (thread_row new thread) ≡ true
     pub waits : (list : ℕ) → AllByRecursion (IsWaiting new) (waiting_in queues list)
 
   module _ (own : Own) where
@@ -177,9 +177,9 @@ module _ (users new : Users) (queues : Shared) (thread : Thread) (f : Process �
       ]
     ]
 
-    pub pulses_told : (other : Thread) (at call : ℕ) → unblock_call (line_at lines_after at) other ≡ Some call → asked_at at call (thread_row new other) ≡ true
+    pub pulses_told : (other : Thread) (at call : ℕ) → unblock_call (line_at lines_after at) other ≡ Some call → asked_call at call (thread_row new other) ≡ true
     pulses_told other at call is = elim (same_or_not other thread) [
-      | inr differs ↦ ap (asked_at at call) (one.others other differs) ∙ kept.pulses other at call (sym (told_other unblock_call at other (own.line.calls other differs)) ∙ is)
+      | inr differs ↦ ap (asked_call at call) (one.others other differs) ∙ kept.pulses other at call (sym (told_other unblock_call at other (own.line.calls other differs)) ∙ is)
       | inl same ↦ elim (cases_eq at number) [
         | inl equal ↦
             let own_is : unblock_call (change (line_at queues.lines number)) thread ≡ Some call = rw (same, equal, at_line) at is in
@@ -197,7 +197,7 @@ module _ (users new : Users) (queues : Shared) (thread : Thread) (f : Process �
     ]
 
     -- where the process stays attached as it was
-    pub Kept-changed : ((x : Process) (at : ℕ) → attached_at at (Some (f x)) ≡ attached_at at (Some x)) → Kept new (record queues { lines = lines_after })
+    pub Kept-changed : ((x : Process) (at : ℕ) → attached_at at (Some (f x)) ≡ attached_at at (Some x)) → StandTogether new (record queues { lines = lines_after })
     Kept-changed same = record {
       users = kept.users ∙ sym one.users;
       managers = length-set _ number _ ∙ kept.managers;
@@ -218,8 +218,8 @@ module _ (users new : Users) (queues : Shared) (thread : Thread) (f : Process �
 
     -- where the process has the disconnect nodes of all that is attached, and others what they had
     pub Unsettled-changed : (after : Shared) → after.lines ≡ lines_after → length after.pipes ≡ length queues.pipes → after.pipes ≡ queues.pipes → after.answered ≡ queues.answered → ((t : Thread) → has_thread after t ≡ has_thread queues t)
-        → ((other : Proc) (at : ℕ) → other ≢ thread.proc → has_server after other at ≡ has_server queues other at)
-        → ((m : Manager) → attached_at (manager_number m) (option_map f (process_of users thread.proc)) ≡ true → has_server after thread.proc (manager_number m) ≡ true)
+        → ((other : Proc) (at : ℕ) → other ≢ thread.proc → has_disconnect_node after other at ≡ has_disconnect_node queues other at)
+        → ((m : Manager) → attached_at (manager_number m) (option_map f (process_of users thread.proc)) ≡ true → has_disconnect_node after thread.proc (manager_number m) ≡ true)
         → Unsettled new after thread.proc
     Unsettled-changed after lines users pipes answered threads others attached = record {
       users = users ∙ kept.users ∙ sym one.users;
@@ -229,6 +229,6 @@ module _ (users new : Users) (queues : Shared) (thread : Thread) (f : Process �
       pulses = λ t at call is. pulses_told t at call (ap (λ l. unblock_call (line_at l at) t) (sym lines) ∙ is);
       others = λ other m differs. others other (manager_number m) differs ∙ kept.servers other m ∙ ap (attached_at (manager_number m)) (sym (one.elsewhere other differs));
       attached = λ m is. attached m (ap (attached_at (manager_number m)) (sym one.here) ∙ is);
-      waits = λ list. subst (λ p. AllByRecursion (IsWaiting new) (waiting_at p list)) (sym pipes) (own.waits list);
+      waits = λ list. subst (λ p. AllByRecursion (IsWaiting new) (users_waiting p list)) (sym pipes) (own.waits list);
       answered = answered ∙ kept.answered;
     }

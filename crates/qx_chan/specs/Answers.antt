@@ -14,21 +14,21 @@ use Rattle.qx_queues.specs.Queues.{UsersAnswer}
 use Rattle.qx_shared.specs.Shared.{Shared, with_shared_line}
 use Rattle.qx_resmgr.specs.declared.functions.Done.{Done}
 use Rattle.qx_resmgr.specs.declared.functions.Done.TheVariants.{Reply, NoReply}
-use Rattle.qx_chan.specs.Channel.{failed, replied}
-use Rattle.qx_chan.specs.Kept.{settled}
+use Rattle.qx_chan.specs.Channel.{failed, process_replied}
+use Rattle.qx_chan.specs.Kept.{servers_settled}
 use Rattle.qx_chan.specs.Users.{Users, process_of, with_process_of, with_thread_row}
 use Rattle.qx_chan.specs.declared.call.Call.{Call}
 
 -- the thread of a message that was served is answered with what that came to, unless it is left without a reply
 abbrev pub answered_users : Users → Thread → Over → List ℕ → Result Done Errno → Users
 answered_users users thread over bytes (Ok NoReply) = users
-answered_users users thread over bytes (Ok (Reply status effect)) = with_process_of users thread.proc (replied thread.tid effect status bytes over)
+answered_users users thread over bytes (Ok (Reply status effect)) = with_process_of users thread.proc (process_replied thread.tid effect status bytes over)
 answered_users users thread over bytes (Err error) = with_process_of users thread.proc (failed thread.tid error over)
 
 -- its call has no unblock pulse any more, and its process has the disconnect nodes of what it has attached then
 abbrev pub without_pulse : Shared → Users → Thread → Call → Shared
 without_pulse queues users thread call =
-    settled thread.proc (process_of users thread.proc) managers (with_shared_line queues (manager_number call.target.manager) (line_without thread.proc.user.0 (item.Unblock thread.proc.num thread.tid call.number)))
+    servers_settled thread.proc (process_of users thread.proc) managers (with_shared_line queues (manager_number call.target.manager) (line_without thread.proc.user.0 (item.Unblock thread.proc.num thread.tid call.number)))
 
 abbrev pub answered_queues : Shared → Users → Thread → Call → Result Done Errno → Shared
 answered_queues queues users thread call (Ok NoReply) = queues

@@ -23,21 +23,21 @@ unasked_in _ = None
 abbrev pub call_by : (State → Option Sent) → ThreadRow → Option Call
 call_by message row = option_map (λ sent. record { target = sent.target; number = row.calls; is_asked = sent.is_asked }) (message row.state)
 
-abbrev pub call_of : (State → Option Sent) → Option ThreadRow → Option Call
-call_of message None = None
-call_of message (Some row) = call_by message row
+abbrev pub sent_call : (State → Option Sent) → Option ThreadRow → Option Call
+sent_call message None = None
+sent_call message (Some row) = call_by message row
 
 -- the call of a thread whose message stands in a line
 abbrev pub queued_call : Option ThreadRow → Option Call
-queued_call row = call_of queued_in row
+queued_call row = sent_call queued_in row
 
 -- of one whose message was received and is not served
 abbrev pub taken_call : Option ThreadRow → Option Call
-taken_call row = call_of taken_in row
+taken_call row = sent_call taken_in row
 
 -- of one whose message was received, is not answered and is not asked to unblock it
 abbrev pub unasked_call : Option ThreadRow → Option Call
-unasked_call row = call_of unasked_in row
+unasked_call row = sent_call unasked_in row
 
 -- the bytes of a thread's message that was received and is not served
 abbrev pub taken_bytes : Option ThreadRow → Option (List ℕ)

@@ -62,13 +62,13 @@ after_send c thread sent =
     with_process_and_line c thread (with_queued thread.tid sent) sent.target.manager (λ line. into rank line (message_of thread sent.target.prio.0))
 
 -- the thread of a message that is received waits for its answer
-abbrev pub with_taken : Users → Thread → OwnItem → Users
-with_taken users thread (item.Message process number) = with_thread_row users thread taken_thread
-with_taken users thread (item.Unblock process number call) = users
+abbrev pub users_with_taken : Users → Thread → OwnItem → Users
+users_with_taken users thread (item.Message process number) = with_thread_row users thread taken_thread
+users_with_taken users thread (item.Unblock process number call) = users
 
 abbrev pub with_first_taken : Users → Option Queued → Users
 with_first_taken users None = users
-with_first_taken users (Some first) = with_taken users (sender first) first.item
+with_first_taken users (Some first) = users_with_taken users (sender first) first.item
 
 -- once the first item of a line is received
 abbrev pub after_receive : Channel → Manager → Channel
@@ -78,8 +78,8 @@ after_receive c manager = record c {
 }
 
 -- a thread of a process gets a reply
-abbrev pub replied : ℕ → Effect → ℕ → List ℕ → Over → Process → Process
-replied thread effect status bytes over process = after_reply thread over (with_thread thread (answered_thread (Reply status bytes)) (after_effect effect process))
+abbrev pub process_replied : ℕ → Effect → ℕ → List ℕ → Over → Process → Process
+process_replied thread effect status bytes over process = after_reply thread over (with_thread thread (answered_thread (Reply status bytes)) (after_effect effect process))
 
 -- a thread of a process gets an error
 abbrev pub failed : ℕ → Errno → Over → Process → Process

@@ -17,7 +17,7 @@ use Rattle.qx_machine.specs.Lines.{line_at}
 use Rattle.qx_machine.specs.Processes.{Process}
 use Rattle.qx_machine.specs.Servers.{is_attached}
 use Rattle.qx_queues.specs.Queues.{UsersAnswer, UsersCall, caller, stands, unblock_call}
-use Rattle.qx_shared.specs.Shared.{Shared, has_server, has_thread, waiting_in, with_server, without_server}
+use Rattle.qx_shared.specs.Shared.{Shared, has_disconnect_node, has_thread, waiting_in, with_shared_server, without_shared_server}
 use Rattle.qx_chan.specs.Users.{Users, process_of, thread_row}
 
 -- the message of a thread in this state stands in the line of that number
@@ -35,9 +35,9 @@ is_asked_at number call calls (Taken sent) = sent.is_asked && (manager_number se
 is_asked_at number call calls (Waiting sent) = sent.is_asked && (manager_number sent.target.manager == number) && (calls == call)
 is_asked_at number call calls _ = false
 
-abbrev pub asked_at : ℕ → ℕ → Option ThreadRow → Bool
-asked_at number call None = false
-asked_at number call (Some row) = is_asked_at number call row.calls row.state
+abbrev pub asked_call : ℕ → ℕ → Option ThreadRow → Bool
+asked_call number call None = false
+asked_call number call (Some row) = is_asked_at number call row.calls row.state
 
 -- a thread in this state waits for the answer to that call at the pipe manager, which was served and could not be answered yet
 abbrev pub is_waiting_for : ℕ → ℕ → State → Bool
@@ -64,19 +64,19 @@ attached_at number (Some process) = is_attached number process.connections proce
 -- a thread has nodes exactly if it is there, its message stands in a line exactly if its row says so, an unblock pulse only while its
 -- call is asked for, and its call in a pipe only while it waits for the answer; no answer is on its way; and a process has the disconnect
 -- node of its server connection at a manager exactly while something of it is attached there
-pub record Kept (processes : Users) (queues : Shared) : Type 0 where
+pub record StandTogether (processes : Users) (queues : Shared) : Type 0 where
   pub users : length queues.pipes ≡ length processes
   pub managers : length queues.lines ≡ COUNT
   pub threads : (thread : Thread) → has_thread queues thread ≡ is_some (thread_row processes thread)
   pub lines : (thread : Thread) (number : ℕ) → stands (line_at queues.lines number) thread ≡ stands_at number (thread_row processes thread)
-  pub pulses : (thread : Thread) (number call : ℕ) → unblock_call (line_at queues.lines number) thread ≡ Some call → asked_at number call (thread_row processes thread) ≡ true
-  pub servers : (proc : Proc) (manager : Manager) → has_server queues proc (manager_number manager) ≡ attached_at (manager_number manager) (process_of processes proc)
+  pub pulses : (thread : Thread) (number call : ℕ) → unblock_call (line_at queues.lines number) thread ≡ Some call → asked_call number call (thread_row processes thread) ≡ true
+  pub servers : (proc : Proc) (manager : Manager) → has_disconnect_node queues proc (manager_number manager) ≡ attached_at (manager_number manager) (process_of processes proc)
   pub waits : (user : ℕ) → AllByRecursion (IsWaiting processes) (waiting_in queues user)
   pub answered : queues.answered ≡ []
 
 -- all of that, but that answers are on their way: each is to a call whose thread waits for it
 pub record Answering (processes : Users) (queues : Shared) : Type 0 where
-  pub kept : Kept processes (record queues { answered = [] })
+  pub kept : StandTogether processes (record queues { answered = [] })
   pub answered : AllByRecursion (IsAwaited processes) queues.answered
 
 -- a call attaches what its message goes over
@@ -86,7 +86,7 @@ attaches _ = true
 
 -- a process keeps its disconnect node at a manager if something of it is attached there
 abbrev pub settled_at : Proc → Option Process → Manager → Shared → Shared
-settled_at proc process manager queues = if attached_at (manager_number manager) process then queues else without_server queues proc (manager_number manager)
+settled_at proc process manager queues = if attached_at (manager_number manager) process then queues else without_shared_server queues proc (manager_number manager)
 
 -- at the manager of a number, if there is one
 abbrev pub settled_number : Proc → Option Process → Option Manager → Shared → Shared
@@ -94,13 +94,13 @@ settled_number proc process None queues = queues
 settled_number proc process (Some manager) queues = settled_at proc process manager queues
 
 -- at each of these managers
-abbrev pub settled : Proc → Option Process → List Manager → Shared → Shared
-settled proc process [] queues = queues
-settled proc process (manager ∷ managers) queues = settled proc process managers (settled_at proc process manager queues)
+abbrev pub servers_settled : Proc → Option Process → List Manager → Shared → Shared
+servers_settled proc process [] queues = queues
+servers_settled proc process (manager ∷ managers) queues = servers_settled proc process managers (settled_at proc process manager queues)
 
 -- the disconnect nodes of a process once its call has attached what its message goes over
 abbrev pub with_attached : Proc → Option Process → Target → Shared → Shared
-with_attached proc process target queues = if attaches target.over then settled proc process managers (with_server queues proc (manager_number target.manager)) else queues
+with_attached proc process target queues = if attaches target.over then servers_settled proc process managers (with_shared_server queues proc (manager_number target.manager)) else queues
 
 -- room for the disconnect node of what a message goes over
 abbrev pub with_room : Over → Shared → Shared

@@ -14,7 +14,7 @@ use Rattle.qx_machine.specs.Performing.{Served, caller_of, deed_of, taken_in}
 use Rattle.qx_machine.specs.Processes.{Process}
 use Rattle.qx_machine.specs.Rows.{row_at, with_row}
 use Rattle.qx_shared.specs.Shared.{Shared}
-use Rattle.qx_resources.specs.Memory.{wants_memory}
+use Rattle.qx_resources.specs.Memory.{bytes_want_memory}
 use Rattle.qx_resources.specs.State.{told, Kept}
 use Rattle.qx_chan.specs.Calls.{taken_bytes}
 use Rattle.qx_chan.specs.Channel.{Channel, lists}
@@ -32,12 +32,12 @@ pub record Sends (users : Users) (thread : Thread) (process : Process) (bytes : 
   pub bytes_are : taken_bytes (thread_row users thread) ≡ Some bytes
 
 -- whose call it is
-abbrev pub caller_in : Thread → Call → Caller
-caller_in thread call = record { process = thread.proc.num; thread = thread.tid; call = call.number; is_asked = call.is_asked }
+abbrev pub caller_of_call : Thread → Call → Caller
+caller_of_call thread call = record { process = thread.proc.num; thread = thread.tid; call = call.number; is_asked = call.is_asked }
 
 -- what these bytes of a process come to
 abbrev pub deed_in : Kept → Shared → Process → Thread → Call → ℕ → List ℕ → Result (Deed Resources) Errno
-deed_in resources queues process thread call moment bytes = deed_of (told resources queues) process (caller_in thread call) call.target moment (meaning bytes)
+deed_in resources queues process thread call moment bytes = deed_of (told resources queues) process (caller_of_call thread call) call.target moment (meaning bytes)
 
 -- a user's part of the machine, where the user has processes
 abbrev pub part_in : Channel → Kept → Option Part
@@ -64,7 +64,7 @@ module _ (c d : Channel) (k l : Kept) (served : Part → Served) where
 abbrev pub sent_wants_memory : Resources → Process → Thread → ThreadRow → ℕ → Option Sent → Bool
 sent_wants_memory resources process thread row moment None = false
 sent_wants_memory resources process thread row moment (Some sent) =
-    wants_memory sent.target.manager (meaning sent.bytes)
+    bytes_want_memory sent.target.manager (meaning sent.bytes)
     && is_ok (deed_of resources process (caller_of thread.proc.num thread.tid row sent) sent.target moment (meaning sent.bytes))
 
 abbrev pub row_wants_memory : Resources → Process → Thread → ℕ → Option ThreadRow → Bool

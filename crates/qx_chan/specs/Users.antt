@@ -20,13 +20,13 @@ Users = List (Option (List (Option Process)))
 abbrev pub no_processes : ℕ → Users
 no_processes users = None ∷ replicate users (Some (None ∷ []))
 
-abbrev pub process_in : ℕ → Option (List (Option Process)) → Option Process
-process_in number None = None
-process_in number (Some processes) = row_at processes number
+abbrev pub process_of_user : ℕ → Option (List (Option Process)) → Option Process
+process_of_user number None = None
+process_of_user number (Some processes) = row_at processes number
 
 -- a process of a user
 abbrev pub process_of : Users → Proc → Option Process
-process_of users proc = process_in proc.num (row_at users proc.user.0)
+process_of users proc = process_of_user proc.num (row_at users proc.user.0)
 
 -- a thread's row
 abbrev pub thread_row : Users → Thread → Option ThreadRow
@@ -56,6 +56,6 @@ HasPlace None = ⊤
 HasPlace (Some processes) = 0 < length processes
 
 -- the thread is there, and waits for nothing
-abbrev pub IsReady : Option ThreadRow → Type 0
-IsReady None = ⊥
-IsReady (Some row) = row.state ≡ Ready
+abbrev pub IsThreadReady : Option ThreadRow → Type 0
+IsThreadReady None = ⊥
+IsThreadReady (Some row) = row.state ≡ Ready

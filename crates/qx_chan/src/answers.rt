@@ -2,7 +2,7 @@
 
 ghost use Rattle.std.specs.Prelude.{◌≡◌, []};
 ghost use Rattle.qx_chan.specs.Answers.{given_lines, given_users};
-ghost use Rattle.qx_chan.specs.Kept.{Answering, Kept};
+ghost use Rattle.qx_chan.specs.Kept.{Answering, StandTogether};
 
 use crate::users::Users;
 use qx_shared::Shared;
@@ -13,7 +13,7 @@ use qx_types::Manager;
 pub fn give_answers(users: &mut Users, queues: &mut Shared)
     ensures users { users.new ≡ given_users users.old queues.old.answered }
     ensures queues { queues.new ≡ record queues.old { lines = given_lines queues.old.lines queues.old.answered; answered = [] } }
-    ensures kept { Answering users.old queues.old → Kept users.new queues.new }
+    ensures kept { Answering users.old queues.old → StandTogether users.new queues.new }
 {
     while let Some(taken) = queues.take_answered() {
         users.answer(taken.thread, taken.answer, taken.room);

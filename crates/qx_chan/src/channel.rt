@@ -8,7 +8,7 @@ ghost use Rattle.qx_process.specs.Reads.{CanCall, CanGo, IsPriority, IsRanked};
 ghost use Rattle.qx_procs.specs.Calls.{spawn_outcome};
 ghost use Rattle.qx_chan.specs.Calls.{answer_of, queued_call, taken_call, unasked_call};
 ghost use Rattle.qx_chan.specs.Channel.{after_asking, after_ranking, after_receive, after_send, after_spawn, after_taking, after_withdrawing, channel_line, empty_channel};
-ghost use Rattle.qx_chan.specs.Users.{IsReady, prio_outcome_in, process_of, spawn_number_in, thread_row};
+ghost use Rattle.qx_chan.specs.Users.{IsThreadReady, prio_outcome_in, process_of, spawn_number_in, thread_row};
 
 use crate::call::{self, Call};
 use crate::servers;
@@ -32,7 +32,7 @@ pub struct Channel {
 impl Model for Channel {
     ghost use Rattle.std.specs.Coded.{codes};
     ghost use Rattle.qx_chan.specs.Channel as words;
-    ghost use Rattle.qx_chan.specs.Kept.{Kept};
+    ghost use Rattle.qx_chan.specs.Kept.{StandTogether};
 
     ghost Value = { words.Channel };
 
@@ -40,7 +40,7 @@ impl Model for Channel {
 
     ghost view = { λ c. record { users = c.users; lines = c.queues.lines; pipes = c.queues.pipes } };
 
-    ghost invariant = { λ c. Kept c.users c.queues };
+    ghost invariant = { λ c. StandTogether c.users c.queues };
 }
 
 impl Channel {
@@ -133,7 +133,7 @@ impl Channel {
     /// A thread's message goes into its manager's line with its priority, and the thread is blocked, with room for the
     /// reply; what the message goes over is attached (C Library Reference: `MsgSend`).
     pub fn send(&mut self, alloc: Global, thread: Thread, sent: Sent) -> Result<(), AllocError>
-        requires ready { IsReady (thread_row self.old.users thread) }
+        requires ready { IsThreadReady (thread_row self.old.users thread) }
         requires countable { CanCall (thread_row self.old.users thread) }
         requires target { CanGo sent.target }
         ensures ok { OnOk result (self.new ≡ after_send self.old thread sent) }

@@ -3,7 +3,7 @@
 ghost use Rattle.std.specs.Prelude.{◌≡◌, ◌≤◌, slice_get, IsTrue, OnOk, OnErr};
 ghost use Rattle.qx_types.specs.Managers.{manager_number, managers};
 ghost use Rattle.qx_shared.specs.Shared.{HasThread};
-ghost use Rattle.qx_chan.specs.Kept.{attached_at, attaches, settled, settled_number, with_attached, with_room};
+ghost use Rattle.qx_chan.specs.Kept.{attached_at, attaches, servers_settled, settled_number, with_attached, with_room};
 ghost use Rattle.qx_chan.specs.Users.{process_of};
 
 use crate::users::Users;
@@ -41,7 +41,7 @@ pub fn attach(queues: &mut Shared, users: &Users, proc: Proc, target: Target)
 
 /// A process keeps the disconnect nodes of the managers where something of it is attached, and no other.
 pub fn settle(queues: &mut Shared, users: &Users, proc: Proc)
-    ensures settled { queues.new ≡ settled proc (process_of users.now proc) managers queues.old }
+    ensures settled { queues.new ≡ servers_settled proc (process_of users.now proc) managers queues.old }
 {
     for number in 0..Manager::COUNT {
         settle_at(queues, users, proc, number);

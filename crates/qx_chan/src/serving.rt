@@ -13,11 +13,11 @@ ghost use Rattle.qx_machine.specs.declared.rows.OwnItem.TheVariants as item;
 ghost use Rattle.qx_queues.specs.Queues.{unblock_call};
 ghost use Rattle.qx_shared.specs.Shared.{IsReceived, shared_line};
 ghost use Rattle.qx_resmgr.specs.Deeds.{Did, IsReplied};
-ghost use Rattle.qx_resources.specs.Memory.{IsInRanges, wants_memory};
-ghost use Rattle.qx_resources.specs.State.{Fits, state};
+ghost use Rattle.qx_resources.specs.Memory.{IsInRanges, bytes_want_memory};
+ghost use Rattle.qx_resources.specs.State.{HasUser, state};
 ghost use Rattle.qx_chan.specs.Answers.{answered_queues, answered_users};
 ghost use Rattle.qx_chan.specs.Calls.{taken_call, taken_of};
-ghost use Rattle.qx_chan.specs.Serving.{IsReadOf, Sends, Serves, caller_in, deed_in, part_in, part_wants_memory};
+ghost use Rattle.qx_chan.specs.Serving.{IsReadOf, Sends, Serves, caller_of_call, deed_in, part_in, part_wants_memory};
 ghost use Rattle.qx_chan.specs.Users.{thread_row, with_thread_row};
 
 use crate::answers::give_answers;
@@ -108,7 +108,7 @@ fn perform(
     reply: &mut Reply,
 ) -> Result<(Result<Done, Errno>, Option<Room>), AllocError>
     requires user { resources.old.user ≡ thread.proc.user.0 }
-    requires fits { Fits resources.old queues.old }
+    requires fits { HasUser resources.old queues.old }
     requires taken { Some call ≡ taken_call (thread_row users.old thread) }
     requires received { IsReceived queues.old thread }
     requires read { IsReadOf (option_copied read) (taken_of (thread_row users.old thread)) }
@@ -117,7 +117,7 @@ fn perform(
     ensures room { IfOk result (λ given. IsReplied given.0 → IsSome given.1) }
     ensures err { OnErr result ((users.new ≡ users.old) × (queues.new ≡ queues.old) × (resources.new ≡ resources.old)) }
     ensures wanted { (process : machine.Process) (bytes : List ℕ) → Sends users.old thread process bytes → OnErr result (IsOk (deed_in resources.old queues.old process thread call moment bytes)) }
-    ensures sure { (process : machine.Process) (bytes : List ℕ) → Sends users.old thread process bytes → IsFalse (wants_memory call.target.manager (reading.meaning bytes)) → IsOk result }
+    ensures sure { (process : machine.Process) (bytes : List ℕ) → Sends users.old thread process bytes → IsFalse (bytes_want_memory call.target.manager (reading.meaning bytes)) → IsOk result }
 {
     let (bytes, room) = users.hand_over(thread);
     let mut room = Some(room);
@@ -179,7 +179,7 @@ fn answer(
 
 /// Whose message a call is.
 fn caller(thread: Thread, call: Call) -> Caller
-    ensures { result ≡ caller_in thread call }
+    ensures { result ≡ caller_of_call thread call }
 {
     Caller {
         process: thread.proc.num,

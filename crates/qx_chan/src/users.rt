@@ -9,7 +9,7 @@ ghost use Rattle.qx_machine.specs.Rows.{row_at, with_row};
 ghost use Rattle.qx_process.specs.Reads.{unserved_thread, CanCall, CanGo, IsRanked};
 ghost use Rattle.qx_procs.specs.Calls.{spawned};
 ghost use Rattle.qx_chan.specs.Calls.{taken_bytes};
-ghost use Rattle.qx_chan.specs.Channel.{failed, replied};
+ghost use Rattle.qx_chan.specs.Channel.{failed, process_replied};
 ghost use Rattle.qx_chan.specs.Users.{HasPlace, no_processes, process_of, thread_row, with_process_of, with_thread_row};
 
 use qx_machine::{Effect, Over, Sent, ThreadRow};
@@ -186,7 +186,7 @@ impl Users {
         bytes: MessageBytes,
         room: Option<Room>,
     )
-        ensures replied { self.new ≡ with_process_of self.old thread.proc (replied thread.tid effect status bytes over) }
+        ensures replied { self.new ≡ with_process_of self.old thread.proc (process_replied thread.tid effect status bytes over) }
     {
         if let Some(process) = self.process_mut(thread.proc) {
             apply(process, effect);

@@ -16,9 +16,9 @@ use Rattle.qx_machine.specs.Resources.{Resources}
 use Rattle.qx_machine.specs.Rows.{put_row, row_at, with_row}
 use Rattle.qx_machine.specs.Waiting.{is_over}
 use Rattle.qx_machine.proofs.Places.{row_at-set_other}
-use Rattle.qx_invariants.specs.Changes.{Change, Closes, Comes, Fills, IsOwnInode, MayHappen, Moves, Opens, Unlinks, changed, with_named, with_unlinked}
+use Rattle.qx_invariants.specs.Changes.{ResourceChange, Closes, Comes, Fills, IsOwnInode, MayHappen, Moves, Opens, Unlinks, with_change, with_named, with_unlinked}
 use Rattle.qx_invariants.specs.Holds.{HasContents, HasOpenWaiters, HasRoom}
-use Rattle.qx_invariants.specs.Waits.{is_astray, waiting_in}
+use Rattle.qx_invariants.specs.Waits.{is_astray, count_waiting_in}
 use Rattle.qx_invariants.proofs.Rows.{content_cases, empty_cases, freed, block_is_new, not_open, put_other, unused_cases, with_row-at, with_row-other}
 use Rattle.qx_invariants.proofs.Contents.{no_size, none_fits, own_directory, own_file}
 use Rattle.qx_invariants.proofs.Named.{unused_there}
@@ -43,7 +43,7 @@ module _ {W : Type 0} (p q s : W → Bool) (less : (w : W) → p w ≡ true → 
       omega (arith, of_p, first, rest, of_q, of_s, no_q, no_s)
 
 -- who is of the first kind is of the second or of the third, of which none waits
-pub none_waits : (p q s : WaitingCall → Bool) → ((call : WaitingCall) → p call ≡ true → (q call ≡ true) ⊎ (s call ≡ true)) → (row : Option (Pipe WaitingCall)) → waiting_in q row ≡ 0 → waiting_in s row ≡ 0 → waiting_in p row ≡ 0
+pub none_waits : (p q s : WaitingCall → Bool) → ((call : WaitingCall) → p call ≡ true → (q call ≡ true) ⊎ (s call ≡ true)) → (row : Option (Pipe WaitingCall)) → count_waiting_in q row ≡ 0 → count_waiting_in s row ≡ 0 → count_waiting_in p row ≡ 0
 none_waits p q s less None no_q no_s = refl
 none_waits p q s less (Some pipe) no_q no_s =
     let readers = none_such p q s less pipe.readers (omega (arith, no_q)) (omega (arith, no_s)) in
@@ -66,17 +66,17 @@ open_some inode (Some block) is = (block, refl, sym (by (block.inode == inode) r
 -- ---- what changes
 
 module _ (r : Resources) (h : HasOpenWaiters r) where
-  set_astray : (inode : ℕ) (row : Option (Pipe WaitingCall)) → waiting_in (is_astray r.inodes.blocks inode) row ≡ 0 → HasOpenWaiters (record r { pipes = slice_set r.pipes inode row })
+  set_astray : (inode : ℕ) (row : Option (Pipe WaitingCall)) → count_waiting_in (is_astray r.inodes.blocks inode) row ≡ 0 → HasOpenWaiters (record r { pipes = slice_set r.pipes inode row })
   set_astray inode row none = record {
     none_astray = λ m. elim (cases_eq m inode) [
-      | inl same ↦ subst (λ k. waiting_in (is_astray r.inodes.blocks k) (row_at (slice_set r.pipes inode row) k) ≡ 0) (sym same)
-          (elim (set_or_none r.pipes inode row) [ inl is ↦ ap (waiting_in (is_astray r.inodes.blocks inode)) is ∙ none | inr is ↦ ap (waiting_in (is_astray r.inodes.blocks inode)) is ])
-      | inr apart ↦ ap (waiting_in (is_astray r.inodes.blocks m)) (row_at-set_other r.pipes inode m row apart) ∙ h.none_astray m
+      | inl same ↦ subst (λ k. count_waiting_in (is_astray r.inodes.blocks k) (row_at (slice_set r.pipes inode row) k) ≡ 0) (sym same)
+          (elim (set_or_none r.pipes inode row) [ inl is ↦ ap (count_waiting_in (is_astray r.inodes.blocks inode)) is ∙ none | inr is ↦ ap (count_waiting_in (is_astray r.inodes.blocks inode)) is ])
+      | inr apart ↦ ap (count_waiting_in (is_astray r.inodes.blocks m)) (row_at-set_other r.pipes inode m row apart) ∙ h.none_astray m
     ];
   }
 
   -- nobody waits in what is unused
-  pub nobody_unused : (inode : ℕ) → is_unused r.inodes inode (row_at r.inodes.attributes inode) ≡ true → (which : WaitingCall → Bool) → waiting_in which (row_at r.pipes inode) ≡ 0
+  pub nobody_unused : (inode : ℕ) → is_unused r.inodes inode (row_at r.inodes.attributes inode) ≡ true → (which : WaitingCall → Bool) → count_waiting_in which (row_at r.pipes inode) ≡ 0
   nobody_unused inode unused which =
       none_waits which (is_astray r.inodes.blocks inode) (is_astray r.inodes.blocks inode) (λ call is. inl (astray call)) (row_at r.pipes inode) (h.none_astray inode) (h.none_astray inode)
     where
@@ -90,10 +90,10 @@ module _ (r : Resources) (h : HasOpenWaiters r) where
       astray call = not_its call (is_open (λ flags. true) inode (row_at r.inodes.blocks call.block)) refl
 
   -- an open control block goes over which nobody waits
-  pub closed_astray : (number : ℕ) (block : Ocb) → row_at r.inodes.blocks number ≡ Some block → waiting_in (is_over number) (row_at r.pipes block.inode) ≡ 0 → HasOpenWaiters (without_block number r)
+  pub closed_astray : (number : ℕ) (block : Ocb) → row_at r.inodes.blocks number ≡ Some block → count_waiting_in (is_over number) (row_at r.pipes block.inode) ≡ 0 → HasOpenWaiters (without_block number r)
   closed_astray number block there nobody = record {
     none_astray = λ m. elim (cases_eq m block.inode) [
-      | inl same ↦ subst (λ k. waiting_in (is_astray (slice_set r.inodes.blocks number None) k) (row_at r.pipes k) ≡ 0) (sym same)
+      | inl same ↦ subst (λ k. count_waiting_in (is_astray (slice_set r.inodes.blocks number None) k) (row_at r.pipes k) ≡ 0) (sym same)
           (none_waits _ (is_astray r.inodes.blocks block.inode) (is_over number) (λ call is. own call is) (row_at r.pipes block.inode) (h.none_astray block.inode) nobody)
       | inr apart ↦ none_waits _ (is_astray r.inodes.blocks m) (is_astray r.inodes.blocks m) (λ call is. inl (other m apart call is)) (row_at r.pipes m) (h.none_astray m) (h.none_astray m)
     ];
@@ -145,21 +145,21 @@ module _ (r : Resources) (h : HasOpenWaiters r) where
       (λ stays. h)
 
 -- nobody waits over a block in an inode that is no pipe
-pub nobody_over : (own : Kind) (r : Resources) (number inode : ℕ) → HasContents r → IsOwnInode own r inode → waiting_in (is_over number) (pipe_in own r inode) ≡ 0 → waiting_in (is_over number) (row_at r.pipes inode) ≡ 0
+pub nobody_over : (own : Kind) (r : Resources) (number inode : ℕ) → HasContents r → IsOwnInode own r inode → count_waiting_in (is_over number) (pipe_in own r inode) ≡ 0 → count_waiting_in (is_over number) (row_at r.pipes inode) ≡ 0
 nobody_over kind.Pipe r number inode h owned nobody = nobody
 nobody_over kind.File r number inode h owned nobody =
-    ap (waiting_in (is_over number)) (none_fits kind.Pipe _ (row_at r.pipes inode) (h.pipes inode ∙ no_size kind.Pipe _ owned.attribute owned.there (own_file owned.attribute.kind owned.owned)))
+    ap (count_waiting_in (is_over number)) (none_fits kind.Pipe _ (row_at r.pipes inode) (h.pipes inode ∙ no_size kind.Pipe _ owned.attribute owned.there (own_file owned.attribute.kind owned.owned)))
 nobody_over kind.Directory r number inode h owned nobody =
-    ap (waiting_in (is_over number)) (none_fits kind.Pipe _ (row_at r.pipes inode) (h.pipes inode ∙ no_size kind.Pipe _ owned.attribute owned.there (own_directory kind.Pipe owned.attribute.kind (λ same. cc) owned.owned)))
+    ap (count_waiting_in (is_over number)) (none_fits kind.Pipe _ (row_at r.pipes inode) (h.pipes inode ∙ no_size kind.Pipe _ owned.attribute owned.there (own_directory kind.Pipe owned.attribute.kind (λ same. cc) owned.owned)))
 
-pub astray-keeps : (change : Change) (r : Resources) → MayHappen change r → HasRoom r → HasContents r → HasOpenWaiters r → HasOpenWaiters (changed change r)
+pub astray-keeps : (change : ResourceChange) (r : Resources) → MayHappen change r → HasRoom r → HasContents r → HasOpenWaiters r → HasOpenWaiters (with_change change r)
 astray-keeps (Comes inode directory name kind mode moment) r may room contents h =
     empty_cases HasOpenWaiters kind inode (with_named inode (under directory name) (new_attribute kind mode r.user moment) r) (λ is. record { none_astray = h.none_astray })
     (λ is. record { none_astray = (set_astray r h inode (Some (pipe_of [] [] [])) refl).none_astray }) (λ is. record { none_astray = h.none_astray })
 astray-keeps (Opens number block) r may room contents h = let new = block_is_new r.inodes number room.some_blocks may.0 in opened_astray r h number block new.free new.within
 astray-keeps (Moves number offset) r may room contents h = moved_astray r h number offset
 astray-keeps (Fills inode moment after came) r may room contents h =
-    let before : waiting_in (is_astray r.inodes.blocks inode) (Some may.pipe) ≡ 0 = ap (waiting_in (is_astray r.inodes.blocks inode)) (sym may.there) ∙ h.none_astray inode in
+    let before : count_waiting_in (is_astray r.inodes.blocks inode) (Some may.pipe) ≡ 0 = ap (count_waiting_in (is_astray r.inodes.blocks inode)) (sym may.there) ∙ h.none_astray inode in
     let once = may.once (is_astray r.inodes.blocks inode) in
     let over = may.over in
     record { none_astray = (set_astray r h inode (Some after.pipe) (omega (arith, before, once, over))).none_astray }

@@ -14,9 +14,9 @@ use Rattle.qx_machine.specs.Pipes.{Pipe, pipe_of}
 use Rattle.qx_machine.specs.Resources.{Resources}
 use Rattle.qx_machine.specs.Rows.{row_at, put_row, with_row}
 use Rattle.qx_machine.specs.Waiting.{Pipes}
-use Rattle.qx_invariants.specs.Changes.{Change, Closes, Comes, Fills, MayHappen, Unlinks, changed, with_named, with_unlinked}
+use Rattle.qx_invariants.specs.Changes.{ResourceChange, Closes, Comes, Fills, MayHappen, Unlinks, with_change, with_named, with_unlinked}
 use Rattle.qx_invariants.specs.Holds.{HasOpenWaiters, size_if}
-use Rattle.qx_invariants.specs.Waits.{answers_to, waiting, waiting_in, waiting_of, is_of, waits, waits_in}
+use Rattle.qx_invariants.specs.Waits.{answers_to, count_waiting, count_waiting_in, waiting_of, is_of, waits, count_state_waiting}
 use Rattle.qx_invariants.proofs.Astray.{closed_astray, nobody_over, nobody_unused}
 use Rattle.qx_attr.proofs.CountLemmas.{within_table}
 use Rattle.qx_invariants.proofs.Rows.{content_cases, empty_cases, freed, inode_is_new, unused_cases, with_row-at, with_row-other}
@@ -35,48 +35,48 @@ use Rattle.qx_machine.specs.declared.rows.Kind.TheVariants as kind
 use Rattle.qx_machine.specs.declared.rows.State.TheVariants as state
 
 -- a pipe is replaced by one in which as many wait
-set_same : (which : WaitingCall → Bool) (pipes : Pipes) (n : ℕ) (row : Option (Pipe WaitingCall)) → waiting_in which row ≡ waiting_in which (row_at pipes n) → waiting which (slice_set pipes n row) ≡ waiting which pipes
+set_same : (which : WaitingCall → Bool) (pipes : Pipes) (n : ℕ) (row : Option (Pipe WaitingCall)) → count_waiting_in which row ≡ count_waiting_in which (row_at pipes n) → count_waiting which (slice_set pipes n row) ≡ count_waiting which pipes
 set_same which [] n row same = refl
 set_same which (place ∷ pipes) zero row same =
-    let now = sum_by-cons (waiting_in which) row pipes in
-    let was = sum_by-cons (waiting_in which) place pipes in
+    let now = sum_by-cons (count_waiting_in which) row pipes in
+    let was = sum_by-cons (count_waiting_in which) place pipes in
     omega (arith, now, was, same)
 set_same which (place ∷ pipes) (suc n) row same =
-    let now = sum_by-cons (waiting_in which) place (slice_set pipes n row) in
-    let was = sum_by-cons (waiting_in which) place pipes in
+    let now = sum_by-cons (count_waiting_in which) place (slice_set pipes n row) in
+    let was = sum_by-cons (count_waiting_in which) place pipes in
     let rest = set_same which pipes n row same in
     omega (arith, now, was, rest)
 
-set_other : (which : WaitingCall → Bool) (pipes : Pipes) (n : ℕ) (was now : Pipe WaitingCall) → row_at pipes n ≡ Some was → waiting which (slice_set pipes n (Some now)) + waiting_of which was ≡ waiting which pipes + waiting_of which now
+set_other : (which : WaitingCall → Bool) (pipes : Pipes) (n : ℕ) (was now : Pipe WaitingCall) → row_at pipes n ≡ Some was → count_waiting which (slice_set pipes n (Some now)) + waiting_of which was ≡ count_waiting which pipes + waiting_of which now
 set_other which pipes n was now is =
-    let set = sum_by-set (waiting_in which) pipes n (Some now) None (within_table pipes n was is) in
-    let before : waiting_in which (get_or pipes n None) ≡ waiting_of which was = ap (waiting_in which) (sym (unwrap_or-slice_get pipes n None) ∙ is) in
+    let set = sum_by-set (count_waiting_in which) pipes n (Some now) None (within_table pipes n was is) in
+    let before : count_waiting_in which (get_or pipes n None) ≡ waiting_of which was = ap (count_waiting_in which) (sym (unwrap_or-slice_get pipes n None) ∙ is) in
     omega (arith, set, before)
 
 -- nobody waits in what goes
-unused_same : (own : Kind) (inode : ℕ) (r : Resources) → HasOpenWaiters r → (which : WaitingCall → Bool) → waiting which (without_unused own inode r).pipes ≡ waiting which r.pipes
+unused_same : (own : Kind) (inode : ℕ) (r : Resources) → HasOpenWaiters r → (which : WaitingCall → Bool) → count_waiting which (without_unused own inode r).pipes ≡ count_waiting which r.pipes
 unused_same own inode r h which =
-    unused_cases (λ (s : Resources). waiting which s.pipes ≡ waiting which r.pipes) own inode r
-    (λ gone. content_cases (λ (s : Resources). waiting which s.pipes ≡ waiting which r.pipes) own inode (freed inode r) (λ is. refl)
+    unused_cases (λ (s : Resources). count_waiting which s.pipes ≡ count_waiting which r.pipes) own inode r
+    (λ gone. content_cases (λ (s : Resources). count_waiting which s.pipes ≡ count_waiting which r.pipes) own inode (freed inode r) (λ is. refl)
     (λ is. set_same which r.pipes inode None (sym (nobody_unused r h inode gone which))) (λ is. refl))
     (λ stays. refl)
 
 -- as many calls wait, with those that were answered, as waited at first and came
 abbrev pub Balance : Resources → Resources → Told → Type 0
-Balance first r told = (which : WaitingCall → Bool) → answers_to which told.answers + waiting which r.pipes ≡ waiting which first.pipes + count_by which told.came
+Balance first r told = (which : WaitingCall → Bool) → answers_to which told.answers + count_waiting which r.pipes ≡ count_waiting which first.pipes + count_by which told.came
 
 -- all that holds, and that
 pub record Balanced (first r : Resources) (told : Told) : Type 0 where
   pub holds : Holds r
   pub balance : Balance first r told
 
-same_balance : (first r now : Resources) (told : Told) → ((which : WaitingCall → Bool) → waiting which now.pipes ≡ waiting which r.pipes) → Balance first r told → Balance first now told
+same_balance : (first r now : Resources) (told : Told) → ((which : WaitingCall → Bool) → count_waiting which now.pipes ≡ count_waiting which r.pipes) → Balance first r told → Balance first now told
 same_balance first r now told same balance which = let before = balance which in let alike = same which in omega (arith, before, alike)
 
-balance-keeps : (first : Resources) (change : Change) (r : Resources) (told : Told) → MayHappen change r → Holds r → Balance first r told → Balance first (changed change r) (told_by change told)
+balance-keeps : (first : Resources) (change : ResourceChange) (r : Resources) (told : Told) → MayHappen change r → Holds r → Balance first r told → Balance first (with_change change r) (told_by change told)
 balance-keeps first (Comes inode directory name which mode moment) r told may h balance =
     empty_cases (λ (s : Resources). Balance first s told) which inode (with_named inode (under directory name) (new_attribute which mode r.user moment) r) (λ is. balance)
-    (λ is. same_balance first r (record r { pipes = slice_set r.pipes inode (Some (pipe_of [] [] [])) }) told (λ of. set_same of r.pipes inode (Some (pipe_of [] [] [])) (ap (waiting_in of) (sym none))) balance) (λ is. balance)
+    (λ is. same_balance first r (record r { pipes = slice_set r.pipes inode (Some (pipe_of [] [] [])) }) told (λ of. set_same of r.pipes inode (Some (pipe_of [] [] [])) (ap (count_waiting_in of) (sym none))) balance) (λ is. balance)
   where
     none : row_at r.pipes inode ≡ None
     none = none_fits kind.Pipe _ (row_at r.pipes inode) (h.contents.pipes inode ∙ ap (size_if kind.Pipe) (inode_is_new r.inodes inode h.room.some_inodes may.0).free)
@@ -93,7 +93,7 @@ balance-keeps first (Closes own number block) r told may h balance =
     same_balance first r (without_unused own block.inode (without_block number r)) told (unused_same own block.inode (without_block number r) (closed_astray r h.waiters number block may.0 (nobody_over own r number block.inode h.contents may.1 may.2))) balance
 balance-keeps first _ r told may h balance = balance
 
-pub balanced-keeps : (first : Resources) (change : Change) (r : Resources) (told : Told) → MayHappen change r → Balanced first r told → Balanced first (changed change r) (told_by change told)
+pub balanced-keeps : (first : Resources) (change : ResourceChange) (r : Resources) (told : Told) → MayHappen change r → Balanced first r told → Balanced first (with_change change r) (told_by change told)
 balanced-keeps first change r told may h = record { holds = holds-keep change r may h.holds; balance = balance-keeps first change r told may h.holds h.balance }
 
 -- ---- threads
@@ -103,7 +103,7 @@ pub waits_few : (row : Option ThreadRow) → waits row ≤ 1
 waits_few None = omega arith
 waits_few (Some row) = by row.state
   where
-    by : (s : State) → waits_in s ≤ 1
+    by : (s : State) → count_state_waiting s ≤ 1
     by state.Ready = omega arith
     by _ = omega arith
 
@@ -144,7 +144,7 @@ module _ (part : Part) (number thread : ℕ) (change : ThreadRow → ThreadRow) 
       by (Some process) = ap (λ threads. row_at threads t) (changes process) ∙ with_row-other process.threads thread change t apart
 
   -- the change is not seen in who waits
-  pub thread_same : ((row : ThreadRow) → thread_at part number thread ≡ Some row → waits_in (change row).state ≡ waits_in row.state) → (p t : ℕ) → waits (thread_at (with_process number f part) p t) ≡ waits (thread_at part p t)
+  pub thread_same : ((row : ThreadRow) → thread_at part number thread ≡ Some row → count_state_waiting (change row).state ≡ count_state_waiting row.state) → (p t : ℕ) → waits (thread_at (with_process number f part) p t) ≡ waits (thread_at part p t)
   thread_same same p t = elim (cases_eq p number) [
     | inl is ↦ elim (cases_eq t thread) [
       | inl also ↦

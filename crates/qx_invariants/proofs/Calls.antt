@@ -11,7 +11,7 @@ use Rattle.qx_types.specs.declared.outcome.Answer.TheVariants.{Failed}
 use Rattle.qx_machine.specs.declared.rows.Manner.{Manner}
 use Rattle.qx_machine.specs.declared.rows.Sides.{Sides}
 use Rattle.qx_machine.specs.Files.{put}
-use Rattle.qx_machine.specs.Pipes.{After, Pipe, cancel, clean, clean_read, clean_write, dismissed, fits, nobody_answered, pipe_of, portion, read, readers_ended, release, removed, served, settle, staying, waiting_unless, with_reader, with_writer, write, writers_ended}
+use Rattle.qx_machine.specs.Pipes.{PipeAfter, Pipe, cancel, clean, clean_read, clean_write, dismissed, fits, nobody_answered, pipe_of, portion, read, readers_ended, release, removed, served, settle, staying, waiting_unless, with_reader, with_writer, write, writers_ended}
 use Rattle.qx_files.proofs.PutLemmas.{length-put}
 use Rattle.qx_pipe.specs.Laws.{IsSettled}
 use Rattle.qx_pipe.proofs.CallLemmas as laws
@@ -85,7 +85,7 @@ IsShort p = length p.bytes ≤ PIPE
 -- ---- no more bytes
 
 module _ {W : Type 0} (wanted : W → ℕ) (offered : W → List ℕ) where
-  short-if : (b : Bool) (first other : After W) → IsShort first.pipe → IsShort other.pipe → IsShort (if b then first else other).pipe
+  short-if : (b : Bool) (first other : PipeAfter W) → IsShort first.pipe → IsShort other.pipe → IsShort (if b then first else other).pipe
   short-if true first other one_is other_is = one_is
   short-if false first other one_is other_is = other_is
 
@@ -121,7 +121,7 @@ module _ {W : Type 0} (wanted : W → ℕ) (offered : W → List ℕ) where
       (short-if (not (nat_eq (length p.bytes) 0)) _ _ (settle_short (record p { bytes = drop (portion wanted who p.bytes) p.bytes }) (shorter (portion wanted who p.bytes) p.bytes short))
       (short-if (not manner.has_other_side) _ _ short (short-waits manner who p (with_reader p who) short short)))
 
-  short-written : (b fitting : Bool) (first other : After W) → (fitting ≡ true → IsShort first.pipe) → IsShort other.pipe → IsShort (if b && fitting then first else other).pipe
+  short-written : (b fitting : Bool) (first other : PipeAfter W) → (fitting ≡ true → IsShort first.pipe) → IsShort other.pipe → IsShort (if b && fitting then first else other).pipe
   short-written true true first other one_is other_is = one_is refl
   short-written true false first other one_is other_is = other_is
   short-written false fitting first other one_is other_is = other_is

@@ -11,12 +11,12 @@ use Rattle.qx_machine.specs.Defaults.{is_own, without_block, without_unused}
 use Rattle.qx_machine.specs.Inodes.{new_attribute}
 use Rattle.qx_machine.specs.Names.{Names, is_same_kind, under}
 use Rattle.qx_machine.specs.PipeManager.{filled}
-use Rattle.qx_machine.specs.Pipes.{After, pipe_of, Pipe, settle}
+use Rattle.qx_machine.specs.Pipes.{PipeAfter, pipe_of, Pipe, settle}
 use Rattle.qx_machine.specs.Resources.{Resources, resized, with_empty, without_content}
 use Rattle.qx_machine.specs.Rows.{put_row, row_at, with_row}
 use Rattle.qx_machine.specs.Waiting.{is_written, offered}
 use Rattle.qx_machine.proofs.Places.{row_at-set_other, row_at-set_cases}
-use Rattle.qx_invariants.specs.Changes.{Change, Closes, Comes, Fills, IsOwnInode, MayHappen, Mounts, Touches, Unlinks, Writes, changed, unlinked, with_changed, with_unlinked, with_named, IsSettled}
+use Rattle.qx_invariants.specs.Changes.{ResourceChange, Closes, Comes, Fills, IsOwnInode, MayHappen, Mounts, Touches, Unlinks, Writes, with_change, without_link, with_changed, with_unlinked, with_named, IsSettled}
 use Rattle.qx_invariants.specs.Holds.{HasContents, HasRoom, size_if, HasLimits, HasSettledPipes}
 use Rattle.qx_attr.proofs.CountLemmas.{within_table}
 use Rattle.qx_iofunc.proofs.PlaceLemmas.{put_at, row-freed, set_at}
@@ -142,7 +142,7 @@ there_kind which size rows attributes fit inode there a is = by (is_same_kind wh
     by true sized = refl
     by false sized = let none : None ≡ Some _ = sym (none_fits which size (row_at rows inode) sized) ∙ (the-some (row_at rows inode) there).1 in absurd (cc)
 
-filled-size : (moment : ℕ) (after : After WaitingCall) (a : Attribute) → is_same_kind kind.Pipe a.kind ≡ true → (filled moment after a).size ≡ length after.pipe.bytes
+filled-size : (moment : ℕ) (after : PipeAfter WaitingCall) (a : Attribute) → is_same_kind kind.Pipe a.kind ≡ true → (filled moment after a).size ≡ length after.pipe.bytes
 filled-size moment after a is = rw is (cond_both (list_any (λ answer. is_written (offered answer.0) answer.1) after.answers) _ _ (λ (now : Attribute). now.size ≡ length after.pipe.bytes) (λ is. refl) (λ is. refl))
 
 -- ---- what happens
@@ -187,7 +187,7 @@ module _ (r : Resources) (h : HasContents r) where
     pipes = resized_fits kind.Pipe _ r.pipes r.inodes.attributes h.pipes inode change (λ a is. same kind.Pipe a);
   }
 
-pub contents-keep : (change : Change) (r : Resources) → MayHappen change r → HasRoom r → HasContents r → HasContents (changed change r)
+pub contents-keep : (change : ResourceChange) (r : Resources) → MayHappen change r → HasRoom r → HasContents r → HasContents (with_change change r)
 contents-keep (Mounts mount) r may room h =
     let new = inode_is_new r.inodes mount.root room.some_inodes may in
     record {
@@ -206,10 +206,10 @@ contents-keep (Fills inode moment after came) r may room h = record {
       (λ a is. ap (λ b. if b then Some (filled moment after a).size else None) (ap (is_same_kind kind.Pipe) (filled-kind moment after a) ∙ is) ∙ ap Some (filled-size moment after a is));
 }
 contents-keep (Unlinks own directory name inode mtime ctime) r may room h =
-    let less = same_contents r h inode (unlinked mtime ctime) (λ which a. refl) in
+    let less = same_contents r h inode (without_link mtime ctime) (λ which a. refl) in
     let owned = may.2 in
     unused_contents (with_unlinked inode (under directory name) mtime ctime r) (record { files = less.files; pipes = less.pipes }) own inode
-    (record { attribute = unlinked mtime ctime owned.attribute; there = with_row-at r.inodes.attributes inode (unlinked mtime ctime) ∙ ap (option_map (unlinked mtime ctime)) owned.there; owned = owned.owned })
+    (record { attribute = without_link mtime ctime owned.attribute; there = with_row-at r.inodes.attributes inode (without_link mtime ctime) ∙ ap (option_map (without_link mtime ctime)) owned.there; owned = owned.owned })
 contents-keep (Closes own number block) r may room h =
     let owned = may.1 in
     unused_contents (without_block number r) (record { files = h.files; pipes = h.pipes }) own block.inode (record { attribute = owned.attribute; there = owned.there; owned = owned.owned })
@@ -261,7 +261,7 @@ unused_limits own inode r h =
     content_cases HasLimits own inode (freed inode r) (λ is. empty_file (freed inode r) less inode None refl (λ bytes none. absurd (cc))) (λ is. set_pipe (freed inode r) less inode None (λ pipe none. absurd (cc))) (λ is. less))
     (λ stays. h)
 
-pub limits-keep : (change : Change) (r : Resources) → MayHappen change r → HasLimits r → HasLimits (changed change r)
+pub limits-keep : (change : ResourceChange) (r : Resources) → MayHappen change r → HasLimits r → HasLimits (with_change change r)
 limits-keep (Comes inode directory name kind mode moment) r may h =
     let named = with_named inode (under directory name) (new_attribute kind mode r.user moment) r in
     let same = seen_limits r h named refl refl in
@@ -308,7 +308,7 @@ module _ (r : Resources) (h : HasSettledPipes r) where
       (λ gone. content_cases HasSettledPipes own inode (freed inode r) (λ is. record { settled = h.settled }) (λ is. record { settled = (set_settled inode None (λ pipe none. absurd (cc))).settled }) (λ is. record { settled = h.settled }))
       (λ stays. h)
 
-pub settled-keep : (change : Change) (r : Resources) → MayHappen change r → HasSettledPipes r → HasSettledPipes (changed change r)
+pub settled-keep : (change : ResourceChange) (r : Resources) → MayHappen change r → HasSettledPipes r → HasSettledPipes (with_change change r)
 settled-keep (Comes inode directory name kind mode moment) r may h =
     empty_cases HasSettledPipes kind inode (with_named inode (under directory name) (new_attribute kind mode r.user moment) r) (λ is. record { settled = h.settled })
     (λ is. record { settled = (set_settled r h inode (Some (pipe_of [] [] [])) (λ pipe made. subst IsSettled (same_Some _ _ made) new_settled)).settled }) (λ is. record { settled = h.settled })

@@ -32,22 +32,22 @@ use Rattle.qx_machine.specs.declared.rows.Target.{Target}
 use Rattle.qx_machine.specs.declared.rows.WaitingCall.{WaitingCall}
 use Rattle.qx_machine.specs.declared.rows.Wish.{Wish}
 use Rattle.qx_machine.specs.Attributes.{top_inode}
-use Rattle.qx_machine.specs.Defaults.{Made, allows, changed as written_to, chmod_block, close, is_own, list_block, made_at, make_directory, open_at, open_existing, open_missing, open_path, opened, own_block, pipe_in, stat_block, stat_path, unlink_path, unnamed, without_block, without_name, without_unused, writable}
+use Rattle.qx_machine.specs.Defaults.{MadeInode, allows, with_entries_changed as written_to, chmod_block, close, is_own, list_block, made_at, make_directory, open_spot, open_existing, open_missing, open_path, opened, own_block, pipe_in, stat_block, stat_path, unlink_path, unnamed, without_block, without_name, without_unused, writable}
 use Rattle.qx_machine.specs.Files.{put, total_size}
 use Rattle.qx_machine.specs.Functions.{Deed, Reply, reply_alone, new_open, side_root}
 use Rattle.qx_machine.specs.Inodes.{Inodes, Numbered, is_open, block_number, has, inode_number, may, new_attribute, new_inode, open_block, readers_of, reads, with_attribute, with_offset, writers_of, writes}
 use Rattle.qx_machine.specs.Judgements.{found, need}
 use Rattle.qx_machine.specs.Managers.{manager_deed}
 use Rattle.qx_machine.specs.Names.{Spot, is_directory, is_empty, names_in, spot, under}
-use Rattle.qx_machine.specs.PipeManager.{cancel_call, filled, read_pipe, released, seek_pipe, with_after, write_pipe}
-use Rattle.qx_machine.specs.Pipes.{After, Pipe, cancel, read, release, write}
+use Rattle.qx_machine.specs.PipeManager.{cancel_call, filled, read_pipe, released, seek_pipe, deed_of_pipe, write_pipe}
+use Rattle.qx_machine.specs.Pipes.{PipeAfter, Pipe, cancel, read, release, write}
 use Rattle.qx_machine.specs.RamManager.{emptied, read_file, seek_file, with_bytes, write_file, written_at}
 use Rattle.qx_machine.specs.Resources.{Resources, with_empty}
 use Rattle.qx_machine.specs.Rows.{put_row, row_at}
 use Rattle.qx_machine.specs.Waiting.{Pipes, holds, is_call, is_gone, is_over, manner_of, offered, sides_of, waiting_call, wanted}
 use Rattle.qx_machine.proofs.Places.{row_at-set_other}
-use Rattle.qx_invariants.specs.Changes.{Change, Closes, Comes, Fills, IsOwnInode, IsSettled, MayHappen, Moves, Opens, Touches, Unlinks, Writes, changed, touched, unlinked, with_named}
-use Rattle.qx_invariants.specs.Waits.{answers_to, is_astray, waiting_in, waiting_of}
+use Rattle.qx_invariants.specs.Changes.{ResourceChange, Closes, Comes, Fills, IsOwnInode, IsSettled, MayHappen, Moves, Opens, Touches, Unlinks, Writes, with_change, touched, without_link, with_named}
+use Rattle.qx_invariants.specs.Waits.{answers_to, is_astray, count_waiting_in, waiting_of}
 use Rattle.qx_invariants.proofs.Gives.{Gives, found-row, gives_by, gives_done, gives_error, gives_on, need-true}
 use Rattle.qx_attr.proofs.CountLemmas.{within_table}
 use Rattle.qx_iofunc.proofs.PlaceLemmas.{put_at, set_at}
@@ -92,7 +92,7 @@ abbrev pub nothing : Told
 nothing = record { answers = []; came = [] }
 
 -- what a change adds to that
-abbrev pub told_by : Change → Told → Told
+abbrev pub told_by : ResourceChange → Told → Told
 told_by (Fills inode moment after came) told = record { answers = told.answers ++ after.answers; came = told.came ++ came }
 told_by _ told = told
 
@@ -101,7 +101,7 @@ abbrev pub CameWith : Caller → Option Reply → List WaitingCall → Type 0
 CameWith caller (Some reply) came = came ≡ []
 CameWith caller None came = (call : WaitingCall) × (came ≡ call ∷ []) × (call.process ≡ caller.process) × (call.thread ≡ caller.thread)
 
-module _ (K : Resources → Told → Type 0) (keeps : (change : Change) (r : Resources) (told : Told) → MayHappen change r → K r told → K (changed change r) (told_by change told)) (caller : Caller) where
+module _ (K : Resources → Told → Type 0) (keeps : (change : ResourceChange) (r : Resources) (told : Told) → MayHappen change r → K r told → K (with_change change r) (told_by change told)) (caller : Caller) where
   abbrev Q : Resources → Type 0
   Q r = K r nothing
 
@@ -158,7 +158,7 @@ module _ (K : Resources → Told → Type 0) (keeps : (change : Change) (r : Res
         gives_on _ (need (may attribute r.user Write) EACCES) _ (λ allowed is. gives_done _ _ (found-row _ _ attribute there)))
 
     -- the inode that was made is there
-    abbrev IsMade : Made → Type 0
+    abbrev IsMade : MadeInode → Type 0
     IsMade made = Q made.after × (is_some (row_at made.after.inodes.attributes made.inode) ≡ true)
 
     module _ (at : Spot) (is_spot : IsSpot r at) (missing : at.inode ≡ None) (parent : Attribute) (there : row_at r.inodes.attributes at.parent ≡ Some parent) (kind : Kind) (mode moment number : ℕ) (free : inode_number r.inodes ≡ Ok number) where
@@ -211,7 +211,7 @@ module _ (K : Resources → Told → Type 0) (keeps : (change : Change) (r : Res
         gives_by IsMade _ (made_at r at parent wish.kind wish.mode wish.moment) _ (made-gives at is_spot missing parent there wish.kind wish.mode wish.moment) (λ made is.
         opened-gives made.after is.0 coid wish.flags made.inode is.1))))
 
-    open_at-gives : (coid : Coid) (at : Spot) (there : Option ℕ) → IsSpot r at → at.inode ≡ there → (wish : Wish) → Gives Kept (open_at r coid at there wish)
+    open_at-gives : (coid : Coid) (at : Spot) (there : Option ℕ) → IsSpot r at → at.inode ≡ there → (wish : Wish) → Gives Kept (open_spot r coid at there wish)
     open_at-gives coid at (Some inode) is_spot is wish = existing-gives coid inode wish
     open_at-gives coid at None is_spot is wish = missing-gives coid at is_spot is wish
 
@@ -237,7 +237,7 @@ module _ (K : Resources → Told → Type 0) (keeps : (change : Change) (r : Res
 
         -- its attribute once its directory's has changed, which may be its own
         abbrev IsLike : Attribute → Type 0
-        IsLike now = (row_at touched_parent.inodes.attributes inode ≡ Some now) × (unlinked attribute.mtime moment now ≡ unnamed moment attribute) × (now.kind ≡ attribute.kind)
+        IsLike now = (row_at touched_parent.inodes.attributes inode ≡ Some now) × (without_link attribute.mtime moment now ≡ unnamed moment attribute) × (now.kind ≡ attribute.kind)
 
         its_attribute : (now : Attribute) × IsLike now
         its_attribute = elim (cases_eq inode at.parent) [
@@ -246,7 +246,7 @@ module _ (K : Resources → Told → Type 0) (keeps : (change : Change) (r : Res
                 written_to moment parent,
                 (
                   ap (row_at touched_parent.inodes.attributes) same ∙ set_at r.inodes.attributes at.parent (written_to moment parent) (within_table r.inodes.attributes at.parent parent above_there),
-                  ap (λ (a : Attribute). unlinked attribute.mtime moment (written_to moment a)) alike,
+                  ap (λ (a : Attribute). without_link attribute.mtime moment (written_to moment a)) alike,
                   ap (λ (a : Attribute). a.kind) alike,
                 ),
               )
@@ -259,7 +259,7 @@ module _ (K : Resources → Told → Type 0) (keeps : (change : Change) (r : Res
             let is = its_attribute.1 in
             subst (λ key. Q (without_unused own inode (record touched_parent { inodes = with_attribute touched_parent.inodes inode (unnamed moment attribute); names = remove r.names key }))) (sym is_spot.key_is)
             (subst (λ attributes. Q (without_unused own inode (record touched_parent { inodes = record touched_parent.inodes { attributes = attributes }; names = remove r.names (under is_spot.above is_spot.name) })))
-            (with_row-some touched_parent.inodes.attributes inode (unlinked attribute.mtime moment) now is.0 ∙ ap (λ a. slice_set touched_parent.inodes.attributes inode (Some a)) is.1)
+            (with_row-some touched_parent.inodes.attributes inode (without_link attribute.mtime moment) now is.0 ∙ ap (λ a. slice_set touched_parent.inodes.attributes inode (Some a)) is.1)
             (keeps (Unlinks own is_spot.above is_spot.name inode attribute.mtime moment) touched_parent nothing
             (ap (get r.names) (sym is_spot.key_is) ∙ (sym is_spot.inode_is ∙ leads), empty, record { attribute = now; there = is.0; owned = ap (is_own own) is.2 ∙ owned })
             (touch-keeps r h at.parent parent (written_to moment parent) above_there refl)))
@@ -294,8 +294,8 @@ module _ (K : Resources → Told → Type 0) (keeps : (change : Change) (r : Res
         no_one (not (is_open (λ flags. true) block.inode (row_at r.inodes.blocks call.block))) (ap not is_its)
 
     -- a call comes to a pipe, and leaves it as each call may
-    came-keeps : (over : Opened) (count : ℕ) (bytes : List ℕ) (moment : ℕ) → over.caller ≡ caller → (block : Ocb) → row_at r.inodes.blocks over.number ≡ Some block → (pipe : Pipe WaitingCall) → row_at r.pipes block.inode ≡ Some pipe → (after : After WaitingCall)
-        → ((which : WaitingCall → Bool) → answers_to which after.answers + waiting_of which after.pipe ≡ waiting_of which pipe + count_by which (waiting_call over count bytes ∷ [])) → IsSettled after.pipe → (length pipe.bytes ≤ PIPE → length after.pipe.bytes ≤ PIPE) → Kept (with_after r block.inode moment after)
+    came-keeps : (over : Opened) (count : ℕ) (bytes : List ℕ) (moment : ℕ) → over.caller ≡ caller → (block : Ocb) → row_at r.inodes.blocks over.number ≡ Some block → (pipe : Pipe WaitingCall) → row_at r.pipes block.inode ≡ Some pipe → (after : PipeAfter WaitingCall)
+        → ((which : WaitingCall → Bool) → answers_to which after.answers + waiting_of which after.pipe ≡ waiting_of which pipe + count_by which (waiting_call over count bytes ∷ [])) → IsSettled after.pipe → (length pipe.bytes ≤ PIPE → length after.pipe.bytes ≤ PIPE) → Kept (deed_of_pipe r block.inode moment after)
     came-keeps over count bytes moment same block opened pipe here after once settled short = record {
       came = waiting_call over count bytes ∷ [];
       kept = keeps (Fills block.inode moment after (waiting_call over count bytes ∷ [])) r nothing (record { pipe = pipe; there = here; over = own_over over.number block (waiting_call over count bytes) opened refl; once = once; settled = settled; short = short }) h;
@@ -352,18 +352,18 @@ module _ (K : Resources → Told → Type 0) (keeps : (change : Change) (r : Res
 
     closed-keeps : (own : Kind) (number moment : ℕ) (block : Ocb) → row_at r.inodes.blocks number ≡ Some block → IsOwnInode own r block.inode → (row : Option (Pipe WaitingCall)) → pipe_in own r block.inode ≡ row
         → (λ (deed : Deed Resources). K (without_unused own block.inode deed.state) (record { answers = deed.answers; came = [] })) (released (without_block number r) number block.inode moment row)
-    closed-keeps own number moment block there owned None its = keeps (Closes own number block) r nothing (there, owned, ap (waiting_in (is_over number)) its) h
+    closed-keeps own number moment block there owned None its = keeps (Closes own number block) r nothing (there, owned, ap (count_waiting_in (is_over number)) its) h
     closed-keeps own number moment block there owned (Some pipe) its =
         let sides = sides_of (without_block number r).inodes block.inode in
-        let after : After WaitingCall = release wanted offered is_gone (is_over number) sides pipe in
-        keeps (Closes own number block) (with_after r block.inode moment after).state (record { answers = after.answers; came = [] }) (
+        let after : PipeAfter WaitingCall = release wanted offered is_gone (is_over number) sides pipe in
+        keeps (Closes own number block) (deed_of_pipe r block.inode moment after).state (record { answers = after.answers; came = [] }) (
           there,
           record {
             attribute = filled moment after owned.attribute;
             there = with_row-at r.inodes.attributes block.inode (filled moment after) ∙ ap (option_map (filled moment after)) owned.there;
             owned = ap (is_own own) (filled-kind moment after owned.attribute) ∙ owned.owned;
           },
-          ap (waiting_in (is_over number)) (pipe_in-set own (with_after r block.inode moment after).state block.inode pipe after.pipe its refl) ∙ release_none wanted offered is_gone (λ who. refl) (is_over number) sides pipe,
+          ap (count_waiting_in (is_over number)) (pipe_in-set own (deed_of_pipe r block.inode moment after).state block.inode pipe after.pipe its refl) ∙ release_none wanted offered is_gone (λ who. refl) (is_over number) sides pipe,
         )
         (keeps (Fills block.inode moment after []) r nothing (record {
           pipe = pipe;

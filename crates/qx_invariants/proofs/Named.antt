@@ -20,7 +20,7 @@ use Rattle.qx_machine.specs.PipeManager.{filled}
 use Rattle.qx_machine.specs.Resources.{Resources, resized}
 use Rattle.qx_machine.specs.Rows.{put_row, row_at, with_row}
 use Rattle.qx_machine.proofs.Places.{row_at-set_cases, row_at-set_other}
-use Rattle.qx_invariants.specs.Changes.{Change, Closes, Comes, Fills, MayHappen, Mounts, Moves, Opens, Touches, Unlinks, Writes, changed, touched, unlinked, with_changed, with_named, with_unlinked}
+use Rattle.qx_invariants.specs.Changes.{ResourceChange, Closes, Comes, Fills, MayHappen, Mounts, Moves, Opens, Touches, Unlinks, Writes, with_change, touched, without_link, with_changed, with_named, with_unlinked}
 use Rattle.qx_invariants.specs.Holds.{HasNames, HasRoom, IsNamed, IsUnnamed}
 use Rattle.qx_iofunc.proofs.PlaceLemmas.{put_at, row-freed}
 use Rattle.qx_invariants.proofs.Rows.{IsNew, content_cases, empty_cases, freed, more_blocks, block_is_new, inode_is_new, not_open, other_blocks, put_other, same_blocks, unused_cases, with_row-at, with_row-other, filled-same, put_cases, with_row-some_at, with_row-was}
@@ -216,15 +216,15 @@ unused_names own inode r h =
 module _ (r : Resources) (h : HasNames r) where
   pub unlink_names : (inode : ℕ) (key : Key) (mtime ctime : ℕ) → get r.names key ≡ Some inode → HasNamesBut (with_unlinked inode key mtime ctime r) inode
   unlink_names inode key mtime ctime leads = record {
-    leads = λ other m to. with_row-some_at r.inodes.attributes inode (unlinked mtime ctime) m ∙ h.leads other m (remove-kept r.names key other m to).0;
+    leads = λ other m to. with_row-some_at r.inodes.attributes inode (without_link mtime ctime) m ∙ h.leads other m (remove-kept r.names key other m to).0;
     single = λ m one two to_one to_two. h.single m one two (remove-kept r.names key one m to_one).0 (remove-kept r.names key two m to_two).0;
     roots = λ root m to. h.roots root m (remove-kept r.names key (root_key root) m to).0;
-    links = λ m now there. let was = with_row-was r.inodes.attributes inode (unlinked mtime ctime) m now there in elim was.2 [
+    links = λ m now there. let was = with_row-was r.inodes.attributes inode (without_link mtime ctime) m now there in elim was.2 [
       | inl stays ↦ others m now stays.0 (h.links m now (was.1 ∙ ap Some stays.1))
       | inr is ↦ inr (record { links = ap (λ (a : Attribute). a.links) (sym is.1); none = λ other to. let kept = remove-kept r.names key other m to in kept.1 (h.single inode other key (kept.0 ∙ ap Some is.0) leads) })
     ];
-    used = λ m apart. ap (is_unused (with_unlinked inode key mtime ctime r).inodes m) (with_row-other r.inodes.attributes inode (unlinked mtime ctime) m apart) ∙ h.used m;
-    opened = λ number block there. with_row-some_at r.inodes.attributes inode (unlinked mtime ctime) block.inode ∙ h.opened number block there;
+    used = λ m apart. ap (is_unused (with_unlinked inode key mtime ctime r).inodes m) (with_row-other r.inodes.attributes inode (without_link mtime ctime) m apart) ∙ h.used m;
+    opened = λ number block there. with_row-some_at r.inodes.attributes inode (without_link mtime ctime) block.inode ∙ h.opened number block there;
   }
     where
       others : (m : ℕ) (now : Attribute) → m ≢ inode → IsNamed r.names m now ⊎ IsUnnamed r.names m now → IsNamed (remove r.names key) m now ⊎ IsUnnamed (remove r.names key) m now
@@ -251,7 +251,7 @@ free_root r h root free = by (get r.names (root_key root)) refl
     by None is = refl
     by (Some inode) is = absurd (none-some _ (ap (row_at r.inodes.attributes) (h.roots root inode is) ∙ free) (h.leads (root_key root) inode is))
 
-pub names-keep : (change : Change) (r : Resources) → MayHappen change r → HasRoom r → HasNames r → HasNames (changed change r)
+pub names-keep : (change : ResourceChange) (r : Resources) → MayHappen change r → HasRoom r → HasNames r → HasNames (with_change change r)
 names-keep (Mounts mount) r may room h =
     let new = inode_is_new r.inodes mount.root room.some_inodes may in
     let more = come_names r h mount.root (root_key mount.root) (root_attribute r.user) refl new (free_root r h mount.root new.free) (λ root same. ap (λ (key : Key). key.0) (sym same)) in

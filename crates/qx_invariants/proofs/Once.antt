@@ -32,7 +32,7 @@ use Rattle.qx_machine.specs.declared.rows.State.{State}
 use Rattle.qx_machine.specs.declared.rows.State.TheVariants as state
 use Rattle.qx_machine.specs.declared.rows.ThreadRow.{ThreadRow}
 use Rattle.qx_machine.specs.declared.rows.WaitingCall.{WaitingCall}
-use Rattle.qx_machine.specs.Calls.{address, bytes_of, content_of, in_ranges, is_ready, may_call, target_at}
+use Rattle.qx_machine.specs.Calls.{address, bytes_of, content_of, request_in_ranges, is_ready, may_call, target_at}
 use Rattle.qx_machine.specs.Clients.{ClientStep, answer_in, call, client_given, interrupt_in, is_prio, mount_by, set_prio, spawn, spawn_number, take_reply, target_by}
 use Rattle.qx_machine.specs.Functions.{Deed, Reply}
 use Rattle.qx_machine.specs.Judgements.{found, need}
@@ -48,7 +48,7 @@ use Rattle.qx_machine.specs.Waiting.{is_call}
 use Rattle.qx_machine.specs.Users.{boot_part, client, serve, take}
 use Rattle.qx_machine.proofs.Places.{lowest_from_free}
 use Rattle.qx_invariants.specs.Holds.{WaitsOnce}
-use Rattle.qx_invariants.specs.Waits.{answers_to, is_of, waiting, waiting_in, waits, waits_in}
+use Rattle.qx_invariants.specs.Waits.{answers_to, is_of, count_waiting, count_waiting_in, waits, count_state_waiting}
 use Rattle.qx_attr.specs.Counts.{one}
 use Rattle.qx_invariants.proofs.Balances.{Balanced, balanced-keeps, ChangesThread, after_answers, after_spawn, is_its, thread_changed, thread_other, thread_same, waits_few}
 use Rattle.qx_invariants.proofs.Deeds.{CameWith, Kept, cancel-gives}
@@ -58,7 +58,7 @@ use Rattle.qx_invariants.proofs.Together.{Holds, boot_holds, holds-keep}
 
 -- the threads of a user's part that wait are the same, and as many calls wait in the pipes
 same_once : (part now : Part) → WaitsOnce part → now.resources.pipes ≡ part.resources.pipes → ((p t : ℕ) → waits (thread_at now p t) ≡ waits (thread_at part p t)) → WaitsOnce now
-same_once part now h pipes same = record { once = λ p t. ap (waiting (is_of p t)) pipes ∙ (h.once p t ∙ sym (same p t)) }
+same_once part now h pipes same = record { once = λ p t. ap (count_waiting (is_of p t)) pipes ∙ (h.once p t ∙ sym (same p t)) }
 
 -- ---- what changes one thread
 
@@ -79,7 +79,7 @@ reply_changes thread change _ _ process = refl
 -- ---- states
 
 -- a thread whose message is taken or stands in a line waits in no pipe
-taken_none : (s : State) (sent : Sent) → taken_in s ≡ Some sent → waits_in s ≡ 0
+taken_none : (s : State) (sent : Sent) → taken_in s ≡ Some sent → count_state_waiting s ≡ 0
 taken_none (state.Waiting other) sent is = absurd (cc)
 taken_none _ sent is = refl
 
@@ -87,33 +87,33 @@ taken_is : (s : State) (sent : Sent) → taken_in s ≡ Some sent → s ≡ stat
 taken_is (state.Taken other) sent is = cc
 taken_is _ sent is = absurd (cc)
 
-ready_none : (s : State) → is_ready s ≡ true → waits_in s ≡ 0
+ready_none : (s : State) → is_ready s ≡ true → count_state_waiting s ≡ 0
 ready_none (state.Waiting other) is = absurd (cc)
 ready_none _ is = refl
 
-answered_none : (s : State) (given : Answer) → answer_in s ≡ Some given → waits_in s ≡ 0
+answered_none : (s : State) (given : Answer) → answer_in s ≡ Some given → count_state_waiting s ≡ 0
 answered_none (state.Waiting other) given is = absurd (cc)
 answered_none _ given is = refl
 
-asked_same : (s : State) → waits_in (asked_state s) ≡ waits_in s
+asked_same : (s : State) → count_state_waiting (asked_state s) ≡ count_state_waiting s
 asked_same state.Ready = refl
 asked_same _ = refl
 
-taken_same : (s : State) → waits_in (taken_state s) ≡ waits_in s
+taken_same : (s : State) → count_state_waiting (taken_state s) ≡ count_state_waiting s
 taken_same state.Ready = refl
 taken_same _ = refl
 
 -- ---- what a worker does
 
 -- calls were answered, and as many wait, with those, as threads waited
-answered_once : (part : Part) (r : Resources) (answers : List (WaitingCall × Answer)) → part.resources ≡ r → ((p t : ℕ) → answers_to (is_of p t) answers + waiting (is_of p t) r.pipes ≡ waits (thread_at part p t)) → WaitsOnce (with_answers answers part)
+answered_once : (part : Part) (r : Resources) (answers : List (WaitingCall × Answer)) → part.resources ≡ r → ((p t : ℕ) → answers_to (is_of p t) answers + count_waiting (is_of p t) r.pipes ≡ waits (thread_at part p t)) → WaitsOnce (with_answers answers part)
 answered_once part r answers is balance = record {
-  once = λ p t. ap (λ (s : Resources). waiting (is_of p t) s.pipes) (answers-resources answers part ∙ is) ∙ by p t (after_answers p t answers part);
+  once = λ p t. ap (λ (s : Resources). count_waiting (is_of p t) s.pipes) (answers-resources answers part ∙ is) ∙ by p t (after_answers p t answers part);
 }
   where
     by : (p t : ℕ)
         → ((answers_to (is_of p t) answers ≡ 0) × (waits (thread_at (with_answers answers part) p t) ≡ waits (thread_at part p t))) ⊎ ((0 < answers_to (is_of p t) answers) × (waits (thread_at (with_answers answers part) p t) ≡ 0))
-        → waiting (is_of p t) r.pipes ≡ waits (thread_at (with_answers answers part) p t)
+        → count_waiting (is_of p t) r.pipes ≡ waits (thread_at (with_answers answers part) p t)
     by p t (inl none) = omega (arith, balance p t, none.0, none.1)
     by p t (inr some) = omega (arith, balance p t, some.0, some.1, waits_few (thread_at part p t))
 
@@ -121,8 +121,8 @@ module _ (part : Part) (h : WaitsOnce part) (number thread : ℕ) (row : ThreadR
   abbrev caller : Caller
   caller = caller_of number thread row sent
 
-  its_row : (other : ThreadRow) → thread_at part number thread ≡ Some other → waits_in other.state ≡ 0
-  its_row other is = ap (λ (r : ThreadRow). waits_in r.state) (same_Some _ _ (sym is ∙ there)) ∙ taken_none row.state sent taken
+  its_row : (other : ThreadRow) → thread_at part number thread ≡ Some other → count_state_waiting other.state ≡ 0
+  its_row other is = ap (λ (r : ThreadRow). count_state_waiting r.state) (same_Some _ _ (sym is ∙ there)) ∙ taken_none row.state sent taken
 
   came_waits : (over : Over) (reply : Option Reply) (came : List WaitingCall) → CameWith caller reply came → (r : Resources) (p t : ℕ)
       → waits (thread_at (with_process number (after_serving thread over reply) (record part { resources = r })) p t) ≡ waits (thread_at part p t) + count_by (is_of p t) came
@@ -139,7 +139,7 @@ module _ (part : Part) (h : WaitsOnce part) (number thread : ℕ) (row : ThreadR
       count = ap (count_by (is_of p t)) own.1
 
       served : waits (option_map served_thread (thread_at part number thread)) ≡ 1
-      served = ap (λ place. waits (option_map served_thread place)) there ∙ ap (λ s. waits_in (served_state s)) (taken_is row.state sent taken)
+      served = ap (λ place. waits (option_map served_thread place)) there ∙ ap (λ s. count_state_waiting (served_state s)) (taken_is row.state sent taken)
 
       by : ((is_of p t own.0 ≡ true) × (p ≡ own.0.process) × (t ≡ own.0.thread)) ⊎ ((is_of p t own.0 ≡ false) × ((p ≢ own.0.process) ⊎ (t ≢ own.0.thread)))
           → waits (thread_at (with_process number (after_serving thread over None) (record part { resources = r })) p t) ≡ waits (thread_at part p t) + count_by (is_of p t) came
@@ -219,7 +219,7 @@ gives_all R (Err error) h = gives_error _ _
 may_call-ready : (row : ThreadRow) (asked : Request) → Gives (λ _. is_ready row.state ≡ true) (may_call row asked)
 may_call-ready row asked =
     gives_on _ (need (is_ready row.state) WrongState) _ (λ ready is_one.
-    gives_on _ (need (in_ranges asked) (Refused EINVAL)) _ (λ valid is_valid.
+    gives_on _ (need (request_in_ranges asked) (Refused EINVAL)) _ (λ valid is_valid.
     gives_on _ (need (nat_lt row.calls CALLS) (Refused EAGAIN)) _ (λ countable is_countable. gives_done _ _ (need-true _ _ ready is_one))))
 
 target-ready : (config : Configuration) (user : ℕ) (mounts : List MountPoint) (part : Part) (thread : Thread) (asked : Request) → Gives (λ (_ : Addressed). IsReadyThread part thread.proc.num thread.tid) (target_by config user mounts part.processes thread asked)
@@ -239,12 +239,12 @@ module _ (part : Part) (h : WaitsOnce part) where
   Gave given = WaitsOnce given.part
 
   -- a thread changes, and who waits does not
-  thread_once : (number thread : ℕ) (change : ThreadRow → ThreadRow) (f : Process → Process) → ChangesThread thread change f → ((row : ThreadRow) → thread_at part number thread ≡ Some row → waits_in (change row).state ≡ waits_in row.state) → WaitsOnce (with_process number f part)
+  thread_once : (number thread : ℕ) (change : ThreadRow → ThreadRow) (f : Process → Process) → ChangesThread thread change f → ((row : ThreadRow) → thread_at part number thread ≡ Some row → count_state_waiting (change row).state ≡ count_state_waiting row.state) → WaitsOnce (with_process number f part)
   thread_once number thread change f changes same = same_once part (with_process number f part) h refl (thread_same part number thread change f changes same)
 
   -- the same where one row is there
-  row_once : (number thread : ℕ) (change : ThreadRow → ThreadRow) (f : Process → Process) → ChangesThread thread change f → (row : ThreadRow) → thread_at part number thread ≡ Some row → waits_in (change row).state ≡ waits_in row.state → WaitsOnce (with_process number f part)
-  row_once number thread change f changes row there same = thread_once number thread change f changes (λ other is. subst (λ (r : ThreadRow). waits_in (change r).state ≡ waits_in r.state) (same_Some _ _ (sym there ∙ is)) same)
+  row_once : (number thread : ℕ) (change : ThreadRow → ThreadRow) (f : Process → Process) → ChangesThread thread change f → (row : ThreadRow) → thread_at part number thread ≡ Some row → count_state_waiting (change row).state ≡ count_state_waiting row.state → WaitsOnce (with_process number f part)
+  row_once number thread change f changes row there same = thread_once number thread change f changes (λ other is. subst (λ (r : ThreadRow). count_state_waiting (change r).state ≡ count_state_waiting r.state) (same_Some _ _ (sym there ∙ is)) same)
 
   spawn_once : (threads prio : ℕ) → Gives Gave (spawn part threads prio)
   spawn_once threads prio =
@@ -274,7 +274,7 @@ module _ (part : Part) (h : WaitsOnce part) where
 
   interrupt_in-once : (thread : Thread) (number : ℕ) (row : ThreadRow) → thread_at part thread.proc.num thread.tid ≡ Some row → (doing : State) → row.state ≡ doing → Gave (interrupt_in part thread number doing)
   interrupt_in-once thread number row there (state.Queued sent) is =
-      row_once thread.proc.num thread.tid (answered_thread (answer.Failed EINTR)) (λ process. after_error thread.tid sent.target.over (with_thread thread.tid (answered_thread (answer.Failed EINTR)) process)) (error_changes thread.tid (answered_thread (answer.Failed EINTR)) sent.target.over) row there (ap waits_in (sym is))
+      row_once thread.proc.num thread.tid (answered_thread (answer.Failed EINTR)) (λ process. after_error thread.tid sent.target.over (with_thread thread.tid (answered_thread (answer.Failed EINTR)) process)) (error_changes thread.tid (answered_thread (answer.Failed EINTR)) sent.target.over) row there (ap count_state_waiting (sym is))
   interrupt_in-once thread number row there (state.Taken sent) is = cond_both sent.is_asked _ _ Gave (λ asked. h) (λ first. asked_once thread)
   interrupt_in-once thread number row there (state.Waiting sent) is = cond_both sent.is_asked _ _ Gave (λ asked. h) (λ first. asked_once thread)
   interrupt_in-once thread number row there _ is = h
@@ -302,8 +302,8 @@ stands_kept = record {
   serving = λ config user held part own moment h. record { holds = serve-keeps Holds holds-keep config user held part own moment h.holds; waits_once = serve_once config user held part own moment h };
 }
 
-none_wait : (which : WaitingCall → Bool) (places : ℕ) → waiting which (replicate places None) ≡ 0
-none_wait which places = let all = sum_by-replicate (waiting_in which) places None in omega (arith, all)
+none_wait : (which : WaitingCall → Bool) (places : ℕ) → count_waiting which (replicate places None) ≡ 0
+none_wait which places = let all = sum_by-replicate (count_waiting_in which) places None in omega (arith, all)
 
 nobody_there : (processes : List (Option Process)) → processes ≡ None ∷ [] → (p t : ℕ) → waits (thread_of t (row_at processes p)) ≡ 0
 nobody_there processes is zero t = ap (λ rows. waits (thread_of t (row_at rows 0))) is
@@ -319,9 +319,9 @@ stands_boot config user = record {
 -- ---- one call
 
 -- a call waits once, or not at all
-pub call_waits_once : (part : Part) → WaitsOnce part → (process thread number : ℕ) → waiting (is_call process thread number) part.resources.pipes ≤ 1
+pub call_waits_once : (part : Part) → WaitsOnce part → (process thread number : ℕ) → count_waiting (is_call process thread number) part.resources.pipes ≤ 1
 call_waits_once part h process thread number =
-    let fewer = sum_by-le-sum_by (waiting_in (is_call process thread number)) (waiting_in (is_of process thread)) part.resources.pipes place in
+    let fewer = sum_by-le-sum_by (count_waiting_in (is_call process thread number)) (count_waiting_in (is_of process thread)) part.resources.pipes place in
     let few = waits_few (thread_at part process thread) in
     let once = h.once process thread in
     omega (arith, fewer, few, once)
@@ -334,6 +334,6 @@ call_waits_once part h process thread number =
     each : (calls : List WaitingCall) → count_by (is_call process thread number) calls ≤ count_by (is_of process thread) calls
     each calls = sum_by-le-sum_by (λ call. one (is_call process thread number call)) (λ call. one (is_of process thread call)) calls (λ call. test (is_of process thread call) (call.call == number))
 
-    place : (row : Option (Pipe WaitingCall)) → waiting_in (is_call process thread number) row ≤ waiting_in (is_of process thread) row
+    place : (row : Option (Pipe WaitingCall)) → count_waiting_in (is_call process thread number) row ≤ count_waiting_in (is_of process thread) row
     place None = omega arith
     place (Some pipe) = let readers = each pipe.readers in let writers = each pipe.writers in omega (arith, readers, writers)

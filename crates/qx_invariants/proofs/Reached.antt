@@ -8,7 +8,7 @@ use Rattle.std.proofs.lemmas.List.Elements.{All-filter, All-from_recursion, recu
 use Rattle.qx_types.specs.declared.limits.TheConstants.Limits.{COMPONENT, TRANSFER}
 use Rattle.qx_wire.specs.Rests.{is_component, is_dots, is_name_byte}
 use Rattle.qx_machine.specs.Listings.{HasSizedNames, IsZeroFree}
-use Rattle.qx_machine.specs.Names.{behind, fitting, listed, listing, names_in}
+use Rattle.qx_machine.specs.Names.{names_behind, fitting, listed, listing, names_in}
 use Rattle.qx_machine.specs.Resources.{Resources}
 use Rattle.qx_invariants.specs.Holds.{HasTree, HasContents, HasMounts, HasOpenWaiters, HasRoom, HasSettledPipes, HoldsInRuns, HoldsOfParts, IsOwnedBy}
 use Rattle.qx_invariants.proofs.Keys.{all_names}
@@ -18,7 +18,7 @@ use Rattle.qx_machine.specs.Mounting.{new_resources}
 use Rattle.qx_machine.specs.Parts.{Part}
 use Rattle.qx_machine.specs.Rows.{row_at}
 use Rattle.qx_machine.specs.Runs.{run}
-use Rattle.qx_invariants.specs.Changes.{Become, Change, MayHappen, changed}
+use Rattle.qx_invariants.specs.Changes.{Become, ResourceChange, MayHappen, with_change}
 use Rattle.qx_machine.proofs.Listings.{listed_end, listed_to_end}
 use Rattle.qx_invariants.proofs.Steps.{client-keeps, serve-keeps, take-keeps, IsKept, run-holds}
 use Rattle.qx_machine.specs.Users.{boot_part}
@@ -62,22 +62,22 @@ module _ (r : Resources) (h : HasTree r) (directory : ℕ) where
   zero_free_listed : (after : List ℕ) → All IsZeroFree (listed r.names directory after)
   zero_free_listed after =
       All-from_recursion _ (listed r.names directory after)
-      (fitting_all IsZeroFree TRANSFER (behind after (names_in r.names directory)) (recursion_from_All IsZeroFree (behind after (names_in r.names directory)) (All-filter _ IsZeroFree (names_in r.names directory) zero_free_names)))
+      (fitting_all IsZeroFree TRANSFER (names_behind after (names_in r.names directory)) (recursion_from_All IsZeroFree (names_behind after (names_in r.names directory)) (All-filter _ IsZeroFree (names_in r.names directory) zero_free_names)))
 
 pub told_listings : (r : Resources) → HasTree r → (directory other : ℕ) (after before : List ℕ) → listing (listed r.names directory after) ≡ listing (listed r.names other before) → listed r.names directory after ≡ listed r.names other before
 told_listings r h directory other after before same = listings.listing_told _ _ (zero_free_listed r h directory after) (zero_free_listed r h other before) same
 
 -- ---- what can happen
 
-become-keeps : (start : Resources) (change : Change) (r : Resources) → MayHappen change r → Become start r → Become start (changed change r)
+become-keeps : (start : Resources) (change : ResourceChange) (r : Resources) → MayHappen change r → Become start r → Become start (with_change change r)
 become-keeps start change r may h = record {
   changes = change ∷ h.changes;
   may = (subst (MayHappen change) (sym h.are) may, h.may);
-  are = ap (changed change) h.are;
+  are = ap (with_change change) h.are;
 }
 
 -- a property of the resources that each change keeps
-resources_kept : (K : ℕ → Resources → Type 0) → ((user : ℕ) (change : Change) (r : Resources) → MayHappen change r → K user r → K user (changed change r)) → IsKept (λ user part. K user part.resources)
+resources_kept : (K : ℕ → Resources → Type 0) → ((user : ℕ) (change : ResourceChange) (r : Resources) → MayHappen change r → K user r → K user (with_change change r)) → IsKept (λ user part. K user part.resources)
 resources_kept K keeps = record {
   client_step = λ config user held part e h. client-keeps (K user) (keeps user) config user held part e h;
   taking = λ user part own h. take-keeps (K user) (keeps user) part own h;

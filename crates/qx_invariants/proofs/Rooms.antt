@@ -11,7 +11,7 @@ use Rattle.qx_machine.specs.Pipes.{Pipe}
 use Rattle.qx_machine.specs.Resources.{Resources, resized}
 use Rattle.qx_machine.specs.Rows.{put_row, row_at, with_row}
 use Rattle.qx_machine.proofs.Places.{row_at-set_cases}
-use Rattle.qx_invariants.specs.Changes.{Change, Closes, Comes, Fills, MayHappen, Mounts, Moves, Opens, Touches, Unlinks, Writes, changed, touched, unlinked, with_changed, with_named, with_unlinked}
+use Rattle.qx_invariants.specs.Changes.{ResourceChange, Closes, Comes, Fills, MayHappen, Mounts, Moves, Opens, Touches, Unlinks, Writes, with_change, touched, without_link, with_changed, with_named, with_unlinked}
 use Rattle.qx_invariants.specs.Holds.{HasRoom, IsOwnedBy}
 use Rattle.qx_iofunc.proofs.PlaceLemmas.{put_differ}
 use Rattle.qx_invariants.proofs.Rows.{IsNew, content_cases, empty_cases, freed, block_is_new, inode_is_new, unused_cases, put_cases, with_row-was, filled-same}
@@ -76,7 +76,7 @@ unused_parts own inode r h =
     (λ gone. let less : Parts (freed inode r) = with_inodes r _ (freed_numbered INODES r.inodes.attributes h.inodes inode) h.blocks h in
     content_cases Parts own inode (freed inode r) (λ is. with_files _ inode None less) (λ is. with_pipes _ inode None less) (λ is. less)) (λ stays. h)
 
-parts-keep : (change : Change) (r : Resources) → MayHappen change r → Parts r → Parts (changed change r)
+parts-keep : (change : ResourceChange) (r : Resources) → MayHappen change r → Parts r → Parts (with_change change r)
 parts-keep (Mounts mount) r may h = record {
   inodes = put_numbered INODES r.inodes.attributes h.inodes mount.root _ (inode_is_new r.inodes mount.root h.inodes.some may);
   blocks = h.blocks;
@@ -96,8 +96,8 @@ parts-keep (Unlinks own directory name inode mtime ctime) r may h =
     unused_parts own inode _ (record { inodes = with_names.inodes; blocks = with_names.blocks; files = with_names.files; pipes = with_names.pipes })
 parts-keep (Closes own number block) r may h = unused_parts own block.inode _ (with_inodes r _ h.inodes (freed_numbered BLOCKS r.inodes.blocks h.blocks number) h)
 
-pub room-keeps : (change : Change) (r : Resources) → MayHappen change r → HasRoom r → HasRoom (changed change r)
-room-keeps change r may h = whole (changed change r) (parts-keep change r may (parts r h))
+pub room-keeps : (change : ResourceChange) (r : Resources) → MayHappen change r → HasRoom r → HasRoom (with_change change r)
+room-keeps change r may h = whole (with_change change r) (parts-keep change r may (parts r h))
 
 -- ---- owners
 
@@ -134,7 +134,7 @@ module _ (user : ℕ) where
         content_cases (IsOwnedBy user) own inode (freed inode r) (λ is. seen_owner (freed inode r) _ refl refl less) (λ is. seen_owner (freed inode r) _ refl refl less) (λ is. less))
         (λ stays. h)
 
-  pub owner-keeps : (change : Change) (r : Resources) → MayHappen change r → HasRoom r → IsOwnedBy user r → IsOwnedBy user (changed change r)
+  pub owner-keeps : (change : ResourceChange) (r : Resources) → MayHappen change r → HasRoom r → IsOwnedBy user r → IsOwnedBy user (with_change change r)
   owner-keeps (Mounts mount) r may room h = come_owner r h mount.root (root_attribute r.user) refl (inode_is_new r.inodes mount.root room.some_inodes may) _ refl refl
   owner-keeps (Comes inode directory name which mode moment) r may room h =
       let named = with_named inode (under directory name) (new_attribute which mode r.user moment) r in
@@ -144,6 +144,6 @@ module _ (user : ℕ) where
   owner-keeps (Writes inode moment bytes) r may room h = seen_owner (with_changed inode (resized (length bytes) moment) r) _ refl refl (same_owner r h inode (resized (length bytes) moment) (λ a. refl))
   owner-keeps (Fills inode moment after came) r may room h = seen_owner (with_changed inode (filled moment after) r) _ refl refl (same_owner r h inode (filled moment after) (λ a. filled-same moment after a (λ (b : Attribute). b.owner) refl refl))
   owner-keeps (Unlinks own directory name inode mtime ctime) r may room h =
-      unused_owner (with_unlinked inode (under directory name) mtime ctime r) (seen_owner (with_changed inode (unlinked mtime ctime) r) _ refl refl (same_owner r h inode (unlinked mtime ctime) (λ a. refl))) own inode
+      unused_owner (with_unlinked inode (under directory name) mtime ctime r) (seen_owner (with_changed inode (without_link mtime ctime) r) _ refl refl (same_owner r h inode (without_link mtime ctime) (λ a. refl))) own inode
   owner-keeps (Closes own number block) r may room h = unused_owner (without_block number r) (seen_owner r _ refl refl h) own block.inode
   owner-keeps _ r may room h = seen_owner r _ refl refl h

@@ -16,7 +16,7 @@ use Rattle.qx_machine.specs.Defaults.{without_unused}
 use Rattle.qx_machine.specs.Inodes.{Inodes, block_number, blocks_of, close_block, inode_number, is_open, is_unused, moved_to, with_offset}
 use Rattle.qx_machine.specs.Names.{is_same_kind}
 use Rattle.qx_machine.specs.PipeManager.{filled}
-use Rattle.qx_machine.specs.Pipes.{After, pipe_of}
+use Rattle.qx_machine.specs.Pipes.{PipeAfter, pipe_of}
 use Rattle.qx_machine.specs.Resources.{Resources, resized, with_empty, without_content}
 use Rattle.qx_machine.specs.Rows.{lowest_from, put_row, row_at, with_row}
 use Rattle.qx_machine.specs.Waiting.{is_written, offered}
@@ -138,12 +138,12 @@ module _ (inodes : Inodes) where
 -- ---- what is left
 
 -- what is the same of an attribute of whatever size and times stays, once something was done to its pipe
-pub filled-same : {A : Type 0} (moment : ℕ) (after : After WaitingCall) (a : Attribute) (part : Attribute → A) → part (resized (length after.pipe.bytes) moment a) ≡ part a → part (record a { size = length after.pipe.bytes }) ≡ part a → part (filled moment after a) ≡ part a
+pub filled-same : {A : Type 0} (moment : ℕ) (after : PipeAfter WaitingCall) (a : Attribute) (part : Attribute → A) → part (resized (length after.pipe.bytes) moment a) ≡ part a → part (record a { size = length after.pipe.bytes }) ≡ part a → part (filled moment after a) ≡ part a
 filled-same moment after a part written other =
     cond_both (not (is_same_kind kind.Pipe a.kind)) _ _ (λ now. part now ≡ part a) (λ is. refl)
     (λ is. cond_both (list_any (λ answer. is_written (offered answer.0) answer.1) after.answers) _ _ (λ now. part now ≡ part a) (λ is. written) (λ is. other))
 
-pub filled-kind : (moment : ℕ) (after : After WaitingCall) (a : Attribute) → (filled moment after a).kind ≡ a.kind
+pub filled-kind : (moment : ℕ) (after : PipeAfter WaitingCall) (a : Attribute) → (filled moment after a).kind ≡ a.kind
 filled-kind moment after a = filled-same moment after a (λ (b : Attribute). b.kind) refl refl
 
 -- an inode is gone

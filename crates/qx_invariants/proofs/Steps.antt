@@ -39,7 +39,7 @@ use Rattle.qx_machine.specs.Processes.{Process}
 use Rattle.qx_machine.specs.Resources.{Resources}
 use Rattle.qx_machine.specs.Rows.{row_at}
 use Rattle.qx_machine.specs.Users.{client, serve, take, boot_part, settle}
-use Rattle.qx_invariants.specs.Changes.{Change, MayHappen, Mounts, changed}
+use Rattle.qx_invariants.specs.Changes.{ResourceChange, MayHappen, Mounts, with_change}
 use Rattle.qx_invariants.proofs.Deeds.{Kept, NamesComponents, Told, cancel-gives, manager-gives, nothing, told_by}
 use Rattle.qx_invariants.proofs.Gives.{Gives, gives_by, gives_done, gives_error, gives_more, gives_on, gives-value}
 use Rattle.qx_invariants.proofs.Messages.{meaning-components}
@@ -73,7 +73,7 @@ opened_by-caller process caller target over is =
     gives_done _ _ refl)))))
 
 -- what a property of the resources and of what was answered is after a deed
-pub deed_kept : (K : Resources → Told → Type 0) (keeps : (change : Change) (r : Resources) (told : Told) → MayHappen change r → K r told → K (changed change r) (told_by change told)) (caller : Caller) (r : Resources) → K r nothing
+pub deed_kept : (K : Resources → Told → Type 0) (keeps : (change : ResourceChange) (r : Resources) (told : Told) → MayHappen change r → K r told → K (with_change change r) (told_by change told)) (caller : Caller) (r : Resources) → K r nothing
     → (process : Process) (target : Target) (moment : ℕ) (bytes : List ℕ) → Gives (Kept K keeps caller) (deed_of r process caller target moment (meaning bytes))
 deed_kept K keeps caller r h process target moment bytes =
     gives_by NamesComponents _ (read_message (meaning bytes)) _ (read-components bytes (meaning bytes) refl)
@@ -88,7 +88,7 @@ pub unchanged-keeps : (P : Part → Type 0) (part : Part) → P part → (given 
 unchanged-keeps P part h (Ok given) kept = gives-value (λ (given : ClientStep). P given.part) (Ok given) given refl kept
 unchanged-keeps P part h (Err outcome) kept = h
 
-module _ (K : Resources → Type 0) (keeps : (change : Change) (r : Resources) → MayHappen change r → K r → K (changed change r)) where
+module _ (K : Resources → Type 0) (keeps : (change : ResourceChange) (r : Resources) → MayHappen change r → K r → K (with_change change r)) where
   abbrev Keeps : Part → Type 0
   Keeps part = K part.resources
 

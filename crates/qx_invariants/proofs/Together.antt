@@ -19,7 +19,7 @@ use Rattle.qx_machine.specs.Rows.{row_at}
 use Rattle.qx_paths.specs.Prefixes.{MountPoint}
 use Rattle.std.proofs.lemmas.List.Elements.{All-cons, All-nil}
 use Rattle.qx_iofunc.proofs.StoreLemmas.{row_at-none}
-use Rattle.qx_invariants.specs.Changes.{IsDirectoryAt, Change, MayHappen, changed}
+use Rattle.qx_invariants.specs.Changes.{IsDirectoryAt, ResourceChange, MayHappen, with_change}
 use Rattle.qx_invariants.specs.Holds.{HasContents, HasLimits, HasMounts, HasNames, HasOpenWaiters, HasRoom, HasSettledPipes, HasTree, IsOwnedBy, size_if}
 use Rattle.qx_invariants.proofs.Contents.{contents-keep, settled-keep, limits-keep}
 use Rattle.qx_invariants.proofs.Keys.{insert-at, insert-cases, not_root}
@@ -29,7 +29,7 @@ use Rattle.qx_machine.specs.Files.{size_of, total_size}
 use Rattle.std.proofs.lemmas.List.Folds.{sum_by-replicate}
 use Rattle.qx_invariants.proofs.Trees.{mounts-keep, tree-keeps}
 use Rattle.qx_invariants.proofs.Astray.{astray-keeps}
-use Rattle.qx_invariants.specs.Waits.{is_astray, waiting_in}
+use Rattle.qx_invariants.specs.Waits.{is_astray, count_waiting_in}
 
 -- ---- at boot
 
@@ -99,7 +99,7 @@ module _ (user : ℕ) (name : List ℕ) where
   boot_tree = record { entries = λ above name inode leads. absurd (not_root 1 above name (only_root (under above name) inode leads).0) }
 
   boot_waiters : HasOpenWaiters start
-  boot_waiters = record { none_astray = λ inode. ap (waiting_in (is_astray start.inodes.blocks inode)) (row_at-none (INODES + 1) inode) }
+  boot_waiters = record { none_astray = λ inode. ap (count_waiting_in (is_astray start.inodes.blocks inode)) (row_at-none (INODES + 1) inode) }
 
   boot_rooted : HasMounts start
   boot_rooted = record {
@@ -129,7 +129,7 @@ pub record Holds (r : Resources) : Type 0 where
   pub mounts : HasMounts r
   pub limits : HasLimits r
 
-pub holds-keep : (change : Change) (r : Resources) → MayHappen change r → Holds r → Holds (changed change r)
+pub holds-keep : (change : ResourceChange) (r : Resources) → MayHappen change r → Holds r → Holds (with_change change r)
 holds-keep change r may h = record { room = room-keeps change r may h.room; contents = contents-keep change r may h.room h.contents; settled = settled-keep change r may h.settled; names = names-keep change r may h.room h.names; tree = tree-keeps change r may h.room h.names h.tree; waiters = astray-keeps change r may h.room h.contents h.waiters; mounts = mounts-keep change r may h.room h.names h.mounts; limits = limits-keep change r may h.limits }
 
 pub boot_holds : (user : ℕ) (name : List ℕ) → Holds (new_resources user name)

@@ -20,7 +20,7 @@ use Rattle.std.specs.Prelude.{All}
 use Rattle.qx_machine.specs.Resources.{Resources, resized, with_empty}
 use Rattle.qx_machine.specs.Rows.{row_at, with_row}
 use Rattle.qx_machine.proofs.Places.{row_at-set_other}
-use Rattle.qx_invariants.specs.Changes.{Change, Closes, Comes, Fills, IsDirectoryAt, MayHappen, Mounts, Touches, Unlinks, Writes, changed, touched, unlinked, with_changed, with_named, with_unlinked}
+use Rattle.qx_invariants.specs.Changes.{ResourceChange, Closes, Comes, Fills, IsDirectoryAt, MayHappen, Mounts, Touches, Unlinks, Writes, with_change, touched, without_link, with_changed, with_named, with_unlinked}
 use Rattle.qx_invariants.specs.Holds.{HasMounts, HasNames, HasRoom, HasTree, IsEntry}
 use Rattle.qx_iofunc.proofs.PlaceLemmas.{put_at}
 use Rattle.qx_invariants.proofs.Rows.{IsNew, content_cases, empty_cases, freed, inode_is_new, put_there, unused_cases, with_row-at, with_row-other, filled-kind}
@@ -54,7 +54,7 @@ come_directory r inode key attribute new missing above d = record {
 
 unlinked_directory : (r : Resources) (inode : ℕ) (key : Key) (mtime ctime : ℕ) (above : Key) → above ≢ key → IsDirectoryAt r above → IsDirectoryAt (with_unlinked inode key mtime ctime r) above
 unlinked_directory r inode key mtime ctime above apart d =
-    let kept = changed_directory r inode (unlinked mtime ctime) (λ a. refl) above d in
+    let kept = changed_directory r inode (without_link mtime ctime) (λ a. refl) above d in
     record { inode = kept.inode; attribute = kept.attribute; leads = remove-other r.names key above kept.inode kept.leads apart; there = kept.there; directory = kept.directory }
 
 freed_directory : (r : Resources) (inode : ℕ) → ((key : Key) → get r.names key ≢ Some inode) → (above : Key) → IsDirectoryAt r above → IsDirectoryAt (freed inode r) above
@@ -99,11 +99,11 @@ same_entry : (above directory : Key) (one two : List ℕ) → under above one �
 same_entry above directory one two same = (λ i. ((same i).0, ap rest_of_path (ap (λ (key : Key). key.1) same) i), ap first_of_path (ap (λ (key : Key). key.1) same))
 
 -- a directory's path that is not unlinked leads to a directory still
-abbrev IsNotUnlinked : Change → Key → Type 0
+abbrev IsNotUnlinked : ResourceChange → Key → Type 0
 IsNotUnlinked (Unlinks own directory name inode mtime ctime) above = above ≢ under directory name
 IsNotUnlinked _ above = Unit {0}
 
-directory_stays : (change : Change) (r : Resources) → MayHappen change r → HasRoom r → HasNames r → (above : Key) → IsNotUnlinked change above → IsDirectoryAt r above → IsDirectoryAt (changed change r) above
+directory_stays : (change : ResourceChange) (r : Resources) → MayHappen change r → HasRoom r → HasNames r → (above : Key) → IsNotUnlinked change above → IsDirectoryAt r above → IsDirectoryAt (with_change change r) above
 directory_stays (Mounts mount) r may room names above apart d =
     let new = inode_is_new r.inodes mount.root room.some_inodes may in
     seen_directory (with_named mount.root (root_key mount.root) (root_attribute r.user) r) _ refl refl above (come_directory r mount.root (root_key mount.root) (root_attribute r.user) new (free_root r names mount.root new.free) above d)
@@ -125,7 +125,7 @@ unlinked_was : (own : Kind) (key : Key) (inode mtime ctime : ℕ) (r : Resources
 unlinked_was own key inode mtime ctime r other m leads = (remove-kept r.names key other m (subst (λ (names : Names). get names other ≡ Some m) (unused_same own inode (with_unlinked inode key mtime ctime r)) leads)).0
 
 -- a name that leads somewhere is no new one, or comes into a directory
-new_entry : (change : Change) (r : Resources) → MayHappen change r → (above : Key) (name : List ℕ) (inode : ℕ) → get (changed change r).names (under above name) ≡ Some inode → (get r.names (under above name) ≡ Some inode) ⊎ IsEntry r above name
+new_entry : (change : ResourceChange) (r : Resources) → MayHappen change r → (above : Key) (name : List ℕ) (inode : ℕ) → get (with_change change r).names (under above name) ≡ Some inode → (get r.names (under above name) ≡ Some inode) ⊎ IsEntry r above name
 new_entry (Mounts mount) r may above name inode leads = elim (insert-cases r.names (root_key mount.root) mount.root (under above name) inode leads) [ inl new ↦ absurd (not_root mount.root above name new.0) | inr was ↦ inl was ]
 new_entry (Comes at directory of kind mode moment) r may above name inode leads = elim (insert-cases r.names (under directory of) at (under above name) inode (subst (λ (names : Names). get names (under above name) ≡ Some inode) same leads)) [
   | inl new ↦ let both = same_entry above directory name of new.0 in inr (record { component = ap is_component both.1 ∙ may.3; directory = subst (IsDirectoryAt r) (sym both.0) may.1 })
@@ -139,12 +139,12 @@ new_entry (Closes own number block) r may above name inode leads = inl (subst (�
 new_entry _ r may above name inode leads = inl leads
 
 -- nor is it in a directory that was unlinked, which was empty
-not_behind : (change : Change) (r : Resources) → MayHappen change r → (above : Key) (name : List ℕ) (inode : ℕ) → get (changed change r).names (under above name) ≡ Some inode → IsNotUnlinked change above
+not_behind : (change : ResourceChange) (r : Resources) → MayHappen change r → (above : Key) (name : List ℕ) (inode : ℕ) → get (with_change change r).names (under above name) ≡ Some inode → IsNotUnlinked change above
 not_behind (Unlinks own directory of at mtime ctime) r may above name inode leads = λ same.
     nothing_behind r.names at above (ap (get r.names) same ∙ may.0) name may.1 inode (unlinked_was own (under directory of) at mtime ctime r (under above name) inode leads)
 not_behind _ r may above name inode leads = tt
 
-pub tree-keeps : (change : Change) (r : Resources) → MayHappen change r → HasRoom r → HasNames r → HasTree r → HasTree (changed change r)
+pub tree-keeps : (change : ResourceChange) (r : Resources) → MayHappen change r → HasRoom r → HasNames r → HasTree r → HasTree (with_change change r)
 tree-keeps change r may room names h = record {
   entries = λ above name inode leads.
       let entry : IsEntry r above name = elim (new_entry change r may above name inode leads) [ inl was ↦ h.entries above name inode was | inr new ↦ new ] in
@@ -153,32 +153,32 @@ tree-keeps change r may room names h = record {
 
 -- ---- mounts
 
-root_not_unlinked : (change : Change) (root : ℕ) → IsNotUnlinked change (root_key root)
+root_not_unlinked : (change : ResourceChange) (root : ℕ) → IsNotUnlinked change (root_key root)
 root_not_unlinked (Unlinks own directory name inode mtime ctime) root = λ same. not_root root directory name (sym same)
 root_not_unlinked _ root = tt
 
 -- the mounts are the same, or one more
-abbrev mounts_before : Change → Resources → Resources → Type 0
+abbrev mounts_before : ResourceChange → Resources → Resources → Type 0
 mounts_before (Mounts mount) r now = now.mounts ≡ mounted r.mounts mount.prefix mount.manager mount.root
 mounts_before _ r now = now.mounts ≡ r.mounts
 
 unused_mounts : (own : Kind) (inode : ℕ) (r : Resources) → (without_unused own inode r).mounts ≡ r.mounts
 unused_mounts own inode r = unused_cases (λ (s : Resources). s.mounts ≡ r.mounts) own inode r (λ gone. content_cases (λ (s : Resources). s.mounts ≡ r.mounts) own inode (freed inode r) (λ is. refl) (λ is. refl) (λ is. refl)) (λ stays. refl)
 
-same_mounts : (change : Change) (r : Resources) → mounts_before change r (changed change r)
+same_mounts : (change : ResourceChange) (r : Resources) → mounts_before change r (with_change change r)
 same_mounts (Comes inode directory name which mode moment) r = empty_cases (λ (s : Resources). s.mounts ≡ r.mounts) which inode (with_named inode (under directory name) (new_attribute which mode r.user moment) r) (λ is. refl) (λ is. refl) (λ is. refl)
 same_mounts (Unlinks own directory name inode mtime ctime) r = unused_mounts own inode (with_unlinked inode (under directory name) mtime ctime r)
 same_mounts (Closes own number block) r = unused_mounts own block.inode (without_block number r)
 same_mounts (Mounts mount) r = refl
 same_mounts _ r = refl
 
-stay_mounts : (change : Change) (r : Resources) → MayHappen change r → HasRoom r → HasNames r → HasMounts r → (changed change r).mounts ≡ r.mounts → HasMounts (changed change r)
+stay_mounts : (change : ResourceChange) (r : Resources) → MayHappen change r → HasRoom r → HasNames r → HasMounts r → (with_change change r).mounts ≡ r.mounts → HasMounts (with_change change r)
 stay_mounts change r may room names h same = record {
-  rooted = subst (All (λ (mount : MountPoint). IsDirectoryAt (changed change r) (root_key mount.root))) (sym same)
-      (All-weaker (λ (mount : MountPoint). IsDirectoryAt r (root_key mount.root)) (λ (mount : MountPoint). IsDirectoryAt (changed change r) (root_key mount.root)) (λ mount d. directory_stays change r may room names (root_key mount.root) (root_not_unlinked change mount.root) d) r.mounts h.rooted);
+  rooted = subst (All (λ (mount : MountPoint). IsDirectoryAt (with_change change r) (root_key mount.root))) (sym same)
+      (All-weaker (λ (mount : MountPoint). IsDirectoryAt r (root_key mount.root)) (λ (mount : MountPoint). IsDirectoryAt (with_change change r) (root_key mount.root)) (λ mount d. directory_stays change r may room names (root_key mount.root) (root_not_unlinked change mount.root) d) r.mounts h.rooted);
 }
 
-pub mounts-keep : (change : Change) (r : Resources) → MayHappen change r → HasRoom r → HasNames r → HasMounts r → HasMounts (changed change r)
+pub mounts-keep : (change : ResourceChange) (r : Resources) → MayHappen change r → HasRoom r → HasNames r → HasMounts r → HasMounts (with_change change r)
 mounts-keep (Mounts mount) r may room names h = record {
   rooted = All-append (λ (m : MountPoint). IsDirectoryAt (with_mount mount r) (root_key m.root)) r.mounts (record { prefix = mount.prefix; manager = mount.manager; root = mount.root } ∷ [])
       (All-weaker (λ (m : MountPoint). IsDirectoryAt r (root_key m.root)) (λ (m : MountPoint). IsDirectoryAt (with_mount mount r) (root_key m.root)) (λ m d. directory_stays (Mounts mount) r may room names (root_key m.root) tt d) r.mounts h.rooted)

@@ -14,42 +14,42 @@ use Rattle.qx_machine.specs.Defaults.{is_own, pipe_in, without_block, without_un
 use Rattle.qx_machine.specs.Inodes.{block_number, inode_number, new_attribute, with_offset}
 use Rattle.qx_machine.specs.Mounting.{with_mount}
 use Rattle.qx_machine.specs.Names.{Key, is_directory, names_in, under}
-use Rattle.qx_machine.specs.PipeManager.{with_after}
-use Rattle.qx_machine.specs.Pipes.{After, Pipe, nobody_answered, settle}
+use Rattle.qx_machine.specs.PipeManager.{deed_of_pipe}
+use Rattle.qx_machine.specs.Pipes.{PipeAfter, Pipe, nobody_answered, settle}
 use Rattle.qx_machine.specs.RamManager.{with_bytes}
 use Rattle.qx_machine.specs.Resources.{Resources, with_empty}
 use Rattle.qx_machine.specs.Rows.{put_row, row_at, with_row}
 use Rattle.qx_machine.specs.Waiting.{is_over, offered, wanted}
-use Rattle.qx_invariants.specs.Waits.{answers_to, is_astray, waiting_in, waiting_of}
+use Rattle.qx_invariants.specs.Waits.{answers_to, is_astray, count_waiting_in, waiting_of}
 
 -- one thing that happens
-pub data Change : Type 0 where
+pub data ResourceChange : Type 0 where
   -- a manager's mount comes, with a root of its own
-  Mounts : (mount : MountPoint) → Change
+  Mounts : (mount : MountPoint) → ResourceChange
   -- an inode comes with nothing in it, under a name in a directory
-  Comes : (inode : ℕ) (directory : Key) (name : List ℕ) (kind : Kind) (mode moment : ℕ) → Change
+  Comes : (inode : ℕ) (directory : Key) (name : List ℕ) (kind : Kind) (mode moment : ℕ) → ResourceChange
   -- an inode has another mode and other times
-  Touches : (inode mode mtime ctime : ℕ) → Change
+  Touches : (inode mode mtime ctime : ℕ) → ResourceChange
   -- an open control block comes
-  Opens : (number : ℕ) (block : Ocb) → Change
+  Opens : (number : ℕ) (block : Ocb) → ResourceChange
   -- an open control block stands at another offset
-  Moves : (number offset : ℕ) → Change
+  Moves : (number offset : ℕ) → ResourceChange
   -- a file has other bytes
-  Writes : (inode moment : ℕ) (bytes : List ℕ) → Change
+  Writes : (inode moment : ℕ) (bytes : List ℕ) → ResourceChange
   -- something is done to a pipe, to which calls came
-  Fills : (inode moment : ℕ) (after : After WaitingCall) (came : List WaitingCall) → Change
+  Fills : (inode moment : ℕ) (after : PipeAfter WaitingCall) (came : List WaitingCall) → ResourceChange
   -- a name goes, and what it named, unless that is open
-  Unlinks : (own : Kind) (directory : Key) (name : List ℕ) (inode mtime ctime : ℕ) → Change
+  Unlinks : (own : Kind) (directory : Key) (name : List ℕ) (inode mtime ctime : ℕ) → ResourceChange
   -- an open control block goes, and what it had open, unless that is named or open still
-  Closes : (own : Kind) (number : ℕ) (block : Ocb) → Change
+  Closes : (own : Kind) (number : ℕ) (block : Ocb) → ResourceChange
 
 -- ---- what there is afterwards
 
 abbrev pub touched : ℕ → ℕ → ℕ → Attribute → Attribute
 touched mode mtime ctime attribute = record attribute { mode = mode; mtime = mtime; ctime = ctime }
 
-abbrev pub unlinked : ℕ → ℕ → Attribute → Attribute
-unlinked mtime ctime attribute = record attribute { links = 0; mtime = mtime; ctime = ctime }
+abbrev pub without_link : ℕ → ℕ → Attribute → Attribute
+without_link mtime ctime attribute = record attribute { links = 0; mtime = mtime; ctime = ctime }
 
 -- an inode's attribute changes, if it is there
 abbrev pub with_changed : ℕ → (Attribute → Attribute) → Resources → Resources
@@ -64,18 +64,18 @@ with_named inode key attribute r = record r {
 
 -- an inode has no name any more, and nothing is under that name
 abbrev pub with_unlinked : ℕ → Key → ℕ → ℕ → Resources → Resources
-with_unlinked inode key mtime ctime r = record (with_changed inode (unlinked mtime ctime) r) { names = remove r.names key }
+with_unlinked inode key mtime ctime r = record (with_changed inode (without_link mtime ctime) r) { names = remove r.names key }
 
-abbrev pub changed : Change → Resources → Resources
-changed (Mounts mount) r = with_mount mount r
-changed (Comes inode directory name kind mode moment) r = with_empty kind inode (with_named inode (under directory name) (new_attribute kind mode r.user moment) r)
-changed (Touches inode mode mtime ctime) r = with_changed inode (touched mode mtime ctime) r
-changed (Opens number block) r = record r { inodes = record r.inodes { blocks = put_row r.inodes.blocks number block } }
-changed (Moves number offset) r = record r { inodes = with_offset r.inodes number offset }
-changed (Writes inode moment bytes) r = with_bytes inode moment bytes r
-changed (Fills inode moment after came) r = (with_after r inode moment after).state
-changed (Unlinks own directory name inode mtime ctime) r = without_unused own inode (with_unlinked inode (under directory name) mtime ctime r)
-changed (Closes own number block) r = without_unused own block.inode (without_block number r)
+abbrev pub with_change : ResourceChange → Resources → Resources
+with_change (Mounts mount) r = with_mount mount r
+with_change (Comes inode directory name kind mode moment) r = with_empty kind inode (with_named inode (under directory name) (new_attribute kind mode r.user moment) r)
+with_change (Touches inode mode mtime ctime) r = with_changed inode (touched mode mtime ctime) r
+with_change (Opens number block) r = record r { inodes = record r.inodes { blocks = put_row r.inodes.blocks number block } }
+with_change (Moves number offset) r = record r { inodes = with_offset r.inodes number offset }
+with_change (Writes inode moment bytes) r = with_bytes inode moment bytes r
+with_change (Fills inode moment after came) r = (deed_of_pipe r inode moment after).state
+with_change (Unlinks own directory name inode mtime ctime) r = without_unused own inode (with_unlinked inode (under directory name) mtime ctime r)
+with_change (Closes own number block) r = without_unused own block.inode (without_block number r)
 
 -- ---- when it can happen
 
@@ -107,7 +107,7 @@ pub record IsRewritten (r : Resources) (inode : ℕ) (bytes : List ℕ) : Type 0
   pub files : (length bytes ≤ length was) ⊎ (total_size (slice_set r.files inode (Some bytes)) ≤ FILES)
 
 -- something was done to the pipe of an inode, to which these calls came
-pub record IsDone (r : Resources) (inode : ℕ) (after : After WaitingCall) (came : List WaitingCall) : Type 0 where
+pub record IsDone (r : Resources) (inode : ℕ) (after : PipeAfter WaitingCall) (came : List WaitingCall) : Type 0 where
   pub pipe : Pipe WaitingCall
   pub there : row_at r.pipes inode ≡ Some pipe
   -- they are over open control blocks of that inode
@@ -121,7 +121,7 @@ pub record IsDone (r : Resources) (inode : ℕ) (after : After WaitingCall) (cam
 
 -- an inode comes under the lowest free number, with a name that is a component and not there yet, into a directory; a name goes that leads to
 -- an inode in which no names are; only what is there is opened, written, closed or unnamed; and nobody waits over what is closed
-abbrev pub MayHappen : Change → Resources → Type 0
+abbrev pub MayHappen : ResourceChange → Resources → Type 0
 MayHappen (Mounts mount) r = inode_number r.inodes ≡ Ok mount.root
 MayHappen (Comes inode directory name kind mode moment) r = (inode_number r.inodes ≡ Ok inode) × IsDirectoryAt r directory × (get r.names (under directory name) ≡ None) × (is_component name ≡ true)
 MayHappen (Touches inode mode mtime ctime) r = Unit {0}
@@ -130,22 +130,22 @@ MayHappen (Moves number offset) r = Unit {0}
 MayHappen (Writes inode moment bytes) r = IsRewritten r inode bytes
 MayHappen (Fills inode moment after came) r = IsDone r inode after came
 MayHappen (Unlinks own directory name inode mtime ctime) r = (get r.names (under directory name) ≡ Some inode) × (names_in r.names inode ≡ []) × IsOwnInode own r inode
-MayHappen (Closes own number block) r = (row_at r.inodes.blocks number ≡ Some block) × IsOwnInode own r block.inode × (waiting_in (is_over number) (pipe_in own r block.inode) ≡ 0)
+MayHappen (Closes own number block) r = (row_at r.inodes.blocks number ≡ Some block) × IsOwnInode own r block.inode × (count_waiting_in (is_over number) (pipe_in own r block.inode) ≡ 0)
 
 -- ---- one after another
 
 -- the resources once these changes happened, the last one first
-abbrev pub after_all : List Change → Resources → Resources
+abbrev pub after_all : List ResourceChange → Resources → Resources
 after_all [] r = r
-after_all (last ∷ before) r = changed last (after_all before r)
+after_all (last ∷ before) r = with_change last (after_all before r)
 
 -- each could happen when it did
-abbrev pub MayAllHappen : List Change → Resources → Type 0
+abbrev pub MayAllHappen : List ResourceChange → Resources → Type 0
 MayAllHappen [] r = Unit {0}
 MayAllHappen (last ∷ before) r = MayHappen last (after_all before r) × MayAllHappen before r
 
 -- by such changes the first resources become the second
 pub record Become (first second : Resources) : Type 0 where
-  pub changes : List Change
+  pub changes : List ResourceChange
   pub may : MayAllHappen changes first
   pub are : after_all changes first ≡ second

@@ -21,7 +21,7 @@ use Rattle.qx_machine.specs.Resources.{Resources}
 use Rattle.qx_machine.specs.Rows.{row_at}
 use Rattle.qx_machine.specs.Runs.{run}
 use Rattle.qx_invariants.specs.Changes.{IsDirectoryAt, IsSettled}
-use Rattle.qx_invariants.specs.Waits.{is_astray, is_of, waiting, waiting_in, waits}
+use Rattle.qx_invariants.specs.Waits.{is_astray, is_of, count_waiting, count_waiting_in, waits}
 
 -- this holds of each user's part in each world that a run reaches
 abbrev pub HoldsOfParts : (Part → Type 0) → Type 0
@@ -80,7 +80,7 @@ pub record HasSettledPipes (r : Resources) : Type 0 where
 
 -- each call that waits in a pipe is over an open control block of that pipe
 pub record HasOpenWaiters (r : Resources) : Type 0 where
-  pub none_astray : (inode : ℕ) → waiting_in (is_astray r.inodes.blocks inode) (row_at r.pipes inode) ≡ 0
+  pub none_astray : (inode : ℕ) → count_waiting_in (is_astray r.inodes.blocks inode) (row_at r.pipes inode) ≡ 0
 
 -- ---- names
 
@@ -126,4 +126,4 @@ pub record HasMounts (r : Resources) : Type 0 where
 
 -- of each thread that waits one call waits in the user's pipes, and of any other none
 pub record WaitsOnce (part : Part) : Type 0 where
-  pub once : (process thread : ℕ) → waiting (is_of process thread) part.resources.pipes ≡ waits (thread_at part process thread)
+  pub once : (process thread : ℕ) → count_waiting (is_of process thread) part.resources.pipes ≡ waits (thread_at part process thread)

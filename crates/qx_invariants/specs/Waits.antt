@@ -22,13 +22,13 @@ module _ {W : Type 0} where
   answers_to which answers = count_by (λ answer. which answer.0) answers
 
 -- the same where a pipe may be
-abbrev pub waiting_in : (WaitingCall → Bool) → Option (Pipe WaitingCall) → ℕ
-waiting_in which None = 0
-waiting_in which (Some pipe) = waiting_of which pipe
+abbrev pub count_waiting_in : (WaitingCall → Bool) → Option (Pipe WaitingCall) → ℕ
+count_waiting_in which None = 0
+count_waiting_in which (Some pipe) = waiting_of which pipe
 
 -- the same in all pipes of a user
-abbrev pub waiting : (WaitingCall → Bool) → Pipes → ℕ
-waiting which pipes = sum_by (waiting_in which) pipes
+abbrev pub count_waiting : (WaitingCall → Bool) → Pipes → ℕ
+count_waiting which pipes = sum_by (count_waiting_in which) pipes
 
 -- a call of this thread
 abbrev pub is_of : ℕ → ℕ → WaitingCall → Bool
@@ -39,10 +39,10 @@ abbrev pub is_astray : List (Option Ocb) → ℕ → WaitingCall → Bool
 is_astray blocks inode call = not (is_open (λ flags. true) inode (row_at blocks call.block))
 
 -- 1 for a thread whose call waits, else 0
-abbrev pub waits_in : State → ℕ
-waits_in (Waiting sent) = 1
-waits_in _ = 0
+abbrev pub count_state_waiting : State → ℕ
+count_state_waiting (Waiting sent) = 1
+count_state_waiting _ = 0
 
 abbrev pub waits : Option ThreadRow → ℕ
 waits None = 0
-waits (Some row) = waits_in row.state
+waits (Some row) = count_state_waiting row.state

@@ -15,7 +15,7 @@ ghost use Rattle.qx_machine.specs.Runs.{run};
 ghost use Rattle.qx_machine.specs.Waiting.{is_call};
 ghost use Rattle.qx_invariants.specs.Changes.{Become};
 ghost use Rattle.qx_invariants.specs.Holds.{HasContents, HasLimits, HasMounts, HasNames, HasOpenWaiters, HasRoom, HasSettledPipes, HasTree, HoldsInRuns, HoldsOfParts, IsOwnedBy, WaitsOnce};
-ghost use Rattle.qx_invariants.specs.Waits.{waiting};
+ghost use Rattle.qx_invariants.specs.Waits.{count_waiting};
 
 /// A user's resources become what they are by a few kinds of change alone, one after another, each where it may happen.
 #[tactic(auto, using(crate::proofs::Reached::run_becomes))]
@@ -90,5 +90,5 @@ pub fn who_waits_has_it_open()
 /// and no thread waits whose call is nowhere.
 pub fn threads_wait_once()
     ensures threads { HoldsOfParts WaitsOnce }
-    ensures calls { HoldsInRuns (λ r. (process thread number : ℕ) → waiting (is_call process thread number) r.pipes ≤ 1) }
+    ensures calls { HoldsInRuns (λ r. (process thread number : ℕ) → count_waiting (is_call process thread number) r.pipes ≤ 1) }
 {}

@@ -14,7 +14,7 @@ use Rattle.qx_machine.specs.declared.rows.Ocb.{Ocb}
 use Rattle.qx_machine.specs.Inodes.{Inodes, blocks_of, close_block, free_inode, is_open, is_unused, moved_to, no_inodes, with_attribute, with_offset}
 use Rattle.qx_machine.specs.Names.{Key, Names, key_cmp}
 use Rattle.qx_machine.specs.Rows.{put_row, row_at, with_row}
-use Rattle.qx_names.specs.Paths.{IsUnnamed}
+use Rattle.qx_names.specs.Paths.{HasNoPath}
 use Rattle.qx_names.specs.Shows.{key_total}
 use Rattle.qx_process.proofs.RowLemmas.{with_row-none}
 
@@ -160,10 +160,10 @@ freed_fits inodes names inode but = by_test (is_unused inodes inode (row_at inod
 -- ---- no path leads there
 
 -- no path leads to a number that is free
-pub unnamed_free : (inodes : Inodes) (names : Names) → NamesFit inodes names → (inode : ℕ) → row_at inodes.attributes inode ≡ None → IsUnnamed names inode
+pub unnamed_free : (inodes : Inodes) (names : Names) → NamesFit inodes names → (inode : ℕ) → row_at inodes.attributes inode ≡ None → HasNoPath names inode
 unnamed_free inodes names fits inode free key leads = subst IsLinked free (fits.linked key inode leads)
 
-pub none_named : (root : ℕ) → IsUnnamed empty root
+pub none_named : (root : ℕ) → HasNoPath empty root
 none_named root key leads = let both : None ≡ Some root = sym (get-empty key_cmp key) ∙ leads in absurd (cc)
 
 -- ---- before anything is made

@@ -2,11 +2,11 @@
 use Rattle.std.proofs.Common.{◌≡◌, ℕ, ◌&&◌, Bool, true, false, [], not, refl, sym, ap, ◌∙◌, subst, Option, Some, None, Result, Ok, Err, IsOk, IsSome, List, ◌∷◌, length, arith}
 use Rattle.qx_iofunc.specs.Given as given
 use Rattle.std.specs.Prelude.{nat_le, is_some, if◌then◌else◌}
-use Rattle.qx_attr.specs.Counts.{numbered}
+use Rattle.qx_attr.specs.Counts.{with_number}
 use Rattle.qx_iofunc.proofs.FitLemmas.{block_fits}
 use Rattle.qx_iofunc.specs.Fits.{Fits}
 use Rattle.qx_iofunc.specs.Makes.{may_open, may_make, may_make_directory}
-use Rattle.qx_iofunc.specs.Store.{Stored, within, with_made}
+use Rattle.qx_iofunc.specs.Store.{Stored, with_stored, with_made}
 use Rattle.qx_iofunc.proofs.StoreLemmas.{emptied_in, emptied_is}
 use Rattle.qx_machine.proofs.Places.{lowest_from_free}
 use Rattle.qx_machine.specs.declared.rows.Attribute.{Attribute}
@@ -150,16 +150,16 @@ module _ (r : Resources) (coid : Coid) (inode : ℕ) (wish : Wish) where
 beside : Stored → Resources
 beside s = record { user = s.user; mounts = []; inodes = s.inodes; names = s.names; files = s.files; pipes = [] }
 
-pub all_allowed : (s : Stored) (inode : ℕ) (wish : Wish) → ((r : Resources) (coid : Coid) → IsOk (open_existing (within r s) coid inode wish)) → may_open s.inodes s.user inode wish.flags ≡ Ok done
-all_allowed s inode wish allowed = allowed_may (within (beside s) s) (record { 0 = 0 }) inode wish (allowed (beside s) (record { 0 = 0 }))
+pub all_allowed : (s : Stored) (inode : ℕ) (wish : Wish) → ((r : Resources) (coid : Coid) → IsOk (open_existing (with_stored r s) coid inode wish)) → may_open s.inodes s.user inode wish.flags ≡ Ok done
+all_allowed s inode wish allowed = allowed_may (with_stored (beside s) s) (record { 0 = 0 }) inode wish (allowed (beside s) (record { 0 = 0 }))
 
 -- ---- once it is open
 
-module _ (inodes now : Inodes) (inode number : ℕ) (flags : OFlags) (is_open : numbered now (Ok number) ≡ open_block inodes inode flags) where
+module _ (inodes now : Inodes) (inode number : ℕ) (flags : OFlags) (is_open : with_number now (Ok number) ≡ open_block inodes inode flags) where
   opened_is : now ≡ record inodes { blocks = put_row inodes.blocks (lowest_from 1 inodes.blocks) (record { inode = inode; flags = flags; offset = 0 }) }
   opened_is = by_test (nat_le (lowest_from 1 inodes.blocks) BLOCKS) is_open
     where
-      by_test : (few : Bool) → numbered now (Ok number) ≡ ((if few then Ok (lowest_from 1 inodes.blocks) else Err ENFILE) >>= (λ n. Ok (record { number = n; inodes = record inodes { blocks = put_row inodes.blocks n (record { inode = inode; flags = flags; offset = 0 }) } })))
+      by_test : (few : Bool) → with_number now (Ok number) ≡ ((if few then Ok (lowest_from 1 inodes.blocks) else Err ENFILE) >>= (λ n. Ok (record { number = n; inodes = record inodes { blocks = put_row inodes.blocks n (record { inode = inode; flags = flags; offset = 0 }) } })))
           → now ≡ record inodes { blocks = put_row inodes.blocks (lowest_from 1 inodes.blocks) (record { inode = inode; flags = flags; offset = 0 }) }
       by_test true e =
           let equal : record { number = number; inodes = now } ≡ record { number = lowest_from 1 inodes.blocks; inodes = record inodes { blocks = put_row inodes.blocks (lowest_from 1 inodes.blocks) (record { inode = inode; flags = flags; offset = 0 }) } } = cc in
@@ -186,15 +186,15 @@ not_made : (kind : Kind) (number inode : ℕ) (r : Resources) → given.with_pip
 not_made Pipe number inode r = refl
 not_made kind number inode r = refl
 
-pub existing_done : (s : Stored) (now : Inodes) (number inode : ℕ) (wish : Wish) → may_open s.inodes s.user inode wish.flags ≡ Ok done → numbered now (Ok number) ≡ open_block (emptied_in wish.flags inode wish.moment s).inodes inode wish.flags → (r : Resources) (coid : Coid)
-    → open_existing (within r s) coid inode wish
-    ≡ Ok (given.opened coid wish.kind (record { number = number; inode = inode; is_new = false }) (within r (record (emptied_in wish.flags inode wish.moment s) { inodes = now })))
+pub existing_done : (s : Stored) (now : Inodes) (number inode : ℕ) (wish : Wish) → may_open s.inodes s.user inode wish.flags ≡ Ok done → with_number now (Ok number) ≡ open_block (emptied_in wish.flags inode wish.moment s).inodes inode wish.flags → (r : Resources) (coid : Coid)
+    → open_existing (with_stored r s) coid inode wish
+    ≡ Ok (given.open_given coid wish.kind (record { number = number; inode = inode; is_new = false }) (with_stored r (record (emptied_in wish.flags inode wish.moment s) { inodes = now })))
 existing_done s now number inode wish may is r coid =
-    existing_judged (within r s) coid inode wish (Ok done) may
+    existing_judged (with_stored r s) coid inode wish (Ok done) may
     ∙ (ap (λ (after : Resources). opened coid wish.flags inode after) (emptied_is wish.flags inode wish.moment s r)
-    ∙ (opened_deed (emptied_in wish.flags inode wish.moment s).inodes now inode number wish.flags is coid (within r (emptied_in wish.flags inode wish.moment s)) refl
+    ∙ (opened_deed (emptied_in wish.flags inode wish.moment s).inodes now inode number wish.flags is coid (with_stored r (emptied_in wish.flags inode wish.moment s)) refl
     ∙ ap (λ (after : Resources). Ok (reply_alone coid.0 [] (Opens coid number) after))
-    (sym (not_made wish.kind number inode (within r (record (emptied_in wish.flags inode wish.moment s) { inodes = now }))))))
+    (sym (not_made wish.kind number inode (with_stored r (record (emptied_in wish.flags inode wish.moment s) { inodes = now }))))))
 
 -- ---- what may be made
 
@@ -254,7 +254,7 @@ missing_makes inodes user parent new flags is = by_parts (has flags CREAT) (writ
 module _ (r : Resources) (s : Stored) (coid : Coid) (at : Spot) (wish : Wish) where
   -- what there is once it is made
   abbrev after : Kind → New → Resources
-  after kind new = with_empty kind new.inode (record (within r s) { inodes = (with_made at new.inode new.parent kind wish.mode wish.moment s).inodes; names = insert s.names at.key new.inode })
+  after kind new = with_empty kind new.inode (record (with_stored r s) { inodes = (with_made at new.inode new.parent kind wish.mode wish.moment s).inodes; names = insert s.names at.key new.inode })
 
   after_inodes : (kind : Kind) (new : New) → (after kind new).inodes ≡ (with_made at new.inode new.parent kind wish.mode wish.moment s).inodes
   after_inodes Pipe new = refl
@@ -262,23 +262,23 @@ module _ (r : Resources) (s : Stored) (coid : Coid) (at : Spot) (wish : Wish) wh
 
   -- in the store, and with what is in it elsewhere
   after_is : (kind : Kind) (new : New) (number : ℕ) (now : Inodes)
-      → record (after kind new) { inodes = now } ≡ given.with_pipe_made kind (record { number = number; inode = new.inode; is_new = true }) (within r (record (with_made at new.inode new.parent kind wish.mode wish.moment s) { inodes = now }))
+      → record (after kind new) { inodes = now } ≡ given.with_pipe_made kind (record { number = number; inode = new.inode; is_new = true }) (with_stored r (record (with_made at new.inode new.parent kind wish.mode wish.moment s) { inodes = now }))
   after_is Pipe new number now = refl
   after_is kind new number now = refl
 
-  missing_is : (new : New) → may_make s.inodes s.user at.parent wish.flags ≡ Ok new → open_missing (within r s) coid at wish ≡ opened coid wish.flags new.inode (after wish.kind new)
+  missing_is : (new : New) → may_make s.inodes s.user at.parent wish.flags ≡ Ok new → open_missing (with_stored r s) coid at wish ≡ opened coid wish.flags new.inode (after wish.kind new)
   missing_is new may = let it = missing_makes s.inodes s.user at.parent new wish.flags may in rw (it.creates, it.writable_is, it.block_is, it.number_is) refl
 
   pub missing_done : (new : New) (now : Inodes) (number : ℕ) → may_make s.inodes s.user at.parent wish.flags ≡ Ok new
-      → numbered now (Ok number) ≡ open_block (with_made at new.inode new.parent wish.kind wish.mode wish.moment s).inodes new.inode wish.flags
-      → open_missing (within r s) coid at wish
-      ≡ Ok (given.opened coid wish.kind (record { number = number; inode = new.inode; is_new = true }) (within r (record (with_made at new.inode new.parent wish.kind wish.mode wish.moment s) { inodes = now })))
+      → with_number now (Ok number) ≡ open_block (with_made at new.inode new.parent wish.kind wish.mode wish.moment s).inodes new.inode wish.flags
+      → open_missing (with_stored r s) coid at wish
+      ≡ Ok (given.open_given coid wish.kind (record { number = number; inode = new.inode; is_new = true }) (with_stored r (record (with_made at new.inode new.parent wish.kind wish.mode wish.moment s) { inodes = now })))
   missing_done new now number may is =
       missing_is new may
       ∙ (opened_deed (with_made at new.inode new.parent wish.kind wish.mode wish.moment s).inodes now new.inode number wish.flags is coid (after wish.kind new) (after_inodes wish.kind new)
       ∙ ap (λ (after : Resources). Ok (reply_alone coid.0 [] (Opens coid number) after)) (after_is wish.kind new number now))
 
-  pub missing_allowed : (new : New) → may_make s.inodes s.user at.parent wish.flags ≡ Ok new → IsOk (open_missing (within r s) coid at wish)
+  pub missing_allowed : (new : New) → may_make s.inodes s.user at.parent wish.flags ≡ Ok new → IsOk (open_missing (with_stored r s) coid at wish)
   missing_allowed new may =
       let free = (missing_makes s.inodes s.user at.parent new wish.flags may).block_is in
       let number : IsOk (block_number s.inodes) = rw free refl in

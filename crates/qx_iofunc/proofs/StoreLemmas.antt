@@ -7,18 +7,18 @@ use Rattle.std.proofs.lemmas.Bool.{leb-true}
 use Rattle.std.proofs.lemmas.List.{length-replicate}
 use Rattle.qx_attr.proofs.CountLemmas.{row-set_same, within_table}
 use Rattle.qx_attr.proofs.TableLemmas.{row-put}
-use Rattle.qx_attr.specs.Counts.{numbered}
+use Rattle.qx_attr.specs.Counts.{with_number}
 use Rattle.qx_iofunc.proofs.FitLemmas as of_names
 use Rattle.qx_iofunc.proofs.PlaceLemmas.{Differ, by_place, lowest_within, put_at, put_differ, row-freed, same_differ, set_at, set_differ, with_row-at}
 use Rattle.qx_iofunc.specs.Fits.{AreSized, Fits, IsLinked, NamesFit, NamesFitBut, file_size, is_file}
-use Rattle.qx_iofunc.specs.Store.{Stored, block_gone, boot_store, files_with, files_without, unused_gone, with_made, with_mount_root, with_resized, with_truncated, within}
+use Rattle.qx_iofunc.specs.Store.{Stored, block_gone, boot_store, files_with, files_without, unused_gone, with_made, with_mount_root, with_resized, with_truncated, with_stored}
 use Rattle.qx_machine.proofs.Places.{lowest_from_free}
 use Rattle.qx_machine.specs.declared.rows.Attribute.{Attribute}
 use Rattle.qx_machine.specs.declared.rows.Kind.{Kind}
 use Rattle.qx_machine.specs.declared.rows.Kind.TheVariants.{File}
 use Rattle.qx_machine.specs.declared.rows.Ocb.{Ocb}
 use Rattle.qx_machine.specs.Attributes.{root_attribute}
-use Rattle.qx_machine.specs.Defaults.{changed, is_own, own_block, unnamed}
+use Rattle.qx_machine.specs.Defaults.{with_entries_changed, is_own, own_block, unnamed}
 use Rattle.qx_machine.specs.Files.{Files, no_files, size_of}
 use Rattle.qx_machine.specs.Inodes.{Inodes, Numbered, block_number, has, inode_number, is_unused, new_attribute, new_inode, no_inodes, with_attribute, writes}
 use Rattle.qx_machine.specs.Judgements.{◌>>=◌, found, need}
@@ -26,7 +26,7 @@ use Rattle.qx_machine.specs.Names.{Key, Names, Spot, root_key}
 use Rattle.qx_machine.specs.RamManager.{emptied, with_bytes}
 use Rattle.qx_machine.specs.Resources.{Resources, resized}
 use Rattle.qx_machine.specs.Rows.{lowest_from, put_row, row_at, with_row}
-use Rattle.qx_names.specs.Paths.{IsUnnamed}
+use Rattle.qx_names.specs.Paths.{HasNoPath}
 use Rattle.qx_process.proofs.RowLemmas.{with_row-none}
 use Rattle.qx_types.specs.declared.errno.Errno.{Errno}
 use Rattle.qx_types.specs.declared.errno.Errno.TheVariants.{EBADF, ENOSPC}
@@ -85,7 +85,7 @@ pub number_free : (inodes : Inodes) (number : ℕ) → inode_number inodes ≡ O
 number_free inodes number is = ap (row_at inodes.attributes) (number_is inodes number is).0 ∙ lowest_from_free 1 inodes.attributes
 
 -- no path leads there, and it has no bytes
-pub number_fresh : (s : Stored) (number : ℕ) → inode_number s.inodes ≡ Ok number → StoreFits s → IsUnnamed s.names number × (row_at s.files number ≡ None)
+pub number_fresh : (s : Stored) (number : ℕ) → inode_number s.inodes ≡ Ok number → StoreFits s → HasNoPath s.names number × (row_at s.files number ≡ None)
 number_fresh s number is fits =
     let free = number_free s.inodes number is in
     (of_names.unnamed_free s.inodes s.names fits.named number free, no_bytes s.inodes s.files number fits.sized free)
@@ -94,9 +94,9 @@ number_within : (inodes : Inodes) (number : ℕ) → 0 < length inodes.attribute
 number_within inodes number some is = subst (λ n. n ≤ length inodes.attributes) (sym (number_is inodes number is).0) (lowest_within inodes.attributes some)
 
 -- the inode that is made, where room was made before
-pub made_from : (inodes reserved now : Inodes) (attribute : Attribute) (number : ℕ) → reserved ≡ inodes → inode_number inodes ≡ Ok number → numbered now (inode_number reserved) ≡ new_inode reserved attribute
+pub made_from : (inodes reserved now : Inodes) (attribute : Attribute) (number : ℕ) → reserved ≡ inodes → inode_number inodes ≡ Ok number → with_number now (inode_number reserved) ≡ new_inode reserved attribute
     → now ≡ record inodes { attributes = put_row inodes.attributes number attribute }
-made_from inodes reserved now attribute number same is made = ap inodes_of (rw is at (subst (λ (from : Inodes). numbered now (inode_number from) ≡ new_inode from attribute) same made))
+made_from inodes reserved now attribute number same is made = ap inodes_of (rw is at (subst (λ (from : Inodes). with_number now (inode_number from) ≡ new_inode from attribute) same made))
   where
     inodes_of : Result Numbered Errno → Inodes
     inodes_of (Ok one) = one.inodes
@@ -149,14 +149,14 @@ module _ (s : Stored) (at : Spot) (inode : ℕ) (parent : Attribute) (kind : Kin
 
   pub made_fits : StoreFits (with_made at inode parent kind mode moment s)
   made_fits =
-      kept_fits (record s.inodes { attributes = put_row s.inodes.attributes inode (new_attribute kind mode s.user moment) }) (insert s.names at.key inode) (files_with kind inode s.files) at.parent parent (changed moment parent)
+      kept_fits (record s.inodes { attributes = put_row s.inodes.attributes inode (new_attribute kind mode s.user moment) }) (insert s.names at.key inode) (files_with kind inode s.files) at.parent parent (with_entries_changed moment parent)
       ((put_differ s.inodes.attributes inode (new_attribute kind mode s.user moment) inside).others at.parent (λ same. apart (sym same)) ∙ parent_is) refl refl
       (new_fits s.inodes s.names s.files inode is fits at.key kind mode s.user moment)
 
   pub made_there : IsSome (row_at (with_made at inode parent kind mode moment s).inodes.attributes inode)
   made_there =
       let made = put_at s.inodes.attributes inode (new_attribute kind mode s.user moment) inside in
-      rw ((set_differ (put_row s.inodes.attributes inode (new_attribute kind mode s.user moment)) at.parent (Some (changed moment parent))).others inode apart, made) refl
+      rw ((set_differ (put_row s.inodes.attributes inode (new_attribute kind mode s.user moment)) at.parent (Some (with_entries_changed moment parent))).others inode apart, made) refl
 
 -- ---- before anything is made
 
@@ -181,7 +181,7 @@ boot_fits user = root_fits 1 (record { user = user; inodes = no_inodes; names = 
 
 -- so these are the resources with other bytes in the file
 pub changed_is : (r : Resources) (inode size moment : ℕ) (change : List ℕ → List ℕ) (s : Stored) (bytes : List ℕ) → row_at s.files inode ≡ Some bytes → size ≡ size_of (row_at (with_row s.files inode change) inode)
-    → within r (record (with_resized inode size moment s) { files = with_row s.files inode change }) ≡ with_bytes inode moment (change bytes) (within r s)
+    → with_stored r (record (with_resized inode size moment s) { files = with_row s.files inode change }) ≡ with_bytes inode moment (change bytes) (with_stored r s)
 changed_is r inode size moment change s bytes is long =
     let same : size ≡ length (change bytes) = long ∙ ap size_of (with_row-at s.files inode change ∙ ap (option_map change) is) in
     rw (same, is) refl
@@ -236,11 +236,11 @@ module _ (flags : OFlags) (inode moment : ℕ) (s : Stored) where
       by_tests true true = empty
       by_tests empties file = kept
 
-  pub emptied_is : (r : Resources) → emptied flags inode moment (within r s) ≡ within r (emptied_in flags inode moment s)
+  pub emptied_is : (r : Resources) → emptied flags inode moment (with_stored r s) ≡ with_stored r (emptied_in flags inode moment s)
   emptied_is r = by_tests (has flags TRUNC) (writes flags) (is_some (row_at s.files inode))
     where
-      by_tests : (truncates writing file : Bool) → (if truncates && writing && file then with_bytes inode moment [] (within r s) else within r s)
-          ≡ within r (if truncates && writing then (if file then record (with_resized inode 0 moment s) { files = slice_set s.files inode (Some []) } else s) else s)
+      by_tests : (truncates writing file : Bool) → (if truncates && writing && file then with_bytes inode moment [] (with_stored r s) else with_stored r s)
+          ≡ with_stored r (if truncates && writing then (if file then record (with_resized inode 0 moment s) { files = slice_set s.files inode (Some []) } else s) else s)
       by_tests true true true = refl
       by_tests truncates writing file = refl
 
@@ -318,7 +318,7 @@ closed_fits own number block s is mine fits =
 -- a name goes, and the times of its directory change
 abbrev name_gone : ℕ → Key → ℕ → Attribute → Attribute → ℕ → Stored → Stored
 name_gone parent key inode was attribute moment s = record s {
-  inodes = with_attribute (with_attribute s.inodes parent (changed moment was)) inode (unnamed moment attribute);
+  inodes = with_attribute (with_attribute s.inodes parent (with_entries_changed moment was)) inode (unnamed moment attribute);
   names = remove s.names key;
 }
 
@@ -326,10 +326,10 @@ name_gone parent key inode was attribute moment s = record s {
 pub unlinked_fits : (own : Kind) (parent : ℕ) (key : Key) (inode : ℕ) (was attribute : Attribute) (moment : ℕ) (s : Stored) → row_at s.inodes.attributes parent ≡ Some was → row_at s.inodes.attributes inode ≡ Some attribute
     → is_own own attribute.kind ≡ true → ((other : Key) → get (remove s.names key) other ≡ Some inode → ⊥) → StoreFits s → StoreFits (unused_gone own inode (name_gone parent key inode was attribute moment s))
 unlinked_fits own parent key inode was attribute moment s parent_is is mine gone fits =
-    let before : Inodes = with_attribute s.inodes parent (changed moment was) in
-    let first = kept_fits s.inodes s.names s.files parent was (changed moment was) parent_is refl refl fits in
+    let before : Inodes = with_attribute s.inodes parent (with_entries_changed moment was) in
+    let first = kept_fits s.inodes s.names s.files parent was (with_entries_changed moment was) parent_is refl refl fits in
     let there = within_table s.inodes.attributes inode attribute is in
-    let same = length-set s.inodes.attributes parent (Some (changed moment was)) in
+    let same = length-set s.inodes.attributes parent (Some (with_entries_changed moment was)) in
     let at = set_at before.attributes inode (unnamed moment attribute) (omega (arith, there, same)) in
     let sized = sized_but before (with_attribute before inode (unnamed moment attribute)) s.files s.files inode (set_differ before.attributes inode (Some (unnamed moment attribute))) (same_differ s.files inode)
     (fits.sized inode ∙ (ap file_size is ∙ ap file_size (sym at))) first.sized in

@@ -11,9 +11,9 @@ use Rattle.qx_machine.specs.Functions.{Deed, reply_alone}
 use Rattle.qx_machine.specs.Resources.{Resources, with_empty, without_content}
 
 -- a number is replied, with these bytes
-abbrev pub replied : List ℕ → Resources → Result ℕ Errno → Result (Deed Resources) Errno
-replied bytes r (Ok status) = Ok (reply_alone status bytes Keeps r)
-replied bytes r (Err error) = Err error
+abbrev pub number_replied : List ℕ → Resources → Result ℕ Errno → Result (Deed Resources) Errno
+number_replied bytes r (Ok status) = Ok (reply_alone status bytes Keeps r)
+number_replied bytes r (Err error) = Err error
 
 -- it is done, and nothing is told
 abbrev pub done : Resources → Result (Unit {0}) Errno → Result (Deed Resources) Errno
@@ -36,10 +36,10 @@ with_pipe_gone Pipe (Some inode) r = without_content Pipe inode r
 with_pipe_gone _ _ r = r
 
 -- an open of a connection
-abbrev pub opened : Coid → Kind → Opening → Resources → Deed Resources
-opened coid kind opening r = reply_alone coid.0 [] (Opens coid opening.number) (with_pipe_made kind opening r)
+abbrev pub open_given : Coid → Kind → Opening → Resources → Deed Resources
+open_given coid kind opening r = reply_alone coid.0 [] (Opens coid opening.number) (with_pipe_made kind opening r)
 
 -- a name is gone, and the inode that it named or not
-abbrev pub unlinked : Kind → Resources → Result (Option ℕ) Errno → Result (Deed Resources) Errno
-unlinked own r (Ok gone) = Ok (reply_alone 0 [] Keeps (with_pipe_gone own gone r))
-unlinked own r (Err error) = Err error
+abbrev pub unlink_given : Kind → Resources → Result (Option ℕ) Errno → Result (Deed Resources) Errno
+unlink_given own r (Ok gone) = Ok (reply_alone 0 [] Keeps (with_pipe_gone own gone r))
+unlink_given own r (Err error) = Err error

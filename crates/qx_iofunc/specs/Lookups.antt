@@ -4,7 +4,7 @@ use Rattle.std.specs.FinMap.{get}
 use Rattle.qx_iofunc.specs.declared.found.Lookup.{Lookup}
 use Rattle.qx_iofunc.specs.declared.found.Lookup.TheVariants.{Found, Missing}
 use Rattle.qx_iofunc.specs.Makes.{may_make}
-use Rattle.qx_iofunc.specs.Store.{Stored, within}
+use Rattle.qx_iofunc.specs.Store.{Stored, with_stored}
 use Rattle.qx_machine.specs.declared.rows.Kind.{Kind}
 use Rattle.qx_machine.specs.declared.rows.Wish.{Wish}
 use Rattle.qx_machine.specs.Defaults.{open_existing, open_missing}
@@ -13,7 +13,7 @@ use Rattle.qx_machine.specs.Inodes.{Inodes}
 use Rattle.qx_machine.specs.Judgements.{◌>>=◌}
 use Rattle.qx_machine.specs.Names.{Names, under}
 use Rattle.qx_machine.specs.Resources.{Resources}
-use Rattle.qx_names.specs.Paths.{IsNamed, path_of}
+use Rattle.qx_names.specs.Paths.{HasPath, path_of}
 use Rattle.qx_names.specs.Spots.{spot_of}
 use Rattle.qx_types.specs.declared.errno.Errno.{Errno}
 use Rattle.qx_types.specs.declared.flags.OFlags.{OFlags}
@@ -29,15 +29,15 @@ needed (Found inode) = 1
 needed (Missing at new) = 2
 
 -- an open, once it was looked up what it opens
-abbrev pub looked_up : Resources → Coid → Result Lookup Errno → Wish → Result (Deed Resources) Errno
-looked_up r coid lookup wish = do
+abbrev pub open_looked_up : Resources → Coid → Result Lookup Errno → Wish → Result (Deed Resources) Errno
+open_looked_up r coid lookup wish = do
   there ← lookup
   open_found r coid there wish
 
 -- what is missing has a directory, in which nothing has its name
 abbrev pub IsFree : Names → Lookup → Type 0
 IsFree names (Found inode) = Unit {0}
-IsFree names (Missing at new) = IsNamed names at.parent × (get names (under (path_of names at.parent) at.name.now) ≡ None)
+IsFree names (Missing at new) = HasPath names at.parent × (get names (under (path_of names at.parent) at.name.now) ≡ None)
 
 -- what is to be made was judged, for this directory
 abbrev pub IsJudged : Inodes → ℕ → OFlags → Lookup → Type 0
@@ -48,4 +48,4 @@ IsJudged inodes user flags (Missing at new) = may_make inodes user at.parent fla
 pub record IsAllowed (s : Stored) (flags : OFlags) (lookup : Lookup) : Type 0 where
   pub free : IsFree s.names lookup
   pub judged : IsJudged s.inodes s.user flags lookup
-  pub opens : (r : Resources) (coid : Coid) (kind : Kind) (mode moment : ℕ) → IsOk (open_found (within r s) coid lookup (record { flags = flags; kind = kind; mode = mode; moment = moment }))
+  pub opens : (r : Resources) (coid : Coid) (kind : Kind) (mode moment : ℕ) → IsOk (open_found (with_stored r s) coid lookup (record { flags = flags; kind = kind; mode = mode; moment = moment }))

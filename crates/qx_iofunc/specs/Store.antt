@@ -5,7 +5,7 @@ use Rattle.qx_machine.specs.declared.rows.Attribute.{Attribute}
 use Rattle.qx_machine.specs.declared.rows.Kind.{Kind}
 use Rattle.qx_machine.specs.declared.rows.Kind.TheVariants.{File}
 use Rattle.qx_machine.specs.Attributes.{root_attribute, top_inode}
-use Rattle.qx_machine.specs.Defaults.{changed}
+use Rattle.qx_machine.specs.Defaults.{with_entries_changed}
 use Rattle.qx_machine.specs.Files.{Files, no_files}
 use Rattle.qx_machine.specs.Inodes.{Inodes, close_block, free_inode, is_unused, new_attribute, with_attribute}
 use Rattle.qx_machine.specs.Names.{Names, Spot, with_root}
@@ -25,8 +25,8 @@ pub record Store : Type 0 where
   pub room : ℕ
 
 -- what the managers keep for the user, with this in it
-abbrev pub within : Resources → Stored → Resources
-within r s = record r { user = s.user; inodes = s.inodes; names = s.names; files = s.files }
+abbrev pub with_stored : Resources → Stored → Resources
+with_stored r s = record r { user = s.user; inodes = s.inodes; names = s.names; files = s.files }
 
 -- ---- mounts
 
@@ -56,7 +56,7 @@ files_with _ inode files = files
 -- an inode of this kind and mode is made under this number, with a name in a directory, whose attribute was this
 abbrev pub with_made : Spot → ℕ → Attribute → Kind → ℕ → ℕ → Stored → Stored
 with_made at inode parent kind mode moment s = record s {
-  inodes = with_attribute (record s.inodes { attributes = put_row s.inodes.attributes inode (new_attribute kind mode s.user moment) }) at.parent (changed moment parent);
+  inodes = with_attribute (record s.inodes { attributes = put_row s.inodes.attributes inode (new_attribute kind mode s.user moment) }) at.parent (with_entries_changed moment parent);
   names = insert s.names at.key inode;
   files = files_with kind inode s.files;
 }

@@ -1,7 +1,7 @@
 //! What may be opened and made, and how attributes change with the entries of a directory.
 
 ghost use Rattle.std.specs.Prelude.{◌≡◌, ◌<◌, ◌-◌, Ok, IsOk, IsSome};
-ghost use Rattle.qx_attr.specs.Counts.{numbered};
+ghost use Rattle.qx_attr.specs.Counts.{with_number};
 ghost use Rattle.qx_iofunc.specs.Makes.{may_make, may_make_directory, may_open};
 ghost use Rattle.qx_machine.specs.Inodes as of_inodes;
 ghost use Rattle.qx_machine.specs.Attributes as attributes;
@@ -88,7 +88,7 @@ pub fn writable(inodes: &Inodes, user: User, directory: u32) -> Result<Attribute
 
 /// A directory's attribute once an entry was made or removed.
 pub fn changed(moment: u64, attribute: Attribute) -> Attribute
-    ensures { result ≡ machine.changed moment attribute }
+    ensures { result ≡ machine.with_entries_changed moment attribute }
 {
     Attribute {
         mtime: moment,
@@ -142,7 +142,7 @@ pub fn root_attribute(user: User) -> Attribute
 pub fn made(inodes: &mut Inodes, attribute: Attribute)
     requires room { 0 < inodes.old.room }
     requires number { IsOk (of_inodes.inode_number inodes.old.inodes) }
-    ensures made { numbered inodes.new.inodes (of_inodes.inode_number inodes.old.inodes) ≡ of_inodes.new_inode inodes.old.inodes attribute }
+    ensures made { with_number inodes.new.inodes (of_inodes.inode_number inodes.old.inodes) ≡ of_inodes.new_inode inodes.old.inodes attribute }
     ensures room { inodes.new.room ≡ inodes.old.room - 1 }
 {
     match inodes.new_inode(attribute) {
@@ -156,7 +156,7 @@ pub fn opened(inodes: &mut Inodes, inode: u32, flags: OFlags) -> u16
     requires there { IsSome (row_at inodes.old.inodes.attributes inode) }
     requires room { 0 < inodes.old.room }
     requires number { IsOk (of_inodes.block_number inodes.old.inodes) }
-    ensures opened { numbered inodes.new.inodes (Ok result) ≡ of_inodes.open_block inodes.old.inodes inode flags }
+    ensures opened { with_number inodes.new.inodes (Ok result) ≡ of_inodes.open_block inodes.old.inodes inode flags }
     ensures room { inodes.new.room ≡ inodes.old.room - 1 }
 {
     match inodes.open_block(inode, flags) {

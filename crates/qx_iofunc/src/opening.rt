@@ -3,14 +3,14 @@
 ghost use Rattle.std.specs.Prelude.{◌≡◌, ◌-◌, ◌≤◌, ℕ, None, Ok, IfOk, IsOk, OnOk, OnErr, max};
 ghost use Rattle.std.specs.FinMap.{get};
 ghost use Rattle.qx_iofunc.specs.Given as given;
-ghost use Rattle.qx_iofunc.specs.Lookups.{IsAllowed, looked_up, needed, open_found};
+ghost use Rattle.qx_iofunc.specs.Lookups.{IsAllowed, open_looked_up, needed, open_found};
 ghost use Rattle.qx_iofunc.specs.Makes.{may_make};
-ghost use Rattle.qx_iofunc.specs.Store.{Stored, within};
+ghost use Rattle.qx_iofunc.specs.Store.{Stored, with_stored};
 ghost use Rattle.qx_machine.specs.Defaults as machine;
 ghost use Rattle.qx_machine.specs.Names.{under};
 ghost use Rattle.qx_machine.specs.Resources.{Resources};
 ghost use Rattle.qx_machine.specs.declared.rows.Kind.{Kind as AnyKind};
-ghost use Rattle.qx_names.specs.Paths.{IsNamed, path_of};
+ghost use Rattle.qx_names.specs.Paths.{HasPath, path_of};
 ghost use Rattle.qx_names.specs.Spots.{spot_of};
 ghost use Rattle.qx_types.specs.declared.names.Coid.{Coid as AnyCoid};
 
@@ -29,7 +29,7 @@ impl Store {
     /// `iofunc_open`). The errors of a walk; of what is there EEXIST for CREAT with EXCL, EISDIR for a directory with WRITE,
     /// EACCES by its mode, ENFILE; of what is missing ENOENT without CREAT, EACCES by its directory's mode, ENFILE, ENOSPC.
     pub fn lookup<'a>(&self, root: u32, rest: &Rest<'a>, flags: OFlags) -> Result<Lookup<'a>, Errno>
-        ensures opens { (r : Resources) (coid : AnyCoid) (kind : AnyKind) (mode moment : ℕ) → machine.open_path (within r self.now.stored) (record { coid = coid; root = root }) rest.now (record { flags = flags; kind = kind; mode = mode; moment = moment }) ≡ looked_up (within r self.now.stored) coid result (record { flags = flags; kind = kind; mode = mode; moment = moment }) }
+        ensures opens { (r : Resources) (coid : AnyCoid) (kind : AnyKind) (mode moment : ℕ) → machine.open_path (with_stored r self.now.stored) (record { coid = coid; root = root }) rest.now (record { flags = flags; kind = kind; mode = mode; moment = moment }) ≡ open_looked_up (with_stored r self.now.stored) coid result (record { flags = flags; kind = kind; mode = mode; moment = moment }) }
         ensures allowed { IfOk result (IsAllowed self.now.stored flags) }
     {
         if rest.components().next().is_none() {
@@ -53,7 +53,7 @@ impl Store {
 
     // What is there, where it may be opened so.
     fn found<'a>(&self, inode: u32, flags: OFlags) -> Result<Lookup<'a>, Errno>
-        ensures opens { (r : Resources) (coid : AnyCoid) (kind : AnyKind) (mode moment : ℕ) → machine.open_existing (within r self.now.stored) coid inode (record { flags = flags; kind = kind; mode = mode; moment = moment }) ≡ looked_up (within r self.now.stored) coid result (record { flags = flags; kind = kind; mode = mode; moment = moment }) }
+        ensures opens { (r : Resources) (coid : AnyCoid) (kind : AnyKind) (mode moment : ℕ) → machine.open_existing (with_stored r self.now.stored) coid inode (record { flags = flags; kind = kind; mode = mode; moment = moment }) ≡ open_looked_up (with_stored r self.now.stored) coid result (record { flags = flags; kind = kind; mode = mode; moment = moment }) }
         ensures allowed { IfOk result (IsAllowed self.now.stored flags) }
     {
         may_open(&self.tables.inodes, self.tables.user, inode, flags)?;
@@ -65,7 +65,7 @@ impl Store {
     pub fn open(&mut self, lookup: Lookup<'_>, wish: Wish) -> Result<Opening, AllocError>
         requires allowed { IsAllowed self.old.stored wish.flags lookup }
         ensures user { self.new.stored.user ≡ self.old.stored.user }
-        ensures opened { IfOk result (λ o. (r : Resources) (coid : AnyCoid) → open_found (within r self.old.stored) coid lookup.entry wish ≡ Ok (given.opened coid wish.kind o (within r self.new.stored))) }
+        ensures opened { IfOk result (λ o. (r : Resources) (coid : AnyCoid) → open_found (with_stored r self.old.stored) coid lookup.entry wish ≡ Ok (given.open_given coid wish.kind o (with_stored r self.new.stored))) }
         ensures err { OnErr result (self.new.stored ≡ self.old.stored) }
         ensures room { OnOk result (self.new.room ≡ self.old.room - needed lookup.entry) }
         ensures spare { self.new.room ≤ max self.old.room (needed lookup.entry) }
@@ -78,9 +78,9 @@ impl Store {
 
     // Opens what is there.
     fn open_existing(&mut self, inode: u32, wish: Wish) -> Result<Opening, AllocError>
-        requires allowed { (r : Resources) (coid : AnyCoid) → IsOk (machine.open_existing (within r self.old.stored) coid inode wish) }
+        requires allowed { (r : Resources) (coid : AnyCoid) → IsOk (machine.open_existing (with_stored r self.old.stored) coid inode wish) }
         ensures user { self.new.stored.user ≡ self.old.stored.user }
-        ensures opened { IfOk result (λ o. (r : Resources) (coid : AnyCoid) → machine.open_existing (within r self.old.stored) coid inode wish ≡ Ok (given.opened coid wish.kind o (within r self.new.stored))) }
+        ensures opened { IfOk result (λ o. (r : Resources) (coid : AnyCoid) → machine.open_existing (with_stored r self.old.stored) coid inode wish ≡ Ok (given.open_given coid wish.kind o (with_stored r self.new.stored))) }
         ensures err { OnErr result (self.new.stored ≡ self.old.stored) }
         ensures room { OnOk result (self.new.room ≡ self.old.room - 1) }
         ensures spare { self.new.room ≤ max self.old.room 1 }
@@ -98,11 +98,11 @@ impl Store {
 
     // Makes what is missing, and opens it.
     fn open_missing(&mut self, at: Spot<'_>, new: New, wish: Wish) -> Result<Opening, AllocError>
-        requires parent { IsNamed self.old.stored.names at.parent }
+        requires parent { HasPath self.old.stored.names at.parent }
         requires missing { get self.old.stored.names (under (path_of self.old.stored.names at.parent) at.name.now) ≡ None }
         requires judged { may_make self.old.stored.inodes self.old.stored.user at.parent wish.flags ≡ Ok new }
         ensures user { self.new.stored.user ≡ self.old.stored.user }
-        ensures opened { IfOk result (λ o. (r : Resources) (coid : AnyCoid) → machine.open_missing (within r self.old.stored) coid (spot_of self.old.stored.names at.entry) wish ≡ Ok (given.opened coid wish.kind o (within r self.new.stored))) }
+        ensures opened { IfOk result (λ o. (r : Resources) (coid : AnyCoid) → machine.open_missing (with_stored r self.old.stored) coid (spot_of self.old.stored.names at.entry) wish ≡ Ok (given.open_given coid wish.kind o (with_stored r self.new.stored))) }
         ensures err { OnErr result (self.new.stored ≡ self.old.stored) }
         ensures room { OnOk result (self.new.room ≡ self.old.room - 2) }
         ensures spare { self.new.room ≤ max self.old.room 2 }

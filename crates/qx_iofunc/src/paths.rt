@@ -2,7 +2,7 @@
 
 ghost use Rattle.std.specs.Prelude.{◌≡◌, ◌-◌, ◌≤◌, ℕ, IfOk, IsOk, OnOk, OnErr, max};
 ghost use Rattle.qx_iofunc.specs.Given as given;
-ghost use Rattle.qx_iofunc.specs.Store.{within};
+ghost use Rattle.qx_iofunc.specs.Store.{with_stored};
 ghost use Rattle.qx_machine.specs.Defaults as machine;
 ghost use Rattle.qx_machine.specs.Resources.{Resources};
 
@@ -18,7 +18,7 @@ impl Store {
     /// The status of what a path leads to (C Library Reference: `stat`; Writing a Resource Manager: `iofunc_stat`). The
     /// errors of a walk; ENOENT where nothing is there.
     pub fn stat(&self, root: u32, rest: &Rest<'_>) -> Result<Status, Errno>
-        ensures status { (r : Resources) (moment : ℕ) → given.status_told (within r self.now.stored) result ≡ machine.stat_path (within r self.now.stored) root rest.now moment }
+        ensures status { (r : Resources) (moment : ℕ) → given.status_told (with_stored r self.now.stored) result ≡ machine.stat_path (with_stored r self.now.stored) root rest.now moment }
     {
         let inode = self
             .tables
@@ -38,10 +38,10 @@ impl Store {
         moment: u64,
     ) -> Result<Result<(), Errno>, AllocError>
         ensures user { self.new.stored.user ≡ self.old.stored.user }
-        ensures made { IfOk result (λ d. (r : Resources) → given.done (within r self.new.stored) d ≡ machine.make_directory (within r self.old.stored) root mode rest.now moment) }
+        ensures made { IfOk result (λ d. (r : Resources) → given.done (with_stored r self.new.stored) d ≡ machine.make_directory (with_stored r self.old.stored) root mode rest.now moment) }
         ensures kept { IfOk result (λ d. OnErr d (self.new ≡ self.old)) }
         ensures err { OnErr result (self.new.stored ≡ self.old.stored) }
-        ensures wanted { OnErr result ((r : Resources) → IsOk (machine.make_directory (within r self.old.stored) root mode rest.now moment)) }
+        ensures wanted { OnErr result ((r : Resources) → IsOk (machine.make_directory (with_stored r self.old.stored) root mode rest.now moment)) }
         ensures room { IfOk result (λ d. OnOk d (self.new.room ≡ self.old.room - 1)) }
         ensures spare { self.new.room ≤ max self.old.room 1 }
     {
@@ -76,7 +76,7 @@ impl Store {
         moment: u64,
     ) -> Result<Option<u32>, Errno>
         ensures user { self.new.stored.user ≡ self.old.stored.user }
-        ensures unlinked { (r : Resources) → given.unlinked own (within r self.new.stored) result ≡ machine.unlink_path own (within r self.old.stored) root rest.now moment }
+        ensures unlinked { (r : Resources) → given.unlink_given own (with_stored r self.new.stored) result ≡ machine.unlink_path own (with_stored r self.old.stored) root rest.now moment }
         ensures kept { OnErr result (self.new ≡ self.old) }
     {
         let at = self.tables.names.spot(

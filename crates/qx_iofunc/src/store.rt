@@ -1,7 +1,7 @@
 ghost use Rattle.std.specs.Prelude.{◌≡◌, ◌+◌, ◌<◌, ◌≤◌, ℕ, List, Ok, Some, IfOk, IsSome, OnOk, OnErr, length, max};
 ghost use Rattle.qx_files.specs.Files.{pasted};
 ghost use Rattle.qx_iofunc.specs.Sizes.{sized};
-ghost use Rattle.qx_iofunc.specs.Store.{boot_store, with_mount_root, within};
+ghost use Rattle.qx_iofunc.specs.Store.{boot_store, with_mount_root, with_stored};
 ghost use Rattle.qx_machine.specs.Files.{put, size_of, total_size};
 ghost use Rattle.qx_machine.specs.Inodes.{inode_number, with_offset};
 ghost use Rattle.qx_machine.specs.RamManager.{with_bytes};
@@ -140,7 +140,7 @@ impl Store {
         requires within { offset + length new.now ≤ FILE }
         requires few { total_size (pasted self.old.stored.files inode offset new.now) ≤ FILES }
         ensures user { self.new.stored.user ≡ self.old.stored.user }
-        ensures ok { OnOk result ((r : Resources) (bytes : List ℕ) → row_at self.old.stored.files inode ≡ Some bytes → within r self.new.stored ≡ with_bytes inode moment (put bytes offset new.now) (within r self.old.stored)) }
+        ensures ok { OnOk result ((r : Resources) (bytes : List ℕ) → row_at self.old.stored.files inode ≡ Some bytes → with_stored r self.new.stored ≡ with_bytes inode moment (put bytes offset new.now) (with_stored r self.old.stored)) }
         ensures err { OnErr result (self.new ≡ self.old) }
         ensures longer { OnErr result (size_of (row_at self.old.stored.files inode) < offset + length new.now) }
     {

@@ -4,7 +4,7 @@ ghost use Rattle.qx_iofunc.specs.Store.{unused_gone, with_made, with_resized, wi
 ghost use Rattle.qx_machine.specs.Inodes.{inode_number, is_unused};
 ghost use Rattle.qx_machine.specs.Names.{under};
 ghost use Rattle.qx_machine.specs.Rows.{row_at};
-ghost use Rattle.qx_names.specs.Paths.{IsNamed, IsUnnamed, path_of};
+ghost use Rattle.qx_names.specs.Paths.{HasPath, HasNoPath, path_of};
 ghost use Rattle.qx_names.specs.Spots.{spot_of};
 
 use crate::entries::{changed, made, new_attribute};
@@ -55,9 +55,9 @@ impl Tables {
         requires room { 0 < self.old.room }
         requires next { inode_number self.old.stored.inodes ≡ Ok new.inode }
         requires parent { IsSome (row_at self.old.stored.inodes.attributes at.parent) }
-        requires directory { IsNamed self.old.stored.names at.parent }
+        requires directory { HasPath self.old.stored.names at.parent }
         requires missing { get self.old.stored.names (under (path_of self.old.stored.names at.parent) at.name.now) ≡ None }
-        requires unnamed { IsUnnamed self.old.stored.names new.inode }
+        requires unnamed { HasNoPath self.old.stored.names new.inode }
         requires empty { row_at self.old.stored.files new.inode ≡ None }
         ensures ok { OnOk result (self.new ≡ record { stored = with_made (spot_of self.old.stored.names at.entry) new.inode new.parent kind mode moment self.old.stored; room = self.old.room - 1 }) }
         ensures err { OnErr result (self.new ≡ self.old) }

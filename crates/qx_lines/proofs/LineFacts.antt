@@ -14,7 +14,7 @@ use Rattle.qx_machine.specs.Laws.{IsInOrder}
 use Rattle.qx_machine.specs.Lines.{into}
 use Rattle.qx_machine.proofs.Orders.{in_order_rest}
 use Rattle.qx_lines.specs.declared.Line.{Line}
-use Rattle.qx_lines.specs.Line.{IsInLine, IsLineOf, IsOwn, IsRanked, SameElsewhere, item_count, nodes_in, rank_at}
+use Rattle.qx_lines.specs.Line.{IsInLine, IsLineOf, IsOwn, IsInRankOrder, SameElsewhere, item_count, nodes_in, rank_at}
 use Rattle.qx_lines.proofs.NodeLemmas.{contains_into, into_keeps, length-into}
 
 pub in_order_drop : {A : Type 0} (rank : A → ℕ) (line : List A) → IsInOrder rank line → IsInOrder rank (drop 1 line)
@@ -32,12 +32,12 @@ rank_at-value rank t node value is = ap (λ o. unwrap_or (option_map rank o) 0) 
 
 -- what it is that nodes go by their priority
 module _ {T : Type 0} (rank : T → ℕ) (t : Table T) (nodes : List ℕ) where
-  pub in_rank_order : IsRanked rank t.values nodes → IsInOrder (rank_at rank t) nodes
-  unfolding IsRanked
+  pub in_rank_order : IsInRankOrder rank t.values nodes → IsInOrder (rank_at rank t) nodes
+  unfolding IsInRankOrder
   in_rank_order h = h
 
-  pub ranked_from : IsInOrder (rank_at rank t) nodes → IsRanked rank t.values nodes
-  unfolding IsRanked
+  pub ranked_from : IsInOrder (rank_at rank t) nodes → IsInRankOrder rank t.values nodes
+  unfolding IsInRankOrder
   ranked_from h = h
 
 module _ {T : Type 0} (t new : Table T) (line : Line) (nodes : List ℕ) where
@@ -57,16 +57,16 @@ module _ {T : Type 0} (t new : Table T) (line : Line) (nodes : List ℕ) where
 
 -- the line's nodes keep their order as a node in no list comes or goes
 module _ {T : Type 0} (rank : T → ℕ) (values : map.FinMap nat_cmp T) (lists : map.FinMap nat_cmp (List ℕ)) (list node : ℕ) where
-  same_order : (new : map.FinMap nat_cmp T) → ((other : ℕ) → other ≢ node → map.get new other ≡ map.get values other) → IsRanked rank values (unwrap_or (map.get lists list) []) → StandsNowhere lists node → IsRanked rank new (unwrap_or (map.get lists list) [])
-  unfolding IsRanked
+  same_order : (new : map.FinMap nat_cmp T) → ((other : ℕ) → other ≢ node → map.get new other ≡ map.get values other) → IsInRankOrder rank values (unwrap_or (map.get lists list) []) → StandsNowhere lists node → IsInRankOrder rank new (unwrap_or (map.get lists list) [])
+  unfolding IsInRankOrder
   same_order new same ranked nowhere i j d before within =
       let at : (k : ℕ) → k < length (unwrap_or (map.get lists list) []) → map.get new (get_or (unwrap_or (map.get lists list) []) k d) ≡ map.get values (get_or (unwrap_or (map.get lists list) []) k d) = λ k inside. same _ (λ is. stands_nowhere lists node nowhere list (rw is at (Contains-get_or (unwrap_or (map.get lists list) []) k d inside))) in
       rw (at i (omega arith), at j within) (ranked i j d before within)
 
-  pub ranked-new_node : (value : T) → IsRanked rank values (unwrap_or (map.get lists list) []) → StandsNowhere lists node → IsRanked rank (map.insert values node value) (unwrap_or (map.get lists list) [])
+  pub ranked-new_node : (value : T) → IsInRankOrder rank values (unwrap_or (map.get lists list) []) → StandsNowhere lists node → IsInRankOrder rank (map.insert values node value) (unwrap_or (map.get lists list) [])
   ranked-new_node value = same_order _ (λ other differs. get-insert_other values node value other differs)
 
-  pub ranked-free_node : IsRanked rank values (unwrap_or (map.get lists list) []) → StandsNowhere lists node → IsRanked rank (map.remove values node) (unwrap_or (map.get lists list) [])
+  pub ranked-free_node : IsInRankOrder rank values (unwrap_or (map.get lists list) []) → StandsNowhere lists node → IsInRankOrder rank (map.remove values node) (unwrap_or (map.get lists list) [])
   ranked-free_node = same_order _ (λ other differs. get-remove_other values node other differs)
 
 -- a line stays one where its own lists and the priorities of its nodes stay

@@ -7,8 +7,8 @@ use Rattle.qx_machine.specs.Laws.{IsInOrder}
 use Rattle.qx_lines.specs.declared.Line.{Line}
 
 -- no node of the list stands before one whose value has a higher priority
-unfoldable pub IsRanked : {T : Type 0} → (T → ℕ) → map.FinMap nat_cmp T → List ℕ → Type 0
-IsRanked rank values nodes = IsInOrder (λ node. unwrap_or (option_map rank (map.get values node)) 0) nodes
+unfoldable pub IsInRankOrder : {T : Type 0} → (T → ℕ) → map.FinMap nat_cmp T → List ℕ → Type 0
+IsInRankOrder rank values nodes = IsInOrder (λ node. unwrap_or (option_map rank (map.get values node)) 0) nodes
 
 -- a list of the table that is the line's own
 abbrev pub IsOwn : Line → ℕ → Type 0
@@ -39,7 +39,7 @@ module _ {T : Type 0} where
   pub record IsLineOf (rank : T → ℕ) (t : Table T) (line : Line) : Type 0 where
     pub there : ContainsList t line.list
     pub counted : item_count line ≡ length (nodes_in t line)
-    pub in_order : IsRanked rank t.values (nodes_in t line)
+    pub in_order : IsInRankOrder rank t.values (nodes_in t line)
 
   -- nothing but the line's own lists is different
   pub record SameElsewhere (old new : Table T) (line : Line) : Type 0 where

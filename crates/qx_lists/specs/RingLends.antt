@@ -9,5 +9,5 @@ use Rattle.qx_lists.specs.contracts.rings.Rings.{the_row}
 abbrev pub with_value : {T : Type 0} → Rings T → ℕ → T → Rings T
 with_value r node value = record r { nodes = changed_at (λ n. record n { value = value }) r.nodes node }
 
-abbrev pub lends_value : (T : RattleType) → MutBor (Rings T.Denot) → ℕ → MutBor T.Denot → Fml
-lends_value T s node r = Lends (the_row T) T s r (with_value s.now node)
+abbrev pub lends_ring_value : (T : RattleType) → MutBor (Rings T.Denot) → ℕ → MutBor T.Denot → Fml
+lends_ring_value T s node r = Lends (the_row T) T s r (with_value s.now node)

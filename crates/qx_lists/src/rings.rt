@@ -34,7 +34,7 @@ pub(crate) struct Rings<T> {
 }
 
 impl<T> Rings<T> {
-    ghost use Rattle.qx_lists.specs.RingLends.{lends_value};
+    ghost use Rattle.qx_lists.specs.RingLends.{lends_ring_value};
 
     /// The links of a place of the list's ring.
     pub(crate) fn links(&self, list: usize, place: Option<usize>) -> Links
@@ -60,7 +60,7 @@ impl<T> Rings<T> {
     /// The value of a node, for writing.
     pub(crate) fn value_mut(&mut self, node: usize) -> &mut T
         requires { ContainsKey self.old.nodes node }
-        ensures* writes_back { sem 𝓛 (lends_value T.row self.entry node result) }
+        ensures* writes_back { sem 𝓛 (lends_ring_value T.row self.entry node result) }
         ensures value { option_map (λ n. n.value) (get self.old.nodes node) ≡ Some result.now }
     {
         let node = &mut self.nodes[node];

@@ -14,7 +14,7 @@ use Rattle.std.proofs.lemmas.List.Kept.{IsStrictlySortedBy-filter}
 use Rattle.std.proofs.lemmas.Map.Keys.{sorted_head, sorted_tail}
 use Rattle.qx_types.specs.declared.limits.TheConstants.Limits.{COMPONENT, TRANSFER}
 use Rattle.qx_machine.specs.Listings.{HasAtMostOnePath, HasSizedNames, IsZeroFree, listed_by, listed_next}
-use Rattle.qx_machine.specs.Names.{Names, behind, fitting, listed, listing, names_in}
+use Rattle.qx_machine.specs.Names.{Names, names_behind, fitting, listed, listing, names_in}
 use Rattle.qx_machine.proofs.Directories.{is_less, name_cmp, names_rise}
 
 -- ---- what fits
@@ -41,15 +41,15 @@ fitting_some room (name ∷ names) fits some =
 abbrev AllBehind : List ℕ → List (List ℕ) → Type 0
 AllBehind after names = AllByRecursion (λ name. name_cmp after name ≡ Less) names
 
-all_behind : (after : List ℕ) (names : List (List ℕ)) → AllBehind after (behind after names)
+all_behind : (after : List ℕ) (names : List (List ℕ)) → AllBehind after (names_behind after names)
 all_behind after names =
-    recursion_from_All (λ name. name_cmp after name ≡ Less) (behind after names)
-    (All-weaker (λ name. is_lt (name_cmp after name) ≡ true) (λ name. name_cmp after name ≡ Less) (λ name e. is_less _ (subst T (sym e) tt)) (behind after names)
+    recursion_from_All (λ name. name_cmp after name ≡ Less) (names_behind after names)
+    (All-weaker (λ name. is_lt (name_cmp after name) ≡ true) (λ name. name_cmp after name ≡ Less) (λ name e. is_less _ (subst T (sym e) tt)) (names_behind after names)
     (filter_passes (λ name. is_lt (name_cmp after name)) names))
 
-behind-all : (after : List ℕ) (names : List (List ℕ)) → AllBehind after names → behind after names ≡ names
+behind-all : (after : List ℕ) (names : List (List ℕ)) → AllBehind after names → names_behind after names ≡ names
 behind-all after [] h = refl
-behind-all after (name ∷ names) h = ap (λ r. cond (is_lt r) (name ∷ behind after names) (behind after names)) h.0 ∙ ap (name ∷◌) (behind-all after names h.1)
+behind-all after (name ∷ names) h = ap (λ r. cond (is_lt r) (name ∷ names_behind after names) (names_behind after names)) h.0 ∙ ap (name ∷◌) (behind-all after names h.1)
 
 -- a name that isn't behind one isn't behind a later one
 not_later : (after later name : List ℕ) → name_cmp after later ≡ Less → is_lt (name_cmp after name) ≡ false → is_lt (name_cmp later name) ≡ false
@@ -60,12 +60,12 @@ not_later after later name less e = by (name_cmp later name) refl
     by Equal p = refl
     by Greater p = refl
 
-behind-later : (after later : List ℕ) (names : List (List ℕ)) → name_cmp after later ≡ Less → behind later names ≡ behind later (behind after names)
+behind-later : (after later : List ℕ) (names : List (List ℕ)) → name_cmp after later ≡ Less → names_behind later names ≡ names_behind later (names_behind after names)
 behind-later after later [] less = refl
 behind-later after later (name ∷ names) less =
-    cond_both (is_lt (name_cmp after name)) (name ∷ behind after names) (behind after names) (λ l. behind later (name ∷ names) ≡ behind later l)
+    cond_both (is_lt (name_cmp after name)) (name ∷ names_behind after names) (names_behind after names) (λ l. names_behind later (name ∷ names) ≡ names_behind later l)
     (λ e. ap (λ l. cond (is_lt (name_cmp later name)) (name ∷ l) l) (behind-later after later names less))
-    (λ e. ap (λ b. cond b (name ∷ behind later names) (behind later names)) (not_later after later name less e) ∙ behind-later after later names less)
+    (λ e. ap (λ b. cond b (name ∷ names_behind later names) (names_behind later names)) (not_later after later name less e) ∙ behind-later after later names less)
 
 -- ---- the last name
 
@@ -81,15 +81,15 @@ last_front : (P : List ℕ → Type 0) (name : List ℕ) (names rest : List (Lis
 last_front P name [] rest h = h.0
 last_front P name (next ∷ names) rest h = last_front P next names rest h.1
 
-last-behind : (name : List ℕ) (names rest : List (List ℕ)) → IsStrictlySortedBy name_cmp (name ∷ (names ++ rest)) → behind (last_from name names) (name ∷ (names ++ rest)) ≡ rest
+last-behind : (name : List ℕ) (names rest : List (List ℕ)) → IsStrictlySortedBy name_cmp (name ∷ (names ++ rest)) → names_behind (last_from name names) (name ∷ (names ++ rest)) ≡ rest
 last-behind name [] rest rises =
-    ap (λ r. cond (is_lt r) (name ∷ behind name rest) (behind name rest)) (tied_itself nat_list_cmp_total name)
+    ap (λ r. cond (is_lt r) (name ∷ names_behind name rest) (names_behind name rest)) (tied_itself nat_list_cmp_total name)
     ∙ behind-all name rest (sorted_head name_cmp name rest rises)
 last-behind name (next ∷ names) rest rises =
     let last : List ℕ = last_from next names in
     let all : List (List ℕ) = next ∷ (names ++ rest) in
     let less : name_cmp name last ≡ Less = last_front (λ n. name_cmp name n ≡ Less) next names rest (sorted_head name_cmp name all rises) in
-    ap (λ r. cond (is_lt r) (name ∷ behind last all) (behind last all)) (nat_list_cmp_total.antisymm last name ∙ ap ordering_reverse less)
+    ap (λ r. cond (is_lt r) (name ∷ names_behind last all) (names_behind last all)) (nat_list_cmp_total.antisymm last name ∙ ap ordering_reverse less)
     ∙ last-behind next names rest (sorted_tail name_cmp name all rises)
 
 last-append : (before : Option (List ℕ)) (names more : List (List ℕ)) → unwrap_or (last_or before (names ++ more)) [] ≡ last_from (unwrap_or (last_or before names) []) more
@@ -117,25 +117,25 @@ module _ (names : Names) (directory : ℕ) (single : HasAtMostOnePath names dire
   all = names_in names directory
 
   -- what is given, and then what is behind the last of that, is what was behind the name asked for
-  listed-more : (after : List ℕ) → listed names directory after ++ behind (last_from after (listed names directory after)) all ≡ behind after all
+  listed-more : (after : List ℕ) → listed names directory after ++ names_behind (last_from after (listed names directory after)) all ≡ names_behind after all
   listed-more after = by (listed names directory after) more.1
     where
-      more : (rest : List (List ℕ)) × (listed names directory after ++ rest ≡ behind after all)
-      more = fitting-front TRANSFER (behind after all)
+      more : (rest : List (List ℕ)) × (listed names directory after ++ rest ≡ names_behind after all)
+      more = fitting-front TRANSFER (names_behind after all)
 
-      by : (front : List (List ℕ)) → front ++ more.0 ≡ behind after all → front ++ behind (last_from after front) all ≡ behind after all
+      by : (front : List (List ℕ)) → front ++ more.0 ≡ names_behind after all → front ++ names_behind (last_from after front) all ≡ names_behind after all
       by [] e = refl
       by (name ∷ front) e =
           let last : List ℕ = last_from name front in
           let less : name_cmp after last ≡ Less = last_front (λ n. name_cmp after n ≡ Less) name front more.0 (subst (AllBehind after) (sym e) (all_behind after all)) in
           let rises : IsStrictlySortedBy name_cmp (name ∷ (front ++ more.0)) =
           subst (IsStrictlySortedBy name_cmp) (sym e) (IsStrictlySortedBy-filter name_cmp (λ n. is_lt (name_cmp after n)) all (names_rise names directory single)) in
-          ap (λ l. name ∷ (front ++ l)) (behind-later after last all less ∙ ap (behind last) (sym e) ∙ last-behind name front more.0 rises) ∙ e
+          ap (λ l. name ∷ (front ++ l)) (behind-later after last all less ∙ ap (names_behind last) (sym e) ∙ last-behind name front more.0 rises) ∙ e
 
   -- a listing gives something, where anything is behind the name asked for
-  listed_some : (after : List ℕ) → 0 < length (behind after all) → 0 < length (listed names directory after)
+  listed_some : (after : List ℕ) → 0 < length (names_behind after all) → 0 < length (listed names directory after)
   listed_some after some =
-      fitting_some TRANSFER (behind after all)
+      fitting_some TRANSFER (names_behind after all)
       (All-filter (λ n. is_lt (name_cmp after n)) (λ n. length n + 1 ≤ TRANSFER) all
       (All-weaker (λ n. (0 < length n) × (length n ≤ COMPONENT)) (λ n. length n + 1 ≤ TRANSFER) (λ n size. omega arith) all sized)) some
 
@@ -143,11 +143,11 @@ module _ (names : Names) (directory : ℕ) (single : HasAtMostOnePath names dire
   given listings = listed_by listings names directory
 
   abbrev left : ℕ → List (List ℕ)
-  left listings = behind (last_of (given listings)) all
+  left listings = names_behind (last_of (given listings)) all
 
   left_on : (listings : ℕ) → listed_next names directory (given listings) ++ left (suc listings) ≡ left listings
   left_on listings =
-      ap (λ last. listed_next names directory (given listings) ++ behind last all) (last-append None (given listings) (listed_next names directory (given listings)))
+      ap (λ last. listed_next names directory (given listings) ++ names_behind last all) (last-append None (given listings) (listed_next names directory (given listings)))
       ∙ listed-more (last_of (given listings))
 
   left_first : left 0 ≡ all

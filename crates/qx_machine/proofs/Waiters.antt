@@ -34,7 +34,7 @@ use Rattle.qx_machine.specs.declared.rows.Sides.{Sides}
 use Rattle.qx_machine.specs.declared.rows.Target.{Target}
 use Rattle.qx_machine.specs.declared.rows.WaitingCall.{WaitingCall}
 use Rattle.qx_machine.specs.declared.rows.Wish.{Wish}
-use Rattle.qx_machine.specs.Defaults.{Made, allows, chmod_block, close, is_own, list_block, made_at, make_directory, open_at, open_existing, open_missing, open_path, opened, own_block, stat_block, stat_path, unlink_path, without_block, without_name, without_unused, writable}
+use Rattle.qx_machine.specs.Defaults.{MadeInode, allows, chmod_block, close, is_own, list_block, made_at, make_directory, open_spot, open_existing, open_missing, open_path, opened, own_block, stat_block, stat_path, unlink_path, without_block, without_name, without_unused, writable}
 use Rattle.qx_machine.specs.Files.{base, moved_by}
 use Rattle.qx_machine.specs.Functions.{Deed, Reply, existing_coid, new_open, reply_alone, side_root}
 use Rattle.qx_machine.specs.Inodes.{block_number, has, is_unused, new_attribute, new_inode, open_block, reads, writes}
@@ -43,8 +43,8 @@ use Rattle.qx_machine.specs.Managers.{manager_deed}
 use Rattle.qx_machine.specs.Names.{Spot, is_directory, is_empty, names_in, spot}
 use Rattle.qx_machine.specs.Parts.{Part}
 use Rattle.qx_machine.specs.Performing.{Served, answered_changes, deed_of, opened_by, read_message, serve_pulse, with_answers}
-use Rattle.qx_machine.specs.PipeManager.{cancel_call, read_pipe, released, seek_pipe, with_after, write_pipe}
-use Rattle.qx_machine.specs.Pipes.{After, Pipe, all_answered, and_then, cancel, clean, clean_read, clean_write, dismissed, first_answered, fits, nobody_answered, one_answered, portion, read, readers_dismissed, readers_ended, release, removed, served, settle, waiting_unless, without_bytes, write, writers_dismissed, writers_ended}
+use Rattle.qx_machine.specs.PipeManager.{cancel_call, read_pipe, released, seek_pipe, deed_of_pipe, write_pipe}
+use Rattle.qx_machine.specs.Pipes.{PipeAfter, Pipe, all_answered, and_then, cancel, clean, clean_read, clean_write, dismissed, first_answered, fits, nobody_answered, one_answered, portion, read, readers_dismissed, readers_ended, release, removed, served, settle, waiting_unless, without_bytes, write, writers_dismissed, writers_ended}
 use Rattle.qx_machine.specs.Processes.{Process}
 use Rattle.qx_machine.specs.RamManager.{emptied, read_file, seek_file, write_file, written_at}
 use Rattle.qx_machine.specs.Resources.{Resources, with_empty, without_content}
@@ -75,7 +75,7 @@ module _ {W : Type 0} (P : W → Type 0) where
   Answered answers = AllByRecursion (λ answer. P answer.0) answers
 
   -- who waits in the pipe as it is then, and who was answered
-  record InAfter (after : After W) : Type 0 where
+  record InAfter (after : PipeAfter W) : Type 0 where
     pipe : InPipe after.pipe
     answers : Answered after.answers
 
@@ -90,13 +90,13 @@ module _ {W : Type 0} (P : W → Type 0) where
   nobody-keeps : (p : Pipe W) → InPipe p → InAfter (nobody_answered p)
   nobody-keeps p h = record { pipe = h; answers = tt }
 
-  then-keeps : (first : After W) (next : Pipe W → After W) → InAfter first → ((p : Pipe W) → InPipe p → InAfter (next p)) → InAfter (and_then first next)
+  then-keeps : (first : PipeAfter W) (next : Pipe W → PipeAfter W) → InAfter first → ((p : Pipe W) → InPipe p → InAfter (next p)) → InAfter (and_then first next)
   then-keeps first next h keeps = record {
     pipe = (keeps first.pipe h.pipe).pipe;
     answers = all-append (λ answer. P answer.0) first.answers (next first.pipe).answers h.answers (keeps first.pipe h.pipe).answers;
   }
 
-  if-keeps : (b : Bool) (x y : After W) → InAfter x → InAfter y → InAfter (if b then x else y)
+  if-keeps : (b : Bool) (x y : PipeAfter W) → InAfter x → InAfter y → InAfter (if b then x else y)
   if-keeps true x y h k = h
   if-keeps false x y h k = k
 
@@ -150,7 +150,7 @@ module _ {W : Type 0} (P : W → Type 0) where
   one-keeps : (who : W) (answer : Answer) (p : Pipe W) → P who → InPipe p → InAfter (one_answered who answer p)
   one-keeps who answer p own h = record { pipe = h; answers = (own, tt) }
 
-  first-keeps : (who : W) (answer : Answer) (after : After W) → P who → InAfter after → InAfter (first_answered who answer after)
+  first-keeps : (who : W) (answer : Answer) (after : PipeAfter W) → P who → InAfter after → InAfter (first_answered who answer after)
   first-keeps who answer after own h = record { pipe = h.pipe; answers = (own, h.answers) }
 
   waiting-keeps : (manner : Manner) (who : W) (p with_it : Pipe W) → P who → InPipe p → InPipe with_it → InAfter (waiting_unless manner who p with_it)
@@ -253,7 +253,7 @@ module _ (P : WaitingCall → Type 0) where
 
   -- ---- what is done to a pipe
 
-  after-keeps : (r : Resources) (inode moment : ℕ) (after : After WaitingCall) → InPipes r.pipes → InAfter P after → InDeed (with_after r inode moment after)
+  after-keeps : (r : Resources) (inode moment : ℕ) (after : PipeAfter WaitingCall) → InPipes r.pipes → InAfter P after → InDeed (deed_of_pipe r inode moment after)
   after-keeps r inode moment after h k = record {
     pipes = set-keeps r.pipes inode (Some after.pipe) h (λ pipe put. subst (InPipe P) (same_Some _ _ put) k.pipe);
     answers = k.answers;
@@ -310,7 +310,7 @@ module _ (K : Pipes → Type 0) where
       opened-gives coid wish.flags inode (emptied wish.flags inode wish.moment r) (emptied-keeps wish.flags inode wish.moment r h)))))
 
   made-gives : (r : Resources) (at : Spot) (parent : Attribute) (kind : Kind) (mode moment : ℕ) → ((inode : ℕ) (s : Resources) → K s.pipes → K (with_empty kind inode s).pipes) → K r.pipes
-      → Gives (λ (made : Made). K made.after.pipes) (made_at r at parent kind mode moment)
+      → Gives (λ (made : MadeInode). K made.after.pipes) (made_at r at parent kind mode moment)
   made-gives r at parent kind mode moment empty h = gives_on _ (new_inode r.inodes (new_attribute kind mode r.user moment)) _ (λ made is. gives_done _ _ (empty made.number _ h))
 
   missing-gives : (r : Resources) (coid : Coid) (at : Spot) (wish : Wish) → ((inode : ℕ) (s : Resources) → K s.pipes → K (with_empty wish.kind inode s).pipes) → K r.pipes → Gives (Quiet K) (open_missing r coid at wish)
@@ -318,10 +318,10 @@ module _ (K : Pipes → Type 0) where
       gives_on _ (need (has wish.flags CREAT) ENOENT) _ (λ making is_making.
       gives_on _ (writable r.inodes r.user at.parent) _ (λ parent is_parent.
       gives_on _ (block_number r.inodes) _ (λ free is_free.
-      gives_by (λ (made : Made). K made.after.pipes) _ (made_at r at parent wish.kind wish.mode wish.moment) _ (made-gives r at parent wish.kind wish.mode wish.moment empty h) (λ made kept.
+      gives_by (λ (made : MadeInode). K made.after.pipes) _ (made_at r at parent wish.kind wish.mode wish.moment) _ (made-gives r at parent wish.kind wish.mode wish.moment empty h) (λ made kept.
       opened-gives coid wish.flags made.inode made.after kept))))
 
-  open_at-gives : (r : Resources) (coid : Coid) (at : Spot) (there : Option ℕ) (wish : Wish) → ((inode : ℕ) (s : Resources) → K s.pipes → K (with_empty wish.kind inode s).pipes) → K r.pipes → Gives (Quiet K) (open_at r coid at there wish)
+  open_at-gives : (r : Resources) (coid : Coid) (at : Spot) (there : Option ℕ) (wish : Wish) → ((inode : ℕ) (s : Resources) → K s.pipes → K (with_empty wish.kind inode s).pipes) → K r.pipes → Gives (Quiet K) (open_spot r coid at there wish)
   open_at-gives r coid at (Some inode) wish empty h = existing-gives r coid inode wish h
   open_at-gives r coid at None wish empty h = missing-gives r coid at wish empty h
 
@@ -335,7 +335,7 @@ module _ (K : Pipes → Type 0) where
       gives_on _ (spot r.inodes r.names r.user root rest EEXIST) _ (λ at is.
       gives_on _ (need (not (is_some at.inode)) EEXIST) _ (λ missing is_missing.
       gives_on _ (writable r.inodes r.user at.parent) _ (λ parent is_parent.
-      gives_by (λ (made : Made). K made.after.pipes) _ (made_at r at parent Directory mode moment) _ (made-gives r at parent Directory mode moment (λ inode s k. k) h) (λ made kept. gives_done _ _ (reply-quiet _ _ _ _ kept)))))
+      gives_by (λ (made : MadeInode). K made.after.pipes) _ (made_at r at parent Directory mode moment) _ (made-gives r at parent Directory mode moment (λ inode s k. k) h) (λ made kept. gives_done _ _ (reply-quiet _ _ _ _ kept)))))
 
   -- ---- what goes
 

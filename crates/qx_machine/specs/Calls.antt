@@ -58,9 +58,9 @@ bytes_of (Spelled message) = table.spelling message
 bytes_of (Raw bytes) = bytes
 
 -- each field is in its range; a path is none of them, nor is the connection of a dup
-abbrev pub in_ranges : Request → Bool
-in_ranges (request.Dup coid) = true
-in_ranges asked = can_send (content_of asked [])
+abbrev pub request_in_ranges : Request → Bool
+request_in_ranges (request.Dup coid) = true
+request_in_ranges asked = can_send (content_of asked [])
 
 -- what a request names: a path, over a new connection or a side connection, or a connection that is there, which is used or has
 -- another one made beside it
@@ -148,6 +148,6 @@ is_ready _ = false
 abbrev pub may_call : ThreadRow → Request → Result ⊤ Outcome
 may_call row asked = do
   ready ← need (is_ready row.state) WrongState
-  valid ← need (in_ranges asked) (Refused EINVAL)
+  valid ← need (request_in_ranges asked) (Refused EINVAL)
   countable ← need (nat_lt row.calls CALLS) (Refused EAGAIN)
   Ok tt

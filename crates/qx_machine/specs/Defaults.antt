@@ -32,8 +32,8 @@ use Rattle.qx_machine.specs.Rows.{row_at}
 -- ---- entries of a directory
 
 -- a directory's attribute once an entry was made or removed
-abbrev pub changed : ℕ → Attribute → Attribute
-changed moment attribute = record attribute { mtime = moment; ctime = moment }
+abbrev pub with_entries_changed : ℕ → Attribute → Attribute
+with_entries_changed moment attribute = record attribute { mtime = moment; ctime = moment }
 
 -- a name may be made in a directory or removed from it, whose attribute this is (C Library Reference: EACCES)
 abbrev pub writable : Inodes → ℕ → ℕ → Result Attribute Errno
@@ -43,18 +43,18 @@ writable inodes user directory = do
   Ok attribute
 
 -- an inode that was made, and what there is then
-pub record Made : Type 0 where
+pub record MadeInode : Type 0 where
   pub inode : ℕ
   pub after : Resources
 
 -- an inode of this kind and mode is made with nothing in it, and with a name in a directory, whose attribute was this
-abbrev pub made_at : Resources → Spot → Attribute → Kind → ℕ → ℕ → Result Made Errno
+abbrev pub made_at : Resources → Spot → Attribute → Kind → ℕ → ℕ → Result MadeInode Errno
 made_at r at parent kind mode moment = do
   made ← new_inode r.inodes (new_attribute kind mode r.user moment)
   Ok (record {
     inode = made.number;
     after = with_empty kind made.number (record r {
-      inodes = with_attribute made.inodes at.parent (changed moment parent);
+      inodes = with_attribute made.inodes at.parent (with_entries_changed moment parent);
       names = insert r.names at.key made.number;
     });
   })
@@ -89,29 +89,29 @@ open_missing r coid at wish = do
   made ← made_at r at parent wish.kind wish.mode wish.moment
   opened coid wish.flags made.inode made.after
 
-abbrev pub open_at : Resources → Coid → Spot → Option ℕ → Wish → Result (Deed Resources) Errno
-open_at r coid at (Some inode) wish = open_existing r coid inode wish
-open_at r coid at None wish = open_missing r coid at wish
+abbrev pub open_spot : Resources → Coid → Spot → Option ℕ → Wish → Result (Deed Resources) Errno
+open_spot r coid at (Some inode) wish = open_existing r coid inode wish
+open_spot r coid at None wish = open_missing r coid at wish
 
 -- where a path leads from a mount's root
 abbrev pub open_path : Resources → NewOpen → List (List ℕ) → Wish → Result (Deed Resources) Errno
 open_path r over [] wish = open_existing r over.coid over.root wish
 open_path r over rest wish = do
   at ← spot r.inodes r.names r.user over.root rest ENOENT
-  open_at r over.coid at at.inode wish
+  open_spot r over.coid at at.inode wish
 
 -- ---- other messages to a path
 
 -- a status is told, and nothing changes
-abbrev pub told : ℕ → Attribute → Resources → Deed Resources
-told inode attribute r = reply_alone 0 (stat_bytes inode attribute) Keeps r
+abbrev pub status_deed : ℕ → Attribute → Resources → Deed Resources
+status_deed inode attribute r = reply_alone 0 (stat_bytes inode attribute) Keeps r
 
 -- a stat tells the status of what a path leads to, and needs the walk alone
 abbrev pub stat_path : Resources → ℕ → List (List ℕ) → ℕ → Result (Deed Resources) Errno
 stat_path r root rest moment = do
   inode ← inode_at r.inodes r.names r.user root rest
   attribute ← found (row_at r.inodes.attributes inode) ENOENT
-  Ok (told inode attribute r)
+  Ok (status_deed inode attribute r)
 
 -- a directory of this mode is made
 abbrev pub make_directory : Resources → ℕ → ℕ → List (List ℕ) → ℕ → Result (Deed Resources) Errno
@@ -139,7 +139,7 @@ unnamed moment attribute = record attribute { links = 0; ctime = moment }
 -- a name goes: its directory changes, and what it named
 abbrev pub without_name : Spot → Attribute → ℕ → Attribute → ℕ → Resources → Resources
 without_name at parent inode attribute moment r = record r {
-  inodes = with_attribute (with_attribute r.inodes at.parent (changed moment parent)) inode (unnamed moment attribute);
+  inodes = with_attribute (with_attribute r.inodes at.parent (with_entries_changed moment parent)) inode (unnamed moment attribute);
   names = remove r.names at.key;
 }
 
@@ -191,7 +191,7 @@ abbrev pub stat_block : Resources → Opened → ℕ → Result (Deed Resources)
 stat_block r opened moment = do
   block ← found (row_at r.inodes.blocks opened.number) EBADF
   attribute ← found (row_at r.inodes.attributes block.inode) EBADF
-  Ok (told block.inode attribute r)
+  Ok (status_deed block.inode attribute r)
 
 -- names are listed, and nothing changes; their number is the status
 abbrev pub names_told : List (List ℕ) → Resources → Deed Resources

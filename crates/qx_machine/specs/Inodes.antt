@@ -50,16 +50,16 @@ abbrev pub new_attribute : Kind → ℕ → ℕ → ℕ → Attribute
 new_attribute kind mode owner moment = record { kind = kind; mode = mode; links = 1; owner = owner; size = 0; mtime = moment; ctime = moment }
 
 -- a number within a limit
-abbrev pub within : ℕ → ℕ → Errno → Result ℕ Errno
-within limit number error = if nat_le number limit then Ok number else Err error
+abbrev pub number_within : ℕ → ℕ → Errno → Result ℕ Errno
+number_within limit number error = if nat_le number limit then Ok number else Err error
 
 -- the number of the next inode: the lowest free one (C Library Reference: ENOSPC)
 abbrev pub inode_number : Inodes → Result ℕ Errno
-inode_number inodes = within INODES (lowest_from 1 inodes.attributes) ENOSPC
+inode_number inodes = number_within INODES (lowest_from 1 inodes.attributes) ENOSPC
 
 -- the number of the next open control block: the lowest free one (C Library Reference: ENFILE)
 abbrev pub block_number : Inodes → Result ℕ Errno
-block_number inodes = within BLOCKS (lowest_from 1 inodes.blocks) ENFILE
+block_number inodes = number_within BLOCKS (lowest_from 1 inodes.blocks) ENFILE
 
 -- a number that was given, and what there is then
 pub record Numbered : Type 0 where

@@ -119,12 +119,12 @@ fitting room [] = []
 fitting room (name ∷ names) = if nat_le (length name + 1) room then name ∷ fitting (room - (length name + 1)) names else []
 
 -- those behind a name
-abbrev pub behind : List ℕ → List (List ℕ) → List (List ℕ)
-behind after names = filter (λ name. is_lt (slice_cmp nat_cmp after name)) names
+abbrev pub names_behind : List ℕ → List (List ℕ) → List (List ℕ)
+names_behind after names = filter (λ name. is_lt (slice_cmp nat_cmp after name)) names
 
 -- what one listing of a directory gives
 abbrev pub listed : Names → ℕ → List ℕ → List (List ℕ)
-listed names directory after = fitting TRANSFER (behind after (names_in names directory))
+listed names directory after = fitting TRANSFER (names_behind after (names_in names directory))
 
 -- the names, each followed by a zero byte
 abbrev pub listing : List (List ℕ) → List ℕ

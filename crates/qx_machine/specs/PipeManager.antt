@@ -15,13 +15,13 @@ use Rattle.qx_machine.specs.Functions.{Deed}
 use Rattle.qx_machine.specs.Inodes.{readers_of, reads, writers_of, writes}
 use Rattle.qx_machine.specs.Judgements.{◌>>=◌, found, need}
 use Rattle.qx_machine.specs.Names.{is_directory, is_same_kind}
-use Rattle.qx_machine.specs.Pipes.{After, Pipe, cancel, read, release, write}
+use Rattle.qx_machine.specs.Pipes.{PipeAfter, Pipe, cancel, read, release, write}
 use Rattle.qx_machine.specs.Resources.{Resources, resized}
 use Rattle.qx_machine.specs.Rows.{row_at, with_row}
 use Rattle.qx_machine.specs.Waiting.{holds, is_call, is_gone, is_over, is_written, manner_of, offered, sides_of, waiting_call, wanted}
 
 -- the size of a pipe is the number of the bytes that stand; where some went in, its times are the moment
-abbrev pub filled : ℕ → After WaitingCall → Attribute → Attribute
+abbrev pub filled : ℕ → PipeAfter WaitingCall → Attribute → Attribute
 filled moment after attribute =
     if not (is_same_kind kind.Pipe attribute.kind) then attribute
     else if list_any (λ answer. is_written (offered answer.0) answer.1) after.answers then resized (length after.pipe.bytes) moment attribute
@@ -32,8 +32,8 @@ abbrev pub unreplied : Resources → Deed Resources
 unreplied r = record { reply = None; state = r; answers = [] }
 
 -- a pipe as it is once something was done to it
-abbrev pub with_after : Resources → ℕ → ℕ → After WaitingCall → Deed Resources
-with_after r inode moment after = record {
+abbrev pub deed_of_pipe : Resources → ℕ → ℕ → PipeAfter WaitingCall → Deed Resources
+deed_of_pipe r inode moment after = record {
   reply = None;
   state = record r {
     inodes = record r.inodes { attributes = with_row r.inodes.attributes inode (filled moment after) };
@@ -48,7 +48,7 @@ read_pipe r opened count moment = do
   block ← found (row_at r.inodes.blocks opened.number) EBADF
   reading ← need (reads block.flags) EBADF
   pipe ← found (row_at r.pipes block.inode) EISDIR
-  Ok (with_after r block.inode moment (read wanted offered is_gone (manner_of (writers_of r.inodes block.inode) block opened.caller.is_asked) (waiting_call opened count []) pipe))
+  Ok (deed_of_pipe r block.inode moment (read wanted offered is_gone (manner_of (writers_of r.inodes block.inode) block opened.caller.is_asked) (waiting_call opened count []) pipe))
 
 -- a WRITE is answered with those who waited, or waits
 abbrev pub write_pipe : Resources → Opened → List ℕ → ℕ → Result (Deed Resources) Errno
@@ -56,7 +56,7 @@ write_pipe r opened bytes moment = do
   block ← found (row_at r.inodes.blocks opened.number) EBADF
   writing ← need (writes block.flags) EBADF
   pipe ← found (row_at r.pipes block.inode) EBADF
-  Ok (with_after r block.inode moment (write wanted offered is_gone (manner_of (readers_of r.inodes block.inode) block opened.caller.is_asked) (waiting_call opened 0 bytes) pipe))
+  Ok (deed_of_pipe r block.inode moment (write wanted offered is_gone (manner_of (readers_of r.inodes block.inode) block opened.caller.is_asked) (waiting_call opened 0 bytes) pipe))
 
 -- a pipe has no offset (C Library Reference: lseek, ESPIPE), nor has the mount's root
 abbrev pub seek_pipe : Resources → Opened → Whence → ℤ → ℕ → Result (Deed Resources) Errno
@@ -69,7 +69,7 @@ seek_pipe r opened whence by moment = do
 -- what is done to the pipe of an inode, if it is one, once the block of a number was taken away
 abbrev pub released : Resources → ℕ → ℕ → ℕ → Option (Pipe WaitingCall) → Deed Resources
 released r number inode moment None = unreplied r
-released r number inode moment (Some pipe) = with_after r inode moment (release wanted offered is_gone (is_over number) (sides_of r.inodes inode) pipe)
+released r number inode moment (Some pipe) = deed_of_pipe r inode moment (release wanted offered is_gone (is_over number) (sides_of r.inodes inode) pipe)
 
 -- who waits is asked to unblock: they are answered EINTR, if they still wait once their pipe is clean (Writing a Resource Manager: the
 -- unblock pulse); nothing happens where they wait in no pipe
@@ -77,4 +77,4 @@ abbrev pub cancel_call : Resources → ℕ → ℕ → ℕ → ℕ → Result (D
 cancel_call r process thread call moment = do
   inode ← found (position (holds (is_call process thread call)) r.pipes) WrongState
   pipe ← found (row_at r.pipes inode) WrongState
-  Ok (with_after r inode moment (cancel wanted offered is_gone (is_call process thread call) pipe))
+  Ok (deed_of_pipe r inode moment (cancel wanted offered is_gone (is_call process thread call) pipe))

@@ -15,7 +15,7 @@ pub record Pipe (W : Type 0) : Type 0 where
   pub writers : List W
 
 -- a pipe as it is afterwards, and who was answered what, in order
-pub record After (W : Type 0) : Type 0 where
+pub record PipeAfter (W : Type 0) : Type 0 where
   pub pipe : Pipe W
   pub answers : List (W × Answer)
 
@@ -25,23 +25,23 @@ module _ {W : Type 0} where
   abbrev pub pipe_of : List ℕ → List W → List W → Pipe W
   pipe_of bytes readers writers = record { bytes = bytes; readers = readers; writers = writers }
 
-  abbrev pub nobody_answered : Pipe W → After W
+  abbrev pub nobody_answered : Pipe W → PipeAfter W
   nobody_answered p = record { pipe = p; answers = [] }
 
   -- one is answered, and nothing else happens
-  abbrev pub one_answered : W → Answer → Pipe W → After W
+  abbrev pub one_answered : W → Answer → Pipe W → PipeAfter W
   one_answered who answer p = record { pipe = p; answers = (who, answer) ∷ [] }
 
   -- one was answered before all others
-  abbrev pub first_answered : W → Answer → After W → After W
+  abbrev pub first_answered : W → Answer → PipeAfter W → PipeAfter W
   first_answered who answer after = record { pipe = after.pipe; answers = (who, answer) ∷ after.answers }
 
   -- these were answered before all others
-  abbrev pub answered_first : List (W × Answer) → After W → After W
+  abbrev pub answered_first : List (W × Answer) → PipeAfter W → PipeAfter W
   answered_first answers after = record { pipe = after.pipe; answers = answers ++ after.answers }
 
   -- what follows is done with the pipe as it is then
-  abbrev pub and_then : After W → (Pipe W → After W) → After W
+  abbrev pub and_then : PipeAfter W → (Pipe W → PipeAfter W) → PipeAfter W
   and_then first next = answered_first first.answers (next first.pipe)
 
 -- ---- settling
@@ -57,7 +57,7 @@ fits offered bytes writer = nat_le (length bytes + length (offered writer)) PIPE
 module _ {W : Type 0} (wanted : W → ℕ) (offered : W → List ℕ) where
   -- where a reader waits and bytes stand, the first reader gets the first of them; else where a writer waits and its bytes fit, the first
   -- writer's go in; again until neither
-  abbrev pub served : List ℕ → List W → List W → After W
+  abbrev pub served : List ℕ → List W → List W → PipeAfter W
   served (b ∷ bs) (reader ∷ readers) writers =
       first_answered reader (Reply (portion wanted reader (b ∷ bs)) (take (portion wanted reader (b ∷ bs)) (b ∷ bs)))
       (served (drop (portion wanted reader (b ∷ bs)) (b ∷ bs)) readers writers)
@@ -67,7 +67,7 @@ module _ {W : Type 0} (wanted : W → ℕ) (offered : W → List ℕ) where
       else nobody_answered (pipe_of bytes readers (writer ∷ writers))
   served bytes readers [] = nobody_answered (pipe_of bytes readers [])
 
-  unfoldable pub settle : Pipe W → After W
+  unfoldable pub settle : Pipe W → PipeAfter W
   settle p = served p.bytes p.readers p.writers
 
 -- ---- who leaves
@@ -86,25 +86,25 @@ module _ {W : Type 0} where
   all_answered leaves answer all = map (λ who. (who, answer)) (filter leaves all)
 
   -- those readers leave the pipe with an answer
-  abbrev pub readers_dismissed : (W → Bool) → Answer → Pipe W → After W
+  abbrev pub readers_dismissed : (W → Bool) → Answer → Pipe W → PipeAfter W
   readers_dismissed leaves answer p = record { pipe = record p { readers = staying leaves p.readers }; answers = all_answered leaves answer p.readers }
 
   -- those writers leave the pipe with an answer
-  abbrev pub writers_dismissed : (W → Bool) → Answer → Pipe W → After W
+  abbrev pub writers_dismissed : (W → Bool) → Answer → Pipe W → PipeAfter W
   writers_dismissed leaves answer p = record { pipe = record p { writers = staying leaves p.writers }; answers = all_answered leaves answer p.writers }
 
   -- those leave the pipe with an answer, readers first
-  abbrev pub dismissed : (W → Bool) → Answer → Pipe W → After W
+  abbrev pub dismissed : (W → Bool) → Answer → Pipe W → PipeAfter W
   dismissed leaves answer p = and_then (readers_dismissed leaves answer p) (writers_dismissed leaves answer)
 
 module _ {W : Type 0} (wanted : W → ℕ) (offered : W → List ℕ) (gone : W → Bool) where
   -- the waiting messages of ended processes go, and others may be served then
-  abbrev pub clean : Pipe W → After W
+  abbrev pub clean : Pipe W → PipeAfter W
   clean p = settle wanted offered (removed gone p)
 
   -- a waiting message is asked to unblock: once the pipe is clean, it is answered EINTR if it still waits, and others may be served then
   -- (Writing a Resource Manager: the unblock pulse)
-  abbrev pub cancel : (W → Bool) → Pipe W → After W
+  abbrev pub cancel : (W → Bool) → Pipe W → PipeAfter W
   cancel is_asked p = and_then (and_then (clean p) (dismissed is_asked (Failed EINTR))) (settle wanted offered)
 
 -- ---- READ and WRITE
@@ -117,7 +117,7 @@ module _ {W : Type 0} where
   with_writer p writer = record p { writers = p.writers ++ writer ∷ [] }
 
   -- who can't be served at once waits, unless its block is NONBLOCK or it was asked to unblock
-  abbrev pub waiting_unless : Manner → W → Pipe W → Pipe W → After W
+  abbrev pub waiting_unless : Manner → W → Pipe W → Pipe W → PipeAfter W
   waiting_unless manner who p with_it =
       if manner.is_nonblock then one_answered who (Failed EAGAIN) p
       else if manner.is_asked then one_answered who (Failed EINTR) p
@@ -126,7 +126,7 @@ module _ {W : Type 0} where
 module _ {W : Type 0} (wanted : W → ℕ) (offered : W → List ℕ) where
   -- a READ of a clean pipe: for nothing it is done; bytes that stand are given, though nobody writes any more; a pipe that nobody writes
   -- has come to its end
-  abbrev pub clean_read : Manner → W → Pipe W → After W
+  abbrev pub clean_read : Manner → W → Pipe W → PipeAfter W
   clean_read manner reader p =
       if wanted reader == 0 then one_answered reader (Reply 0 []) p
       else if not (length p.bytes == 0) then first_answered reader (Reply (portion wanted reader p.bytes) (take (portion wanted reader p.bytes) p.bytes)) (settle wanted offered (record p { bytes = drop (portion wanted reader p.bytes) p.bytes }))
@@ -134,7 +134,7 @@ module _ {W : Type 0} (wanted : W → ℕ) (offered : W → List ℕ) where
       else waiting_unless manner reader p (with_reader p reader)
 
   -- a WRITE to a clean pipe: of nothing it is done; nobody reads any more: EPIPE; its bytes go in where they fit and no other waits
-  abbrev pub clean_write : Manner → W → Pipe W → After W
+  abbrev pub clean_write : Manner → W → Pipe W → PipeAfter W
   clean_write manner writer p =
       if length (offered writer) == 0 then one_answered writer (Reply 0 []) p
       else if not manner.has_other_side then one_answered writer (Failed EPIPE) p
@@ -142,30 +142,30 @@ module _ {W : Type 0} (wanted : W → ℕ) (offered : W → List ℕ) where
       else waiting_unless manner writer p (with_writer p writer)
 
   -- a READ: the pipe is cleaned first
-  abbrev pub read : (W → Bool) → Manner → W → Pipe W → After W
+  abbrev pub read : (W → Bool) → Manner → W → Pipe W → PipeAfter W
   read gone manner reader p = and_then (clean wanted offered gone p) (clean_read manner reader)
 
   -- a WRITE: the pipe is cleaned first
-  abbrev pub write : (W → Bool) → Manner → W → Pipe W → After W
+  abbrev pub write : (W → Bool) → Manner → W → Pipe W → PipeAfter W
   write gone manner writer p = and_then (clean wanted offered gone p) (clean_write manner writer)
 
 -- ---- the freeing of a block
 
 module _ {W : Type 0} where
   -- readers come to the end of a pipe that nobody writes any more
-  abbrev pub readers_ended : Sides → Pipe W → After W
+  abbrev pub readers_ended : Sides → Pipe W → PipeAfter W
   readers_ended sides p = if sides.for_writing then nobody_answered p else readers_dismissed (λ who. true) (Reply 0 []) p
 
   -- a pipe that nobody reads any more is broken for writers
-  abbrev pub writers_ended : Sides → Pipe W → After W
+  abbrev pub writers_ended : Sides → Pipe W → PipeAfter W
   writers_ended sides p = if sides.for_reading then nobody_answered p else writers_dismissed (λ who. true) (Failed EPIPE) p
 
   -- with a pipe's last block go its bytes
-  abbrev pub without_bytes : Sides → Pipe W → After W
+  abbrev pub without_bytes : Sides → Pipe W → PipeAfter W
   without_bytes sides p = nobody_answered (if sides.for_reading || sides.for_writing then p else record p { bytes = [] })
 
 -- a block is freed, and there are blocks for these sides then: once the pipe is clean, the messages on the block are answered EBADF; a side
 -- that no block is left for is ended; others may be served then
-abbrev pub release : {W : Type 0} → (W → ℕ) → (W → List ℕ) → (W → Bool) → (W → Bool) → Sides → Pipe W → After W
+abbrev pub release : {W : Type 0} → (W → ℕ) → (W → List ℕ) → (W → Bool) → (W → Bool) → Sides → Pipe W → PipeAfter W
 release wanted offered gone is_on_it sides p =
     and_then (and_then (and_then (and_then (and_then (clean wanted offered gone p) (dismissed is_on_it (Failed EBADF))) (readers_ended sides)) (writers_ended sides)) (settle wanted offered)) (without_bytes sides)

@@ -14,7 +14,7 @@ use Rattle.qx_machine.specs.Listings.{HasAtMostOnePath}
 use Rattle.qx_machine.specs.Names.{Key, Names, is_there, key_cmp, names_in, under}
 use Rattle.qx_machine.proofs.Directories.{name_cmp, names-pairs, pairs_in, sorted_pairs, there_is}
 use Rattle.qx_names.specs.Folders.{Folder}
-use Rattle.qx_names.specs.Paths.{IsUnnamed, path_of}
+use Rattle.qx_names.specs.Paths.{HasNoPath, path_of}
 use Rattle.qx_names.specs.Shows.{Shows, key_total, key-IsAntisymmetric}
 use Rattle.qx_names.proofs.FolderLemmas.{names_same}
 use Rattle.qx_names.proofs.MapLemmas.{untied}
@@ -76,7 +76,7 @@ module _ (root : ℕ → Bool) (entry : ℕ → List ℕ → Option ℕ) (names 
           true_false (sym (is_there-Some directory) ∙ ap (λ x. is_there x directory) (sym led ∙ ap (get names) (λ i. above (p i))) ∙ e))))
 
   -- where no path leads to the directory, it has no names
-  no_pairs : IsUnnamed names directory → (es : List (Key × ℕ)) → pairs es ≡ []
+  no_pairs : HasNoPath names directory → (es : List (Key × ℕ)) → pairs es ≡ []
   no_pairs unnamed [] = refl
   no_pairs unnamed (((other, []), inode) ∷ es) = no_pairs unnamed es
   no_pairs unnamed (((other, last ∷ path), inode) ∷ es) =
@@ -90,7 +90,7 @@ module _ (root : ℕ → Bool) (entry : ℕ → List ℕ → Option ℕ) (names 
           let led = there_is _ directory e in
           find_pairs (path_of names directory) led name (entries names) ∙ sym (get-entries names (under (path_of names directory) name)) ∙ entry_under root entry names s (path_of names directory) directory name led
       by false e =
-          let unnamed : IsUnnamed names directory = λ key at. true_false (sym (is_there-Some directory) ∙ ap (λ x. is_there x directory) (sym (is_named names key directory at)) ∙ e) in
+          let unnamed : HasNoPath names directory = λ key at. true_false (sym (is_there-Some directory) ∙ ap (λ x. is_there x directory) (sym (is_named names key directory at)) ∙ e) in
           ap (find name_cmp name) (no_pairs unnamed (entries names)) ∙ sym (no_entries root entry names s directory unnamed name)
 
   -- the names in a directory are those of the map that gives its entries

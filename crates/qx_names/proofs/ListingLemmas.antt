@@ -7,7 +7,7 @@ use Rattle.std.specs.declared.cmp.Ordering.{Ordering}
 use Rattle.std.specs.declared.cmp.Ordering.TheVariants.{Less, Equal, Greater}
 use Rattle.std.proofs.Common.{◌≡◌, Bool, true, false, cond, ap, refl, sym, ◌∙◌, append_assoc}
 use Rattle.std.proofs.lemmas.Bool.{le-leb, lt-leb}
-use Rattle.qx_machine.specs.Names.{behind, fitting, listing}
+use Rattle.qx_machine.specs.Names.{names_behind, fitting, listing}
 
 joined : (r s : Ordering) → partial_ordering_then (Some r) (Some s) ≡ Some (ordering_then r s)
 joined Less s = refl
@@ -27,7 +27,7 @@ test_is after slice name result b e f g = sym (sym g ∙ e ∙ ap (is_some_and i
 
 -- the names that a listing has before it, where so many bytes are left
 abbrev pub left : List ℕ → ℕ → List (Vec ℕ) → List (List ℕ)
-left after room names = fitting room (behind after (mapped (λ name. name.items) names))
+left after room names = fitting room (names_behind after (mapped (λ name. name.items) names))
 
 module _ (after : List ℕ) (room : ℕ) (name : Vec ℕ) (names : List (Vec ℕ)) where
   abbrev is_behind : Bool
@@ -35,18 +35,18 @@ module _ (after : List ℕ) (room : ℕ) (name : Vec ℕ) (names : List (Vec ℕ
 
   -- a name that is not behind the one asked for is passed over
   pub left_out : is_behind ≡ false → left after room (name ∷ names) ≡ left after room names
-  left_out e = ap (λ b. fitting room (cond b (name.items ∷ behind after (mapped (λ n. n.items) names)) (behind after (mapped (λ n. n.items) names)))) e
+  left_out e = ap (λ b. fitting room (cond b (name.items ∷ names_behind after (mapped (λ n. n.items) names)) (names_behind after (mapped (λ n. n.items) names)))) e
 
-  behind_in : is_behind ≡ true → left after room (name ∷ names) ≡ fitting room (name.items ∷ behind after (mapped (λ n. n.items) names))
-  behind_in e = ap (λ b. fitting room (cond b (name.items ∷ behind after (mapped (λ n. n.items) names)) (behind after (mapped (λ n. n.items) names)))) e
+  behind_in : is_behind ≡ true → left after room (name ∷ names) ≡ fitting room (name.items ∷ names_behind after (mapped (λ n. n.items) names))
+  behind_in e = ap (λ b. fitting room (cond b (name.items ∷ names_behind after (mapped (λ n. n.items) names)) (names_behind after (mapped (λ n. n.items) names)))) e
 
   -- one that does not fit ends the listing
   pub left_stop : is_behind ≡ true → room < length name.items + 1 → left after room (name ∷ names) ≡ []
-  left_stop e f = behind_in e ∙ ap (λ b. cond b (name.items ∷ fitting (room - (length name.items + 1)) (behind after (mapped (λ n. n.items) names))) []) (lt-leb (length name.items + 1) room f)
+  left_stop e f = behind_in e ∙ ap (λ b. cond b (name.items ∷ fitting (room - (length name.items + 1)) (names_behind after (mapped (λ n. n.items) names))) []) (lt-leb (length name.items + 1) room f)
 
   -- one that fits is listed
   pub left_on : is_behind ≡ true → length name.items + 1 ≤ room → left after room (name ∷ names) ≡ name.items ∷ left after (room - (length name.items + 1)) names
-  left_on e f = behind_in e ∙ ap (λ b. cond b (name.items ∷ fitting (room - (length name.items + 1)) (behind after (mapped (λ n. n.items) names))) []) (le-leb (length name.items + 1) room f)
+  left_on e f = behind_in e ∙ ap (λ b. cond b (name.items ∷ fitting (room - (length name.items + 1)) (names_behind after (mapped (λ n. n.items) names))) []) (le-leb (length name.items + 1) room f)
 
 pub listing_on : (reply name : List ℕ) (names : List (List ℕ)) → reply ++ listing (name ∷ names) ≡ ((reply ++ name) ++ 0 ∷ []) ++ listing names
 listing_on reply name names = sym (append_assoc reply (name ++ 0 ∷ []) (listing names)) ∙ ap (◌++ listing names) (sym (append_assoc reply name (0 ∷ [])))

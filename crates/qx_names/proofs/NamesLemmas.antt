@@ -10,7 +10,7 @@ use Rattle.std.proofs.Common.{◌≡◌, Bool, true, false, ap, refl, sym, subst
 use Rattle.std.proofs.lemmas.Map.Keys.{IsDistinct-push}
 use Rattle.qx_machine.specs.Names.{Key, Names, names_in, root_key, under, with_root}
 use Rattle.qx_names.specs.Folders.{Changes, Folder, entry_at, entry_in}
-use Rattle.qx_names.specs.Paths.{IsNamed, IsUnnamed, path_of}
+use Rattle.qx_names.specs.Paths.{HasPath, HasNoPath, path_of}
 use Rattle.qx_names.specs.Shows.{Shows, is_root, shown_names}
 use Rattle.qx_names.proofs.EntryLemmas.{empty_alone, names_are_keys}
 use Rattle.qx_names.proofs.ShowsLemmas.{Shows-empty, Shows-insert, Shows-push, Shows-remove, names_shown, root_shown, unnamed_now}
@@ -38,23 +38,23 @@ module _ (roots : List ℕ) (folders : List Folder) (kept : (names : Names) × S
   pub same_shows : (new : List Folder) → entry_at new ≡ entry_at folders → Shows (is_root roots) (entry_at new) now
   same_shows new e = subst (λ entry. Shows (is_root roots) entry now) (sym e) shows_now
 
-  is_new : (root : ℕ) → IsUnnamed now root → (b : Bool) → is_root roots root ≡ b → is_root roots root ≡ false
+  is_new : (root : ℕ) → HasNoPath now root → (b : Bool) → is_root roots root ≡ b → is_root roots root ≡ false
   is_new root unnamed true e = absurd (unnamed (root_key root) (root_shown (is_root roots) (entry_at folders) now shows_now root ∙ ap (λ b. if b then Some root else None) e))
   is_new root unnamed false e = e
 
-  pub rooted_once : (new : List ℕ) (root : ℕ) → new ≡ roots ++ root ∷ [] → IsUnnamed now root → IsDistinct nat_eq roots → IsDistinct nat_eq new
+  pub rooted_once : (new : List ℕ) (root : ℕ) → new ≡ roots ++ root ∷ [] → HasNoPath now root → IsDistinct nat_eq roots → IsDistinct nat_eq new
   rooted_once new root e unnamed once = rw e (IsDistinct-push nat_eq_equiv roots root once (looked_for roots root ∙ is_new root unnamed (is_root roots root) refl))
 
-  pub root_shows : (new : List ℕ) (root : ℕ) → new ≡ roots ++ root ∷ [] → IsUnnamed now root → Shows (is_root new) (entry_at folders) (with_root now root)
+  pub root_shows : (new : List ℕ) (root : ℕ) → new ≡ roots ++ root ∷ [] → HasNoPath now root → Shows (is_root new) (entry_at folders) (with_root now root)
   root_shows new root e unnamed = subst (λ rs. Shows (is_root rs) (entry_at folders) (with_root now root)) (sym e) (Shows-push roots (entry_at folders) now shows_now root unnamed)
 
-  pub insert_shows : (new : List Folder) (directory : ℕ) (name : List ℕ) (inode : ℕ) → IsNamed now directory → map.get now (under (path_of now directory) name) ≡ None → IsUnnamed now inode → Changes (entry_at folders) (entry_at new) directory name (Some inode)
+  pub insert_shows : (new : List Folder) (directory : ℕ) (name : List ℕ) (inode : ℕ) → HasPath now directory → map.get now (under (path_of now directory) name) ≡ None → HasNoPath now inode → Changes (entry_at folders) (entry_at new) directory name (Some inode)
       → Shows (is_root roots) (entry_at new) (map.insert now (under (path_of now directory) name) inode)
   insert_shows new directory name inode named free unnamed changes =
       Shows-insert (is_root roots) (entry_at folders) now shows_now (entry_at new) (path_of now directory) directory inode name named free unnamed changes
 
   -- an entry is put in, or nothing changes
-  pub put_kept : (r : Result (Unit {0}) AllocError) (new : List Folder) (directory : ℕ) (name : List ℕ) (inode : ℕ) → IsNamed now directory → map.get now (under (path_of now directory) name) ≡ None → IsUnnamed now inode → OnOk r (Changes (entry_at folders) (entry_at new) directory name (Some inode)) → OnErr r (entry_at new ≡ entry_at folders)
+  pub put_kept : (r : Result (Unit {0}) AllocError) (new : List Folder) (directory : ℕ) (name : List ℕ) (inode : ℕ) → HasPath now directory → map.get now (under (path_of now directory) name) ≡ None → HasNoPath now inode → OnOk r (Changes (entry_at folders) (entry_at new) directory name (Some inode)) → OnErr r (entry_at new ≡ entry_at folders)
       → (names : Names) × Shows (is_root roots) (entry_at new) names
   put_kept (Ok done) new directory name inode named free unnamed ok err = (_, insert_shows new directory name inode named free unnamed ok)
   put_kept (Err error) new directory name inode named free unnamed ok err = (now, same_shows new err)
@@ -62,15 +62,15 @@ module _ (roots : List ℕ) (folders : List Folder) (kept : (names : Names) × S
   alone : (key : Key) → IfSome (map.get now key) (λ inode. names_in now inode ≡ []) → (value : ℕ) → map.get now key ≡ Some value → (last : List ℕ) → entry_at folders value last ≡ None
   alone key empty value e last = empty_alone (is_root roots) (entry_at folders) now shows_now value (subst (λ x. IfSome x (λ inode. names_in now inode ≡ [])) e empty) last
 
-  module _ (new : List Folder) (directory : ℕ) (name : List ℕ) (named : IsNamed now directory) (empty : IfSome (map.get now (under (path_of now directory) name)) (λ inode. names_in now inode ≡ [])) (changes : Changes (entry_at folders) (entry_at new) directory name None) where
+  module _ (new : List Folder) (directory : ℕ) (name : List ℕ) (named : HasPath now directory) (empty : IfSome (map.get now (under (path_of now directory) name)) (λ inode. names_in now inode ≡ [])) (changes : Changes (entry_at folders) (entry_at new) directory name None) where
     pub remove_shows : Shows (is_root roots) (entry_at new) (map.remove now (under (path_of now directory) name))
     remove_shows = Shows-remove (is_root roots) (entry_at folders) now shows_now (entry_at new) (path_of now directory) directory name named (alone (under (path_of now directory) name) empty) changes
 
-    unnamed_by : (x : Option ℕ) → map.get now (under (path_of now directory) name) ≡ x → IfSome x (IsUnnamed (map.remove now (under (path_of now directory) name)))
+    unnamed_by : (x : Option ℕ) → map.get now (under (path_of now directory) name) ≡ x → IfSome x (HasNoPath (map.remove now (under (path_of now directory) name)))
     unnamed_by None e = tt
     unnamed_by (Some value) e = unnamed_now (is_root roots) (entry_at folders) now shows_now (entry_at new) (path_of now directory) directory name named (alone (under (path_of now directory) name) empty) changes value e
 
-    pub removed_unnamed : IfSome (map.get now (under (path_of now directory) name)) (IsUnnamed (map.remove now (under (path_of now directory) name)))
+    pub removed_unnamed : IfSome (map.get now (under (path_of now directory) name)) (HasNoPath (map.remove now (under (path_of now directory) name)))
     removed_unnamed = unnamed_by _ refl
 
   -- the names in a directory that has a row, and in one that has none

@@ -10,7 +10,7 @@ use Rattle.std.proofs.Common.{◌≡◌, Bool, true, false, T, cond, ap, refl, s
 use Rattle.std.proofs.lemmas.Bool.{eq-eqb, eqb-true}
 use Rattle.qx_machine.specs.Names.{Key, Names, root_key}
 use Rattle.qx_machine.proofs.Directories.{first, second}
-use Rattle.qx_names.specs.Paths.{IsNamed, key_in, path_of}
+use Rattle.qx_names.specs.Paths.{HasPath, key_in, path_of}
 use Rattle.qx_names.specs.Shows.{Shows, key_total, key-IsAntisymmetric}
 use Rattle.qx_names.proofs.MapLemmas.{is_equal}
 
@@ -55,7 +55,7 @@ module _ {K : Type 0} {R : K → K → Ordering} (o : IsTotalOrder R) (same : Is
       by rest false p = skip _ (key_in other es value) refl (rest (later _ refl e p))
 
 -- what some path leads to, its own path leads to
-pub is_named : (names : Names) (key : Key) (inode : ℕ) → get names key ≡ Some inode → IsNamed names inode
+pub is_named : (names : Names) (key : Key) (inode : ℕ) → get names key ≡ Some inode → HasPath names inode
 unfolding path_of
 is_named names key inode e =
     get-entries names _ ∙ found_first key_total key-IsAntisymmetric (root_key inode) (entries names) inode key (entries_sorted names) (sym (get-entries names key) ∙ e)

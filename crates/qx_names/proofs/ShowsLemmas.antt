@@ -8,8 +8,8 @@ use mathlib.Core.Logic.{◌⊎◌, inl, inr}
 use Rattle.std.proofs.lemmas.Bool.{eq-eqb, eqb-true}
 use Rattle.std.proofs.Math.Bool.{or-true}
 use Rattle.qx_machine.specs.Names.{Key, Names, key_cmp, root_key, under, with_root}
-use Rattle.qx_names.specs.Paths.{IsUnnamed}
-use Rattle.qx_names.specs.Shows.{Shows, is_root, key_total, key-IsAntisymmetric, looked_up, reached, shown_names, shown_once}
+use Rattle.qx_names.specs.Paths.{HasNoPath}
+use Rattle.qx_names.specs.Shows.{Shows, is_root, key_total, key-IsAntisymmetric, name_looked_up, reached, shown_names, shown_once}
 use Rattle.qx_names.specs.Folders.{Changes}
 use Rattle.qx_names.proofs.MapLemmas.{inserted, inserted_apart, removed, removed_apart, same_or_not}
 
@@ -41,39 +41,39 @@ longer mount name above key e f =
     omega (arith, lengths)
 
 module _ (root : ℕ → Bool) (entry : ℕ → List ℕ → Option ℕ) (names : Names) (s : Shows root entry names) where
-  no_entries_by : (inode : ℕ) (name : List ℕ) (x : Option ℕ) → IsUnnamed names inode → entry inode name ≡ x → entry inode name ≡ None
+  no_entries_by : (inode : ℕ) (name : List ℕ) (x : Option ℕ) → HasNoPath names inode → entry inode name ≡ x → entry inode name ≡ None
   no_entries_by inode name None unnamed e = e
   no_entries_by inode name (Some value) unnamed e = let at = s.held inode name value e in absurd (unnamed at.0 at.1)
 
   -- what no path leads to has no entries
-  pub no_entries : (inode : ℕ) → IsUnnamed names inode → (name : List ℕ) → entry inode name ≡ None
+  pub no_entries : (inode : ℕ) → HasNoPath names inode → (name : List ℕ) → entry inode name ≡ None
   no_entries inode unnamed name = no_entries_by inode name (entry inode name) unnamed refl
 
-  pub step : (mount : ℕ) (name : List ℕ) (above : List (List ℕ)) → get names (mount, name ∷ above) ≡ looked_up entry (get names (mount, above)) name
-  step mount name above = s.shown mount (name ∷ above) ∙ ap (λ at. looked_up entry at name) (sym (s.shown mount above))
+  pub step : (mount : ℕ) (name : List ℕ) (above : List (List ℕ)) → get names (mount, name ∷ above) ≡ name_looked_up entry (get names (mount, above)) name
+  step mount name above = s.shown mount (name ∷ above) ∙ ap (λ at. name_looked_up entry at name) (sym (s.shown mount above))
 
   -- what is under a path is the entry of what it leads to
   pub entry_under : (key : Key) (directory : ℕ) (name : List ℕ) → get names key ≡ Some directory → get names (under key name) ≡ entry directory name
-  entry_under key directory name at = step key.0 name key.1 ∙ ap (λ x. looked_up entry x name) at
+  entry_under key directory name at = step key.0 name key.1 ∙ ap (λ x. name_looked_up entry x name) at
 
   -- ---- what changes with one entry
 
   module _ (new : ℕ → List ℕ → Option ℕ) (key : Key) (directory : ℕ) (name : List ℕ) (what : Option ℕ) (at : get names key ≡ Some directory) (c : Changes entry new directory name what) where
-    looked_apart : (x : Option ℕ) (mount : ℕ) (last : List ℕ) (above : List (List ℕ)) → get names (mount, above) ≡ x → ((mount, last ∷ above) ≡ under key name → ⊥) → looked_up new x last ≡ looked_up entry x last
+    looked_apart : (x : Option ℕ) (mount : ℕ) (last : List ℕ) (above : List (List ℕ)) → get names (mount, above) ≡ x → ((mount, last ∷ above) ≡ under key name → ⊥) → name_looked_up new x last ≡ name_looked_up entry x last
     looked_apart None mount last above e apart = refl
     looked_apart (Some other) mount last above e apart =
         c.others other last (λ p q. apart (let keys = s.single (mount, above) key directory (e ∙ ap Some p) at in λ i. ((keys i).0, q i ∷ (keys i).1)))
 
-    pub next_apart : (mount : ℕ) (last : List ℕ) (above : List (List ℕ)) → ((mount, last ∷ above) ≡ under key name → ⊥) → looked_up new (get names (mount, above)) last ≡ get names (mount, last ∷ above)
+    pub next_apart : (mount : ℕ) (last : List ℕ) (above : List (List ℕ)) → ((mount, last ∷ above) ≡ under key name → ⊥) → name_looked_up new (get names (mount, above)) last ≡ get names (mount, last ∷ above)
     next_apart mount last above apart = looked_apart (get names (mount, above)) mount last above refl apart ∙ sym (step mount last above)
 
-    pub next_here : (mount : ℕ) (last : List ℕ) (above : List (List ℕ)) → (mount, last ∷ above) ≡ under key name → looked_up new (get names (mount, above)) last ≡ what
+    pub next_here : (mount : ℕ) (last : List ℕ) (above : List (List ℕ)) → (mount, last ∷ above) ≡ under key name → name_looked_up new (get names (mount, above)) last ≡ what
     next_here mount last above e =
-        ap (λ (k : Key). looked_up new (get names k) last) (λ i. parent (e i)) ∙ ap (looked_up new (get names key)) (λ i. head (e i).1) ∙ ap (λ x. looked_up new x name) at ∙ c.here
+        ap (λ (k : Key). name_looked_up new (get names k) last) (λ i. parent (e i)) ∙ ap (name_looked_up new (get names key)) (λ i. head (e i).1) ∙ ap (λ x. name_looked_up new x name) at ∙ c.here
 
   -- ---- a name that is new
 
-  module _ (key : Key) (inode : ℕ) (free : get names key ≡ None) (unnamed : IsUnnamed names inode) where
+  module _ (key : Key) (inode : ℕ) (free : get names key ≡ None) (unnamed : HasNoPath names inode) where
     pub still_led : (other : Key) (value : ℕ) → get names other ≡ Some value → get (insert names key inode) other ≡ Some value
     still_led other value e = inserted_apart key_total key-IsAntisymmetric names key inode other (λ p. none_some value (sym free ∙ ap (get names) (sym p) ∙ e)) ∙ e
 
@@ -98,7 +98,7 @@ module _ (root : ℕ → Bool) (entry : ℕ → List ℕ → Option ℕ) (names 
 
   -- ---- a name is put into a directory
 
-  module _ (new : ℕ → List ℕ → Option ℕ) (key : Key) (directory inode : ℕ) (name : List ℕ) (at : get names key ≡ Some directory) (free : get names (under key name) ≡ None) (unnamed : IsUnnamed names inode) (c : Changes entry new directory name (Some inode)) where
+  module _ (new : ℕ → List ℕ → Option ℕ) (key : Key) (directory inode : ℕ) (name : List ℕ) (at : get names key ≡ Some directory) (free : get names (under key name) ≡ None) (unnamed : HasNoPath names inode) (c : Changes entry new directory name (Some inode)) where
     abbrev with_one : Names
     with_one = insert names (under key name) inode
 
@@ -106,24 +106,24 @@ module _ (root : ℕ → Bool) (entry : ℕ → List ℕ → Option ℕ) (names 
     inode_alone : (last : List ℕ) → new inode last ≡ None
     inode_alone last = c.others inode last (λ p q. unnamed key (at ∙ ap Some (sym p))) ∙ no_entries inode unnamed last
 
-    next_inserted : (mount : ℕ) (last : List ℕ) (above : List (List ℕ)) → get with_one (mount, last ∷ above) ≡ looked_up new (get with_one (mount, above)) last
+    next_inserted : (mount : ℕ) (last : List ℕ) (above : List (List ℕ)) → get with_one (mount, last ∷ above) ≡ name_looked_up new (get with_one (mount, above)) last
     next_inserted mount last above = by (same_or_not key_total key-IsAntisymmetric (mount, above) (under key name)) (same_or_not key_total key-IsAntisymmetric (mount, last ∷ above) (under key name))
       where
-        by : (((mount, above) ≡ under key name) ⊎ ((mount, above) ≡ under key name → ⊥)) → (((mount, last ∷ above) ≡ under key name) ⊎ ((mount, last ∷ above) ≡ under key name → ⊥)) → get with_one (mount, last ∷ above) ≡ looked_up new (get with_one (mount, above)) last
+        by : (((mount, above) ≡ under key name) ⊎ ((mount, above) ≡ under key name → ⊥)) → (((mount, last ∷ above) ≡ under key name) ⊎ ((mount, last ∷ above) ≡ under key name → ⊥)) → get with_one (mount, last ∷ above) ≡ name_looked_up new (get with_one (mount, above)) last
         by (inl p) (inl q) = absurd (longer mount last above (under key name) p q)
         by (inl p) (inr q) =
-            inserted_apart key_total key-IsAntisymmetric names (under key name) inode (mount, last ∷ above) q ∙ step mount last above ∙ ap (λ k. looked_up entry (get names k) last) p ∙ ap (λ x. looked_up entry x last) free
-            ∙ sym (ap (λ k. looked_up new (get with_one k) last) p ∙ ap (λ x. looked_up new x last) (inserted key_total key-IsAntisymmetric names (under key name) inode) ∙ inode_alone last)
+            inserted_apart key_total key-IsAntisymmetric names (under key name) inode (mount, last ∷ above) q ∙ step mount last above ∙ ap (λ k. name_looked_up entry (get names k) last) p ∙ ap (λ x. name_looked_up entry x last) free
+            ∙ sym (ap (λ k. name_looked_up new (get with_one k) last) p ∙ ap (λ x. name_looked_up new x last) (inserted key_total key-IsAntisymmetric names (under key name) inode) ∙ inode_alone last)
         by (inr p) (inl q) =
             ap (get with_one) q ∙ inserted key_total key-IsAntisymmetric names (under key name) inode
-            ∙ sym (ap (λ x. looked_up new x last) (inserted_apart key_total key-IsAntisymmetric names (under key name) inode (mount, above) p) ∙ next_here new key directory name (Some inode) at c mount last above q)
+            ∙ sym (ap (λ x. name_looked_up new x last) (inserted_apart key_total key-IsAntisymmetric names (under key name) inode (mount, above) p) ∙ next_here new key directory name (Some inode) at c mount last above q)
         by (inr p) (inr q) =
             inserted_apart key_total key-IsAntisymmetric names (under key name) inode (mount, last ∷ above) q
-            ∙ sym (ap (λ x. looked_up new x last) (inserted_apart key_total key-IsAntisymmetric names (under key name) inode (mount, above) p) ∙ next_apart new key directory name (Some inode) at c mount last above q)
+            ∙ sym (ap (λ x. name_looked_up new x last) (inserted_apart key_total key-IsAntisymmetric names (under key name) inode (mount, above) p) ∙ next_apart new key directory name (Some inode) at c mount last above q)
 
     shown_inserted : (mount : ℕ) (path : List (List ℕ)) → get with_one (mount, path) ≡ reached root new mount path
     shown_inserted mount [] = inserted_apart key_total key-IsAntisymmetric names (under key name) inode (mount, []) (λ e. let lengths : 0 ≡ suc (length key.1) = ap (λ (k : Key). length k.1) e in omega (arith, lengths)) ∙ s.shown mount []
-    shown_inserted mount (last ∷ above) = next_inserted mount last above ∙ ap (λ x. looked_up new x last) (shown_inserted mount above)
+    shown_inserted mount (last ∷ above) = next_inserted mount last above ∙ ap (λ x. name_looked_up new x last) (shown_inserted mount above)
 
     held_inserted : (other : ℕ) (last : List ℕ) (value : ℕ) → new other last ≡ Some value → (led : Key) × (get with_one led ≡ Some other)
     held_inserted other last value e = by (same_or_not nat_cmp_total nat_cmp-IsAntisymmetric other directory) (same_or_not nat_list_cmp_total (slice_cmp-IsAntisymmetric nat_cmp-IsAntisymmetric) last name)
@@ -144,28 +144,28 @@ module _ (root : ℕ → Bool) (entry : ℕ → List ℕ → Option ℕ) (names 
     abbrev without_one : Names
     without_one = remove names (under key name)
 
-    alone_by : (last : List ℕ) (x : Option ℕ) → get names (under key name) ≡ x → looked_up entry x last ≡ None
+    alone_by : (last : List ℕ) (x : Option ℕ) → get names (under key name) ≡ x → name_looked_up entry x last ≡ None
     alone_by last None e = refl
     alone_by last (Some value) e = alone value e last
 
-    next_removed : (mount : ℕ) (last : List ℕ) (above : List (List ℕ)) → get without_one (mount, last ∷ above) ≡ looked_up new (get without_one (mount, above)) last
+    next_removed : (mount : ℕ) (last : List ℕ) (above : List (List ℕ)) → get without_one (mount, last ∷ above) ≡ name_looked_up new (get without_one (mount, above)) last
     next_removed mount last above = by (same_or_not key_total key-IsAntisymmetric (mount, above) (under key name)) (same_or_not key_total key-IsAntisymmetric (mount, last ∷ above) (under key name))
       where
-        by : (((mount, above) ≡ under key name) ⊎ ((mount, above) ≡ under key name → ⊥)) → (((mount, last ∷ above) ≡ under key name) ⊎ ((mount, last ∷ above) ≡ under key name → ⊥)) → get without_one (mount, last ∷ above) ≡ looked_up new (get without_one (mount, above)) last
+        by : (((mount, above) ≡ under key name) ⊎ ((mount, above) ≡ under key name → ⊥)) → (((mount, last ∷ above) ≡ under key name) ⊎ ((mount, last ∷ above) ≡ under key name → ⊥)) → get without_one (mount, last ∷ above) ≡ name_looked_up new (get without_one (mount, above)) last
         by (inl p) (inl q) = absurd (longer mount last above (under key name) p q)
         by (inl p) (inr q) =
-            removed_apart key_total key-IsAntisymmetric names (under key name) (mount, last ∷ above) q ∙ step mount last above ∙ ap (λ k. looked_up entry (get names k) last) p ∙ alone_by last _ refl
-            ∙ sym (ap (λ k. looked_up new (get without_one k) last) p ∙ ap (λ x. looked_up new x last) (removed key_total key-IsAntisymmetric names (under key name)))
+            removed_apart key_total key-IsAntisymmetric names (under key name) (mount, last ∷ above) q ∙ step mount last above ∙ ap (λ k. name_looked_up entry (get names k) last) p ∙ alone_by last _ refl
+            ∙ sym (ap (λ k. name_looked_up new (get without_one k) last) p ∙ ap (λ x. name_looked_up new x last) (removed key_total key-IsAntisymmetric names (under key name)))
         by (inr p) (inl q) =
             ap (get without_one) q ∙ removed key_total key-IsAntisymmetric names (under key name)
-            ∙ sym (ap (λ x. looked_up new x last) (removed_apart key_total key-IsAntisymmetric names (under key name) (mount, above) p) ∙ next_here new key directory name None at c mount last above q)
+            ∙ sym (ap (λ x. name_looked_up new x last) (removed_apart key_total key-IsAntisymmetric names (under key name) (mount, above) p) ∙ next_here new key directory name None at c mount last above q)
         by (inr p) (inr q) =
             removed_apart key_total key-IsAntisymmetric names (under key name) (mount, last ∷ above) q
-            ∙ sym (ap (λ x. looked_up new x last) (removed_apart key_total key-IsAntisymmetric names (under key name) (mount, above) p) ∙ next_apart new key directory name None at c mount last above q)
+            ∙ sym (ap (λ x. name_looked_up new x last) (removed_apart key_total key-IsAntisymmetric names (under key name) (mount, above) p) ∙ next_apart new key directory name None at c mount last above q)
 
     shown_removed : (mount : ℕ) (path : List (List ℕ)) → get without_one (mount, path) ≡ reached root new mount path
     shown_removed mount [] = removed_apart key_total key-IsAntisymmetric names (under key name) (mount, []) (λ e. let lengths : 0 ≡ suc (length key.1) = ap (λ (k : Key). length k.1) e in omega (arith, lengths)) ∙ s.shown mount []
-    shown_removed mount (last ∷ above) = next_removed mount last above ∙ ap (λ x. looked_up new x last) (shown_removed mount above)
+    shown_removed mount (last ∷ above) = next_removed mount last above ∙ ap (λ x. name_looked_up new x last) (shown_removed mount above)
 
     -- what is still led to was led to before, by another path than the one removed
     pub was_led : (led : Key) (value : ℕ) → get without_one led ≡ Some value → (led ≡ under key name → ⊥) × (get names led ≡ Some value)
@@ -175,7 +175,7 @@ module _ (root : ℕ → Bool) (entry : ℕ → List ℕ → Option ℕ) (names 
         by (inl p) = absurd (none_some value (sym (ap (get without_one) p ∙ removed key_total key-IsAntisymmetric names (under key name)) ∙ e))
         by (inr p) = (p, sym (removed_apart key_total key-IsAntisymmetric names (under key name) led p) ∙ e)
 
-    pub unnamed_now : (value : ℕ) → get names (under key name) ≡ Some value → IsUnnamed without_one value
+    pub unnamed_now : (value : ℕ) → get names (under key name) ≡ Some value → HasNoPath without_one value
     unnamed_now value here led e = let was = was_led led value e in was.0 (s.single led (under key name) value was.1 here)
 
     held_removed : (other : ℕ) (last : List ℕ) (value : ℕ) → new other last ≡ Some value → (led : Key) × (get without_one led ≡ Some other)
@@ -201,7 +201,7 @@ module _ (root : ℕ → Bool) (entry : ℕ → List ℕ → Option ℕ) (names 
 
   -- ---- a root is named
 
-  module _ (roots : ℕ → Bool) (mount : ℕ) (unnamed : IsUnnamed names mount) (here : roots mount ≡ true) (others : (other : ℕ) → (other ≡ mount → ⊥) → roots other ≡ root other) where
+  module _ (roots : ℕ → Bool) (mount : ℕ) (unnamed : HasNoPath names mount) (here : roots mount ≡ true) (others : (other : ℕ) → (other ≡ mount → ⊥) → roots other ≡ root other) where
     abbrev with_it : Names
     with_it = insert names (root_key mount) mount
 
@@ -212,17 +212,17 @@ module _ (root : ℕ → Bool) (entry : ℕ → List ℕ → Option ℕ) (names 
     root_free : get names (root_key mount) ≡ None
     root_free = free_by (root mount) refl
 
-    next_rooted : (at : ℕ) (last : List ℕ) (above : List (List ℕ)) → get with_it (at, last ∷ above) ≡ looked_up entry (get with_it (at, above)) last
+    next_rooted : (at : ℕ) (last : List ℕ) (above : List (List ℕ)) → get with_it (at, last ∷ above) ≡ name_looked_up entry (get with_it (at, above)) last
     next_rooted at last above = longer_apart ∙ step at last above ∙ by (same_or_not key_total key-IsAntisymmetric (at, above) (root_key mount))
       where
         longer_apart : get with_it (at, last ∷ above) ≡ get names (at, last ∷ above)
         longer_apart = inserted_apart key_total key-IsAntisymmetric names (root_key mount) mount (at, last ∷ above) (λ e. let lengths : suc (length above) ≡ 0 = ap (λ (k : Key). length k.1) e in omega (arith, lengths))
 
-        by : (((at, above) ≡ root_key mount) ⊎ ((at, above) ≡ root_key mount → ⊥)) → looked_up entry (get names (at, above)) last ≡ looked_up entry (get with_it (at, above)) last
+        by : (((at, above) ≡ root_key mount) ⊎ ((at, above) ≡ root_key mount → ⊥)) → name_looked_up entry (get names (at, above)) last ≡ name_looked_up entry (get with_it (at, above)) last
         by (inl p) =
-            ap (λ k. looked_up entry (get names k) last) p ∙ ap (λ x. looked_up entry x last) root_free
-            ∙ sym (ap (λ k. looked_up entry (get with_it k) last) p ∙ ap (λ x. looked_up entry x last) (inserted key_total key-IsAntisymmetric names (root_key mount) mount) ∙ no_entries mount unnamed last)
-        by (inr p) = ap (λ x. looked_up entry x last) (sym (inserted_apart key_total key-IsAntisymmetric names (root_key mount) mount (at, above) p))
+            ap (λ k. name_looked_up entry (get names k) last) p ∙ ap (λ x. name_looked_up entry x last) root_free
+            ∙ sym (ap (λ k. name_looked_up entry (get with_it k) last) p ∙ ap (λ x. name_looked_up entry x last) (inserted key_total key-IsAntisymmetric names (root_key mount) mount) ∙ no_entries mount unnamed last)
+        by (inr p) = ap (λ x. name_looked_up entry x last) (sym (inserted_apart key_total key-IsAntisymmetric names (root_key mount) mount (at, above) p))
 
     shown_rooted : (at : ℕ) (path : List (List ℕ)) → get with_it (at, path) ≡ reached roots entry at path
     shown_rooted at [] = by (same_or_not nat_cmp_total nat_cmp-IsAntisymmetric at mount)
@@ -230,7 +230,7 @@ module _ (root : ℕ → Bool) (entry : ℕ → List ℕ → Option ℕ) (names 
         by : ((at ≡ mount) ⊎ (at ≡ mount → ⊥)) → get with_it (at, []) ≡ (if roots at then Some at else None)
         by (inl p) = ap (λ m. get with_it (m, [])) p ∙ inserted key_total key-IsAntisymmetric names (root_key mount) mount ∙ sym (ap (λ m. if roots m then Some m else None) p ∙ ap (λ b. if b then Some mount else None) here)
         by (inr p) = inserted_apart key_total key-IsAntisymmetric names (root_key mount) mount (at, []) (λ e. p (λ i. (e i).0)) ∙ s.shown at [] ∙ ap (λ b. if b then Some at else None) (sym (others at p))
-    shown_rooted at (last ∷ above) = next_rooted at last above ∙ ap (λ x. looked_up entry x last) (shown_rooted at above)
+    shown_rooted at (last ∷ above) = next_rooted at last above ∙ ap (λ x. name_looked_up entry x last) (shown_rooted at above)
 
     pub Shows-root : Shows roots entry with_it
     Shows-root = record {
@@ -260,7 +260,7 @@ Shows-empty entry none = record {
   where
     nothing : (mount : ℕ) (path : List (List ℕ)) → reached (λ _. false) entry mount path ≡ None
     nothing mount [] = refl
-    nothing mount (name ∷ above) = ap (λ x. looked_up entry x name) (nothing mount above)
+    nothing mount (name ∷ above) = ap (λ x. name_looked_up entry x name) (nothing mount above)
 
 -- ---- roots
 
@@ -276,7 +276,7 @@ root_others : (roots : List ℕ) (root other : ℕ) → (other ≡ root → ⊥)
 root_others [] root other apart = root_others_by root other (root == other) apart refl
 root_others (first ∷ roots) root other apart = ap ((first == other) ||◌) (root_others roots root other apart)
 
-pub Shows-push : (roots : List ℕ) (entry : ℕ → List ℕ → Option ℕ) (names : Names) → Shows (is_root roots) entry names → (root : ℕ) → IsUnnamed names root → Shows (is_root (roots ++ root ∷ [])) entry (with_root names root)
+pub Shows-push : (roots : List ℕ) (entry : ℕ → List ℕ → Option ℕ) (names : Names) → Shows (is_root roots) entry names → (root : ℕ) → HasNoPath names root → Shows (is_root (roots ++ root ∷ [])) entry (with_root names root)
 Shows-push roots entry names s root unnamed = Shows-root (is_root roots) entry names s (is_root (roots ++ root ∷ [])) root unnamed (root_here roots root) (root_others roots root)
 
 pub root_shown : (root : ℕ → Bool) (entry : ℕ → List ℕ → Option ℕ) (names : Names) → Shows root entry names → (mount : ℕ) → get names (root_key mount) ≡ (if root mount then Some mount else None)

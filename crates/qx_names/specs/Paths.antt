@@ -18,9 +18,9 @@ unfoldable pub path_of : Names → ℕ → Key
 path_of names inode = key_in (root_key inode) (entries names) inode
 
 -- some path leads to the inode
-abbrev pub IsNamed : Names → ℕ → Type 0
-IsNamed names inode = get names (path_of names inode) ≡ Some inode
+abbrev pub HasPath : Names → ℕ → Type 0
+HasPath names inode = get names (path_of names inode) ≡ Some inode
 
 -- no path leads to the inode
-abbrev pub IsUnnamed : Names → ℕ → Type 0
-IsUnnamed names inode = (key : Key) → get names key ≡ Some inode → ⊥
+abbrev pub HasNoPath : Names → ℕ → Type 0
+HasNoPath names inode = (key : Key) → get names key ≡ Some inode → ⊥

@@ -16,14 +16,14 @@ use Rattle.qx_machine.specs.Names.{Key, Names, key_cmp}
 abbrev pub is_root : List ℕ → ℕ → Bool
 is_root roots inode = list_any (λ root. root == inode) roots
 
-abbrev pub looked_up : (ℕ → List ℕ → Option ℕ) → Option ℕ → List ℕ → Option ℕ
-looked_up entry None name = None
-looked_up entry (Some directory) name = entry directory name
+abbrev pub name_looked_up : (ℕ → List ℕ → Option ℕ) → Option ℕ → List ℕ → Option ℕ
+name_looked_up entry None name = None
+name_looked_up entry (Some directory) name = entry directory name
 
 -- where a path leads, walked over the directories' entries
 abbrev pub reached : (ℕ → Bool) → (ℕ → List ℕ → Option ℕ) → ℕ → List (List ℕ) → Option ℕ
 reached root entry mount [] = if root mount then Some mount else None
-reached root entry mount (name ∷ above) = looked_up entry (reached root entry mount above) name
+reached root entry mount (name ∷ above) = name_looked_up entry (reached root entry mount above) name
 
 -- the directories show these names: each path leads where the walk ends, no two paths lead to one inode, and what has
 -- entries is led to

@@ -1,6 +1,6 @@
 ghost use Rattle.std.specs.Prelude.{◌≡◌, ◌==◌, ℕ, [], IfOk, OnOk, OnErr, length};
 ghost use Rattle.std.specs.FinMap as map;
-ghost use Rattle.qx_machine.specs.Names.{behind, fitting, is_empty, listing};
+ghost use Rattle.qx_machine.specs.Names.{names_behind, fitting, is_empty, listing};
 ghost use Rattle.qx_types.specs.declared.limits.TheConstants.Limits.{TRANSFER};
 
 use qx_attr::Reply;
@@ -69,8 +69,8 @@ impl Folder {
     /// Writes the names behind one, each followed by a zero byte, as many whole ones as fit a transfer, and tells how many.
     pub fn list(&self, after: &[u8], reply: &mut Reply) -> u64
         requires empty { reply.old ≡ [] }
-        ensures names { reply.new ≡ listing (fitting TRANSFER (behind after.now (map.keys self.now))) }
-        ensures count { result ≡ length (fitting TRANSFER (behind after.now (map.keys self.now))) }
+        ensures names { reply.new ≡ listing (fitting TRANSFER (names_behind after.now (map.keys self.now))) }
+        ensures count { result ≡ length (fitting TRANSFER (names_behind after.now (map.keys self.now))) }
     {
         let mut room = Limits::TRANSFER;
         let mut count = 0;

@@ -5,7 +5,7 @@ ghost use Rattle.std.specs.List.Sorted.{IsStrictlySortedBy};
 ghost use Rattle.std.specs.Ordering.{nat_cmp};
 ghost use Rattle.qx_machine.specs.Listings.{HasSizedNames, listed_by, listed_next};
 ghost use Rattle.qx_machine.specs.Names as machine;
-ghost use Rattle.qx_names.specs.Paths.{IsNamed, IsUnnamed, path_of};
+ghost use Rattle.qx_names.specs.Paths.{HasPath, HasNoPath, path_of};
 ghost use Rattle.qx_names.specs.Folders.{entry_at};
 ghost use Rattle.qx_names.specs.Shows.{Shows, is_root, shown_once};
 ghost use Rattle.qx_names.specs.Spots.{spot_found};
@@ -60,7 +60,7 @@ impl Names {
 
     /// Names a mount's root, to which no path led. Where memory is short, nothing changes.
     pub fn add_root(&mut self, root: u32) -> Result<(), AllocError>
-        requires new { IsUnnamed self.old root }
+        requires new { HasNoPath self.old root }
         ensures ok { OnOk result (self.new ≡ machine.with_root self.old root) }
         ensures err { OnErr result (self.new ≡ self.old) }
     {
@@ -79,9 +79,9 @@ impl Names {
     /// Names an inode, to which no path led, in a directory that has no such name (C Library Reference: `open`, `mkdir`).
     /// Where memory is short, nothing changes.
     pub fn insert(&mut self, directory: u32, name: &[u8], inode: u32) -> Result<(), AllocError>
-        requires directory { IsNamed self.old directory }
+        requires directory { HasPath self.old directory }
         requires free { map.get self.old (machine.under (path_of self.old directory) name.now) ≡ None }
-        requires new { IsUnnamed self.old inode }
+        requires new { HasNoPath self.old inode }
         ensures ok { OnOk result (self.new ≡ map.insert self.old (machine.under (path_of self.old directory) name.now) inode) }
         ensures err { OnErr result (self.new ≡ self.old) }
     {
@@ -91,10 +91,10 @@ impl Names {
 
     /// Takes the name of a file or of an empty directory (C Library Reference: `unlink`).
     pub fn remove(&mut self, directory: u32, name: &[u8])
-        requires directory { IsNamed self.old directory }
+        requires directory { HasPath self.old directory }
         requires empty { IfSome (map.get self.old (machine.under (path_of self.old directory) name.now)) (λ inode. machine.names_in self.old inode ≡ []) }
         ensures removed { self.new ≡ map.remove self.old (machine.under (path_of self.old directory) name.now) }
-        ensures unnamed { IfSome (map.get self.old (machine.under (path_of self.old directory) name.now)) (IsUnnamed self.new) }
+        ensures unnamed { IfSome (map.get self.old (machine.under (path_of self.old directory) name.now)) (HasNoPath self.new) }
     {
         folders::take(&mut self.folders, directory, name);
     }
@@ -154,7 +154,7 @@ impl Names {
         at_root: Errno,
     ) -> Result<Spot<'a>, Errno>
         ensures spot { spot_found self.now result ≡ machine.spot inodes.now.inodes self.now user.0 root rest.now at_root }
-        ensures parent { IfOk result (λ at. IsNamed self.now at.parent) }
+        ensures parent { IfOk result (λ at. HasPath self.now at.parent) }
     {
         let mut components = rest.components();
         let Some(name) = components.next() else {
@@ -206,7 +206,7 @@ impl Names {
     ) -> Result<Spot<'a>, Errno>
         requires root { map.get self.now (machine.root_key root) ≡ Some root }
         ensures spot { spot_found self.now result ≡ machine.walk inodes.now.inodes self.now user.0 root (machine.root_key root) name.now rest.entry }
-        ensures parent { IfOk result (λ at. IsNamed self.now at.parent) }
+        ensures parent { IfOk result (λ at. HasPath self.now at.parent) }
     {
         self.named_once();
         let mut parent = root;
@@ -226,9 +226,9 @@ impl Names {
 
     /// What a name names in a directory.
     fn entry(&self, directory: u32, name: &[u8]) -> Option<u32>
-        requires directory { IsNamed self.now directory }
+        requires directory { HasPath self.now directory }
         ensures entry { result ≡ map.get self.now (machine.under (path_of self.now directory) name.now) }
-        ensures named { IfSome result (λ inode. IsNamed self.now inode) }
+        ensures named { IfSome result (λ inode. HasPath self.now inode) }
         ensures path { IfSome result (λ inode. path_of self.now inode ≡ machine.under (path_of self.now directory) name.now) }
     {
         folders::entry(self.folders.as_slice(), directory, name)

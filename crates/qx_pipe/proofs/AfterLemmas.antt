@@ -12,10 +12,10 @@ use Rattle.qx_types.specs.declared.outcome.Answer.TheVariants.{Failed, Reply}
 use Rattle.qx_machine.specs.declared.rows.Sides.{Sides}
 use Rattle.qx_machine.specs.declared.rows.WaitingCall.{WaitingCall}
 use Rattle.qx_machine.specs.Waiting.{Pipes, is_written, no_pipes}
-use Rattle.qx_machine.specs.Pipes.{After, Pipe, all_answered, and_then, dismissed, nobody_answered, one_answered, readers_ended, writers_ended}
+use Rattle.qx_machine.specs.Pipes.{PipeAfter, Pipe, all_answered, and_then, dismissed, nobody_answered, one_answered, readers_ended, writers_ended}
 use Rattle.qx_machine.specs.Rows.{row_at}
 use Rattle.qx_machine.proofs.Places.{set-row_at}
-use Rattle.qx_shared.specs.Shared.{HasPipe, Shared, pipe_at, pipes_of, users_given, went_in, with_after, with_answer_to}
+use Rattle.qx_shared.specs.Shared.{HasPipe, Shared, pipe_at, pipes_of, users_given, went_in, with_pipe_after, with_answer_to}
 
 -- ---- no bytes go in with these answers
 
@@ -38,10 +38,10 @@ went_in-dismissed leaves error p =
     ∙ ap₂ ◌||◌ (went_in-all (Failed error) (λ _. refl) (filter leaves p.readers)) (went_in-all (Failed error) (λ _. refl) (filter leaves p.writers))
 
 pub went_in-readers_ended : (sides : Sides) (p : Pipe WaitingCall) → went_in (readers_ended sides p).answers ≡ false
-went_in-readers_ended sides p = cond_both {A = After WaitingCall} sides.for_writing _ _ (λ after. went_in after.answers ≡ false) (λ _. refl) (λ _. went_in-all (Reply 0 []) (λ bytes. and_false (not (length bytes == 0))) (filter (λ _. true) p.readers))
+went_in-readers_ended sides p = cond_both {A = PipeAfter WaitingCall} sides.for_writing _ _ (λ after. went_in after.answers ≡ false) (λ _. refl) (λ _. went_in-all (Reply 0 []) (λ bytes. and_false (not (length bytes == 0))) (filter (λ _. true) p.readers))
 
 pub went_in-writers_ended : (sides : Sides) (p : Pipe WaitingCall) → went_in (writers_ended sides p).answers ≡ false
-went_in-writers_ended sides p = cond_both {A = After WaitingCall} sides.for_reading _ _ (λ after. went_in after.answers ≡ false) (λ _. refl) (λ _. went_in-all (Failed EPIPE) (λ _. refl) (filter (λ _. true) p.writers))
+went_in-writers_ended sides p = cond_both {A = PipeAfter WaitingCall} sides.for_reading _ _ (λ after. went_in after.answers ≡ false) (λ _. refl) (λ _. went_in-all (Failed EPIPE) (λ _. refl) (filter (λ _. true) p.writers))
 
 -- ---- a pipe among all
 
@@ -81,7 +81,7 @@ module _ (all : List Pipes) (user inode : ℕ) (has : IsSome (row_at (get_or all
 -- ---- one pipe, after calls on it
 
 module _ (c : Shared) (user inode : ℕ) (has : HasPipe c user inode) where
-  pub with_after-nobody : with_after c user inode (nobody_answered (pipe_at c user inode)) ≡ c
+  pub with_after-nobody : with_pipe_after c user inode (nobody_answered (pipe_at c user inode)) ≡ c
   with_after-nobody =
       let pipes : slice_set c.pipes user (slice_set (pipes_of c user) inode (Some (pipe_at c user inode))) ≡ c.pipes =
       ap (λ row. slice_set c.pipes user (slice_set (pipes_of c user) inode row)) (the-row _ (row_at (pipes_of c user) inode) has)
@@ -89,22 +89,22 @@ module _ (c : Shared) (user inode : ℕ) (has : HasPipe c user inode) where
       λ i. record c { pipes = pipes i; answered = append-nil c.answered i }
 
   -- a call that is answered alone leaves the pipe
-  pub with_answer_to-after : (call : WaitingCall) (answer : Answer) → with_answer_to c user call answer ≡ with_after c user inode (one_answered call answer (pipe_at c user inode))
+  pub with_answer_to-after : (call : WaitingCall) (answer : Answer) → with_answer_to c user call answer ≡ with_pipe_after c user inode (one_answered call answer (pipe_at c user inode))
   with_answer_to-after call answer = λ i. record c { pipes = (sym with_after-nobody i).pipes; answered = c.answered ++ users_given user (call, answer) ∷ [] }
 
 -- what follows a call is done with the pipe as it is then
 pub ruleset steps = (row_at-with_row, with_row-twice, with_after-nobody, with_answer_to-after, map-append, append_assoc, list_any-append)
 
 -- what was done to a pipe, from here to there, and whether bytes went in
-pub record Done (c now : Shared) (user inode : ℕ) (after : After WaitingCall) (more : Bool) : Type 0 where
+pub record Done (c now : Shared) (user inode : ℕ) (after : PipeAfter WaitingCall) (more : Bool) : Type 0 where
   pub had : HasPipe c user inode
-  pub is : now ≡ with_after c user inode after
+  pub is : now ≡ with_pipe_after c user inode after
   pub went : more ≡ went_in after.answers
 
 pub done-nothing : (c : Shared) (user inode : ℕ) → HasPipe c user inode → Done c c user inode (nobody_answered (pipe_at c user inode)) false
 done-nothing c user inode has = record { had = has; is = sym (with_after-nobody c user inode has); went = refl }
 
-module _ {c mid : Shared} {user inode : ℕ} {first : After WaitingCall} {before : Bool} (done : Done c mid user inode first before) (next : Pipe WaitingCall → After WaitingCall) {new : Shared} (is : new ≡ with_after mid user inode (next (pipe_at mid user inode))) where
+module _ {c mid : Shared} {user inode : ℕ} {first : PipeAfter WaitingCall} {before : Bool} (done : Done c mid user inode first before) (next : Pipe WaitingCall → PipeAfter WaitingCall) {new : Shared} (is : new ≡ with_pipe_after mid user inode (next (pipe_at mid user inode))) where
   pub done-then : {more : Bool} → more ≡ went_in (next (pipe_at mid user inode)).answers → Done c new user inode (and_then first next) (before || more)
   done-then written = record { had = done.had; is = grind (arith, steps); went = grind (arith, steps) }
 

@@ -11,7 +11,7 @@ use Rattle.qx_types.specs.declared.outcome.Answer.{Answer}
 use Rattle.qx_types.specs.declared.outcome.Answer.TheVariants.{Reply, Failed}
 use Rattle.qx_machine.specs.declared.rows.Manner.{Manner}
 use Rattle.qx_machine.specs.declared.rows.Sides.{Sides}
-use Rattle.qx_machine.specs.Pipes.{After, Pipe, all_answered, and_then, cancel, clean, clean_read, clean_write, dismissed, first_answered, fits, nobody_answered, one_answered, pipe_of, portion, read, readers_dismissed, readers_ended, release, removed, served, settle, staying, waiting_unless, with_reader, with_writer, without_bytes, write, writers_dismissed, writers_ended}
+use Rattle.qx_machine.specs.Pipes.{PipeAfter, Pipe, all_answered, and_then, cancel, clean, clean_read, clean_write, dismissed, first_answered, fits, nobody_answered, one_answered, pipe_of, portion, read, readers_dismissed, readers_ended, release, removed, served, settle, staying, waiting_unless, with_reader, with_writer, without_bytes, write, writers_dismissed, writers_ended}
 use Rattle.qx_pipe.specs.Laws.{AnswersOnce, IsSettled, answers_to, waiting_of}
 use Rattle.qx_pipe.proofs.LawLemmas.{conserves, is_settled}
 
@@ -22,7 +22,7 @@ not_zero n differs = elim (eqb_tells n 0) [ inl same ↦ absurd (differs same.1)
 
 module _ {W : Type 0} (which : W → Bool) where
   -- answered or waiting are those who waited, and so many more
-  pub record Counted (more : ℕ) (p : Pipe W) (after : After W) : Type 0 where
+  pub record Counted (more : ℕ) (p : Pipe W) (after : PipeAfter W) : Type 0 where
     pub counted : answers_to which after.answers + waiting_of which after.pipe ≡ more + waiting_of which p
 
   abbrev one : W → ℕ
@@ -37,26 +37,26 @@ module _ {W : Type 0} (which : W → Bool) where
   answers-both : (xs ys : List (W × Answer)) → answers_to which (xs ++ ys) ≡ answers_to which xs + answers_to which ys
   answers-both xs ys = sum_by-append (λ a. cond (which a.0) 1 0) xs ys
 
-  counted-if : {more : ℕ} {p : Pipe W} (b : Bool) {first other : After W} → Counted more p first → Counted more p other → Counted more p (if b then first else other)
+  counted-if : {more : ℕ} {p : Pipe W} (b : Bool) {first other : PipeAfter W} → Counted more p first → Counted more p other → Counted more p (if b then first else other)
   counted-if true one_is other_is = one_is
   counted-if false one_is other_is = other_is
 
-  counted-then : {more : ℕ} {p : Pipe W} {first : After W} (next : Pipe W → After W) → Counted 0 p first → Counted more first.pipe (next first.pipe) → Counted more p (and_then first next)
+  counted-then : {more : ℕ} {p : Pipe W} {first : PipeAfter W} (next : Pipe W → PipeAfter W) → Counted 0 p first → Counted more first.pipe (next first.pipe) → Counted more p (and_then first next)
   counted-then {first} next before after = record { counted = omega (arith, answers-both first.answers (next first.pipe).answers, before.counted, after.counted) }
 
   counted-nobody : (p : Pipe W) → Counted 0 p (nobody_answered p)
   counted-nobody p = record { counted = omega arith }
 
   -- whoever comes is answered before all others
-  counted-first : {p : Pipe W} {after : After W} (who : W) (answer : Answer) (bytes : List ℕ) → Counted 0 (record p { bytes = bytes }) after → Counted (one who) p (first_answered who answer after)
+  counted-first : {p : Pipe W} {after : PipeAfter W} (who : W) (answer : Answer) (bytes : List ℕ) → Counted 0 (record p { bytes = bytes }) after → Counted (one who) p (first_answered who answer after)
   counted-first {after} who answer bytes later = record { counted = omega (arith, answers-both ((who, answer) ∷ []) after.answers, later.counted) }
 
   -- ---- settling
 
-  counted-reader : {bytes rest : List ℕ} {reader : W} {readers writers : List W} {answer : Answer} {after : After W} → Counted 0 (pipe_of rest readers writers) after → Counted 0 (pipe_of bytes (reader ∷ readers) writers) (first_answered reader answer after)
+  counted-reader : {bytes rest : List ℕ} {reader : W} {readers writers : List W} {answer : Answer} {after : PipeAfter W} → Counted 0 (pipe_of rest readers writers) after → Counted 0 (pipe_of bytes (reader ∷ readers) writers) (first_answered reader answer after)
   counted-reader {reader} {readers} {answer} {after} later = record { counted = omega (arith, answers-both ((reader, answer) ∷ []) after.answers, count-first reader readers, later.counted) }
 
-  counted-writer : {bytes rest : List ℕ} {writer : W} {readers writers : List W} {answer : Answer} {after : After W} → Counted 0 (pipe_of rest readers writers) after → Counted 0 (pipe_of bytes readers (writer ∷ writers)) (first_answered writer answer after)
+  counted-writer : {bytes rest : List ℕ} {writer : W} {readers writers : List W} {answer : Answer} {after : PipeAfter W} → Counted 0 (pipe_of rest readers writers) after → Counted 0 (pipe_of bytes readers (writer ∷ writers)) (first_answered writer answer after)
   counted-writer {writer} {writers} {answer} {after} later = record { counted = omega (arith, answers-both ((writer, answer) ∷ []) after.answers, count-first writer writers, later.counted) }
 
   module _ (wanted : W → ℕ) (offered : W → List ℕ) where
@@ -174,7 +174,7 @@ module _ {W : Type 0} where
   nobody-stays (who ∷ all) = nobody-stays all
 
 module _ {W : Type 0} (wanted : W → ℕ) (offered : W → List ℕ) where
-  settled-if : (b : Bool) (first other : After W) → IsSettled offered first.pipe → IsSettled offered other.pipe → IsSettled offered (if b then first else other).pipe
+  settled-if : (b : Bool) (first other : PipeAfter W) → IsSettled offered first.pipe → IsSettled offered other.pipe → IsSettled offered (if b then first else other).pipe
   settled-if true first other one_is other_is = one_is
   settled-if false first other one_is other_is = other_is
 
@@ -220,6 +220,6 @@ module _ {W : Type 0} (wanted : W → ℕ) (offered : W → List ℕ) where
 
     pub release_settled : (is_on_it : W → Bool) (sides : Sides) (p : Pipe W) → IsSettled offered (release wanted offered gone is_on_it sides p).pipe
     release_settled is_on_it sides p =
-        let first : After W = and_then (and_then (clean wanted offered gone p) (dismissed is_on_it (Failed EBADF))) (readers_ended sides) in
+        let first : PipeAfter W = and_then (and_then (clean wanted offered gone p) (dismissed is_on_it (Failed EBADF))) (readers_ended sides) in
         let ended : Pipe W = (writers_ended sides first.pipe).pipe in
         settled-discarded (sides.for_reading || sides.for_writing) (settle wanted offered ended).pipe (is_settled wanted offered ended) (λ none. nobody-after ended (ended-writers sides first.pipe (no_side sides.for_reading sides.for_writing none)))

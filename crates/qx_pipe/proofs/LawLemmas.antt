@@ -5,14 +5,14 @@ use Rattle.std.proofs.lemmas.Bool.Decides.{leb_tells}
 use Rattle.std.proofs.lemmas.List.{take-append-drop}
 use Rattle.qx_types.specs.declared.outcome.Answer.TheVariants.{Reply}
 use Rattle.qx_types.specs.declared.limits.TheConstants.Limits.{PIPE}
-use Rattle.qx_machine.specs.Pipes.{After, Pipe, first_answered, nobody_answered, pipe_of, portion, served, settle}
+use Rattle.qx_machine.specs.Pipes.{PipeAfter, Pipe, first_answered, nobody_answered, pipe_of, portion, served, settle}
 use Rattle.qx_pipe.specs.Laws.{Conserves, IsSettled, brought, handed_out, retold, retold_after}
 
 module _ {W : Type 0} (wanted : W → ℕ) (offered : W → List ℕ) where
   conserves-nobody : (p : Pipe W) → Conserves offered p (nobody_answered p)
   conserves-nobody p = record { read = 0; written = 0; readers = refl; writers = refl; whom = (refl, refl); bytes = sym (append-nil p.bytes) }
 
-  conserves-reader : (bytes : List ℕ) (reader : W) (readers writers : List W) (status count : ℕ) (after : After W) → Conserves offered (pipe_of (drop count bytes) readers writers) after → Conserves offered (pipe_of bytes (reader ∷ readers) writers) (first_answered reader (Reply status (take count bytes)) after)
+  conserves-reader : (bytes : List ℕ) (reader : W) (readers writers : List W) (status count : ℕ) (after : PipeAfter W) → Conserves offered (pipe_of (drop count bytes) readers writers) after → Conserves offered (pipe_of bytes (reader ∷ readers) writers) (first_answered reader (Reply status (take count bytes)) after)
   conserves-reader bytes reader readers writers status count after rest = record {
     read = suc rest.read;
     written = rest.written;
@@ -26,7 +26,7 @@ module _ {W : Type 0} (wanted : W → ℕ) (offered : W → List ℕ) where
         ∙ ap (λ all. all ++ brought offered (take rest.written writers)) (take-append-drop count bytes);
   }
 
-  conserves-writer : (bytes : List ℕ) (writer : W) (readers writers : List W) (status : ℕ) (after : After W) → Conserves offered (pipe_of (bytes ++ offered writer) readers writers) after → Conserves offered (pipe_of bytes readers (writer ∷ writers)) (first_answered writer (Reply status []) after)
+  conserves-writer : (bytes : List ℕ) (writer : W) (readers writers : List W) (status : ℕ) (after : PipeAfter W) → Conserves offered (pipe_of (bytes ++ offered writer) readers writers) after → Conserves offered (pipe_of bytes readers (writer ∷ writers)) (first_answered writer (Reply status []) after)
   conserves-writer bytes writer readers writers status after rest = record {
     read = rest.read;
     written = suc rest.written;

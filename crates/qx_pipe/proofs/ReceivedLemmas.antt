@@ -11,11 +11,11 @@ use Rattle.std.proofs.lemmas.List.Sums.{sum_by-append, sum_by-cons}
 use Rattle.qx_types.specs.declared.names.Thread.{Thread}
 use Rattle.qx_machine.specs.declared.rows.WaitingCall.{WaitingCall}
 use Rattle.qx_machine.specs.Waiting.{Pipes, is_gone, no_pipes, offered, wanted}
-use Rattle.qx_machine.specs.Pipes.{After, Pipe, clean, pipe_of, removed}
+use Rattle.qx_machine.specs.Pipes.{PipeAfter, Pipe, clean, pipe_of, removed}
 use Rattle.qx_machine.specs.Rows.{row_at}
 use Rattle.qx_queues.specs.Queues.{caller, has_call, is_same_thread}
 use Rattle.qx_queues.specs.Waits.{users_call}
-use Rattle.qx_shared.specs.Shared.{HasNoCall, HasPipe, IsCallReceived, Shared, calls_at, pipe_at, pipes_of, users_given, waiting_calls, with_after}
+use Rattle.qx_shared.specs.Shared.{HasNoCall, HasPipe, IsCallReceived, Shared, calls_at, pipe_at, pipes_of, users_given, waiting_calls, with_pipe_after}
 use Rattle.qx_pipe.specs.Laws.{answers_to, waiting_of}
 use Rattle.qx_pipe.proofs.AfterLemmas.{get_or-set}
 use Rattle.qx_pipe.proofs.CallLemmas.{counted-settle}
@@ -51,10 +51,10 @@ module _ (which : WaitingCall → Bool) where
       omega (arith, waiting-with_pipe pipes inode new d has, waiting-append (calls_at row) (waiting_calls pipes), waiting-append (calls_at row) (waiting_calls (slice_set pipes inode (Some new))))
 
 -- others are answered or leave, and nobody new waits
-record Lessens (p : Pipe WaitingCall) (after : After WaitingCall) : Type 0 where
+record Lessens (p : Pipe WaitingCall) (after : PipeAfter WaitingCall) : Type 0 where
   lessens : (which : WaitingCall → Bool) → answers_to which after.answers + waiting_of which after.pipe ≤ waiting_of which p
 
-module _ (c : Shared) (user inode : ℕ) (has : HasPipe c user inode) (after : After WaitingCall) (less : Lessens (pipe_at c user inode) after) where
+module _ (c : Shared) (user inode : ℕ) (has : HasPipe c user inode) (after : PipeAfter WaitingCall) (less : Lessens (pipe_at c user inode) after) where
   module _ (thread : Thread) (none : HasNoCall c thread) where
     abbrev is_own : WaitingCall → Bool
     is_own call = is_same_thread (caller (users_call user call)) thread
@@ -68,7 +68,7 @@ module _ (c : Shared) (user inode : ℕ) (has : HasPipe c user inode) (after : A
     none-waits_after : count_by is_own (waiting_calls (slice_set (pipes_of c user) inode (Some after.pipe))) ≡ 0
     none-waits_after = omega (arith, none-waits_in, none-waits_at, less.lessens is_own, waiting-with_pipe is_own (pipes_of c user) inode after.pipe (pipe_of [] [] []) has)
 
-    no_call-after : HasNoCall (with_after c user inode after) thread
+    no_call-after : HasNoCall (with_pipe_after c user inode after) thread
     no_call-after = record {
       waiting = λ other. elim (cases_eq other user) [
         | inl same ↦ rw same (ap (λ pipes. has_call (map (users_call user) (waiting_calls pipes)) thread) (get_or-set inode c.pipes user _ has) ∙ count-none (users_call user) (λ own. is_same_thread (caller own) thread) _ none-waits_after)
@@ -79,10 +79,10 @@ module _ (c : Shared) (user inode : ℕ) (has : HasPipe c user inode) (after : A
           ∙ ap₂ ◌||◌ none.answered (count-none (users_given user) (λ given. is_same_thread given.thread thread) after.answers (omega (arith, none-waits_at, less.lessens is_own)));
     }
 
-  received-after : (call : WaitingCall) → IsCallReceived c user call → IsCallReceived (with_after c user inode after) user call
+  received-after : (call : WaitingCall) → IsCallReceived c user call → IsCallReceived (with_pipe_after c user inode after) user call
   received-after call received = record { own = received.own; idle = received.idle; no_call = no_call-after (caller (users_call user call)) received.no_call }
 
-module _ (c now : Shared) (user inode : ℕ) (has : HasPipe c user inode) (is : now ≡ with_after c user inode (clean wanted offered is_gone (pipe_at c user inode))) where
+module _ (c now : Shared) (user inode : ℕ) (has : HasPipe c user inode) (is : now ≡ with_pipe_after c user inode (clean wanted offered is_gone (pipe_at c user inode))) where
   clean-lessens : Lessens (pipe_at c user inode) (clean wanted offered is_gone (pipe_at c user inode))
   clean-lessens = record {
     lessens = λ which.

@@ -8,8 +8,8 @@ use Rattle.qx_types.specs.declared.limits.TheConstants.Limits.{PIPE}
 use Rattle.qx_machine.specs.declared.rows.Manner.{Manner}
 use Rattle.qx_machine.specs.declared.rows.WaitingCall.{WaitingCall}
 use Rattle.qx_machine.specs.Waiting.{offered, wanted}
-use Rattle.qx_machine.specs.Pipes.{After, Pipe, and_then, clean_read, clean_write, nobody_answered, pipe_of, settle}
-use Rattle.qx_shared.specs.Shared.{HasPipe, Shared, passed_to, pipe_at, taken_from, went_in, with_after}
+use Rattle.qx_machine.specs.Pipes.{PipeAfter, Pipe, and_then, clean_read, clean_write, nobody_answered, pipe_of, settle}
+use Rattle.qx_shared.specs.Shared.{HasPipe, Shared, passed_to, pipe_at, taken_from, went_in, with_pipe_after}
 use Rattle.qx_pipe.specs.Turns.{Turning, settling, waiting_count}
 use Rattle.qx_pipe.proofs.CallLemmas.{not_zero}
 use Rattle.qx_pipe.proofs.AfterLemmas.{steps}
@@ -55,7 +55,7 @@ settle-nobody (b ∷ bs) [] (writer ∷ writers) none full = let test : nat_le (
 
 -- ---- turns
 
-module _ (old new : Shared) (user inode : ℕ) (has : HasPipe old user inode) (first : After WaitingCall) (is : new ≡ with_after old user inode first) where
+module _ (old new : Shared) (user inode : ℕ) (has : HasPipe old user inode) (first : PipeAfter WaitingCall) (is : new ≡ with_pipe_after old user inode first) where
   pub turns : (more : Bool) → settling old user inode ≡ and_then first (settle wanted offered) → more ≡ went_in first.answers → Turning old new user inode more
   turns more settles filled = record { pipe = grind (arith, steps); after = grind (arith, steps); went = grind (arith, steps) }
 

@@ -4,12 +4,12 @@ use Rattle.std.specs.List.{count_by}
 use Rattle.qx_types.specs.declared.outcome.Answer.{Answer}
 use Rattle.qx_types.specs.declared.outcome.Answer.TheVariants.{Reply, Failed}
 use Rattle.qx_types.specs.declared.limits.TheConstants.Limits.{PIPE}
-use Rattle.qx_machine.specs.Pipes.{After, Pipe}
+use Rattle.qx_machine.specs.Pipes.{PipeAfter, Pipe}
 
 -- the bytes that an answer carries
-abbrev pub bytes_in : Answer → List ℕ
-bytes_in (Reply status bytes) = bytes
-bytes_in (Failed error) = []
+abbrev pub answered_bytes : Answer → List ℕ
+answered_bytes (Reply status bytes) = bytes
+answered_bytes (Failed error) = []
 
 -- nobody waits to write, or the first one's bytes do not fit
 abbrev pub NoneFits : {W : Type 0} → (W → List ℕ) → List ℕ → List W → Type 0
@@ -25,7 +25,7 @@ module _ {W : Type 0} where
   -- the bytes that answers carry, in order
   abbrev pub handed_out : List (W × Answer) → List ℕ
   handed_out [] = []
-  handed_out (first ∷ rest) = bytes_in first.1 ++ handed_out rest
+  handed_out (first ∷ rest) = answered_bytes first.1 ++ handed_out rest
 
   -- the bytes that writers have, in order
   abbrev pub brought : (W → List ℕ) → List W → List ℕ
@@ -33,7 +33,7 @@ module _ {W : Type 0} where
   brought offered (writer ∷ writers) = offered writer ++ brought offered writers
 
   -- the first so many readers and the first so many writers were answered, each once, and the others wait on as they did. What readers got and what stands now is what stood and what these writers gave: no byte is lost, doubled or moved
-  pub record Conserves (offered : W → List ℕ) (p : Pipe W) (after : After W) : Type 0 where
+  pub record Conserves (offered : W → List ℕ) (p : Pipe W) (after : PipeAfter W) : Type 0 where
     pub read : ℕ
     pub written : ℕ
     pub readers : after.pipe.readers ≡ drop read p.readers
@@ -50,7 +50,7 @@ module _ {W : Type 0} where
   answers_to which answers = count_by (λ a. which a.0) answers
 
   -- each of those who waited was answered once or waits on: nobody is answered twice, answered and left waiting, or lost
-  abbrev pub AnswersOnce : Pipe W → After W → Type 0
+  abbrev pub AnswersOnce : Pipe W → PipeAfter W → Type 0
   AnswersOnce p after = (which : W → Bool) → answers_to which after.answers + waiting_of which after.pipe ≡ waiting_of which p
 
   -- no reader waits beside bytes, and no first writer whose bytes fit
@@ -62,5 +62,5 @@ module _ {W V : Type 0} (tell : W → V) where
   abbrev pub retold : Pipe W → Pipe V
   retold p = record { bytes = p.bytes; readers = map tell p.readers; writers = map tell p.writers }
 
-  abbrev pub retold_after : After W → After V
+  abbrev pub retold_after : PipeAfter W → PipeAfter V
   retold_after after = record { pipe = retold after.pipe; answers = map (λ a. (tell a.0, a.1)) after.answers }

@@ -3,16 +3,16 @@ use Rattle.std.specs.Prelude.{◌≡◌, ◌+◌, ◌++◌, ◌∷◌, [], ◌||
 use Rattle.qx_machine.specs.declared.rows.Manner.{Manner}
 use Rattle.qx_machine.specs.declared.rows.WaitingCall.{WaitingCall}
 use Rattle.qx_machine.specs.Waiting.{offered, wanted}
-use Rattle.qx_machine.specs.Pipes.{After, Pipe, settle, waiting_unless}
-use Rattle.qx_shared.specs.Shared.{HasPipe, Shared, pipe_at, waiting_on, went_in, with_after, with_waiting_on}
+use Rattle.qx_machine.specs.Pipes.{PipeAfter, Pipe, settle, waiting_unless}
+use Rattle.qx_shared.specs.Shared.{HasPipe, Shared, pipe_at, waiting_on, went_in, with_pipe_after, with_waiting_on}
 use Rattle.qx_shared.specs.declared.side.Side.{Side}
 
 -- what settling does to a pipe
-abbrev pub settling : Shared → ℕ → ℕ → After WaitingCall
+abbrev pub settling : Shared → ℕ → ℕ → PipeAfter WaitingCall
 settling c user inode = settle wanted offered (pipe_at c user inode)
 
-abbrev pub settled : Shared → ℕ → ℕ → Shared
-settled c user inode = with_after c user inode (settling c user inode)
+abbrev pub pipe_settled : Shared → ℕ → ℕ → Shared
+pipe_settled c user inode = with_pipe_after c user inode (settling c user inode)
 
 -- how many wait in a pipe
 abbrev pub waiting_count : Pipe WaitingCall → ℕ
@@ -21,9 +21,9 @@ waiting_count p = length p.readers + length p.writers
 -- some were served, and bytes went in or not: settling what there is then is settling what there was
 pub record Turning (old now : Shared) (user inode : ℕ) (filled : Bool) : Type 0 where
   pub pipe : HasPipe now user inode
-  pub after : settled old user inode ≡ settled now user inode
+  pub after : pipe_settled old user inode ≡ pipe_settled now user inode
   pub went : went_in (settling old user inode).answers ≡ (filled || went_in (settling now user inode).answers)
 
 -- a call that can't be served at once waits last on a side of the pipe, unless its block is NONBLOCK or it was asked to unblock
-abbrev pub unless_served : Side → Manner → WaitingCall → Pipe WaitingCall → After WaitingCall
+abbrev pub unless_served : Side → Manner → WaitingCall → Pipe WaitingCall → PipeAfter WaitingCall
 unless_served side manner call p = waiting_unless manner call p (with_waiting_on side (waiting_on side p ++ call ∷ []) p)

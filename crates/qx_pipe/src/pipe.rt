@@ -7,7 +7,7 @@ ghost use Rattle.qx_machine.specs.Pipes as machine;
 ghost use Rattle.qx_machine.specs.Pipes.{clean_read, clean_write, dismissed, nobody_answered, readers_ended, without_bytes, writers_ended};
 ghost use Rattle.qx_pipe.specs.Turns.{Turning, settling, unless_served, waiting_count};
 ghost use Rattle.qx_queues.specs.Waits.{leaves};
-ghost use Rattle.qx_shared.specs.Shared.{HasPipe, IsCallReceived, pipe_at, went_in, with_after};
+ghost use Rattle.qx_shared.specs.Shared.{HasPipe, IsCallReceived, pipe_at, went_in, with_pipe_after};
 ghost use Rattle.qx_types.specs.declared.outcome.Answer.TheVariants.{Failed};
 
 use qx_machine::{Manner, Sides};
@@ -18,7 +18,7 @@ use qx_types::{Errno, Limits, User};
 /// Answers those who wait, as long as the first reader or the first writer can be served.
 pub fn settle(shared: &mut Shared, user: User, inode: u32) -> bool
     requires pipe { HasPipe shared.old user.0 inode }
-    ensures after { shared.new ≡ with_after shared.old user.0 inode (machine.settle wanted offered (pipe_at shared.old user.0 inode)) }
+    ensures after { shared.new ≡ with_pipe_after shared.old user.0 inode (machine.settle wanted offered (pipe_at shared.old user.0 inode)) }
     ensures filled { result ≡ went_in (machine.settle wanted offered (pipe_at shared.old user.0 inode)).answers }
 {
     let mut filled = false;
@@ -31,7 +31,7 @@ pub fn settle(shared: &mut Shared, user: User, inode: u32) -> bool
 /// Takes out the waiting calls of ended processes, and answers those who can be served then.
 pub fn clean(shared: &mut Shared, user: User, inode: u32) -> bool
     requires pipe { HasPipe shared.old user.0 inode }
-    ensures after { shared.new ≡ with_after shared.old user.0 inode (machine.clean wanted offered is_gone (pipe_at shared.old user.0 inode)) }
+    ensures after { shared.new ≡ with_pipe_after shared.old user.0 inode (machine.clean wanted offered is_gone (pipe_at shared.old user.0 inode)) }
     ensures filled { result ≡ went_in (machine.clean wanted offered is_gone (pipe_at shared.old user.0 inode)).answers }
 {
     shared.take_out(user, inode, Leaving::Gone);
@@ -43,7 +43,7 @@ pub fn clean(shared: &mut Shared, user: User, inode: u32) -> bool
 pub fn read(shared: &mut Shared, user: User, inode: u32, call: PipeCall, manner: Manner) -> bool
     requires pipe { HasPipe shared.old user.0 inode }
     requires received { IsCallReceived shared.old user.0 call }
-    ensures after { shared.new ≡ with_after shared.old user.0 inode (machine.read wanted offered is_gone manner call (pipe_at shared.old user.0 inode)) }
+    ensures after { shared.new ≡ with_pipe_after shared.old user.0 inode (machine.read wanted offered is_gone manner call (pipe_at shared.old user.0 inode)) }
     ensures filled { result ≡ went_in (machine.read wanted offered is_gone manner call (pipe_at shared.old user.0 inode)).answers }
 {
     let others = clean(shared, user, inode);
@@ -56,7 +56,7 @@ pub fn read(shared: &mut Shared, user: User, inode: u32, call: PipeCall, manner:
 pub fn write(shared: &mut Shared, user: User, inode: u32, call: PipeCall, manner: Manner) -> bool
     requires pipe { HasPipe shared.old user.0 inode }
     requires received { IsCallReceived shared.old user.0 call }
-    ensures after { shared.new ≡ with_after shared.old user.0 inode (machine.write wanted offered is_gone manner call (pipe_at shared.old user.0 inode)) }
+    ensures after { shared.new ≡ with_pipe_after shared.old user.0 inode (machine.write wanted offered is_gone manner call (pipe_at shared.old user.0 inode)) }
     ensures filled { result ≡ went_in (machine.write wanted offered is_gone manner call (pipe_at shared.old user.0 inode)).answers }
 {
     let others = clean(shared, user, inode);
@@ -75,7 +75,7 @@ pub fn cancel(
     call: u64,
 ) -> bool
     requires pipe { HasPipe shared.old user.0 inode }
-    ensures after { shared.new ≡ with_after shared.old user.0 inode (machine.cancel wanted offered is_gone (is_call process thread call) (pipe_at shared.old user.0 inode)) }
+    ensures after { shared.new ≡ with_pipe_after shared.old user.0 inode (machine.cancel wanted offered is_gone (is_call process thread call) (pipe_at shared.old user.0 inode)) }
     ensures filled { result ≡ went_in (machine.cancel wanted offered is_gone (is_call process thread call) (pipe_at shared.old user.0 inode)).answers }
 {
     let before = clean(shared, user, inode);
@@ -94,7 +94,7 @@ pub fn cancel(
 /// end of the file and writers EPIPE; others may be served; with the last block go the bytes (C Library Reference: `close`).
 pub fn release(shared: &mut Shared, user: User, inode: u32, block: u16, sides: Sides) -> bool
     requires pipe { HasPipe shared.old user.0 inode }
-    ensures after { shared.new ≡ with_after shared.old user.0 inode (machine.release wanted offered is_gone (λ call. call.block == block) sides (pipe_at shared.old user.0 inode)) }
+    ensures after { shared.new ≡ with_pipe_after shared.old user.0 inode (machine.release wanted offered is_gone (λ call. call.block == block) sides (pipe_at shared.old user.0 inode)) }
     ensures filled { result ≡ went_in (machine.release wanted offered is_gone (λ call. call.block == block) sides (pipe_at shared.old user.0 inode)).answers }
 {
     let before = clean(shared, user, inode);
@@ -132,7 +132,7 @@ fn turn(shared: &mut Shared, user: User, inode: u32) -> Option<bool>
 fn read_clean(shared: &mut Shared, user: User, inode: u32, call: PipeCall, manner: Manner) -> bool
     requires pipe { HasPipe shared.old user.0 inode }
     requires received { IsCallReceived shared.old user.0 call }
-    ensures after { shared.new ≡ with_after shared.old user.0 inode (clean_read wanted offered manner call (pipe_at shared.old user.0 inode)) }
+    ensures after { shared.new ≡ with_pipe_after shared.old user.0 inode (clean_read wanted offered manner call (pipe_at shared.old user.0 inode)) }
     ensures filled { result ≡ went_in (clean_read wanted offered manner call (pipe_at shared.old user.0 inode)).answers }
 {
     let wanted = call.wanted() as usize;
@@ -154,7 +154,7 @@ fn read_clean(shared: &mut Shared, user: User, inode: u32, call: PipeCall, manne
 fn write_clean(shared: &mut Shared, user: User, inode: u32, call: PipeCall, manner: Manner) -> bool
     requires pipe { HasPipe shared.old user.0 inode }
     requires received { IsCallReceived shared.old user.0 call }
-    ensures after { shared.new ≡ with_after shared.old user.0 inode (clean_write wanted offered manner call (pipe_at shared.old user.0 inode)) }
+    ensures after { shared.new ≡ with_pipe_after shared.old user.0 inode (clean_write wanted offered manner call (pipe_at shared.old user.0 inode)) }
     ensures filled { result ≡ went_in (clean_write wanted offered manner call (pipe_at shared.old user.0 inode)).answers }
 {
     let len = call.bytes().len();
@@ -185,7 +185,7 @@ fn wait_unless(
 ) -> bool
     requires pipe { HasPipe shared.old user.0 inode }
     requires received { IsCallReceived shared.old user.0 call }
-    ensures after { shared.new ≡ with_after shared.old user.0 inode (unless_served side manner call (pipe_at shared.old user.0 inode)) }
+    ensures after { shared.new ≡ with_pipe_after shared.old user.0 inode (unless_served side manner call (pipe_at shared.old user.0 inode)) }
     ensures filled { result ≡ went_in (unless_served side manner call (pipe_at shared.old user.0 inode)).answers }
 {
     if manner.is_nonblock {
@@ -201,7 +201,7 @@ fn wait_unless(
 // Those calls are answered an error, readers first.
 fn dismiss(shared: &mut Shared, user: User, inode: u32, which: Leaving, error: Errno)
     requires pipe { HasPipe shared.old user.0 inode }
-    ensures after { shared.new ≡ with_after shared.old user.0 inode (dismissed (leaves which) (Failed error) (pipe_at shared.old user.0 inode)) }
+    ensures after { shared.new ≡ with_pipe_after shared.old user.0 inode (dismissed (leaves which) (Failed error) (pipe_at shared.old user.0 inode)) }
 {
     shared.dismiss(user, inode, Side::Reading, which, Err(error));
     shared.dismiss(user, inode, Side::Writing, which, Err(error));
@@ -210,7 +210,7 @@ fn dismiss(shared: &mut Shared, user: User, inode: u32, which: Leaving, error: E
 // Readers come to the end of a pipe that nobody writes any more.
 fn end_readers(shared: &mut Shared, user: User, inode: u32, sides: Sides)
     requires pipe { HasPipe shared.old user.0 inode }
-    ensures after { shared.new ≡ with_after shared.old user.0 inode (readers_ended sides (pipe_at shared.old user.0 inode)) }
+    ensures after { shared.new ≡ with_pipe_after shared.old user.0 inode (readers_ended sides (pipe_at shared.old user.0 inode)) }
 {
     if !sides.for_writing {
         shared.dismiss(user, inode, Side::Reading, Leaving::All, Ok((0, &[])));
@@ -220,7 +220,7 @@ fn end_readers(shared: &mut Shared, user: User, inode: u32, sides: Sides)
 // A pipe that nobody reads any more is broken for writers.
 fn end_writers(shared: &mut Shared, user: User, inode: u32, sides: Sides)
     requires pipe { HasPipe shared.old user.0 inode }
-    ensures after { shared.new ≡ with_after shared.old user.0 inode (writers_ended sides (pipe_at shared.old user.0 inode)) }
+    ensures after { shared.new ≡ with_pipe_after shared.old user.0 inode (writers_ended sides (pipe_at shared.old user.0 inode)) }
 {
     if !sides.for_reading {
         shared.dismiss(user, inode, Side::Writing, Leaving::All, Err(Errno::EPIPE));
@@ -230,7 +230,7 @@ fn end_writers(shared: &mut Shared, user: User, inode: u32, sides: Sides)
 // With the last block go the bytes.
 fn discard(shared: &mut Shared, user: User, inode: u32, sides: Sides)
     requires pipe { HasPipe shared.old user.0 inode }
-    ensures after { shared.new ≡ with_after shared.old user.0 inode (without_bytes sides (pipe_at shared.old user.0 inode)) }
+    ensures after { shared.new ≡ with_pipe_after shared.old user.0 inode (without_bytes sides (pipe_at shared.old user.0 inode)) }
 {
     if !sides.for_reading && !sides.for_writing {
         shared.discard(user, inode);

@@ -15,7 +15,7 @@ use Rattle.qx_iofunc.specs.declared.found.Opening.{Opening}
 use Rattle.qx_iofunc.specs.Given as given
 use Rattle.qx_iofunc.specs.Makes.{may_make}
 use Rattle.qx_iofunc.specs.Sizes.{sized}
-use Rattle.qx_iofunc.specs.Store.{Stored, block_gone, unused_gone, within}
+use Rattle.qx_iofunc.specs.Store.{Stored, block_gone, unused_gone, with_stored}
 use Rattle.qx_machine.proofs.Places.{set-row_at}
 use Rattle.qx_machine.specs.declared.rows.Attribute.{Attribute}
 use Rattle.qx_machine.specs.declared.rows.Effect.TheVariants.{Keeps, Opens}
@@ -32,14 +32,14 @@ use Rattle.qx_machine.specs.Inodes.{Inodes, has, is_unused}
 use Rattle.qx_machine.specs.Judgements.{◌>>=◌}
 use Rattle.qx_machine.specs.Names.{Key, Spot}
 use Rattle.qx_machine.specs.PipeManager as machine
-use Rattle.qx_machine.specs.Pipes.{After, Pipe, nobody_answered, pipe_of, release, removed}
+use Rattle.qx_machine.specs.Pipes.{PipeAfter, Pipe, nobody_answered, pipe_of, release, removed}
 use Rattle.qx_machine.specs.Resources.{Resources, without_content}
 use Rattle.qx_machine.specs.Rows.{row_at, with_row}
 use Rattle.qx_machine.specs.Waiting.{is_gone, is_over, no_pipes, offered, sides_of, wanted, Pipes}
 use Rattle.qx_pipes.specs.Pipes.{Follows, Stands, seen}
 use Rattle.qx_process.proofs.RowLemmas.{row_at-get_or}
 use Rattle.qx_shared.proofs.AfterLemmas.{pipe_at-after, then-after}
-use Rattle.qx_shared.specs.Shared.{HasPipe, Shared, pipe_at, pipes_of, went_in, with_after, with_pipes, with_row_at}
+use Rattle.qx_shared.specs.Shared.{HasPipe, Shared, pipe_at, pipes_of, went_in, with_pipe_after, with_pipes, with_row_at}
 use Rattle.qx_types.specs.declared.errno.Errno.{Errno}
 use Rattle.qx_types.specs.declared.flags.OFlags.{OFlags}
 use Rattle.qx_types.specs.declared.names.Coid.{Coid}
@@ -82,7 +82,7 @@ module _ (c : Shared) (user : ℕ) where
         })
 
     -- a pipe that all calls left, and then all bytes
-    pub left-empty : (left new : Shared) → left ≡ with_after c user inode (nobody_answered (removed (λ who. true) (pipe_at c user inode))) → new ≡ with_after left user inode (nobody_answered (record (pipe_at left user inode) { bytes = [] }))
+    pub left-empty : (left new : Shared) → left ≡ with_pipe_after c user inode (nobody_answered (removed (λ who. true) (pipe_at c user inode))) → new ≡ with_pipe_after left user inode (nobody_answered (record (pipe_at left user inode) { bytes = [] }))
         → HasPipe c user inode → new ≡ with_row_at c user inode (Some no_bytes)
     left-empty left new left_is is some =
         let pipe = pipe_at c user inode in
@@ -141,19 +141,19 @@ block-at inodes now number flag block is same = grind (arith, common_steps, is, 
 
 module _ {E : Type 0} (s new : Stored) (c left : Shared) (r : Resources) (inside : s.user < length c.pipes) where
   -- the pipes are those that the machine leaves, and all else is in the store
-  pub follows : (deed : Deed Resources) → new.user ≡ s.user → left ≡ with_pipes c s.user deed.state.pipes deed.answers → deed.state ≡ record (within r new) { pipes = deed.state.pipes } → Follows {E = E} s c new left r (Ok deed)
+  pub follows : (deed : Deed Resources) → new.user ≡ s.user → left ≡ with_pipes c s.user deed.state.pipes deed.answers → deed.state ≡ record (with_stored r new) { pipes = deed.state.pipes } → Follows {E = E} s c new left r (Ok deed)
   follows deed user left_is state_is =
       let pipes : pipes_of left new.user ≡ deed.state.pipes = ap (pipes_of left) user ∙ ap (λ (c : Shared). pipes_of c s.user) left_is ∙ get_or-set_same c.pipes s.user deed.state.pipes no_pipes inside in
-      record { state = ap (λ pipes. record (within r new) { pipes = pipes }) pipes ∙ sym state_is; shared = left_is }
+      record { state = ap (λ pipes. record (with_stored r new) { pipes = pipes }) pipes ∙ sym state_is; shared = left_is }
 
   -- something was done to a pipe, and its inode has its size
-  pub after-follows : (inode moment : ℕ) (after : After WaitingCall) (filled : Bool) → HasPipe c s.user inode → left ≡ with_after c s.user inode after → filled ≡ went_in after.answers → new ≡ resized inode (sized (length (pipe_at left s.user inode).bytes) filled moment) s
-      → Follows {E = E} s c new left r (Ok (machine.with_after (seen r s c) inode moment after))
+  pub after-follows : (inode moment : ℕ) (after : PipeAfter WaitingCall) (filled : Bool) → HasPipe c s.user inode → left ≡ with_pipe_after c s.user inode after → filled ≡ went_in after.answers → new ≡ resized inode (sized (length (pipe_at left s.user inode).bytes) filled moment) s
+      → Follows {E = E} s c new left r (Ok (machine.deed_of_pipe (seen r s c) inode moment after))
   after-follows inode moment after filled some left_is filled_is new_is =
       let pipe : pipe_at left s.user inode ≡ after.pipe = ap (λ (c : Shared). pipe_at c s.user inode) left_is ∙ pipe_at-after c s.user inode some after in
       let sized_is = rw (pipe, filled_is) at new_is in
       let pipes = slice_set (pipes_of c s.user) inode (Some after.pipe) in
-      follows (machine.with_after (seen r s c) inode moment after) (ap (λ (s : Stored). s.user) sized_is) left_is (ap (λ new. record (within r new) { pipes = pipes }) (sym sized_is))
+      follows (machine.deed_of_pipe (seen r s c) inode moment after) (ap (λ (s : Stored). s.user) sized_is) left_is (ap (λ new. record (with_stored r new) { pipes = pipes }) (sym sized_is))
 
 -- ---- a close, once its block was judged
 
@@ -194,7 +194,7 @@ module _ (s new : Stored) (c left : Shared) (r : Resources) (opened : Opened) (m
 
   -- where there was a pipe
   pub close-follows : (between : Shared) (filled gone : Bool) (bare : Stored) (sides : Sides) → HasPipe c s.user inode → bare ≡ unused_gone kind.Pipe inode freed → gone ≡ unused freed.inodes inode → sides ≡ sides_of bare.inodes inode
-      → (let after = release wanted offered is_gone (is_over opened.number) sides (pipe_at c s.user inode) in (between ≡ with_after c s.user inode after) × (filled ≡ went_in after.answers)) → new ≡ resized inode (sized (length (pipe_at between bare.user inode).bytes) filled moment) bare
+      → (let after = release wanted offered is_gone (is_over opened.number) sides (pipe_at c s.user inode) in (between ≡ with_pipe_after c s.user inode after) × (filled ≡ went_in after.answers)) → new ≡ resized inode (sized (length (pipe_at between bare.user inode).bytes) filled moment) bare
       → left ≡ (if gone then with_row_at between s.user inode None else between) → Follows s c new left r (close kind.Pipe (seen r s c) opened moment)
   close-follows between filled gone bare sides some bare_is gone_is sides_is did new_is =
       let size = length (pipe_at between s.user inode).bytes in
@@ -232,36 +232,36 @@ pub record IsTold (s new : Stored) (c left : Shared) (r : Resources) (status : �
 module _ (s new : Stored) (c left : Shared) (r : Resources) (inside : s.user < length c.pipes) (user : new.user ≡ s.user) where
   -- the machine's state, but for pipes
   abbrev now : Resources
-  now = within (seen r s c) new
+  now = with_stored (seen r s c) new
 
-  told-by : (meant : Result (Deed Resources) Errno) (status : ℕ) (effect : Effect) (state : Resources) → Ok (reply_alone status [] effect state) ≡ meant → left ≡ with_pipes c s.user state.pipes [] → state ≡ record (within r new) { pipes = state.pipes }
+  told-by : (meant : Result (Deed Resources) Errno) (status : ℕ) (effect : Effect) (state : Resources) → Ok (reply_alone status [] effect state) ≡ meant → left ≡ with_pipes c s.user state.pipes [] → state ≡ record (with_stored r new) { pipes = state.pipes }
       → IsTold s new c left r status effect meant
   told-by meant status effect state is left_is state_is =
       let follow = follows {E = Errno} s new c left r inside (reply_alone status [] effect state) user left_is state_is in
       record { told = ap (λ state. Ok (reply_alone status [] effect state)) follow.state ∙ is; follow = subst (Follows s c new left r) is follow }
 
   module _ (coid : Coid) (wish : Wish) (pipe : wish.kind ≡ kind.Pipe) (o : Opening) where
-    opened-told : (meant : Result (Deed Resources) Errno) (pipes : Pipes) → meant ≡ Ok (given.opened coid wish.kind o now) → Leaves pipes meant → left ≡ with_pipes c s.user pipes [] → IsTold s new c left r coid.0 (Opens coid o.number) meant
+    opened-told : (meant : Result (Deed Resources) Errno) (pipes : Pipes) → meant ≡ Ok (given.open_given coid wish.kind o now) → Leaves pipes meant → left ≡ with_pipes c s.user pipes [] → IsTold s new c left r coid.0 (Opens coid o.number) meant
     opened-told meant pipes is leaves left_is =
-        let as_pipe = is ∙ ap (λ kind. Ok (given.opened coid kind o now)) pipe in
+        let as_pipe = is ∙ ap (λ kind. Ok (given.open_given coid kind o now)) pipe in
         let leaves = rw as_pipe at leaves in
         told-by meant coid.0 (Opens coid o.number) (given.with_pipe_made kind.Pipe o now) (sym as_pipe) (left_is ∙ ap (λ pipes. with_pipes c s.user pipes []) (sym leaves))
-        (cond_both o.is_new _ now (λ state. state ≡ record (within r new) { pipes = state.pipes }) (λ _. refl) (λ _. refl))
+        (cond_both o.is_new _ now (λ state. state ≡ record (with_stored r new) { pipes = state.pipes }) (λ _. refl) (λ _. refl))
 
     -- what is there has its pipe already
-    pub found-told : (inode : ℕ) → open_existing (seen r s c) coid inode wish ≡ Ok (given.opened coid wish.kind o now) → left ≡ c → IsTold s new c left r coid.0 (Opens coid o.number) (open_existing (seen r s c) coid inode wish)
+    pub found-told : (inode : ℕ) → open_existing (seen r s c) coid inode wish ≡ Ok (given.open_given coid wish.kind o now) → left ≡ c → IsTold s new c left r coid.0 (Opens coid o.number) (open_existing (seen r s c) coid inode wish)
     found-told inode is left_is = opened-told _ (pipes_of c s.user) is (existing-keeps (seen r s c) coid inode wish) (left_is ∙ given-same c s.user)
 
     abbrev pub missing : ℕ → Key → Spot
     missing parent key = record { parent = parent; key = key; inode = None }
 
     -- what is missing is made with an empty pipe, under a key in its directory
-    pub missing-told : (parent : ℕ) (key : Key) (made : New) → may_make s.inodes s.user parent wish.flags ≡ Ok made → open_missing (seen r s c) coid (missing parent key) wish ≡ Ok (given.opened coid wish.kind o now)
+    pub missing-told : (parent : ℕ) (key : Key) (made : New) → may_make s.inodes s.user parent wish.flags ≡ Ok made → open_missing (seen r s c) coid (missing parent key) wish ≡ Ok (given.open_given coid wish.kind o now)
         → left ≡ with_row_at c s.user made.inode (Some no_bytes) → IsTold s new c left r coid.0 (Opens coid o.number) (open_missing (seen r s c) coid (missing parent key) wish)
     missing-told parent key made may is left_is =
         opened-told _ (slice_set (pipes_of c s.user) made.inode (Some no_bytes)) is (missing-makes (seen r s c) coid (missing parent key) wish made pipe may) (left_is ∙ given-row c s.user made.inode (Some no_bytes))
 
   -- the pipe of an inode that went goes
-  pub unlinked-told : (meant : Result (Deed Resources) Errno) (gone : Option ℕ) → given.unlinked kind.Pipe now (Ok gone) ≡ meant → MatchOption gone (left ≡ c) (λ inode. left ≡ with_row_at c s.user inode None) → IsTold s new c left r 0 Keeps meant
+  pub unlinked-told : (meant : Result (Deed Resources) Errno) (gone : Option ℕ) → given.unlink_given kind.Pipe now (Ok gone) ≡ meant → MatchOption gone (left ≡ c) (λ inode. left ≡ with_row_at c s.user inode None) → IsTold s new c left r 0 Keeps meant
   unlinked-told meant (Some inode) is left_is = told-by meant 0 Keeps _ is (left_is ∙ given-row c s.user inode None) refl
   unlinked-told meant None is left_is = told-by meant 0 Keeps now is (left_is ∙ given-same c s.user) refl

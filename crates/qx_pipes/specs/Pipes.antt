@@ -2,7 +2,7 @@
 use Rattle.std.specs.Prelude.{ℕ, ◌≡◌, [], Option, Result, Ok, Err, length}
 use Rattle.qx_types.specs.declared.errno.Errno.{Errno}
 use Rattle.qx_types.specs.declared.names.Coid.{Coid}
-use Rattle.qx_iofunc.specs.Store.{Stored, within}
+use Rattle.qx_iofunc.specs.Store.{Stored, with_stored}
 use Rattle.qx_machine.specs.declared.rows.Effect.TheVariants.{Opens}
 use Rattle.qx_machine.specs.declared.rows.WaitingCall.{WaitingCall}
 use Rattle.qx_machine.specs.Functions.{Deed, reply_alone}
@@ -12,7 +12,7 @@ use Rattle.qx_shared.specs.Shared.{HasPipe, Shared, pipes_of, shared_after, stat
 
 -- what the managers keep for a user, with this of the user's in a store, and the pipes that the user has of what all share
 abbrev pub seen : Resources → Stored → Shared → Resources
-seen r s c = record (within r s) { pipes = pipes_of c s.user }
+seen r s c = record (with_stored r s) { pipes = pipes_of c s.user }
 
 module _ {E : Type 0} where
   -- that it was done
@@ -26,9 +26,9 @@ module _ {E : Type 0} where
     pub shared : left ≡ shared_after c s.user meant
 
 -- an open of a connection gave it this block
-abbrev pub opened : Coid → Resources → Result ℕ Errno → Result (Deed Resources) Errno
-opened coid r (Ok number) = Ok (reply_alone coid.0 [] (Opens coid number) r)
-opened coid r (Err error) = Err error
+abbrev pub open_of_block : Coid → Resources → Result ℕ Errno → Result (Deed Resources) Errno
+open_of_block coid r (Ok number) = Ok (reply_alone coid.0 [] (Opens coid number) r)
+open_of_block coid r (Err error) = Err error
 
 -- a pipe stands under the number of an inode, and nothing else is different
 pub record Stands (old new : Shared) (user inode : ℕ) : Type 0 where

@@ -2,7 +2,7 @@
 
 ghost use Rattle.std.specs.Prelude.{◌≡◌, ◌<◌, ◌≤◌, ℕ, ℤ, IsSome, MatchResult, None, Err, if◌then◌else◌, is_ok, length, position};
 ghost use Rattle.qx_iofunc.specs.Sizes.{sized};
-ghost use Rattle.qx_iofunc.specs.Store.{within};
+ghost use Rattle.qx_iofunc.specs.Store.{with_stored};
 ghost use Rattle.qx_machine.specs.Defaults as defaults;
 ghost use Rattle.qx_machine.specs.Inodes.{has};
 ghost use Rattle.qx_machine.specs.PipeManager as machine;
@@ -11,7 +11,7 @@ ghost use Rattle.qx_machine.specs.Rows.{with_row};
 ghost use Rattle.qx_machine.specs.Waiting.{holds, is_call};
 ghost use Rattle.qx_machine.specs.declared.rows.Kind.TheVariants as kind;
 ghost use Rattle.qx_pipes.specs.Pipes.{Follows, done, seen};
-ghost use Rattle.qx_shared.specs.Shared.{IsReceived, pipe_at, pipes_of, thread_of, with_row_at};
+ghost use Rattle.qx_shared.specs.Shared.{IsReceived, pipe_at, pipes_of, callers_thread, with_row_at};
 ghost use Rattle.qx_types.specs.declared.flags.TheConstants.OFlags.{NONBLOCK};
 ghost use Rattle.qx_types.specs.declared.limits.TheConstants.Limits.{TRANSFER};
 ghost use Rattle.qx_types.specs.declared.fields.Whence.{Whence as AnyWhence};
@@ -37,7 +37,7 @@ pub fn read(
     moment: u64,
 ) -> Result<(), Errno>
     requires user { store.old.stored.user < length shared.old.pipes }
-    requires received { IsReceived shared.old (thread_of store.old.stored.user opened.caller) }
+    requires received { IsReceived shared.old (callers_thread store.old.stored.user opened.caller) }
     requires room { IsSome room.old }
     ensures user { store.new.stored.user ≡ store.old.stored.user }
     ensures done { (r : Resources) → result ≡ done (machine.read_pipe (seen r store.old.stored shared.old) opened wanted moment) }
@@ -72,7 +72,7 @@ pub fn write(
     moment: u64,
 ) -> Result<(), Errno>
     requires user { store.old.stored.user < length shared.old.pipes }
-    requires received { IsReceived shared.old (thread_of store.old.stored.user opened.caller) }
+    requires received { IsReceived shared.old (callers_thread store.old.stored.user opened.caller) }
     requires fits { length bytes.now ≤ TRANSFER }
     requires room { IsSome room.old }
     ensures user { store.new.stored.user ≡ store.old.stored.user }
@@ -99,7 +99,7 @@ pub fn write(
 
 /// A pipe has no offset: ESPIPE; on the mount's root EINVAL (C Library Reference: `lseek`).
 pub fn seek(store: &Store, opened: Opened) -> Errno
-    ensures refused { (r : Resources) (whence : AnyWhence) (by : ℤ) (moment : ℕ) → machine.seek_pipe (within r store.now.stored) opened whence by moment ≡ Err result }
+    ensures refused { (r : Resources) (whence : AnyWhence) (by : ℤ) (moment : ℕ) → machine.seek_pipe (with_stored r store.now.stored) opened whence by moment ≡ Err result }
 {
     let Some(block) = store.inodes().block(opened.number) else {
         return Errno::EBADF;

@@ -8,7 +8,7 @@ ghost use Rattle.qx_machine.specs.Pipes.{pipe_of};
 ghost use Rattle.qx_machine.specs.Resources.{Resources};
 ghost use Rattle.qx_machine.specs.Rows.{row_at};
 ghost use Rattle.qx_machine.specs.declared.rows.Kind.TheVariants as kind;
-ghost use Rattle.qx_pipes.specs.Pipes.{Follows, Stands, opened, seen};
+ghost use Rattle.qx_pipes.specs.Pipes.{Follows, Stands, open_of_block, seen};
 ghost use Rattle.qx_shared.specs.Shared.{HasPipe, pipes_of, with_row_at};
 ghost use Rattle.qx_types.specs.declared.limits.TheConstants.Limits.{INODES};
 ghost use Rattle.qx_types.specs.declared.names.Coid.{Coid as AnyCoid};
@@ -36,7 +36,7 @@ pub fn open(
 ) -> Result<Result<u16, Errno>, AllocError>
     requires user { store.old.stored.user < length shared.old.pipes }
     ensures user { store.new.stored.user ≡ store.old.stored.user }
-    ensures opened { IfOk result (λ o. (r : Resources) (coid : AnyCoid) → opened coid (seen r store.new.stored shared.new) o ≡ machine.open_path (seen r store.old.stored shared.old) (record { coid = coid; root = root }) rest.now (record { flags = flags; kind = kind.Pipe; mode = mode; moment = moment })) }
+    ensures opened { IfOk result (λ o. (r : Resources) (coid : AnyCoid) → open_of_block coid (seen r store.new.stored shared.new) o ≡ machine.open_path (seen r store.old.stored shared.old) (record { coid = coid; root = root }) rest.now (record { flags = flags; kind = kind.Pipe; mode = mode; moment = moment })) }
     ensures left { IfOk result (λ o. (r : Resources) (coid : AnyCoid) → Follows store.old.stored shared.old store.new.stored shared.new r (machine.open_path (seen r store.old.stored shared.old) (record { coid = coid; root = root }) rest.now (record { flags = flags; kind = kind.Pipe; mode = mode; moment = moment }))) }
     ensures err { OnErr result ((store.new.stored ≡ store.old.stored) × (shared.new ≡ shared.old)) }
     ensures wanted { OnErr result ((r : Resources) (coid : AnyCoid) → IsOk (machine.open_path (seen r store.old.stored shared.old) (record { coid = coid; root = root }) rest.now (record { flags = flags; kind = kind.Pipe; mode = mode; moment = moment }))) }
@@ -67,7 +67,7 @@ fn open_found(
     requires kind { wish.kind ≡ kind.Pipe }
     requires allowed { IsAllowed store.old.stored wish.flags lookup }
     ensures user { store.new.stored.user ≡ store.old.stored.user }
-    ensures opened { IfOk result (λ number. (r : Resources) (coid : AnyCoid) → open_found (seen r store.old.stored shared.old) coid lookup.entry wish ≡ opened coid (seen r store.new.stored shared.new) (Ok number)) }
+    ensures opened { IfOk result (λ number. (r : Resources) (coid : AnyCoid) → open_found (seen r store.old.stored shared.old) coid lookup.entry wish ≡ open_of_block coid (seen r store.new.stored shared.new) (Ok number)) }
     ensures left { IfOk result (λ number. (r : Resources) (coid : AnyCoid) → Follows store.old.stored shared.old store.new.stored shared.new r (open_found (seen r store.old.stored shared.old) coid lookup.entry wish)) }
     ensures err { OnErr result ((store.new.stored ≡ store.old.stored) × (shared.new ≡ shared.old)) }
 {

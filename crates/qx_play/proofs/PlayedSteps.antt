@@ -10,7 +10,7 @@ use Rattle.qx_types.specs.declared.step.Step.TheVariants.{Call, TakeReply, Recei
 use Rattle.qx_machine.specs.Machine.{step}
 use Rattle.qx_script.specs.declared.command.Command.{Command}
 use Rattle.qx_script.specs.declared.command.Command.TheVariants.{Take, Serve, Do, Show, Trace}
-use Rattle.qx_play.specs.Play.{Played, all_served, called, first_worker, hand_emptied, is_answered, is_holding, is_sent, next_manager, played, played_line, played_lines, replied, round, rounds, served, waiting, world_of}
+use Rattle.qx_play.specs.Play.{Played, all_served, called, first_worker, hand_emptied, has_answer, is_holding, is_sent, next_manager, played, played_line, played_lines, with_reply_taken, round, rounds, with_lines_served, items_waiting, world_played}
 use Rattle.qx_words.specs.Kinds.{CanNameThread}
 use Rattle.qx_script.specs.Lines.{CanSay}
 use Rattle.qx_script.specs.Script.{Good, script}
@@ -42,27 +42,27 @@ round_said config moment steps manager within all =
 rounds_said : (items : ℕ) (config : Configuration) (moment : ℕ) (steps : List Step) → IsMoment moment → AllSaid config steps → AllSaid config (rounds items config moment steps)
 rounds_said zero config moment steps within all = all
 rounds_said (suc items) config moment steps within all =
-    managed config (next_manager (world_of config steps)) steps (λ manager. rounds items config moment (round moment steps manager)) all
+    managed config (next_manager (world_played config steps)) steps (λ manager. rounds items config moment (round moment steps manager)) all
     (λ manager. rounds_said items config moment (round moment steps manager) within (round_said config moment steps manager within all))
 
-served_said : (config : Configuration) (moment : ℕ) (steps : List Step) → IsMoment moment → AllSaid config steps → AllSaid config (served config moment steps)
-unfolding served all_served hand_emptied
+served_said : (config : Configuration) (moment : ℕ) (steps : List Step) → IsMoment moment → AllSaid config steps → AllSaid config (with_lines_served config moment steps)
+unfolding with_lines_served all_served hand_emptied
 served_said config moment steps within all =
-    rounds_said (waiting (world_of config (hand_emptied config moment steps))) config moment (hand_emptied config moment steps) within
-    (either config (is_holding (world_of config steps)) _ steps (pushed config steps (Perform first_worker moment) all (omega arith, (within, tt))) all)
+    rounds_said (items_waiting (world_played config (hand_emptied config moment steps))) config moment (hand_emptied config moment steps) within
+    (either config (is_holding (world_played config steps)) _ steps (pushed config steps (Perform first_worker moment) all (omega arith, (within, tt))) all)
 
-replied_said : (config : Configuration) (thread : Thread) (steps : List Step) → CanNameThread config.users thread → AllSaid config steps → AllSaid config (replied config thread steps)
-unfolding replied
+replied_said : (config : Configuration) (thread : Thread) (steps : List Step) → CanNameThread config.users thread → AllSaid config steps → AllSaid config (with_reply_taken config thread steps)
+unfolding with_reply_taken
 replied_said config thread steps can all =
-    either config (is_answered (world_of config steps) thread) _ steps (pushed config steps (TakeReply thread) all (can, tt)) all
+    either config (has_answer (world_played config steps) thread) _ steps (pushed config steps (TakeReply thread) all (can, tt)) all
 
 called_said : (config : Configuration) (moment : ℕ) (thread : Thread) (call : Step) (steps : List Step) → IsMoment moment → CanNameThread config.users thread
     → CanSay config.users call → AllSaid config steps → AllSaid config (called config moment thread call steps)
 unfolding called
 called_said config moment thread call steps within can said all =
     let sent = pushed config steps call all said in
-    either config (is_sent (step (world_of config steps) call).outcome) _ _
-    (replied_said config thread (served config moment (steps ++ call ∷ [])) can (served_said config moment (steps ++ call ∷ []) within sent)) sent
+    either config (is_sent (step (world_played config steps) call).outcome) _ _
+    (replied_said config thread (with_lines_served config moment (steps ++ call ∷ [])) can (served_said config moment (steps ++ call ∷ []) within sent)) sent
 
 line_said : (config : Configuration) (before : Played) (command : Command) → CanSayCommand config.users command → AllSaid config before.steps
     → AllSaid config (played_line config before command).steps

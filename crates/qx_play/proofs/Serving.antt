@@ -37,7 +37,7 @@ use Rattle.qx_machine.specs.Rows.{row_at}
 use Rattle.qx_machine.specs.Runs.{world_after}
 use Rattle.qx_machine.specs.Users as users
 use Rattle.qx_machine.specs.Users.{serve}
-use Rattle.qx_play.specs.Play.{first_worker, has_waiting, waiting, next_manager, round, rounds, world_of, hand_emptied, all_served, served}
+use Rattle.qx_play.specs.Play.{first_worker, has_waiting, items_waiting, next_manager, round, rounds, world_played, hand_emptied, all_served, with_lines_served}
 
 -- what each step keeps: the number of workers, a place for each one's hand and a line for each manager
 pub record Keeps (w : World) (workers : ℕ) : Type 0 where
@@ -168,7 +168,7 @@ lines_fewer user lines (Remove manager item ∷ changes) takes =
     let after = with_line lines (manager_number manager) (line_without user item) in
     omega (arith, lines_fewer user after changes takes, line_fewer lines (manager_number manager) (line_without user item) (without_fewer user item))
 
-performed_fewer : (w : World) (held : Held) (moment : ℕ) (part : Option Part) → waiting (performed_part w held moment part) ≤ waiting w
+performed_fewer : (w : World) (held : Held) (moment : ℕ) (part : Option Part) → items_waiting (performed_part w held moment part) ≤ items_waiting w
 performed_fewer w held moment None = omega arith
 performed_fewer w held moment (Some part) = lines_fewer held.user.0 w.lines (serve w.config held.user.0 (own_held held.user.0 w.hands) part held.item moment).changes (serve_takes w.config held.user.0 (own_held held.user.0 w.hands) part held.item moment)
 
@@ -210,7 +210,7 @@ at_one (first ∷ second ∷ rest) row room = refl
 
 -- the first worker does what it holds: its hand is empty, and no more waits
 pub record Emptied (w u : World) : Type 0 where
-  pub lines : waiting u ≤ waiting w
+  pub lines : items_waiting u ≤ items_waiting w
   pub free : row_at u.hands 1 ≡ None
 
 pub does_item : (n : ℕ) (w : World) (moment : ℕ) (held : Held) → 1 ≤ n → Keeps w n → row_at w.hands 1 ≡ Some held → Emptied w (step w (Perform first_worker moment)).world
@@ -219,18 +219,18 @@ does_item n w moment held some k full =
     let part = row_at w.parts held.user.0 in
     let room : 1 < length w.hands = omega (arith, k.hands) in
     record {
-      lines = subst (λ v. waiting v ≤ waiting w) (sym u) (performed_fewer (with_empty_hand w 1) held moment part);
+      lines = subst (λ v. items_waiting v ≤ items_waiting w) (sym u) (performed_fewer (with_empty_hand w 1) held moment part);
       free = ap (λ v. row_at v.hands 1) u ∙ ap (λ hands. row_at hands 1) (performed_hands (with_empty_hand w 1) held moment part) ∙ at_one w.hands None room;
     }
 
 -- the hand is empty, and fewer items wait
 pub record Round (w u : World) : Type 0 where
-  pub fewer : waiting u + 1 ≤ waiting w
+  pub fewer : items_waiting u + 1 ≤ items_waiting w
   pub free : row_at u.hands 1 ≡ None
 
 -- the first worker takes the first item of a line
 record Took (w u : World) (first : Queued) : Type 0 where
-  fewer : waiting u + 1 ≡ waiting w
+  fewer : items_waiting u + 1 ≡ items_waiting w
   full : row_at u.hands 1 ≡ Some (record { user = first.user; item = first.item })
 
 -- a line without its first item is one item shorter, and so are all lines together
@@ -337,7 +337,7 @@ line_of_each : (w : World) → length w.lines ≡ COUNT → map (line_of w) mana
 line_of_each w all = line_of_each_among w managers w.lines all (line_under w)
 
 -- where items wait, one of them is next
-some_next : (n : ℕ) (w : World) (items : ℕ) → Keeps w n → waiting w ≡ suc items → Next w managers
+some_next : (n : ℕ) (w : World) (items : ℕ) → Keeps w n → items_waiting w ≡ suc items → Next w managers
 some_next n w items k e = next_among w managers items (ap (sum_by length) (line_of_each w k.lines) ∙ e)
 
 -- where none waits, none is next
@@ -349,11 +349,11 @@ none_next w (manager ∷ others) e =
     ap (λ count. cond (nat_lt 0 count) (Some manager) (find (has_waiting w) others)) empty ∙ rest
 
 -- and no round is taken
-pub stays : (items : ℕ) (config : Configuration) (moment : ℕ) (steps : List Step) → next_manager (world_of config steps) ≡ None → rounds (suc items) config moment steps ≡ steps
+pub stays : (items : ℕ) (config : Configuration) (moment : ℕ) (steps : List Step) → next_manager (world_played config steps) ≡ None → rounds (suc items) config moment steps ≡ steps
 stays items config moment steps e =
     ap (λ next. elim next as (λ _. List Step) [ None ↦ steps | Some other ↦ rounds items config moment (round moment steps other) ]) e
 
-pub turn : (items : ℕ) (config : Configuration) (moment : ℕ) (steps : List Step) (manager : Manager) → next_manager (world_of config steps) ≡ Some manager
+pub turn : (items : ℕ) (config : Configuration) (moment : ℕ) (steps : List Step) (manager : Manager) → next_manager (world_played config steps) ≡ Some manager
     → rounds (suc items) config moment steps ≡ rounds items config moment (round moment steps manager)
 turn items config moment steps manager e =
     ap (λ next. elim next as (λ _. List Step) [ None ↦ steps | Some other ↦ rounds items config moment (round moment steps other) ]) e
@@ -362,21 +362,21 @@ some_or_none : (n : ℕ) → (n ≡ 0) ⊎ ((m : ℕ) × (n ≡ suc m))
 some_or_none zero = inl refl
 some_or_none (suc m) = inr (m, refl)
 
-all_rounds : (items n : ℕ) (config : Configuration) (moment : ℕ) (steps : List Step) → 1 ≤ n → Keeps (world_of config steps) n → row_at (world_of config steps).hands 1 ≡ None
-    → waiting (world_of config steps) ≤ items → waiting (world_of config (rounds items config moment steps)) ≡ 0
+all_rounds : (items n : ℕ) (config : Configuration) (moment : ℕ) (steps : List Step) → 1 ≤ n → Keeps (world_played config steps) n → row_at (world_played config steps).hands 1 ≡ None
+    → items_waiting (world_played config steps) ≤ items → items_waiting (world_played config (rounds items config moment steps)) ≡ 0
 all_rounds zero n config moment steps some k free few = omega (arith, few)
-all_rounds (suc items) n config moment steps some k free few = elim (some_or_none (waiting (world_of config steps))) [
+all_rounds (suc items) n config moment steps some k free few = elim (some_or_none (items_waiting (world_played config steps))) [
   | inl e ↦
-      let none : next_manager (world_of config steps) ≡ None = none_next (world_of config steps) managers (ap (sum_by length) (line_of_each (world_of config steps) k.lines) ∙ e) in
-      ap (λ taken. waiting (world_of config taken)) (stays items config moment steps none) ∙ e
+      let none : next_manager (world_played config steps) ≡ None = none_next (world_played config steps) managers (ap (sum_by length) (line_of_each (world_played config steps) k.lines) ∙ e) in
+      ap (λ taken. items_waiting (world_played config taken)) (stays items config moment steps none) ∙ e
   | inr more_wait ↦
-      let w = world_of config steps in
+      let w = world_played config steps in
       let f = some_next n w more_wait.0 k more_wait.1 in
       let last = Receive first_worker f.manager ∷ Perform first_worker moment ∷ [] in
-      let same : world_after w last ≡ world_of config (round moment steps f.manager) = sym (after_append (boot config) steps last) in
-      let r : Round w (world_of config (round moment steps f.manager)) = subst (λ u. Round w u) same (one_round n w moment f.manager f.first f.rest some k free f.there) in
-      let more : Keeps (world_of config (round moment steps f.manager)) n = subst (λ u. Keeps u n) same (kept_after n w last k) in
-      subst (λ l. waiting (world_of config l) ≡ 0) (sym (turn items config moment steps f.manager f.next))
+      let same : world_after w last ≡ world_played config (round moment steps f.manager) = sym (after_append (boot config) steps last) in
+      let r : Round w (world_played config (round moment steps f.manager)) = subst (λ u. Round w u) same (one_round n w moment f.manager f.first f.rest some k free f.there) in
+      let more : Keeps (world_played config (round moment steps f.manager)) n = subst (λ u. Keeps u n) same (kept_after n w last k) in
+      subst (λ l. items_waiting (world_played config l) ≡ 0) (sym (turn items config moment steps f.manager f.next))
       (all_rounds items n config moment (round moment steps f.manager) some more r.free (omega (arith, r.fewer, few)))
 ]
 
@@ -384,23 +384,23 @@ booted : (config : Configuration) → Keeps (boot config) config.workers
 unfolding boot
 booted config = record { same = refl; hands = simp length-replicate (omega arith); lines = refl }
 
-pub keeps_all : (config : Configuration) (steps : List Step) → Keeps (world_of config steps) config.workers
+pub keeps_all : (config : Configuration) (steps : List Step) → Keeps (world_played config steps) config.workers
 keeps_all config steps = kept_after config.workers (boot config) steps (booted config)
 
-hand_free : (config : Configuration) (moment : ℕ) (steps : List Step) (hand : Option Held) → 1 ≤ config.workers → row_at (world_of config steps).hands 1 ≡ hand
-    → row_at (world_of config (hand_emptied config moment steps)).hands 1 ≡ None
+hand_free : (config : Configuration) (moment : ℕ) (steps : List Step) (hand : Option Held) → 1 ≤ config.workers → row_at (world_played config steps).hands 1 ≡ hand
+    → row_at (world_played config (hand_emptied config moment steps)).hands 1 ≡ None
 unfolding hand_emptied
 hand_free config moment steps None some e =
-    ap (λ h. row_at (world_of config (if is_some h then steps ++ Perform first_worker moment ∷ [] else steps)).hands 1) e ∙ e
+    ap (λ h. row_at (world_played config (if is_some h then steps ++ Perform first_worker moment ∷ [] else steps)).hands 1) e ∙ e
 hand_free config moment steps (Some held) some e =
-    ap (λ h. row_at (world_of config (if is_some h then steps ++ Perform first_worker moment ∷ [] else steps)).hands 1) e
+    ap (λ h. row_at (world_played config (if is_some h then steps ++ Perform first_worker moment ∷ [] else steps)).hands 1) e
     ∙ ap (λ w. row_at w.hands 1) (after_append (boot config) steps (Perform first_worker moment ∷ []))
-    ∙ (does_item config.workers (world_of config steps) moment held some (keeps_all config steps) e).free
+    ∙ (does_item config.workers (world_played config steps) moment held some (keeps_all config steps) e).free
 
 -- after serving no item waits
-pub none_waits : (config : Configuration) (moment : ℕ) (steps : List Step) → 1 ≤ config.workers → waiting (world_of config (served config moment steps)) ≡ 0
-unfolding served all_served
+pub none_waits : (config : Configuration) (moment : ℕ) (steps : List Step) → 1 ≤ config.workers → items_waiting (world_played config (with_lines_served config moment steps)) ≡ 0
+unfolding with_lines_served all_served
 none_waits config moment steps some =
     let begun = hand_emptied config moment steps in
-    all_rounds (waiting (world_of config begun)) config.workers config moment begun some (keeps_all config begun)
-    (hand_free config moment steps (row_at (world_of config steps).hands 1) some refl) (omega arith)
+    all_rounds (items_waiting (world_played config begun)) config.workers config moment begun some (keeps_all config begun)
+    (hand_free config moment steps (row_at (world_played config steps).hands 1) some refl) (omega arith)

@@ -12,7 +12,7 @@ use Rattle.qx_types.specs.declared.step.Step.TheVariants.{Call, TakeReply, Recei
 use Rattle.qx_machine.specs.Machine.{World, line_of, step}
 use Rattle.qx_machine.specs.Rows.{row_at}
 use Rattle.qx_machine.specs.Runs.{run, received}
-use Rattle.qx_steps.specs.Reads.{is_thread_answered, thread_row}
+use Rattle.qx_steps.specs.Reads.{is_thread_answered, row_among_parts}
 use Rattle.qx_script.specs.declared.command.Command.{Command}
 use Rattle.qx_script.specs.declared.command.Command.TheVariants.{Take, Serve, Do, Show, Trace}
 use Rattle.qx_play.specs.Printed.{trace_text, transcript_text}
@@ -23,8 +23,8 @@ pub record Played : Type 0 where
   pub text : List ℕ
 
 -- the world after the steps
-abbrev pub world_of : Configuration → List Step → World
-world_of config steps = (run config steps).world
+abbrev pub world_played : Configuration → List Step → World
+world_played config steps = (run config steps).world
 
 -- the worker that serves
 abbrev pub first_worker : Worker
@@ -49,24 +49,24 @@ round moment steps manager = steps ++ Receive first_worker manager ∷ Perform f
 abbrev pub rounds : ℕ → Configuration → ℕ → List Step → List Step
 rounds zero config moment steps = steps
 rounds (suc items) config moment steps =
-    elim (next_manager (world_of config steps)) [ None ↦ steps | Some manager ↦ rounds items config moment (round moment steps manager) ]
+    elim (next_manager (world_played config steps)) [ None ↦ steps | Some manager ↦ rounds items config moment (round moment steps manager) ]
 
 -- the first worker does what it holds
 unfoldable pub hand_emptied : Configuration → ℕ → List Step → List Step
 hand_emptied config moment steps =
-    if is_holding (world_of config steps) then steps ++ Perform first_worker moment ∷ [] else steps
+    if is_holding (world_played config steps) then steps ++ Perform first_worker moment ∷ [] else steps
 
 -- how many items wait in all lines
-abbrev pub waiting : World → ℕ
-waiting w = sum_by length w.lines
+abbrev pub items_waiting : World → ℕ
+items_waiting w = sum_by length w.lines
 
 -- every item that waits is served: each round takes one from its line, and what is done puts none there; an answer may take an unblock
 -- pulse out
 unfoldable pub all_served : Configuration → ℕ → List Step → List Step
-all_served config moment steps = rounds (waiting (world_of config steps)) config moment steps
+all_served config moment steps = rounds (items_waiting (world_played config steps)) config moment steps
 
-unfoldable pub served : Configuration → ℕ → List Step → List Step
-served config moment steps = all_served config moment (hand_emptied config moment steps)
+unfoldable pub with_lines_served : Configuration → ℕ → List Step → List Step
+with_lines_served config moment steps = all_served config moment (hand_emptied config moment steps)
 
 abbrev pub is_sent : Outcome → Bool
 is_sent (Spawned number) = false
@@ -85,24 +85,24 @@ is_sent Handled = false
 is_sent Nothing = false
 
 -- the thread has an answer to take
-abbrev pub is_answered : World → Thread → Bool
-is_answered w thread = is_thread_answered (thread_row w.parts thread)
+abbrev pub has_answer : World → Thread → Bool
+has_answer w thread = is_thread_answered (row_among_parts w.parts thread)
 
 -- the thread takes its answer, if it has one
-unfoldable pub replied : Configuration → Thread → List Step → List Step
-replied config thread steps = if is_answered (world_of config steps) thread then steps ++ TakeReply thread ∷ [] else steps
+unfoldable pub with_reply_taken : Configuration → Thread → List Step → List Step
+with_reply_taken config thread steps = if has_answer (world_played config steps) thread then steps ++ TakeReply thread ∷ [] else steps
 
 -- a call; where it is sent, all is served and the answer is taken
 unfoldable pub called : Configuration → ℕ → Thread → Step → List Step → List Step
 called config moment thread call steps =
-    if is_sent (step (world_of config steps) call).outcome
-    then replied config thread (served config moment (steps ++ call ∷ []))
+    if is_sent (step (world_played config steps) call).outcome
+    then with_reply_taken config thread (with_lines_served config moment (steps ++ call ∷ []))
     else steps ++ call ∷ []
 
 -- what one line does
 abbrev pub played_line : Configuration → Played → Command → Played
 played_line config played (Take step) = record { steps = played.steps ++ step ∷ []; text = played.text }
-played_line config played (Serve moment) = record { steps = served config moment played.steps; text = played.text }
+played_line config played (Serve moment) = record { steps = with_lines_served config moment played.steps; text = played.text }
 played_line config played (Do moment thread request) =
     record { steps = called config moment thread (Call thread request) played.steps; text = played.text }
 played_line config played (Show user) =

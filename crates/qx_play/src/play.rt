@@ -8,7 +8,7 @@ ghost use Rattle.qx_types.specs.declared.names.TheConstants.Manager.{COUNT};
 ghost use Rattle.qx_types.specs.declared.step.Step.{Step};
 ghost use Rattle.qx_machine.specs.Lines.{line_at};
 ghost use Rattle.qx_play.specs.Play as play;
-ghost use Rattle.qx_play.specs.Play.{all_served, called, hand_emptied, has_waiting, played_line, replied, served, shown, waiting, world_of};
+ghost use Rattle.qx_play.specs.Play.{all_served, called, hand_emptied, has_waiting, played_line, with_reply_taken, with_lines_served, shown, items_waiting, world_played};
 
 use crate::text;
 use qx_script::Command;
@@ -21,7 +21,7 @@ const FIRST: Worker = Worker(1);
 
 /// After `serve` no item waits in a line, whatever steps were taken before.
 pub fn none_waits_once_served()
-    ensures none_waits { (config : Configuration) (moment : ℕ) (steps : List Step) → 1 ≤ config.workers → waiting (world_of config (served config moment steps)) ≡ 0 }
+    ensures none_waits { (config : Configuration) (moment : ℕ) (steps : List Step) → 1 ≤ config.workers → items_waiting (world_played config (with_lines_served config moment steps)) ≡ 0 }
 {}
 
 /// Runs the lines of a script, and gives the text that they print.
@@ -96,7 +96,7 @@ fn is_sent(outcome: &Outcome) -> bool
 #[tactic(auto, unfolding(crate::specs::Play::replied))]
 fn take_reply(traced: &mut Traced, thread: Thread) -> Result<(), NoMemory>
     ensures config { traced.new.config ≡ traced.old.config }
-    ensures steps { OnOk result (traced.new.steps ≡ replied traced.old.config thread traced.old.steps) }
+    ensures steps { OnOk result (traced.new.steps ≡ with_reply_taken traced.old.config thread traced.old.steps) }
 {
     if traced.world().answered(thread) {
         store(traced, Step::TakeReply { thread })?;
@@ -108,7 +108,7 @@ fn take_reply(traced: &mut Traced, thread: Thread) -> Result<(), NoMemory>
 #[tactic(auto, unfolding(crate::specs::Play::served))]
 fn serve(traced: &mut Traced, moment: u64) -> Result<(), NoMemory>
     ensures config { traced.new.config ≡ traced.old.config }
-    ensures steps { OnOk result (traced.new.steps ≡ served traced.old.config moment traced.old.steps) }
+    ensures steps { OnOk result (traced.new.steps ≡ with_lines_served traced.old.config moment traced.old.steps) }
 {
     empty_hand(traced, moment)?;
     serve_waiting(traced, moment)
@@ -148,7 +148,7 @@ fn serve_waiting(traced: &mut Traced, moment: u64) -> Result<(), NoMemory>
 /// How many items wait in all lines.
 fn waiting(world: &World) -> u128
     requires { length world.now.lines ≡ COUNT }
-    ensures { result ≡ play.waiting world.now }
+    ensures { result ≡ play.items_waiting world.now }
 {
     let mut waiting = 0;
     'lines: for number in 0..Manager::COUNT {

@@ -41,8 +41,8 @@ with_prio processes number thread prio = do
   Ok (with_row processes number (with_thread thread (ranked_thread prio)))
 
 -- the number of a new connection (C Library Reference: ConnectAttach, EMFILE and EAGAIN)
-abbrev pub new_coid : List (Option Process) → ℕ → Manager → Result Coid Outcome
-new_coid processes number manager = do
+abbrev pub new_connection_number : List (Option Process) → ℕ → Manager → Result Coid Outcome
+new_connection_number processes number manager = do
   process ← found (row_at processes number) WrongState
   free ← need (nat_le (lowest_from FIRST_CONNECTION process.connections) LAST_CONNECTION) (Refused EMFILE)
   served ← need (can_serve processes process manager) (Refused EAGAIN)

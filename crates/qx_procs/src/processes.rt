@@ -8,7 +8,7 @@ ghost use Rattle.qx_machine.specs.Calls as calls;
 ghost use Rattle.qx_machine.specs.Clients as clients;
 ghost use Rattle.qx_machine.specs.Processes.{with_connection, without_connection, with_side};
 ghost use Rattle.qx_machine.specs.Rows.{row_at, with_row};
-ghost use Rattle.qx_procs.specs.Calls.{spawn_outcome, spawned, done_or, after_or, with_prio, new_coid, with_new_side};
+ghost use Rattle.qx_procs.specs.Calls.{spawn_outcome, spawned, done_or, after_or, with_prio, new_connection_number, with_new_side};
 ghost use Rattle.qx_machine.specs.Parts.{connection_of, thread_of};
 ghost use Rattle.qx_process.specs.Reads.{IsRanked};
 
@@ -157,7 +157,7 @@ impl Processes {
     /// or made (C Library Reference: `ConnectAttach`). `WrongState` where there is no such process, EMFILE where no
     /// connection is free, EAGAIN where the user has 64 server connections at the manager and the process none.
     pub fn attach(&mut self, process: u8, manager: Manager) -> Result<Coid, Outcome>
-        ensures coid { result ≡ new_coid self.old process manager }
+        ensures coid { result ≡ new_connection_number self.old process manager }
         ensures ok { IfOk result (λ coid. self.new ≡ with_row self.old process (with_connection coid.0 manager)) }
         ensures err { OnErr result (self.new ≡ self.old) }
     {
@@ -170,7 +170,7 @@ impl Processes {
 
     /// The number of a new connection.
     fn new_coid(&self, process: u8, manager: Manager) -> Result<Coid, Outcome>
-        ensures coid { result ≡ new_coid self.now process manager }
+        ensures coid { result ≡ new_connection_number self.now process manager }
     {
         let Some(row) = self.process(process) else {
             return Err(Outcome::WrongState);

@@ -12,7 +12,7 @@ use Rattle.qx_lists.specs.Table.{Table, ContainsList, IsIn, nodes_of}
 use Rattle.qx_lists.proofs.MapLemmas.{get-insert_other, get-insert_same, same_map}
 use Rattle.qx_lines.specs.declared.Line.{Line}
 use Rattle.qx_lines.specs.Line.{IsOwn}
-use Rattle.qx_queues.specs.Kept.{answered_calls, call_at, given_at, is_line, is_pipes, list_at, users_call, waiting_at, waiting_lists}
+use Rattle.qx_queues.specs.Kept.{answered_calls, call_at, given_at, is_line, is_pipes, list_of_line, users_call_carried, waiting_of_node, waiting_lists}
 use Rattle.qx_queues.specs.Waiting.{Waiting, given_of}
 use Rattle.qx_queues.proofs.EntryLemmas.{map-agree, or_false, or_true}
 use Rattle.qx_queues.proofs.TableLemmas.{none_some}
@@ -23,14 +23,14 @@ there_if f true (Some x) is = (refl, refl)
 there_if f false o is = cc
 
 -- what it is that a list is a line's
-pub line_numbered : (lines : List Line) (list : ℕ) → is_line lines list ≡ true → (number : ℕ) × (list_at lines number ≡ Some list)
+pub line_numbered : (lines : List Line) (list : ℕ) → is_line lines list ≡ true → (number : ℕ) × (list_of_line lines number ≡ Some list)
 line_numbered [] list is = cc
 line_numbered (line ∷ lines) list is = elim (eqb_tells line.list list) [
   | inl same ↦ (0, ap Some same.1)
   | inr differs ↦ let rest = line_numbered lines list (rw differs.0 at is) in (suc rest.0, rest.1)
 ]
 
-pub is_line-numbered : (lines : List Line) (number list : ℕ) → list_at lines number ≡ Some list → is_line lines list ≡ true
+pub is_line-numbered : (lines : List Line) (number list : ℕ) → list_of_line lines number ≡ Some list → is_line lines list ≡ true
 is_line-numbered [] number list is = absurd (none_some list None refl is)
 is_line-numbered (line ∷ lines) zero list is = elim (eqb_tells line.list list) [
   | inl same ↦ rw same.0 refl
@@ -97,7 +97,7 @@ is_line-more lines line list = list_any-append (λ l. l.list == list) lines (lin
 -- nothing but lines and nodes that stand in no list changed
 pub record SameBeside (old new : Table Waiting) (lines : List Line) : Type 0 where
   pub lists : (list : ℕ) → is_line lines list ≡ false → maps.get new.lists list ≡ maps.get old.lists list
-  pub nodes : (list node : ℕ) → IsIn old list node → waiting_at new node ≡ waiting_at old node
+  pub nodes : (list node : ℕ) → IsIn old list node → waiting_of_node new node ≡ waiting_of_node old node
 
 -- the same calls wait and were answered
 pub record SameCalls (old new : Table Waiting) (lines after : List Line) (answered : ℕ) : Type 0 where
@@ -105,7 +105,7 @@ pub record SameCalls (old new : Table Waiting) (lines after : List Line) (answer
   pub given : answered_calls new answered ≡ answered_calls old answered
 
 -- who waits, where the lists of pipes stay, with what their nodes carry
-pub same_waiting : (old new : Table Waiting) (lines after : List Line) (answered : ℕ) → ((list : ℕ) → is_line after list ≡ is_line lines list) → ((list : ℕ) → is_pipes lines answered list ≡ true → maps.get new.lists list ≡ maps.get old.lists list) → ((list node : ℕ) → is_pipes lines answered list ≡ true → IsIn old list node → waiting_at new node ≡ waiting_at old node) → waiting_lists new after answered ≡ waiting_lists old lines answered
+pub same_waiting : (old new : Table Waiting) (lines after : List Line) (answered : ℕ) → ((list : ℕ) → is_line after list ≡ is_line lines list) → ((list : ℕ) → is_pipes lines answered list ≡ true → maps.get new.lists list ≡ maps.get old.lists list) → ((list node : ℕ) → is_pipes lines answered list ≡ true → IsIn old list node → waiting_of_node new node ≡ waiting_of_node old node) → waiting_lists new after answered ≡ waiting_lists old lines answered
 same_waiting old new lines after answered same_lines lists nodes = same_map _ _ (λ list.
     get-waiting_lists new after answered list
     ∙ ap (λ b. option_map (map (call_at new)) (cond (not (list == answered) && not b) (maps.get new.lists list) None)) (same_lines list)
@@ -115,7 +115,7 @@ same_waiting old new lines after answered same_lines lists nodes = same_map _ _ 
     same_at : (list : ℕ) → option_map (map (call_at new)) (cond (is_pipes lines answered list) (maps.get new.lists list) None) ≡ option_map (map (call_at old)) (cond (is_pipes lines answered list) (maps.get old.lists list) None)
     same_at list = elim (cases_Bool (is_pipes lines answered list)) [
       | inr other ↦ rw other refl
-      | inl pipes ↦ rw (pipes, lists list pipes) (same_mapped (call_at new) (call_at old) (maps.get old.lists list) (λ node at. ap users_call (nodes list node pipes at)))
+      | inl pipes ↦ rw (pipes, lists list pipes) (same_mapped (call_at new) (call_at old) (maps.get old.lists list) (λ node at. ap users_call_carried (nodes list node pipes at)))
     ]
 
 -- a pipe's list is no line's, and not that of the answered nodes

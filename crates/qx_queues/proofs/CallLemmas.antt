@@ -12,7 +12,7 @@ use Rattle.qx_lists.proofs.ListLemmas.{absent_without, contains_without}
 use Rattle.qx_lines.specs.declared.Line.{Line}
 use Rattle.qx_lines.proofs.LineFacts.{IsLineOf-same}
 use Rattle.qx_machine.specs.Machine.{rank}
-use Rattle.qx_queues.specs.Kept.{Carries, Kept, KnowsPulses, Moved, answered_calls, call_at, entries, entry_at, given_at, is_line, is_pipes, owner_of, users_call, waiting_at, waiting_lists}
+use Rattle.qx_queues.specs.Kept.{Carries, AreListsOfTable, KnowsPulses, Moved, answered_calls, call_at, entries, entry_of_node, given_at, is_line, is_pipes, node_owner, users_call_carried, waiting_of_node, waiting_lists}
 use Rattle.qx_queues.specs.Queues.{Queues, UsersAnswer, with_waiting, without_list}
 use Rattle.qx_queues.specs.Waiting.{Load, Nothing, Waiting, carrying, given_of, idle, rank_of}
 use Rattle.qx_queues.specs.declared.nodes.UserNodes.{UserNodes}
@@ -24,22 +24,22 @@ use Rattle.qx_queues.proofs.PresenceLemmas.{same_queues}
 use Rattle.qx_queues.proofs.TableLemmas.{absent_is, contains-self, entry-other, entry-same, inserted, nowhere, rank_at-entry, waiting-other, waiting-same}
 
 -- the lines stay as they are, and so does whose each node is
-module _ {answered : ℕ} (old new : Table Waiting) (lines : List Line) (node_of : Owner → Option ℕ) (kept : Kept old lines answered node_of) (line_lists : (list : ℕ) → is_line lines list ≡ true → maps.get new.lists list ≡ maps.get old.lists list) (same_entries : (node : ℕ) → entry_at new node ≡ entry_at old node) where
-  pub Kept-beside : ContainsList new answered → ((node : ℕ) → is_some (maps.get new.values node) ≡ is_some (maps.get old.values node)) → ((list node : ℕ) → is_line lines list ≡ false → IsIn new list node → Carries (list == answered) (waiting_at new node) × (node_of (owner_of (entry_at old node)) ≡ Some node)) → Kept new lines answered node_of
+module _ {answered : ℕ} (old new : Table Waiting) (lines : List Line) (node_of : Owner → Option ℕ) (kept : AreListsOfTable old lines answered node_of) (line_lists : (list : ℕ) → is_line lines list ≡ true → maps.get new.lists list ≡ maps.get old.lists list) (same_entries : (node : ℕ) → entry_of_node new node ≡ entry_of_node old node) where
+  pub Kept-beside : ContainsList new answered → ((node : ℕ) → is_some (maps.get new.values node) ≡ is_some (maps.get old.values node)) → ((list node : ℕ) → is_line lines list ≡ false → IsIn new list node → Carries (list == answered) (waiting_of_node new node) × (node_of (node_owner (entry_of_node old node)) ≡ Some node)) → AreListsOfTable new lines answered node_of
   Kept-beside answers same carries = record {
     line = λ number line at. IsLineOf-same rank_of old new line (kept.line number line at) (λ list own. line_lists list (is_line-numbered lines number list (list_of lines number line at ∙ ap Some (sym own)))) (λ node in_line. rank_at-entry new node ∙ ap rank (same_entries node) ∙ sym (rank_at-entry old node));
     apart = kept.apart;
     answers = answers;
     off_lines = kept.off_lines;
     there = λ owner node has. same node ∙ kept.there owner node has;
-    names = λ owner node has. ap owner_of (same_entries node) ∙ kept.names owner node has;
+    names = λ owner node has. ap node_owner (same_entries node) ∙ kept.names owner node has;
     owned = λ node there. kept.owned node (sym (same node) ∙ there);
     once = kept.once;
     listed = λ list node at. elim (cases_Bool (is_line lines list)) [
       | inl is ↦
           let earlier : IsIn old list node = rw (ap (λ o. unwrap_or o []) (line_lists list is)) at at in
-          (λ apart. let clash : true ≡ false = sym is ∙ apart in absurd (cc), ap (λ entry. node_of (owner_of entry)) (same_entries node) ∙ (kept.listed list node earlier).1)
-      | inr apart ↦ let now = carries list node apart at in (λ again. now.0, ap (λ entry. node_of (owner_of entry)) (same_entries node) ∙ now.1)
+          (λ apart. let clash : true ≡ false = sym is ∙ apart in absurd (cc), ap (λ entry. node_of (node_owner entry)) (same_entries node) ∙ (kept.listed list node earlier).1)
+      | inr apart ↦ let now = carries list node apart at in (λ again. now.0, ap (λ entry. node_of (node_owner entry)) (same_entries node) ∙ now.1)
     ];
   }
 
@@ -55,7 +55,7 @@ module _ {answered : ℕ} (old new : Table Waiting) (lines : List Line) (node_of
       all : (some : List Line) → ((list : ℕ) → is_line some list ≡ true → is_line lines list ≡ true) → map (entries new) some ≡ map (entries old) some
       all [] within = refl
       all (line ∷ some) within =
-          let same : entries new line ≡ entries old line = ap (λ o. map (entry_at new) (unwrap_or o [])) (line_lists line.list (within line.list (first line some))) ∙ map-agree (entry_at new) (entry_at old) (nodes_of old line.list) (λ node at. same_entries node) in
+          let same : entries new line ≡ entries old line = ap (λ o. map (entry_of_node new) (unwrap_or o [])) (line_lists line.list (within line.list (first line some))) ∙ map-agree (entry_of_node new) (entry_of_node old) (nodes_of old line.list) (λ node at. same_entries node) in
           rw (same, all some (λ list is. within list (later line some list is))) refl
 
 pub equal_itself : (n : ℕ) → (n == n) ≡ true
@@ -68,11 +68,11 @@ abbrev pub value_of : Table Waiting → List Line → ℕ → List UserNodes →
 value_of t lines answered own = record { lines = map (entries t) lines; threads = threads_of own; servers = servers_of own; users = length own; room = t.room; pipes = waiting_lists t lines answered; answered = answered_calls t answered }
 
 -- a list that is no line's has other nodes, or is gone
-module _ {answered : ℕ} (old new : Table Waiting) (lines : List Line) (node_of : Owner → Option ℕ) (list : ℕ) (nodes : Option (List ℕ)) (kept : Kept old lines answered node_of) (moved : Moved old new list nodes) (off : is_line lines list ≡ false) where
+module _ {answered : ℕ} (old new : Table Waiting) (lines : List Line) (node_of : Owner → Option ℕ) (list : ℕ) (nodes : Option (List ℕ)) (kept : AreListsOfTable old lines answered node_of) (moved : Moved old new list nodes) (off : is_line lines list ≡ false) where
   line_lists : (other : ℕ) → is_line lines other ≡ true → maps.get new.lists other ≡ maps.get old.lists other
   line_lists other is = moved.lists other (λ same. let clash : true ≡ false = sym is ∙ ap (is_line lines) same ∙ off in cc)
 
-  pub Kept-moved : (list ≡ answered → is_some nodes ≡ true) → ((node : ℕ) → Contains (unwrap_or nodes []) node → Carries (list == answered) (waiting_at new node) × (node_of (owner_of (entry_at old node)) ≡ Some node)) → Kept new lines answered node_of
+  pub Kept-moved : (list ≡ answered → is_some nodes ≡ true) → ((node : ℕ) → Contains (unwrap_or nodes []) node → Carries (list == answered) (waiting_of_node new node) × (node_of (node_owner (entry_of_node old node)) ≡ Some node)) → AreListsOfTable new lines answered node_of
   Kept-moved there carries = Kept-beside old new lines node_of kept line_lists moved.entries answers moved.there (λ other node apart at. elim (eqb_tells other list) [
     | inl same ↦ let here : Contains (unwrap_or nodes []) node = rw (same.1, moved.here) at at in rw same.1 (carries node here)
     | inr differs ↦
@@ -102,7 +102,7 @@ module _ {answered : ℕ} (old new : Table Waiting) (lines : List Line) (node_of
     waiting_others other differs = get-waiting_lists new lines answered other ∙ elim (cases_Bool (is_pipes lines answered other)) [
       | inr not ↦ rw not (sym (get-waiting_lists old lines answered other ∙ rw not refl))
       | inl is ↦
-          rw (is, moved.lists other differs) (same_mapped (call_at new) (call_at old) (maps.get old.lists other) (λ node at. ap users_call (moved.stays other node differs at))
+          rw (is, moved.lists other differs) (same_mapped (call_at new) (call_at old) (maps.get old.lists other) (λ node at. ap users_call_carried (moved.stays other node differs at))
           ∙ sym (get-waiting_lists old lines answered other ∙ rw is refl))
     ]
 
@@ -133,21 +133,21 @@ module _ {answered : ℕ} (old new : Table Waiting) (lines : List Line) (node_of
       value-gone gone = same_queues shown-moved refl refl refl moved.room (waiting-gone gone) answered-moved
 
 -- others are answered, and the same wait
-module _ {answered : ℕ} (old new : Table Waiting) (lines : List Line) (node_of : Owner → Option ℕ) (nodes : List ℕ) (kept : Kept old lines answered node_of) (moved : Moved old new answered (Some nodes)) where
+module _ {answered : ℕ} (old new : Table Waiting) (lines : List Line) (node_of : Owner → Option ℕ) (nodes : List ℕ) (kept : AreListsOfTable old lines answered node_of) (moved : Moved old new answered (Some nodes)) where
   pub value-answered : (own : List UserNodes) (calls : List UsersAnswer) → map (given_at new) nodes ≡ calls → value_of new lines answered own ≡ record (value_of old lines answered own) { answered = calls }
   value-answered own calls is = same_queues (shown-moved old new lines node_of answered (Some nodes) kept moved kept.off_lines) refl refl refl moved.room
       (same_waiting old new lines lines answered (λ list. refl) (λ list pipes. moved.lists list (pipes_apart lines answered list pipes).1) (λ list node pipes at. moved.stays list node (pipes_apart lines answered list pipes).1 at))
       (ap (λ o. map (given_at new) (unwrap_or o [])) moved.here ∙ is)
 
 -- one list gets other nodes, and one node, which stands in no other list, carries something else
-module _ (old new : Table Waiting) (list node : ℕ) (nodes : List ℕ) (load : Load) (is : new ≡ with_value (with_nodes old list nodes) node (carrying (entry_at old node) load)) (there : ContainsNode old node) where
-  values_are : new.values ≡ maps.insert old.values node (carrying (entry_at old node) load)
+module _ (old new : Table Waiting) (list node : ℕ) (nodes : List ℕ) (load : Load) (is : new ≡ with_value (with_nodes old list nodes) node (carrying (entry_of_node old node) load)) (there : ContainsNode old node) where
+  values_are : new.values ≡ maps.insert old.values node (carrying (entry_of_node old node) load)
   values_are = ap (λ t. t.values) is
 
-  pub stays-other : (other : ℕ) → other ≢ node → waiting_at new other ≡ waiting_at old other
+  pub stays-other : (other : ℕ) → other ≢ node → waiting_of_node new other ≡ waiting_of_node old other
   stays-other = waiting-other old new node (inserted old new _ _ values_are)
 
-  pub carries-then : waiting_at new node ≡ carrying (entry_at old node) load
+  pub carries-then : waiting_of_node new node ≡ carrying (entry_of_node old node) load
   carries-then = waiting-same old new node _ values_are
 
   pub Moved-one : ((other : ℕ) → other ≢ list → IsIn old other node → ⊥) → Moved old new list (Some nodes)
@@ -167,42 +167,42 @@ module _ (old new : Table Waiting) (list node : ℕ) (nodes : List ℕ) (load : 
   }
 
 -- a node leaves its list, and carries nothing any more
-module _ {answered : ℕ} (old new : Table Waiting) (lines : List Line) (node_of : Owner → Option ℕ) (list node : ℕ) (kept : Kept old lines answered node_of) (is : new ≡ with_value (with_nodes old list (without node (nodes_of old list))) node (idle (entry_at old node))) (at : IsIn old list node) (there : ContainsNode old node) (apart : (one two node : ℕ) → IsIn old one node → IsIn old two node → one ≡ two) where
+module _ {answered : ℕ} (old new : Table Waiting) (lines : List Line) (node_of : Owner → Option ℕ) (list node : ℕ) (kept : AreListsOfTable old lines answered node_of) (is : new ≡ with_value (with_nodes old list (without node (nodes_of old list))) node (idle (entry_of_node old node))) (at : IsIn old list node) (there : ContainsNode old node) (apart : (one two node : ℕ) → IsIn old one node → IsIn old two node → one ≡ two) where
   pub Moved-out : Moved old new list (Some (without node (nodes_of old list)))
   Moved-out = Moved-one old new list node (without node (nodes_of old list)) Nothing is there (λ other differs in_other. differs (apart other list node in_other at))
 
-  stays_left : (other : ℕ) → Contains (without node (nodes_of old list)) other → waiting_at new other ≡ waiting_at old other
+  stays_left : (other : ℕ) → Contains (without node (nodes_of old list)) other → waiting_of_node new other ≡ waiting_of_node old other
   stays_left other left = stays-other old new list node _ Nothing is there other (λ same. absent_without node (nodes_of old list) (rw same at left))
 
-  pub Kept-out : is_line lines list ≡ false → Kept new lines answered node_of
+  pub Kept-out : is_line lines list ≡ false → AreListsOfTable new lines answered node_of
   Kept-out off = Kept-moved old new lines node_of list _ kept Moved-out off (λ same. refl) (λ other left.
       let was = kept.listed list other (contains_without node other (nodes_of old list) left) in
       (rw (stays_left other left) (was.0 off), was.1))
 
-  pub left-out : {B : Type 0} (read : Waiting → B) → map (λ other. read (waiting_at new other)) (without node (nodes_of old list)) ≡ map (λ other. read (waiting_at old other)) (without node (nodes_of old list))
+  pub left-out : {B : Type 0} (read : Waiting → B) → map (λ other. read (waiting_of_node new other)) (without node (nodes_of old list)) ≡ map (λ other. read (waiting_of_node old other)) (without node (nodes_of old list))
   left-out read = map-agree _ _ _ (λ other left. ap read (stays_left other left))
 
 -- a free node of a thread's messages comes last into a list, and carries a call of the thread
-module _ {answered : ℕ} (old new : Table Waiting) (lines : List Line) (node_of : Owner → Option ℕ) (list node : ℕ) (load : Load) (kept : Kept old lines answered node_of) (is : new ≡ with_value (with_nodes old list (nodes_of old list ++ node ∷ [])) node (carrying (entry_at old node) load)) (free : IsFree old node) where
+module _ {answered : ℕ} (old new : Table Waiting) (lines : List Line) (node_of : Owner → Option ℕ) (list node : ℕ) (load : Load) (kept : AreListsOfTable old lines answered node_of) (is : new ≡ with_value (with_nodes old list (nodes_of old list ++ node ∷ [])) node (carrying (entry_of_node old node) load)) (free : IsFree old node) where
   pub Moved-in : Moved old new list (Some (nodes_of old list ++ node ∷ []))
   Moved-in = Moved-one old new list node (nodes_of old list ++ node ∷ []) load is free.there (λ other differs in_other. nowhere old free other in_other)
 
-  stays_before : (other : ℕ) → IsIn old list other → waiting_at new other ≡ waiting_at old other
+  stays_before : (other : ℕ) → IsIn old list other → waiting_of_node new other ≡ waiting_of_node old other
   stays_before other before = stays-other old new list node _ load is free.there other (λ same. nowhere old free list (rw same at before))
 
-  pub Kept-in : is_line lines list ≡ false → Carries (list == answered) (carrying (entry_at old node) load) → node_of (owner_of (entry_at old node)) ≡ Some node → Kept new lines answered node_of
+  pub Kept-in : is_line lines list ≡ false → Carries (list == answered) (carrying (entry_of_node old node) load) → node_of (node_owner (entry_of_node old node)) ≡ Some node → AreListsOfTable new lines answered node_of
   Kept-in off carries own = Kept-moved old new lines node_of list _ kept Moved-in off (λ same. refl) (λ other now. elim (Contains-push_cases (nodes_of old list) node other now) [
     | inl before ↦ let was = kept.listed list other before in (rw (stays_before other before) (was.0 off), was.1)
     | inr same ↦ rw (← same) (rw (carries-then old new list node _ load is free.there) carries, own)
   ])
 
-  pub more-in : {B : Type 0} (read : Waiting → B) → map (λ other. read (waiting_at new other)) (nodes_of old list ++ node ∷ []) ≡ map (λ other. read (waiting_at old other)) (nodes_of old list) ++ read (carrying (entry_at old node) load) ∷ []
+  pub more-in : {B : Type 0} (read : Waiting → B) → map (λ other. read (waiting_of_node new other)) (nodes_of old list ++ node ∷ []) ≡ map (λ other. read (waiting_of_node old other)) (nodes_of old list) ++ read (carrying (entry_of_node old node) load) ∷ []
   more-in read =
-      map-append (λ other. read (waiting_at new other)) (nodes_of old list) (node ∷ [])
+      map-append (λ other. read (waiting_of_node new other)) (nodes_of old list) (node ∷ [])
       ∙ ap₂ (λ before last. before ++ last ∷ []) (map-agree _ _ _ (λ other before. ap read (stays_before other before))) (ap read (carries-then old new list node _ load is free.there))
 
 -- a list that was not there is no line's and not that of the answered nodes
-pub list-new : {answered : ℕ} (old : Table Waiting) (lines : List Line) (node_of : Owner → Option ℕ) → Kept old lines answered node_of → (list : ℕ) → maps.get old.lists list ≡ None → (is_line lines list ≡ false) × (list ≢ answered)
+pub list-new : {answered : ℕ} (old : Table Waiting) (lines : List Line) (node_of : Owner → Option ℕ) → AreListsOfTable old lines answered node_of → (list : ℕ) → maps.get old.lists list ≡ None → (is_line lines list ≡ false) × (list ≢ answered)
 list-new {answered} old lines node_of kept list fresh = (
   elim (cases_Bool (is_line lines list)) [
     | inr off ↦ off

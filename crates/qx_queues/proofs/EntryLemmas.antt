@@ -16,7 +16,7 @@ use Rattle.qx_machine.specs.declared.rows.OwnItem.TheVariants as item
 use Rattle.qx_machine.specs.declared.rows.Queued.{Queued}
 use Rattle.qx_machine.specs.Lines.{into, line_at, with_line}
 use Rattle.qx_queues.specs.Queues.{pulse_call, first_field, is_same_thread, as_message, sender_of, own_field}
-use Rattle.qx_queues.specs.Kept.{nobodys, owner_in, owner_of}
+use Rattle.qx_queues.specs.Kept.{nobodys, owner_in, node_owner}
 use Rattle.qx_queues.specs.Waiting.{Waiting}
 use Rattle.qx_queues.specs.Nodes.{Disconnect, Message, Owner, Unblock}
 
@@ -100,8 +100,8 @@ or_none (Some x) = refl
 
 -- a thread's messages, or its unblock pulses, are told by an owner
 pub record Reads {A : Type 0} (part : OwnItem → Option A) (thread : Thread) (owner : Owner) : Type 0 where
-  pub of : (entry : Queued) → is_some (own_field part thread entry) ≡ true → owner_of entry ≡ owner
-  pub from : (entry : Queued) → owner_of entry ≡ owner → is_some (own_field part thread entry) ≡ true
+  pub of : (entry : Queued) → is_some (own_field part thread entry) ≡ true → node_owner entry ≡ owner
+  pub from : (entry : Queued) → node_owner entry ≡ owner → is_some (own_field part thread entry) ≡ true
 
 abbrev pub owned_thread : Owner → Thread → Thread
 owned_thread (Message thread) other = thread

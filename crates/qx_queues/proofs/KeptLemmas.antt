@@ -19,9 +19,9 @@ use Rattle.qx_machine.specs.declared.rows.OwnItem.TheVariants as item
 use Rattle.qx_machine.specs.declared.rows.Queued.{Queued}
 use Rattle.qx_machine.specs.Machine.{line_without, rank}
 use Rattle.qx_machine.specs.Lines.{into, line_at, with_line}
-use Rattle.qx_queues.specs.Queues.{IsGone, UsersAnswer, UsersCall, caller, has_call, is_answered, pulse_call, first_field, is_same_thread, as_message, no_other, sender, stands, own_field, unblock_call}
-use Rattle.qx_queues.specs.Kept.{Carries, HasLoad, Kept, PutIn, TakenOut, answered_calls, call_at, given_at, waiting_lists, entries, entry_at, is_line, list_at, named, owner_in, owner_of, users_call, waiting_at}
-use Rattle.qx_queues.specs.Waiting.{Answered, Load, Nothing, Waiting, Waits, caller_in, caller_of, carried, given_in, given_of, no_call, rank_of}
+use Rattle.qx_queues.specs.Queues.{IsGone, UsersAnswer, UsersCall, caller, has_call, has_answer_among, pulse_call, first_field, is_same_thread, as_message, no_other, sender, stands, own_field, unblock_call}
+use Rattle.qx_queues.specs.Kept.{Carries, HasLoad, AreListsOfTable, PutIn, TakenOut, answered_calls, call_at, given_at, waiting_lists, entries, entry_of_node, is_line, list_of_line, named, owner_in, node_owner, users_call_carried, waiting_of_node}
+use Rattle.qx_queues.specs.Waiting.{Answered, Load, Nothing, Waiting, Waits, thread_of_load, thread_carried, carried, given_in, given_of, no_call, rank_of}
 use Rattle.qx_queues.specs.Nodes.{Disconnect, Message, Owner, Unblock}
 use Rattle.qx_queues.proofs.BesideLemmas.{SameCalls, is_line-more, is_line-numbered, is_line-set, line_numbered, nodes_waiting, same_calls}
 use Rattle.qx_queues.proofs.EntryLemmas.{Reads, differs_from, is_same_thread-self, or_true, owned_thread, reads-call, reads-message, some_of, field-entry, field-find, field-part}
@@ -50,12 +50,12 @@ slice_get-more (z ∷ zs) x y (suc i) is = elim (slice_get-more zs x y i is) [
 ]
 
 -- the line of a number whose list is known
-pub line_of : (lines : List Line) (number list : ℕ) → list_at lines number ≡ Some list → (line : Line) × ((slice_get lines number ≡ Some line) × (line.list ≡ list))
+pub line_of : (lines : List Line) (number list : ℕ) → list_of_line lines number ≡ Some list → (line : Line) × ((slice_get lines number ≡ Some line) × (line.list ≡ list))
 line_of [] number list is = absurd (none_some list None refl is)
 line_of (line ∷ lines) zero list is = (line, (refl, same_Some line.list list is))
 line_of (line ∷ lines) (suc number) list is = line_of lines number list is
 
-pub list_of : (lines : List Line) (number : ℕ) (line : Line) → slice_get lines number ≡ Some line → list_at lines number ≡ Some line.list
+pub list_of : (lines : List Line) (number : ℕ) (line : Line) → slice_get lines number ≡ Some line → list_of_line lines number ≡ Some line.list
 list_of lines number line is = ap (option_map (λ l. l.list)) is
 
 -- the items of the line of a number
@@ -63,7 +63,7 @@ pub line_at-shown : (t : Table Waiting) (lines : List Line) (number : ℕ) (line
 line_at-shown t lines number line is = ap (λ o. unwrap_or o []) (slice_get-map (entries t) lines number ∙ ap (option_map (entries t)) is)
 
 -- a line that changes keeps its list
-list_at-set : (before after : Line) → after.list ≡ before.list → (lines : List Line) (number other : ℕ) → slice_get lines number ≡ Some before → list_at (slice_set lines number after) other ≡ list_at lines other
+list_at-set : (before after : Line) → after.list ≡ before.list → (lines : List Line) (number other : ℕ) → slice_get lines number ≡ Some before → list_of_line (slice_set lines number after) other ≡ list_of_line lines other
 list_at-set before after own [] number other is = refl
 list_at-set before after own (line ∷ lines) zero zero is = ap Some (own ∙ ap (λ l. l.list) (sym (same_Some line before is)))
 list_at-set before after own (line ∷ lines) zero (suc other) is = refl
@@ -86,7 +86,7 @@ shown-kept old new [] same = refl
 shown-kept old new (line ∷ lines) same = rw (same line, shown-kept old new lines same) refl
 
 -- the same nodes in another room
-pub Kept-room : {answered : ℕ} (old new : Table Waiting) (lines : List Line) (node_of : Owner → Option ℕ) → new.lists ≡ old.lists → new.values ≡ old.values → Kept old lines answered node_of → Kept new lines answered node_of
+pub Kept-room : {answered : ℕ} (old new : Table Waiting) (lines : List Line) (node_of : Owner → Option ℕ) → new.lists ≡ old.lists → new.values ≡ old.values → AreListsOfTable old lines answered node_of → AreListsOfTable new lines answered node_of
 Kept-room old new lines node_of same_lists values kept = record {
   line = λ number line at. IsLineOf-same rank_of old new line (kept.line number line at) (λ list own. rw same_lists refl) (λ node in_line. rw values refl);
   apart = kept.apart;
@@ -100,53 +100,53 @@ Kept-room old new lines node_of same_lists values kept = record {
 }
 
 -- the same nodes of the same owners
-pub Kept-owners : {answered : ℕ} (t : Table Waiting) (lines : List Line) (node_of after : Owner → Option ℕ) → ((owner : Owner) → after owner ≡ node_of owner) → Kept t lines answered node_of → Kept t lines answered after
+pub Kept-owners : {answered : ℕ} (t : Table Waiting) (lines : List Line) (node_of after : Owner → Option ℕ) → ((owner : Owner) → after owner ≡ node_of owner) → AreListsOfTable t lines answered node_of → AreListsOfTable t lines answered after
 Kept-owners {answered} t lines node_of after same kept =
     let all : node_of ≡ after = λ i owner. sym (same owner) i in
-    subst (Kept t lines answered) all kept
+    subst (AreListsOfTable t lines answered) all kept
 
 not_disconnect : (thread : Thread) (it : OwnItem) (proc : Proc) (number : ℕ) → owner_in thread it ≡ Disconnect proc number → ⊥
 not_disconnect thread (item.Message process n) proc number is = cc
 not_disconnect thread (item.Unblock process n call) proc number is = cc
 
 -- a node of unblock pulses carries no call
-pub no_call-unblock : {answered : ℕ} (t : Table Waiting) (lines : List Line) (node_of : Owner → Option ℕ) (thread : Thread) (node : ℕ) → Kept t lines answered node_of → node_of (Unblock thread) ≡ Some node → (list : ℕ) → IsIn t list node → is_line lines list ≡ false → Carries (list == answered) (waiting_at t node) → ⊥
-no_call-unblock t lines node_of thread node kept has list at apart carries = let clash : Message (caller_of (waiting_at t node)) ≡ Unblock thread = sym carries.own ∙ kept.names (Unblock thread) node has in cc
+pub no_call-unblock : {answered : ℕ} (t : Table Waiting) (lines : List Line) (node_of : Owner → Option ℕ) (thread : Thread) (node : ℕ) → AreListsOfTable t lines answered node_of → node_of (Unblock thread) ≡ Some node → (list : ℕ) → IsIn t list node → is_line lines list ≡ false → Carries (list == answered) (waiting_of_node t node) → ⊥
+no_call-unblock t lines node_of thread node kept has list at apart carries = let clash : Message (thread_carried (waiting_of_node t node)) ≡ Unblock thread = sym carries.own ∙ kept.names (Unblock thread) node has in cc
 
 -- whose the call is that waits with a node, and whose the answer that it carries
-waits-caller : (user : ℕ) (load : Load) → HasLoad false load → caller_in user load ≡ caller (record { user = user; call = unwrap_or (carried load) no_call })
+waits-caller : (user : ℕ) (load : Load) → HasLoad false load → thread_of_load user load ≡ caller (record { user = user; call = unwrap_or (carried load) no_call })
 waits-caller user Nothing has = absurd has
 waits-caller user (Waits call) has = refl
 waits-caller user (Answered given) has = absurd has
 
-answered-caller : (user : ℕ) (load : Load) → HasLoad true load → caller_in user load ≡ (given_in load).thread
+answered-caller : (user : ℕ) (load : Load) → HasLoad true load → thread_of_load user load ≡ (given_in load).thread
 answered-caller user Nothing has = absurd has
 answered-caller user (Waits call) has = absurd has
 answered-caller user (Answered given) has = refl
 
-pub waits-owner : (waiting : Waiting) → Carries false waiting → owner_of waiting.queued ≡ Message (caller (users_call waiting))
+pub waits-owner : (waiting : Waiting) → Carries false waiting → node_owner waiting.queued ≡ Message (caller (users_call_carried waiting))
 waits-owner waiting carries = carries.own ∙ ap Message (waits-caller waiting.queued.user.0 waiting.load carries.load)
 
-pub answered-owner : (waiting : Waiting) → Carries true waiting → owner_of waiting.queued ≡ Message (given_of waiting).thread
+pub answered-owner : (waiting : Waiting) → Carries true waiting → node_owner waiting.queued ≡ Message (given_of waiting).thread
 answered-owner waiting carries = carries.own ∙ ap Message (answered-caller waiting.queued.user.0 waiting.load carries.load)
 
 -- nor does the node of a thread's messages, where none of the thread waits or was answered
-module _ {answered : ℕ} (t : Table Waiting) (lines : List Line) (node_of : Owner → Option ℕ) (thread : Thread) (node : ℕ) (kept : Kept t lines answered node_of) (has : node_of (Message thread) ≡ Some node) where
-  of_thread : (own : Thread) → owner_of (entry_at t node) ≡ Message own → is_same_thread own thread ≡ true
+module _ {answered : ℕ} (t : Table Waiting) (lines : List Line) (node_of : Owner → Option ℕ) (thread : Thread) (node : ℕ) (kept : AreListsOfTable t lines answered node_of) (has : node_of (Message thread) ≡ Some node) where
+  of_thread : (own : Thread) → node_owner (entry_of_node t node) ≡ Message own → is_same_thread own thread ≡ true
   of_thread own is = ap (λ other. is_same_thread other thread) (ap (λ owner. owned_thread owner thread) (sym is ∙ kept.names (Message thread) node has)) ∙ is_same_thread-self thread
 
-  pub no_call-message : ((list : ℕ) → has_call (unwrap_or (maps.get (waiting_lists t lines answered) list) []) thread ≡ false) → is_answered (answered_calls t answered) thread ≡ false → (list : ℕ) → IsIn t list node → is_line lines list ≡ false → Carries (list == answered) (waiting_at t node) → ⊥
+  pub no_call-message : ((list : ℕ) → has_call (unwrap_or (maps.get (waiting_lists t lines answered) list) []) thread ≡ false) → has_answer_among (answered_calls t answered) thread ≡ false → (list : ℕ) → IsIn t list node → is_line lines list ≡ false → Carries (list == answered) (waiting_of_node t node) → ⊥
   no_call-message waiting unanswered list at apart carries = elim (eqb_tells list answered) [
     | inl same ↦
         let here : Contains (nodes_of t answered) node = rw same.1 at at in
-        let now : Carries true (waiting_at t node) = rw same.0 at carries in
-        let stands : is_answered (answered_calls t answered) thread ≡ true = is_answered-given (given_at t) (nodes_of t answered) here (of_thread (given_at t node).thread (answered-owner (waiting_at t node) now)) in
+        let now : Carries true (waiting_of_node t node) = rw same.0 at carries in
+        let stands : has_answer_among (answered_calls t answered) thread ≡ true = is_answered-given (given_at t) (nodes_of t answered) here (of_thread (given_at t node).thread (answered-owner (waiting_of_node t node) now)) in
         let clash : true ≡ false = sym stands ∙ unanswered in
         cc
     | inr differs ↦
         let shown : unwrap_or (maps.get (waiting_lists t lines answered) list) [] ≡ map (call_at t) (nodes_of t list) = nodes_waiting t lines answered list differs.0 apart in
-        let now : Carries false (waiting_at t node) = rw differs.0 at carries in
-        let stands : has_call (unwrap_or (maps.get (waiting_lists t lines answered) list) []) thread ≡ true = rw shown (has_call-waits (call_at t) (nodes_of t list) at (of_thread (caller (call_at t node)) (waits-owner (waiting_at t node) now))) in
+        let now : Carries false (waiting_of_node t node) = rw differs.0 at carries in
+        let stands : has_call (unwrap_or (maps.get (waiting_lists t lines answered) list) []) thread ≡ true = rw shown (has_call-waits (call_at t) (nodes_of t list) at (of_thread (caller (call_at t node)) (waits-owner (waiting_of_node t node) now))) in
         let clash : true ≡ false = sym stands ∙ waiting list in
         cc
   ]
@@ -158,7 +158,7 @@ module _ {answered : ℕ} (t : Table Waiting) (lines : List Line) (node_of : Own
         | inr later ↦ rw (has_call-waits f xs later is) (or_true (is_same_thread (caller (f x)) thread))
       ]
 
-      is_answered-given : (f : ℕ → UsersAnswer) (nodes : List ℕ) → Contains nodes node → is_same_thread (f node).thread thread ≡ true → is_answered (map f nodes) thread ≡ true
+      is_answered-given : (f : ℕ → UsersAnswer) (nodes : List ℕ) → Contains nodes node → is_same_thread (f node).thread thread ≡ true → has_answer_among (map f nodes) thread ≡ true
       is_answered-given f [] at is = absurd (omega (arith, at.1))
       is_answered-given f (x ∷ xs) at is = elim (contains_cases x node xs at) [
         | inl first ↦ rw (sym first, is) refl
@@ -166,19 +166,19 @@ module _ {answered : ℕ} (t : Table Waiting) (lines : List Line) (node_of : Own
       ]
 
 -- a disconnect node stands in no list
-pub IsFree-disconnect : {answered : ℕ} (t : Table Waiting) (lines : List Line) (node_of : Owner → Option ℕ) (proc : Proc) (number node : ℕ) → Kept t lines answered node_of → node_of (Disconnect proc number) ≡ Some node → IsFree t node
+pub IsFree-disconnect : {answered : ℕ} (t : Table Waiting) (lines : List Line) (node_of : Owner → Option ℕ) (proc : Proc) (number node : ℕ) → AreListsOfTable t lines answered node_of → node_of (Disconnect proc number) ≡ Some node → IsFree t node
 IsFree-disconnect t lines node_of proc number node kept has = record {
   there = kept.there (Disconnect proc number) node has;
-  in_no_list = nowhere_from t.lists node (λ list at. not_disconnect _ _ proc number (kept.once (Disconnect proc number) (owner_of (entry_at t node)) node has (kept.listed list node at).1));
+  in_no_list = nowhere_from t.lists node (λ list at. not_disconnect _ _ proc number (kept.once (Disconnect proc number) (node_owner (entry_of_node t node)) node has (kept.listed list node at).1));
 }
 
 -- what a line tells of a thread is told by the node of its messages or of its unblock pulses
-module _ {A : Type 0} {answered : ℕ} (part : OwnItem → Option A) (thread : Thread) (owner : Owner) (reads : Reads part thread owner) (t : Table Waiting) (lines : List Line) (node_of : Owner → Option ℕ) (kept : Kept t lines answered node_of) where
-  found-own : (a : A) (line : Line) (xs : List ℕ) → ((x : ℕ) → Contains xs x → IsInLine t line x) → first_field part thread (map (entry_at t) xs) ≡ Some a → (x : ℕ) × (Contains xs x × ((node_of owner ≡ Some x) × (part (entry_at t x).item ≡ Some a)))
+module _ {A : Type 0} {answered : ℕ} (part : OwnItem → Option A) (thread : Thread) (owner : Owner) (reads : Reads part thread owner) (t : Table Waiting) (lines : List Line) (node_of : Owner → Option ℕ) (kept : AreListsOfTable t lines answered node_of) where
+  found-own : (a : A) (line : Line) (xs : List ℕ) → ((x : ℕ) → Contains xs x → IsInLine t line x) → first_field part thread (map (entry_of_node t) xs) ≡ Some a → (x : ℕ) × (Contains xs x × ((node_of owner ≡ Some x) × (part (entry_of_node t x).item ≡ Some a)))
   found-own a line xs members is =
-      let found = field-find (entry_at t) part thread a xs is in
-      let own = reads.of (entry_at t found.0) (ap is_some found.1.1) in
-      (found.0, (found.1.0, (ap node_of (sym own) ∙ (kept.listed line.list found.0 (members found.0 found.1.0)).1, field-part (is_same_thread (sender (entry_at t found.0)) thread) (part (entry_at t found.0).item) a found.1.1)))
+      let found = field-find (entry_of_node t) part thread a xs is in
+      let own = reads.of (entry_of_node t found.0) (ap is_some found.1.1) in
+      (found.0, (found.1.0, (ap node_of (sym own) ∙ (kept.listed line.list found.0 (members found.0 found.1.0)).1, field-part (is_same_thread (sender (entry_of_node t found.0)) thread) (part (entry_of_node t found.0).item) a found.1.1)))
 
   pub stands-owned : (number : ℕ) → is_some (first_field part thread (line_at (map (entries t) lines) number)) ≡ true → node_of owner ≡ None → ⊥
   stands-owned number some none =
@@ -193,12 +193,12 @@ module _ {A : Type 0} {answered : ℕ} (part : OwnItem → Option A) (thread : T
       line_there (line ∷ lines) (suc number) some = line_there lines number some
 
 -- what the lines tell of a thread, and the node of its messages or of its unblock pulses
-module _ {A : Type 0} {answered : ℕ} (part : OwnItem → Option A) (thread : Thread) (owner : Owner) (reads : Reads part thread owner) (own_name : named owner ≡ owner) (t : Table Waiting) (lines : List Line) (node_of : Owner → Option ℕ) (node : ℕ) (kept : Kept t lines answered node_of) (has : node_of owner ≡ Some node) where
-  tells : is_some (own_field part thread (entry_at t node)) ≡ true
-  tells = reads.from (entry_at t node) (kept.names owner node has ∙ own_name)
+module _ {A : Type 0} {answered : ℕ} (part : OwnItem → Option A) (thread : Thread) (owner : Owner) (reads : Reads part thread owner) (own_name : named owner ≡ owner) (t : Table Waiting) (lines : List Line) (node_of : Owner → Option ℕ) (node : ℕ) (kept : AreListsOfTable t lines answered node_of) (has : node_of owner ≡ Some node) where
+  tells : is_some (own_field part thread (entry_of_node t node)) ≡ true
+  tells = reads.from (entry_of_node t node) (kept.names owner node has ∙ own_name)
 
   -- where nothing is told of the thread, the node stands in no list, unless it carries a call
-  pub IsFree-own : ((number : ℕ) → is_some (first_field part thread (line_at (map (entries t) lines) number)) ≡ false) → ((list : ℕ) → IsIn t list node → is_line lines list ≡ false → Carries (list == answered) (waiting_at t node) → ⊥) → IsFree t node
+  pub IsFree-own : ((number : ℕ) → is_some (first_field part thread (line_at (map (entries t) lines) number)) ≡ false) → ((list : ℕ) → IsIn t list node → is_line lines list ≡ false → Carries (list == answered) (waiting_of_node t node) → ⊥) → IsFree t node
   IsFree-own idle no_call = record {
     there = kept.there owner node has;
     in_no_list = nowhere_from t.lists node (λ list at. elim (cases_Bool (is_line lines list)) [
@@ -207,13 +207,13 @@ module _ {A : Type 0} {answered : ℕ} (part : OwnItem → Option A) (thread : T
           let of = line_numbered lines list is in
           let line = line_of lines of.0 list of.1 in
           let here : Contains (nodes_in t line.0) node = rw (← line.1.1) at at in
-          let in_line : is_some (first_field part thread (entries t line.0)) ≡ true = field-entry (entry_at t) part thread (nodes_in t line.0) node here tells in
+          let in_line : is_some (first_field part thread (entries t line.0)) ≡ true = field-entry (entry_of_node t) part thread (nodes_in t line.0) node here tells in
           let clash : true ≡ false = sym in_line ∙ ap (λ l. is_some (first_field part thread l)) (sym (line_at-shown t lines of.0 line.0 line.1.0)) ∙ idle of.0 in
           absurd (cc)
     ]);
   }
 
-  only : (x : ℕ) → node_of (owner_of (entry_at t x)) ≡ Some x → owner_of (entry_at t x) ≡ owner → x ≡ node
+  only : (x : ℕ) → node_of (node_owner (entry_of_node t x)) ≡ Some x → node_owner (entry_of_node t x) ≡ owner → x ≡ node
   only x own is = some_same x node (node_of owner) (ap node_of (sym is) ∙ own) has
 
   -- where something is, the node stands in that line
@@ -224,58 +224,58 @@ module _ {A : Type 0} {answered : ℕ} (part : OwnItem → Option A) (thread : T
       let same : found.0 ≡ node = some_same found.0 node (node_of owner) found.1.1.0 has in
       rw (← same) found.1.0
 
-  pub part-own : (a : A) (line : Line) → first_field part thread (entries t line) ≡ Some a → part (entry_at t node).item ≡ Some a
+  pub part-own : (a : A) (line : Line) → first_field part thread (entries t line) ≡ Some a → part (entry_of_node t node).item ≡ Some a
   part-own a line is =
       let found = found-own part thread owner reads t lines node_of kept a line (nodes_in t line) (λ x at. at) is in
       let same : found.0 ≡ node = some_same found.0 node (node_of owner) found.1.1.0 has in
       rw (← same) found.1.1.1
 
   -- once the node is gone, nothing is told of the thread
-  pub gone-own : (line : Line) (xs : List ℕ) → ((x : ℕ) → Contains xs x → IsInLine t line x) → (Contains xs node → ⊥) → is_some (first_field part thread (map (entry_at t) xs)) ≡ false
-  gone-own line xs members gone = elim (cases_Bool (is_some (first_field part thread (map (entry_at t) xs)))) [
+  pub gone-own : (line : Line) (xs : List ℕ) → ((x : ℕ) → Contains xs x → IsInLine t line x) → (Contains xs node → ⊥) → is_some (first_field part thread (map (entry_of_node t) xs)) ≡ false
+  gone-own line xs members gone = elim (cases_Bool (is_some (first_field part thread (map (entry_of_node t) xs)))) [
     | inr none ↦ none
     | inl some ↦
-        let told = some_of (first_field part thread (map (entry_at t) xs)) some in
+        let told = some_of (first_field part thread (map (entry_of_node t) xs)) some in
         let found = found-own part thread owner reads t lines node_of kept told.0 line xs members told.1 in
         let same : found.0 ≡ node = some_same found.0 node (node_of owner) found.1.1.0 has in
         absurd (gone (rw (← same) found.1.0))
   ]
 
   -- a user's item goes as the node that stands for it does
-  items-without : (line : Line) (user : ℕ) (it : OwnItem) → IsDistinct nat_eq (nodes_in t line) → is_this user it (entry_at t node) ≡ true → ((entry : Queued) → is_this user it entry ≡ true → owner_of entry ≡ owner) → map (entry_at t) (without node (nodes_in t line)) ≡ line_without user it (entries t line)
-  items-without line user it distinct this names = without-map (entry_at t) user it node (nodes_in t line) distinct (λ x at. elim (eqb_tells x node) [
-    | inl same ↦ rw same.0 (ap (λ y. is_this user it (entry_at t y)) same.1 ∙ this)
-    | inr differs ↦ rw differs.0 (elim (cases_Bool (is_this user it (entry_at t x))) [
+  items-without : (line : Line) (user : ℕ) (it : OwnItem) → IsDistinct nat_eq (nodes_in t line) → is_this user it (entry_of_node t node) ≡ true → ((entry : Queued) → is_this user it entry ≡ true → node_owner entry ≡ owner) → map (entry_of_node t) (without node (nodes_in t line)) ≡ line_without user it (entries t line)
+  items-without line user it distinct this names = without-map (entry_of_node t) user it node (nodes_in t line) distinct (λ x at. elim (eqb_tells x node) [
+    | inl same ↦ rw same.0 (ap (λ y. is_this user it (entry_of_node t y)) same.1 ∙ this)
+    | inr differs ↦ rw differs.0 (elim (cases_Bool (is_this user it (entry_of_node t x))) [
       | inr other ↦ other
-      | inl is ↦ absurd (differs.1 (only x (kept.listed line.list x at).1 (names (entry_at t x) is)))
+      | inl is ↦ absurd (differs.1 (only x (kept.listed line.list x at).1 (names (entry_of_node t x) is)))
     ])
   ])
 
   -- where the node stands for another item, that item is in no line
-  items-other : (line : Line) (user : ℕ) (it : OwnItem) → is_this user it (entry_at t node) ≡ false → ((entry : Queued) → is_this user it entry ≡ true → owner_of entry ≡ owner) → line_without user it (entries t line) ≡ entries t line
-  items-other line user it not names = without-absent (entry_at t) user it (nodes_in t line) (λ x at. elim (cases_Bool (is_this user it (entry_at t x))) [
+  items-other : (line : Line) (user : ℕ) (it : OwnItem) → is_this user it (entry_of_node t node) ≡ false → ((entry : Queued) → is_this user it entry ≡ true → node_owner entry ≡ owner) → line_without user it (entries t line) ≡ entries t line
+  items-other line user it not names = without-absent (entry_of_node t) user it (nodes_in t line) (λ x at. elim (cases_Bool (is_this user it (entry_of_node t x))) [
     | inr other ↦ other
     | inl is ↦
-        let same = only x (kept.listed line.list x at).1 (names (entry_at t x) is) in
-        let clash : true ≡ false = sym is ∙ ap (λ y. is_this user it (entry_at t y)) same ∙ not in
+        let same = only x (kept.listed line.list x at).1 (names (entry_of_node t x) is) in
+        let clash : true ≡ false = sym is ∙ ap (λ y. is_this user it (entry_of_node t y)) same ∙ not in
         absurd (cc)
   ])
 
 -- a thread's message goes out of a line as its node does, and so does the pulse that names a call
-module _ {answered : ℕ} (t : Table Waiting) (lines : List Line) (node_of : Owner → Option ℕ) (thread : Thread) (node : ℕ) (kept : Kept t lines answered node_of) (line : Line) where
-  pub message-leaves : node_of (Message thread) ≡ Some node → IsDistinct nat_eq (nodes_in t line) → map (entry_at t) (without node (nodes_in t line)) ≡ line_without thread.proc.user.0 (item.Message thread.proc.num thread.tid) (entries t line)
+module _ {answered : ℕ} (t : Table Waiting) (lines : List Line) (node_of : Owner → Option ℕ) (thread : Thread) (node : ℕ) (kept : AreListsOfTable t lines answered node_of) (line : Line) where
+  pub message-leaves : node_of (Message thread) ≡ Some node → IsDistinct nat_eq (nodes_in t line) → map (entry_of_node t) (without node (nodes_in t line)) ≡ line_without thread.proc.user.0 (item.Message thread.proc.num thread.tid) (entries t line)
   message-leaves has distinct = items-without as_message thread (Message thread) (reads-message thread) refl t lines node_of node kept has line thread.proc.user.0 (item.Message thread.proc.num thread.tid) distinct
-      (this-message thread (entry_at t node) (kept.names (Message thread) node has)) (λ entry at. owner-this thread.proc.user.0 (item.Message thread.proc.num thread.tid) entry at)
+      (this-message thread (entry_of_node t node) (kept.names (Message thread) node has)) (λ entry at. owner-this thread.proc.user.0 (item.Message thread.proc.num thread.tid) entry at)
 
   module _ (has : node_of (Unblock thread) ≡ Some node) (call : ℕ) where
-    pub pulse-leaves : pulse_call (entry_at t node).item ≡ Some call → IsDistinct nat_eq (nodes_in t line) → map (entry_at t) (without node (nodes_in t line)) ≡ line_without thread.proc.user.0 (item.Unblock thread.proc.num thread.tid call) (entries t line)
+    pub pulse-leaves : pulse_call (entry_of_node t node).item ≡ Some call → IsDistinct nat_eq (nodes_in t line) → map (entry_of_node t) (without node (nodes_in t line)) ≡ line_without thread.proc.user.0 (item.Unblock thread.proc.num thread.tid call) (entries t line)
     pulse-leaves names distinct = items-without pulse_call thread (Unblock thread) (reads-call thread) refl t lines node_of node kept has line thread.proc.user.0 (item.Unblock thread.proc.num thread.tid call) distinct
-        (this-unblock thread call (entry_at t node) (kept.names (Unblock thread) node has) names) (λ entry at. owner-this thread.proc.user.0 (item.Unblock thread.proc.num thread.tid call) entry at)
+        (this-unblock thread call (entry_of_node t node) (kept.names (Unblock thread) node has) names) (λ entry at. owner-this thread.proc.user.0 (item.Unblock thread.proc.num thread.tid call) entry at)
 
     -- where the pulse names another call, nothing goes
-    pub pulse-stays : (other : ℕ) → pulse_call (entry_at t node).item ≡ Some other → other ≢ call → line_without thread.proc.user.0 (item.Unblock thread.proc.num thread.tid call) (entries t line) ≡ entries t line
+    pub pulse-stays : (other : ℕ) → pulse_call (entry_of_node t node).item ≡ Some other → other ≢ call → line_without thread.proc.user.0 (item.Unblock thread.proc.num thread.tid call) (entries t line) ≡ entries t line
     pulse-stays other names differs = items-other pulse_call thread (Unblock thread) (reads-call thread) refl t lines node_of node kept has line thread.proc.user.0 (item.Unblock thread.proc.num thread.tid call)
-        (other-unblock thread call other (entry_at t node) names differs) (λ entry at. owner-this thread.proc.user.0 (item.Unblock thread.proc.num thread.tid call) entry at)
+        (other-unblock thread call other (entry_of_node t node) names differs) (λ entry at. owner-this thread.proc.user.0 (item.Unblock thread.proc.num thread.tid call) entry at)
 
 -- what holds of no items and of the items of each line, holds of the line of each number
 pub at_any : (t : Table Waiting) (P : List Queued → Type 0) → P [] → ((line : Line) → P (entries t line)) → (lines : List Line) (number : ℕ) → P (line_at (map (entries t) lines) number)
@@ -284,17 +284,17 @@ at_any t P none all (line ∷ lines) zero = all line
 at_any t P none all (line ∷ lines) (suc number) = at_any t P none all lines number
 
 -- a pulse that names another call
-module _ {answered : ℕ} (t : Table Waiting) (lines : List Line) (node_of : Owner → Option ℕ) (thread : Thread) (node : ℕ) (kept : Kept t lines answered node_of) (has : node_of (Unblock thread) ≡ Some node) (call other number : ℕ) (names : pulse_call (entry_at t node).item ≡ Some other) (differs : other ≢ call) where
+module _ {answered : ℕ} (t : Table Waiting) (lines : List Line) (node_of : Owner → Option ℕ) (thread : Thread) (node : ℕ) (kept : AreListsOfTable t lines answered node_of) (has : node_of (Unblock thread) ≡ Some node) (call other number : ℕ) (names : pulse_call (entry_of_node t node).item ≡ Some other) (differs : other ≢ call) where
   pub other-stays : line_without thread.proc.user.0 (item.Unblock thread.proc.num thread.tid call) (line_at (map (entries t) lines) number) ≡ line_at (map (entries t) lines) number
   other-stays = at_any t (λ l. line_without thread.proc.user.0 (item.Unblock thread.proc.num thread.tid call) l ≡ l) refl (λ line. pulse-stays t lines node_of thread node kept line has call other names differs) lines number
 
   pub other-field : unblock_call (line_at (map (entries t) lines) number) thread ≢ Some call
   other-field is =
-      let part : pulse_call (entry_at t node).item ≡ Some call = at_any t (λ l. unblock_call l thread ≡ Some call → pulse_call (entry_at t node).item ≡ Some call) (λ none. absurd (none_some call None refl none)) (λ line is. part-own pulse_call thread (Unblock thread) (reads-call thread) refl t lines node_of node kept has call line is) lines number is in
-      differs (some_same other call (pulse_call (entry_at t node).item) names part)
+      let part : pulse_call (entry_of_node t node).item ≡ Some call = at_any t (λ l. unblock_call l thread ≡ Some call → pulse_call (entry_of_node t node).item ≡ Some call) (λ none. absurd (none_some call None refl none)) (λ line is. part-own pulse_call thread (Unblock thread) (reads-call thread) refl t lines node_of node kept has call line is) lines number is in
+      differs (some_same other call (pulse_call (entry_of_node t node).item) names part)
 
 -- one line changes
-module _ {answered : ℕ} (old new : Table Waiting) (lines : List Line) (number : ℕ) (before after : Line) (node_of : Owner → Option ℕ) (kept : Kept old lines answered node_of) (is : slice_get lines number ≡ Some before) (own : after.list ≡ before.list) (elsewhere : (list : ℕ) → (IsOwn before list → ⊥) → maps.get new.lists list ≡ maps.get old.lists list) where
+module _ {answered : ℕ} (old new : Table Waiting) (lines : List Line) (number : ℕ) (before after : Line) (node_of : Owner → Option ℕ) (kept : AreListsOfTable old lines answered node_of) (is : slice_get lines number ≡ Some before) (own : after.list ≡ before.list) (elsewhere : (list : ℕ) → (IsOwn before list → ⊥) → maps.get new.lists list ≡ maps.get old.lists list) where
   not_own : (other : ℕ) (line : Line) → other ≢ number → slice_get lines other ≡ Some line → line.list ≢ before.list
   not_own other line differs at same = differs (kept.apart other number line.list (list_of lines other line at) (list_of lines number before is ∙ ap Some (sym same)))
 
@@ -304,13 +304,13 @@ module _ {answered : ℕ} (old new : Table Waiting) (lines : List Line) (number 
   off_line : (list : ℕ) → is_line lines list ≡ false → IsOwn before list → ⊥
   off_line list apart here = let clash : true ≡ false = sym (is_line-numbered lines number list (list_of lines number before is ∙ ap Some (sym here))) ∙ apart in cc
 
-  calls-changed : ((list node : ℕ) → IsIn old list node → waiting_at new node ≡ waiting_at old node) → SameCalls old new lines (slice_set lines number after) answered
+  calls-changed : ((list node : ℕ) → IsIn old list node → waiting_of_node new node ≡ waiting_of_node old node) → SameCalls old new lines (slice_set lines number after) answered
   calls-changed same_waiting = same_calls old new lines (slice_set lines number after) answered same_lines kept.off_lines (record {
     lists = λ list apart. elsewhere list (off_line list apart);
     nodes = same_waiting;
   })
 
-  changed : IsLineOf rank_of new after → ((line : Line) → IsLineOf rank_of old line → maps.get new.lists line.list ≡ maps.get old.lists line.list → IsLineOf rank_of new line) → ((node : ℕ) → is_some (maps.get new.values node) ≡ is_some (maps.get old.values node)) → ((node : ℕ) → owner_of (entry_at new node) ≡ owner_of (entry_at old node)) → ((list node : ℕ) → IsIn old list node → waiting_at new node ≡ waiting_at old node) → ((node : ℕ) → Contains (nodes_in new after) node → Contains (nodes_in old before) node ⊎ (node_of (owner_of (entry_at old node)) ≡ Some node)) → Kept new (slice_set lines number after) answered node_of
+  changed : IsLineOf rank_of new after → ((line : Line) → IsLineOf rank_of old line → maps.get new.lists line.list ≡ maps.get old.lists line.list → IsLineOf rank_of new line) → ((node : ℕ) → is_some (maps.get new.values node) ≡ is_some (maps.get old.values node)) → ((node : ℕ) → node_owner (entry_of_node new node) ≡ node_owner (entry_of_node old node)) → ((list node : ℕ) → IsIn old list node → waiting_of_node new node ≡ waiting_of_node old node) → ((node : ℕ) → Contains (nodes_in new after) node → Contains (nodes_in old before) node ⊎ (node_of (node_owner (entry_of_node old node)) ≡ Some node)) → AreListsOfTable new (slice_set lines number after) answered node_of
   changed line others same same_owner same_waiting among = record {
     line = λ other found at. elim (slice_get-set lines number other after found at) [
       | inl here ↦ rw here.1 line
@@ -339,18 +339,18 @@ module _ {answered : ℕ} (old new : Table Waiting) (lines : List Line) (number 
     ];
   }
     where
-      stays : (other : ℕ) → list_at (slice_set lines number after) other ≡ list_at lines other
+      stays : (other : ℕ) → list_of_line (slice_set lines number after) other ≡ list_of_line lines other
       stays other = list_at-set before after own lines number other is
 
 -- a free node is put into a line, and stands for another item of its owner
-module _ {answered : ℕ} (old new : Table Waiting) (lines : List Line) (number : ℕ) (before after : Line) (node_of : Owner → Option ℕ) (owner : Owner) (node : ℕ) (waiting : Waiting) (kept : Kept old lines answered node_of) (is : slice_get lines number ≡ Some before) (own : node_of owner ≡ Some node) (free : IsFree old node) (put : PutIn old new before after node waiting) where
-  others_stay : (list other : ℕ) → IsIn old list other → waiting_at new other ≡ waiting_at old other
+module _ {answered : ℕ} (old new : Table Waiting) (lines : List Line) (number : ℕ) (before after : Line) (node_of : Owner → Option ℕ) (owner : Owner) (node : ℕ) (waiting : Waiting) (kept : AreListsOfTable old lines answered node_of) (is : slice_get lines number ≡ Some before) (own : node_of owner ≡ Some node) (free : IsFree old node) (put : PutIn old new before after node waiting) where
+  others_stay : (list other : ℕ) → IsIn old list other → waiting_of_node new other ≡ waiting_of_node old other
   others_stay list other at = waiting-other old new node (inserted old new _ _ put.values) other (λ same. nowhere old free list (rw same at at))
 
   pub calls-put : SameCalls old new lines (slice_set lines number after) answered
   calls-put = calls-changed old new lines number before after node_of kept is put.own put.lists others_stay
 
-  pub Kept-put : owner_of waiting.queued ≡ owner → named owner ≡ owner → Kept new (slice_set lines number after) answered node_of
+  pub Kept-put : node_owner waiting.queued ≡ owner → named owner ≡ owner → AreListsOfTable new (slice_set lines number after) answered node_of
   Kept-put names own_name = changed old new lines number before after node_of kept is put.own put.lists put.line
       (λ line stands lists. line-kept old new node (inserted old new _ _ put.values) line stands lists (nowhere old free line.list))
       (λ other. elim (eqb_tells other node) [
@@ -358,8 +358,8 @@ module _ {answered : ℕ} (old new : Table Waiting) (lines : List Line) (number 
         | inr differs ↦ ap is_some (inserted old new node waiting put.values other differs.1)
       ])
       (λ other. elim (eqb_tells other node) [
-        | inl same ↦ rw same.1 (ap owner_of (entry-same old new node waiting put.values) ∙ names ∙ sym was)
-        | inr differs ↦ ap owner_of (entry-other old new node (inserted old new _ _ put.values) other differs.1)
+        | inl same ↦ rw same.1 (ap node_owner (entry-same old new node waiting put.values) ∙ names ∙ sym was)
+        | inr differs ↦ ap node_owner (entry-other old new node (inserted old new _ _ put.values) other differs.1)
       ])
       others_stay
       (λ other at. elim (put.among other at) [
@@ -367,7 +367,7 @@ module _ {answered : ℕ} (old new : Table Waiting) (lines : List Line) (number 
         | inr same ↦ inr (rw same (ap node_of was ∙ own))
       ])
     where
-      was : owner_of (entry_at old node) ≡ owner
+      was : node_owner (entry_of_node old node) ≡ owner
       was = kept.names owner node own ∙ own_name
 
   pub shown-put : map (entries new) (slice_set lines number after) ≡ with_line (map (entries old) lines) number (λ line. into rank line waiting.queued)
@@ -376,8 +376,8 @@ module _ {answered : ℕ} (old new : Table Waiting) (lines : List Line) (number 
       ∙ ap (slice_set (map (entries old) lines) number) (put.entries ∙ ap (λ line. into rank line waiting.queued) (sym (line_at-shown old lines number before is)))
 
 -- nodes leave a line
-module _ {answered : ℕ} (old new : Table Waiting) (lines : List Line) (number : ℕ) (before after : Line) (change : List ℕ → List ℕ) (node_of : Owner → Option ℕ) (kept : Kept old lines answered node_of) (is : slice_get lines number ≡ Some before) (taken : TakenOut old new before after change) where
-  pub Kept-taken : ((x : ℕ) → Contains (change (nodes_in old before)) x → Contains (nodes_in old before) x) → Kept new (slice_set lines number after) answered node_of
+module _ {answered : ℕ} (old new : Table Waiting) (lines : List Line) (number : ℕ) (before after : Line) (change : List ℕ → List ℕ) (node_of : Owner → Option ℕ) (kept : AreListsOfTable old lines answered node_of) (is : slice_get lines number ≡ Some before) (taken : TakenOut old new before after change) where
+  pub Kept-taken : ((x : ℕ) → Contains (change (nodes_in old before)) x → Contains (nodes_in old before) x) → AreListsOfTable new (slice_set lines number after) answered node_of
   Kept-taken fewer = changed old new lines number before after node_of kept is taken.own taken.lists taken.line
       (λ line stands lists. IsLineOf-same rank_of old new line stands (λ list own. rw own lists) (λ node at. rw taken.values refl))
       (λ node. rw taken.values refl)
@@ -388,7 +388,7 @@ module _ {answered : ℕ} (old new : Table Waiting) (lines : List Line) (number 
   pub calls-taken : SameCalls old new lines (slice_set lines number after) answered
   calls-taken = calls-changed old new lines number before after node_of kept is taken.own taken.lists (λ list node at. rw taken.values refl)
 
-  pub shown-taken : (items : List Queued → List Queued) → map (entry_at old) (change (nodes_in old before)) ≡ items (entries old before) → map (entries new) (slice_set lines number after) ≡ with_line (map (entries old) lines) number items
+  pub shown-taken : (items : List Queued → List Queued) → map (entry_of_node old) (change (nodes_in old before)) ≡ items (entries old before) → map (entries new) (slice_set lines number after) ≡ with_line (map (entries old) lines) number items
   shown-taken items same =
       let rest : entries new after ≡ items (entries old before) = rw (taken.nodes, taken.values) same in
       shown-set old new lines number after (λ other line differs at.
@@ -419,7 +419,7 @@ module _ (old new : Table Waiting) (node : ℕ) (waiting : Waiting) (room : ℕ)
     nodes = λ list x at. waiting-other old new node (inserted old new _ _ values_made) x (was_there x (contained list x at));
   })
 
-  pub Kept-made : {answered : ℕ} (lines : List Line) (node_of after : Owner → Option ℕ) (owner : Owner) → node_of owner ≡ None → after owner ≡ Some node → ((other : Owner) → (other ≡ owner) ⊎ ((other ≢ owner) × (after other ≡ node_of other))) → owner_of waiting.queued ≡ named owner → Kept old lines answered node_of → Kept new lines answered after
+  pub Kept-made : {answered : ℕ} (lines : List Line) (node_of after : Owner → Option ℕ) (owner : Owner) → node_of owner ≡ None → after owner ≡ Some node → ((other : Owner) → (other ≡ owner) ⊎ ((other ≢ owner) × (after other ≡ node_of other))) → node_owner waiting.queued ≡ named owner → AreListsOfTable old lines answered node_of → AreListsOfTable new lines answered after
   Kept-made {answered} lines node_of after owner lacked gets others names kept = record {
     line = λ number line at. line-kept old new node (inserted old new _ _ values_made) line (kept.line number line at) (lists_made line.list) (not_listed line.list);
     apart = kept.apart;
@@ -430,8 +430,8 @@ module _ (old new : Table Waiting) (node : ℕ) (waiting : Waiting) (room : ℕ)
       | inr was ↦ contains-insert old new node waiting values_made x (kept.there one x was)
     ];
     names = λ one x has. elim (whose one x has) [
-      | inl made ↦ rw (made.0, made.1) (ap owner_of (entry-same old new node waiting values_made) ∙ names)
-      | inr was ↦ ap owner_of (entry-other old new node (inserted old new _ _ values_made) x (was_there x (kept.there one x was))) ∙ kept.names one x was
+      | inl made ↦ rw (made.0, made.1) (ap node_owner (entry-same old new node waiting values_made) ∙ names)
+      | inr was ↦ ap node_owner (entry-other old new node (inserted old new _ _ values_made) x (was_there x (kept.there one x was))) ∙ kept.names one x was
     ];
     owned = λ x there. elim (eqb_tells x node) [
       | inl same ↦ (owner, rw same.1 gets)
@@ -451,7 +451,7 @@ module _ (old new : Table Waiting) (node : ℕ) (waiting : Waiting) (room : ℕ)
         let earlier : IsIn old list x = rw (ap (λ o. unwrap_or o []) (lists_made list)) at at in
         let was = kept.listed list x earlier in
         let same = waiting-other old new node (inserted old new _ _ values_made) x (was_there x (contained list x earlier)) in
-        (rw same was.0, still (owner_of (entry_at new x)) x (ap (λ waiting. node_of (owner_of waiting.queued)) same ∙ was.1));
+        (rw same was.0, still (node_owner (entry_of_node new x)) x (ap (λ waiting. node_of (node_owner waiting.queued)) same ∙ was.1));
   }
     where
       whose : (one : Owner) (x : ℕ) → after one ≡ Some x → ((one ≡ owner) × (x ≡ node)) ⊎ (node_of one ≡ Some x)
@@ -483,14 +483,14 @@ module _ (old new : Table Waiting) (node room : ℕ) (is : new ≡ record old { 
     nodes = λ list x at. waiting-other old new node (removed old new node values_freed) x (λ same. nowhere old free list (rw same at at));
   })
 
-  pub Kept-freed : {answered : ℕ} (lines : List Line) (node_of after : Owner → Option ℕ) (owner : Owner) → node_of owner ≡ Some node → after owner ≡ None → ((other : Owner) → (other ≡ owner) ⊎ ((other ≢ owner) × (after other ≡ node_of other))) → Kept old lines answered node_of → Kept new lines answered after
+  pub Kept-freed : {answered : ℕ} (lines : List Line) (node_of after : Owner → Option ℕ) (owner : Owner) → node_of owner ≡ Some node → after owner ≡ None → ((other : Owner) → (other ≡ owner) ⊎ ((other ≢ owner) × (after other ≡ node_of other))) → AreListsOfTable old lines answered node_of → AreListsOfTable new lines answered after
   Kept-freed {answered} lines node_of after owner had gone others kept = record {
     line = λ number line at. line-kept old new node (removed old new node values_freed) line (kept.line number line at) (lists_freed line.list) (nowhere old free line.list);
     apart = kept.apart;
     answers = ap is_some (lists_freed answered) ∙ kept.answers;
     off_lines = kept.off_lines;
     there = λ one x has. let was = before one x has in contains-other old new node (removed old new node values_freed) x was.0 (kept.there one x was.1);
-    names = λ one x has. let was = before one x has in ap owner_of (entry-other old new node (removed old new node values_freed) x was.0) ∙ kept.names one x was.1;
+    names = λ one x has. let was = before one x has in ap node_owner (entry-other old new node (removed old new node values_freed) x was.0) ∙ kept.names one x was.1;
     owned = λ x there.
         let differs : x ≢ node = λ same. absent_is (maps.get new.values node) (rw same at there) (rw values_freed (get-remove_same old.values node)) in
         let was = kept.owned x (contained-other old new node (removed old new node values_freed) x differs there) in
@@ -501,7 +501,7 @@ module _ (old new : Table Waiting) (node room : ℕ) (is : new ≡ record old { 
         let was = kept.listed list x earlier in
         let differs : x ≢ node = λ same. nowhere old free list (rw same at earlier) in
         let same = waiting-other old new node (removed old new node values_freed) x differs in
-        (rw same was.0, still (owner_of (entry_at new x)) x differs (ap (λ waiting. node_of (owner_of waiting.queued)) same ∙ was.1));
+        (rw same was.0, still (node_owner (entry_of_node new x)) x differs (ap (λ waiting. node_of (node_owner waiting.queued)) same ∙ was.1));
   }
     where
       before : (one : Owner) (x : ℕ) → after one ≡ Some x → (x ≢ node) × (node_of one ≡ Some x)
@@ -517,7 +517,7 @@ module _ (old new : Table Waiting) (node room : ℕ) (is : new ≡ record old { 
       ]
 
 -- nobody has a node at first, and there are no lines
-pub Kept-none : (t : Table Waiting) (answered : ℕ) (node_of : Owner → Option ℕ) → t.values ≡ maps.empty → ((list : ℕ) → nodes_of t list ≡ []) → ContainsList t answered → ((owner : Owner) → node_of owner ≡ None) → Kept t [] answered node_of
+pub Kept-none : (t : Table Waiting) (answered : ℕ) (node_of : Owner → Option ℕ) → t.values ≡ maps.empty → ((list : ℕ) → nodes_of t list ≡ []) → ContainsList t answered → ((owner : Owner) → node_of owner ≡ None) → AreListsOfTable t [] answered node_of
 Kept-none t answered node_of values no_list answers none = record {
   line = λ number line at. absurd (none_some line None refl at);
   apart = λ one other list at also. absurd (none_some list None refl at);
@@ -534,7 +534,7 @@ Kept-none t answered node_of values no_list answers none = record {
     nothing_in node at = omega (arith, at.1)
 
 -- one more line
-pub Kept-line : {answered : ℕ} (old new : Table Waiting) (lines : List Line) (line : Line) (node_of : Owner → Option ℕ) → nodes_in new line ≡ [] → IsLineOf rank_of new line → ((list : ℕ) → IsOwn line list → maps.get old.lists list ≡ None) → SameElsewhere old new line → Kept old lines answered node_of → Kept new (lines ++ line ∷ []) answered node_of
+pub Kept-line : {answered : ℕ} (old new : Table Waiting) (lines : List Line) (line : Line) (node_of : Owner → Option ℕ) → nodes_in new line ≡ [] → IsLineOf rank_of new line → ((list : ℕ) → IsOwn line list → maps.get old.lists list ≡ None) → SameElsewhere old new line → AreListsOfTable old lines answered node_of → AreListsOfTable new (lines ++ line ∷ []) answered node_of
 Kept-line {answered} old new lines line node_of none stands was_new elsewhere kept = record {
   line = λ number found at. elim (slice_get-more lines line found number at) [
     | inl last ↦ rw last.1 stands
@@ -586,9 +586,9 @@ no_nodes [] empty = refl
 no_nodes (x ∷ xs) empty = absurd (empty x (contains_first x xs))
 
 -- where nobody has a node, no list has one
-module _ {answered : ℕ} (t : Table Waiting) (lines : List Line) (node_of : Owner → Option ℕ) (kept : Kept t lines answered node_of) (none : (owner : Owner) → node_of owner ≡ None) where
+module _ {answered : ℕ} (t : Table Waiting) (lines : List Line) (node_of : Owner → Option ℕ) (kept : AreListsOfTable t lines answered node_of) (none : (owner : Owner) → node_of owner ≡ None) where
   list-none : (list : ℕ) → nodes_of t list ≡ []
-  list-none list = no_nodes (nodes_of t list) (λ node at. none_some node _ (none (owner_of (entry_at t node))) (kept.listed list node at).1)
+  list-none list = no_nodes (nodes_of t list) (λ node at. none_some node _ (none (node_owner (entry_of_node t node))) (kept.listed list node at).1)
 
   pub shown-none : map (entries t) lines ≡ replicate (length lines) []
   shown-none = all lines
@@ -605,29 +605,29 @@ gone_by (item.Message process number) thread line message pulse = message refl
 gone_by (item.Unblock process number call) thread line message pulse = pulse refl
 
 -- the first item of a line stands there once
-module _ {answered : ℕ} (t : Table Waiting) (lines : List Line) (node_of : Owner → Option ℕ) (line : Line) (kept : Kept t lines answered node_of) where
-  gone_from : (x : ℕ) (xs : List ℕ) (first : Queued) → x ∷ xs ≡ nodes_in t line → AllByRecursion (λ y. nat_eq x y ≡ false) xs → entry_at t x ≡ first → IsGone first (map (entry_at t) xs)
+module _ {answered : ℕ} (t : Table Waiting) (lines : List Line) (node_of : Owner → Option ℕ) (line : Line) (kept : AreListsOfTable t lines answered node_of) where
+  gone_from : (x : ℕ) (xs : List ℕ) (first : Queued) → x ∷ xs ≡ nodes_in t line → AllByRecursion (λ y. nat_eq x y ≡ false) xs → entry_of_node t x ≡ first → IsGone first (map (entry_of_node t) xs)
   gone_from x xs first nodes apart is =
       let inside : (y : ℕ) → Contains (x ∷ xs) y → IsInLine t line y = λ y at. rw (← nodes) at in
-      let own : node_of (owner_of first) ≡ Some x = ap (λ entry. node_of (owner_of entry)) (sym is) ∙ (kept.listed line.list x (inside x (contains_first x xs))).1 in
-      gone_by first.item (sender first) (map (entry_at t) xs)
+      let own : node_of (node_owner first) ≡ Some x = ap (λ entry. node_of (node_owner entry)) (sym is) ∙ (kept.listed line.list x (inside x (contains_first x xs))).1 in
+      gone_by first.item (sender first) (map (entry_of_node t) xs)
       (λ message. gone-own as_message (sender first) (Message (sender first)) (reads-message (sender first)) refl t lines node_of x kept (ap node_of (sym message) ∙ own) line xs (λ y at. inside y (contains_later x y xs at)) (λ at. differs_from x x xs apart at refl))
       (λ pulse. none_of _ (gone-own pulse_call (sender first) (Unblock (sender first)) (reads-call (sender first)) refl t lines node_of x kept (ap node_of (sym pulse) ∙ own) line xs (λ y at. inside y (contains_later x y xs at)) (λ at. differs_from x x xs apart at refl)))
 
-  gone_first : (nodes : List ℕ) (first : Queued) → nodes ≡ nodes_in t line → IsDistinct nat_eq nodes → slice_get (map (entry_at t) nodes) 0 ≡ Some first → IsGone first (drop 1 (map (entry_at t) nodes))
+  gone_first : (nodes : List ℕ) (first : Queued) → nodes ≡ nodes_in t line → IsDistinct nat_eq nodes → slice_get (map (entry_of_node t) nodes) 0 ≡ Some first → IsGone first (drop 1 (map (entry_of_node t) nodes))
   unfolding IsDistinct
   gone_first [] first same distinct is = absurd (none_some first None refl is)
-  gone_first (x ∷ xs) first same distinct is = gone_from x xs first same distinct.0 (same_Some (entry_at t x) first is)
+  gone_first (x ∷ xs) first same distinct is = gone_from x xs first same distinct.0 (same_Some (entry_of_node t x) first is)
 
   -- and the node of its owner stands for it
-  pub first-owned : (first : Queued) → Some first ≡ slice_get (entries t line) 0 → (node : ℕ) × (node_of (owner_of first) ≡ Some node)
+  pub first-owned : (first : Queued) → Some first ≡ slice_get (entries t line) 0 → (node : ℕ) × (node_of (node_owner first) ≡ Some node)
   first-owned first is = of (nodes_in t line) refl (sym is)
     where
-      of : (nodes : List ℕ) → nodes ≡ nodes_in t line → slice_get (map (entry_at t) nodes) 0 ≡ Some first → (node : ℕ) × (node_of (owner_of first) ≡ Some node)
+      of : (nodes : List ℕ) → nodes ≡ nodes_in t line → slice_get (map (entry_of_node t) nodes) 0 ≡ Some first → (node : ℕ) × (node_of (node_owner first) ≡ Some node)
       of [] same is = absurd (none_some first None refl is)
       of (x ∷ xs) same is =
           let inside : IsInLine t line x = rw (← same) (contains_first x xs) in
-          (x, ap (λ entry. node_of (owner_of entry)) (sym (same_Some (entry_at t x) first is)) ∙ (kept.listed line.list x inside).1)
+          (x, ap (λ entry. node_of (node_owner entry)) (sym (same_Some (entry_of_node t x) first is)) ∙ (kept.listed line.list x inside).1)
 
   pub gone-if : (first : Option Queued) → IsDistinct nat_eq (nodes_in t line) → first ≡ slice_get (entries t line) 0 → IfSome first (λ taken. IsGone taken (drop 1 (entries t line)))
   gone-if None distinct is = tt

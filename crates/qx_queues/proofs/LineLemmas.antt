@@ -14,7 +14,7 @@ use Rattle.qx_machine.specs.declared.rows.Queued.{Queued}
 use Rattle.qx_machine.specs.Lines.{into}
 use Rattle.qx_machine.specs.Machine.{is_same_item, line_without}
 use Rattle.qx_queues.specs.Queues.{pulse_call, first_field, is_same_thread, as_message, message_of, no_other, sender, sender_of, stands, own_field, unblock_call, unblock_of}
-use Rattle.qx_queues.specs.Kept.{owner_in, owner_of}
+use Rattle.qx_queues.specs.Kept.{owner_in, node_owner}
 use Rattle.qx_queues.specs.Nodes.{Message, Owner, Unblock}
 use Rattle.qx_queues.proofs.EntryLemmas.{owned_thread, differs_from, is_same_thread-differs, is_same_thread-same, is_same_thread-self, or_none}
 
@@ -59,17 +59,17 @@ this_is user it entry is = elim (eqb_tells entry.user.0 user) [
 abbrev item_owner : ℕ → OwnItem → Owner
 item_owner user it = owner_in (sender_of user it) it
 
-pub owner-this : (user : ℕ) (it : OwnItem) (entry : Queued) → is_this user it entry ≡ true → owner_of entry ≡ owner_in (sender_of user it) it
+pub owner-this : (user : ℕ) (it : OwnItem) (entry : Queued) → is_this user it entry ≡ true → node_owner entry ≡ owner_in (sender_of user it) it
 owner-this user it entry is = let same = this_is user it entry is in ap₂ item_owner same.0 same.1
 
-pub this-message : (thread : Thread) (entry : Queued) → owner_of entry ≡ Message thread → is_this thread.proc.user.0 (item.Message thread.proc.num thread.tid) entry ≡ true
+pub this-message : (thread : Thread) (entry : Queued) → node_owner entry ≡ Message thread → is_this thread.proc.user.0 (item.Message thread.proc.num thread.tid) entry ≡ true
 this-message thread entry = by_item entry.user.0 entry.item
   where
     by_item : (user : ℕ) (it : OwnItem) → item_owner user it ≡ Message thread → ((user == thread.proc.user.0) && is_same_item it (item.Message thread.proc.num thread.tid)) ≡ true
     by_item user (item.Message p n) is = let same : sender_of user (item.Message p n) ≡ thread = ap (λ owner. owned_thread owner thread) is in rw (← same) (grind (arith, nat_tests))
     by_item user (item.Unblock p n c) is = absurd (cc)
 
-pub this-unblock : (thread : Thread) (call : ℕ) (entry : Queued) → owner_of entry ≡ Unblock thread → pulse_call entry.item ≡ Some call → is_this thread.proc.user.0 (item.Unblock thread.proc.num thread.tid call) entry ≡ true
+pub this-unblock : (thread : Thread) (call : ℕ) (entry : Queued) → node_owner entry ≡ Unblock thread → pulse_call entry.item ≡ Some call → is_this thread.proc.user.0 (item.Unblock thread.proc.num thread.tid call) entry ≡ true
 this-unblock thread call entry = by_item entry.user.0 entry.item
   where
     by_item : (user : ℕ) (it : OwnItem) → item_owner user it ≡ Unblock thread → pulse_call it ≡ Some call → ((user == thread.proc.user.0) && is_same_item it (item.Unblock thread.proc.num thread.tid call)) ≡ true

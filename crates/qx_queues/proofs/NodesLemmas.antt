@@ -15,7 +15,7 @@ use Rattle.qx_queues.specs.declared.nodes.ProcessNodes.{ProcessNodes}
 use Rattle.qx_queues.specs.declared.nodes.ThreadNodes.{ThreadNodes}
 use Rattle.qx_queues.specs.declared.nodes.UserNodes.{UserNodes}
 use Rattle.qx_queues.specs.Queues.{is_same_thread}
-use Rattle.qx_queues.specs.Nodes.{Disconnect, Message, Owner, Unblock, asked_at, asked_in, disconnect_at, no_nodes, no_process, no_processes, node_of, nodes_at, process_at, servers_with, threads_with, user_with, with_disconnect_at, with_nodes_at, with_process_at}
+use Rattle.qx_queues.specs.Nodes.{Disconnect, Message, Owner, Unblock, pulse_line_at, asked_in, disconnect_at, no_nodes, no_process, no_process_nodes, node_of, nodes_of_thread, process_at, servers_with, threads_with, user_with, with_disconnect_at, with_nodes_at, with_process_at}
 use Rattle.qx_queues.proofs.EntryLemmas.{is_same_thread-same, is_same_thread-self, same_names}
 
 pub same_or_not : (one other : Thread) → (one ≡ other) ⊎ (one ≢ other)
@@ -80,18 +80,18 @@ of_number (Disconnect proc number) = number
 -- the nodes of another process
 process_at-other : (nodes : List UserNodes) (proc other : Proc) (own : ProcessNodes) → other ≢ proc → process_at (with_process_at nodes proc own) other ≡ process_at nodes other
 process_at-other nodes proc other own differs = elim (cases_eq other.user.0 proc.user.0) [
-  | inr apart ↦ ap (λ u. get_or u.processes other.num no_process) (get_or-set_other nodes proc.user.0 other.user.0 _ no_processes apart)
-  | inl same ↦ rw same (elim (either nodes proc.user.0 (user_with (get_or nodes proc.user.0 no_processes) proc.num own) no_processes) [
-    | inl written ↦ rw written (get_or-set_other (get_or nodes proc.user.0 no_processes).processes proc.num other.num own no_process (λ process. differs (same_proc_of _ _ _ _ same process)))
+  | inr apart ↦ ap (λ u. get_or u.processes other.num no_process) (get_or-set_other nodes proc.user.0 other.user.0 _ no_process_nodes apart)
+  | inl same ↦ rw same (elim (either nodes proc.user.0 (user_with (get_or nodes proc.user.0 no_process_nodes) proc.num own) no_process_nodes) [
+    | inl written ↦ rw written (get_or-set_other (get_or nodes proc.user.0 no_process_nodes).processes proc.num other.num own no_process (λ process. differs (same_proc_of _ _ _ _ same process)))
     | inr beyond ↦ rw beyond refl
   ])
 ]
 
 -- the nodes that were written, or those that were, where there is no place
 process_at-same : (nodes : List UserNodes) (proc : Proc) (own : ProcessNodes) → (process_at (with_process_at nodes proc own) proc ≡ own) ⊎ (process_at (with_process_at nodes proc own) proc ≡ process_at nodes proc)
-process_at-same nodes proc own = elim (either nodes proc.user.0 (user_with (get_or nodes proc.user.0 no_processes) proc.num own) no_processes) [
+process_at-same nodes proc own = elim (either nodes proc.user.0 (user_with (get_or nodes proc.user.0 no_process_nodes) proc.num own) no_process_nodes) [
   | inr beyond ↦ inr (rw beyond refl)
-  | inl written ↦ rw written (either (get_or nodes proc.user.0 no_processes).processes proc.num own no_process)
+  | inl written ↦ rw written (either (get_or nodes proc.user.0 no_process_nodes).processes proc.num own no_process)
 ]
 
 -- what is read of each process stays, where what is written reads as what was
@@ -106,7 +106,7 @@ read-with_process read nodes proc other own same_read = elim (same_proc other pr
 
 module _ (nodes : List UserNodes) (thread : Thread) (own : ThreadNodes) where
   -- the nodes of another thread
-  pub nodes_at-other : (other : Thread) → other ≢ thread → nodes_at (with_nodes_at nodes thread own) other ≡ nodes_at nodes other
+  pub nodes_at-other : (other : Thread) → other ≢ thread → nodes_of_thread (with_nodes_at nodes thread own) other ≡ nodes_of_thread nodes other
   nodes_at-other other differs = read-with_process (λ p. row_at p.threads other.tid) nodes thread.proc other.proc (threads_with (process_at nodes thread.proc) thread.tid own)
       (λ same. row_at-set_other (process_at nodes thread.proc).threads thread.tid other.tid (Some own) (λ tid. differs (same_names other thread (ap (λ p. p.user.0) same) (ap (λ p. p.num) same) tid)))
 
@@ -115,7 +115,7 @@ module _ (nodes : List UserNodes) (thread : Thread) (own : ThreadNodes) where
   disconnect_at-with_nodes proc number = read-with_process (λ p. row_at p.servers number) nodes thread.proc proc (threads_with (process_at nodes thread.proc) thread.tid own) (λ same. refl)
 
   -- a thread that had no nodes is asked by nobody
-  pub asked_at-added : nodes_at nodes thread ≡ None → own.asked ≡ None → nodes_at (with_nodes_at nodes thread own) thread ≡ Some own → (other : Thread) → asked_at (with_nodes_at nodes thread own) other ≡ asked_at nodes other
+  pub asked_at-added : nodes_of_thread nodes thread ≡ None → own.asked ≡ None → nodes_of_thread (with_nodes_at nodes thread own) thread ≡ Some own → (other : Thread) → pulse_line_at (with_nodes_at nodes thread own) other ≡ pulse_line_at nodes other
   asked_at-added fresh none there other = elim (same_or_not other thread) [
     | inl same ↦ rw same (ap asked_in there ∙ ap (option_map manager_number) none ∙ sym (ap asked_in fresh))
     | inr differs ↦ ap asked_in (nodes_at-other other differs)
@@ -125,7 +125,7 @@ module _ (nodes : List UserNodes) (thread : Thread) (own : ThreadNodes) where
   length-with_nodes = length-set nodes thread.proc.user.0 _
 
 module _ (nodes : List UserNodes) (proc : Proc) (number : ℕ) (node : Option ℕ) where
-  pub nodes_at-with_disconnect : (thread : Thread) → nodes_at (with_disconnect_at nodes proc number node) thread ≡ nodes_at nodes thread
+  pub nodes_at-with_disconnect : (thread : Thread) → nodes_of_thread (with_disconnect_at nodes proc number node) thread ≡ nodes_of_thread nodes thread
   nodes_at-with_disconnect thread = read-with_process (λ p. row_at p.threads thread.tid) nodes proc thread.proc (servers_with (process_at nodes proc) number node) (λ same. refl)
 
   -- the disconnect node of another server connection
@@ -174,10 +174,10 @@ module _ (nodes : List UserNodes) (thread : Thread) (own : ThreadNodes) where
   half-second (Disconnect proc number) = inr (λ same. cc, disconnect_at-with_nodes nodes thread own proc number)
 
 process_at-none : (users : ℕ) (proc : Proc) → process_at (no_nodes users) proc ≡ no_process
-process_at-none users proc = rw (default_of (users + 1) proc.user.0 no_processes) (default_of (PROCESSES + 1) proc.num no_process)
+process_at-none users proc = rw (default_of (users + 1) proc.user.0 no_process_nodes) (default_of (PROCESSES + 1) proc.num no_process)
 
 -- nobody has a node at first
-pub nodes_at-none : (users : ℕ) (thread : Thread) → nodes_at (no_nodes users) thread ≡ None
+pub nodes_at-none : (users : ℕ) (thread : Thread) → nodes_of_thread (no_nodes users) thread ≡ None
 nodes_at-none users thread = rw (process_at-none users thread.proc) (row_at-none (THREADS + 1) thread.tid)
 
 pub disconnect_at-none : (users : ℕ) (proc : Proc) (number : ℕ) → disconnect_at (no_nodes users) proc number ≡ None
@@ -193,7 +193,7 @@ none_of None none = refl
 none_of (Some x) none = cc
 
 -- a process with a thread or a server connection that has nodes has a place
-pub started-thread : (nodes : List UserNodes) (thread : Thread) → is_some (nodes_at nodes thread) ≡ true → process_at nodes thread.proc ≢ no_process
+pub started-thread : (nodes : List UserNodes) (thread : Thread) → is_some (nodes_of_thread nodes thread) ≡ true → process_at nodes thread.proc ≢ no_process
 started-thread nodes thread there none =
     let clash : false ≡ true = ap is_some (sym (ap (λ p. row_at p.threads thread.tid) none ∙ row_at-none (THREADS + 1) thread.tid)) ∙ there in
     cc

@@ -17,29 +17,29 @@ use Rattle.qx_machine.specs.declared.rows.Queued.{Queued}
 use Rattle.qx_queues.specs.declared.nodes.ProcessNodes.{ProcessNodes}
 use Rattle.qx_queues.specs.declared.nodes.ThreadNodes.{ThreadNodes}
 use Rattle.qx_queues.specs.declared.nodes.UserNodes.{UserNodes}
-use Rattle.qx_queues.specs.Queues.{Queues, UsersAnswer, UsersCall, has_thread, is_same_thread, is_thread_of, server_cmp, thread_cmp, with_process, with_server, with_thread, without_server}
-use Rattle.qx_queues.specs.Nodes.{Asked, Disconnect, Message, Owner, Unblock, asked_in, disconnect_at, if_there, keys_in, no_nodes, no_process, no_processes, node_of, nodes_at, numbered, process_at, process_in, servers_of, threads_of, with_disconnect_at, with_nodes_at}
+use Rattle.qx_queues.specs.Queues.{Queues, UsersAnswer, UsersCall, has_thread_nodes, is_same_thread, is_thread_of, server_cmp, thread_cmp, with_process_nodes, with_server_node, with_thread_nodes, without_server_node}
+use Rattle.qx_queues.specs.Nodes.{Asked, Disconnect, Message, Owner, Unblock, asked_in, disconnect_at, if_there, keys_in, no_nodes, no_process, no_process_nodes, node_of, nodes_of_thread, told_by_number, process_at, process_nodes_in, servers_of, threads_of, with_disconnect_at, with_nodes_at}
 use Rattle.qx_queues.proofs.EntryLemmas.{or_false}
 use Rattle.qx_queues.proofs.NodesLemmas.{default_of, disconnect_at-none, disconnect_at-other, disconnect_at-with_nodes, length-with_nodes, none_of, nodes_at-none, nodes_at-other, nodes_at-with_disconnect, same_or_not, started-thread}
 use Rattle.qx_queues.proofs.SetLemmas.{has-thread, insert-there, insert_is, other_key, remove-absent, remove_is, server_exact, server_total, thread_exact, thread_total}
 
 -- what numbered places tell
 module _ {A K : Type 0} (keys : ℕ → A → List K) (P : K → Bool) where
-  keys_none : ((j : ℕ) (x : A) → list_any P (keys j x) ≡ false) → (n : ℕ) (xs : List A) → list_any P (numbered keys n xs) ≡ false
+  keys_none : ((j : ℕ) (x : A) → list_any P (keys j x) ≡ false) → (n : ℕ) (xs : List A) → list_any P (told_by_number keys n xs) ≡ false
   keys_none none n [] = refl
-  keys_none none n (x ∷ xs) = list_any-append P (keys n x) (numbered keys (suc n) xs) ∙ rw (none n x) (keys_none none (suc n) xs)
+  keys_none none n (x ∷ xs) = list_any-append P (keys n x) (told_by_number keys (suc n) xs) ∙ rw (none n x) (keys_none none (suc n) xs)
 
   module _ (i : ℕ) (d : A) (elsewhere : (j : ℕ) (x : A) → j ≢ i → list_any P (keys j x) ≡ false) (nothing : list_any P (keys i d) ≡ false) where
-    keys_past : (n : ℕ) (xs : List A) → i < n → list_any P (numbered keys n xs) ≡ false
+    keys_past : (n : ℕ) (xs : List A) → i < n → list_any P (told_by_number keys n xs) ≡ false
     keys_past n [] past = refl
-    keys_past n (x ∷ xs) past = list_any-append P (keys n x) (numbered keys (suc n) xs) ∙ rw (elsewhere n x (λ same. omega (arith, same, past))) (keys_past (suc n) xs (omega (arith, past)))
+    keys_past n (x ∷ xs) past = list_any-append P (keys n x) (told_by_number keys (suc n) xs) ∙ rw (elsewhere n x (λ same. omega (arith, same, past))) (keys_past (suc n) xs (omega (arith, past)))
 
-    keys_at : (n k : ℕ) (xs : List A) → n + k ≡ i → list_any P (numbered keys n xs) ≡ list_any P (keys i (get_or xs k d))
+    keys_at : (n k : ℕ) (xs : List A) → n + k ≡ i → list_any P (told_by_number keys n xs) ≡ list_any P (keys i (get_or xs k d))
     keys_at n k [] is = sym nothing
     keys_at n zero (x ∷ xs) is =
         let here : n ≡ i = omega (arith, is) in
-        list_any-append P (keys n x) (numbered keys (suc n) xs) ∙ rw (keys_past (suc n) xs (omega (arith, is)), here) (or_false (list_any P (keys i x)))
-    keys_at n (suc k) (x ∷ xs) is = list_any-append P (keys n x) (numbered keys (suc n) xs) ∙ rw (elsewhere n x (λ same. omega (arith, same, is))) (keys_at (suc n) k xs (omega (arith, is)))
+        list_any-append P (keys n x) (told_by_number keys (suc n) xs) ∙ rw (keys_past (suc n) xs (omega (arith, is)), here) (or_false (list_any P (keys i x)))
+    keys_at n (suc k) (x ∷ xs) is = list_any-append P (keys n x) (told_by_number keys (suc n) xs) ∙ rw (elsewhere n x (λ same. omega (arith, same, is))) (keys_at (suc n) k xs (omega (arith, is)))
 
 from_zero : (n : ℕ) → 0 + n ≡ n
 from_zero n = omega arith
@@ -58,35 +58,35 @@ module _ {A K : Type 0} (key : Proc → ℕ → K) (column : ProcessNodes → Li
   abbrev place : Proc → ℕ → Option A → List K
   place other at row = if_there (key other at) row
 
-  in_column : (xs : List (Option A)) → list_any P (numbered (place proc) 0 xs) ≡ is_some (get_or xs number None)
+  in_column : (xs : List (Option A)) → list_any P (told_by_number (place proc) 0 xs) ≡ is_some (get_or xs number None)
   in_column xs =
       keys_at (place proc) P number None (λ at row apart. not_there P (key proc at) row (elsewhere proc at (λ same. apart))) refl 0 number xs (from_zero number)
       ∙ there_if P (key proc number) (get_or xs number None) here
 
   abbrev of_process : ℕ → ℕ → ProcessNodes → List K
-  of_process user process own = numbered (place (record { user = record { 0 = user }; num = process })) 0 (column own)
+  of_process user process own = told_by_number (place (record { user = record { 0 = user }; num = process })) 0 (column own)
 
   off_process : (user process : ℕ) (own : ProcessNodes) → ◌≢◌ {A = Proc} (record { user = record { 0 = user }; num = process }) proc → list_any P (of_process user process own) ≡ false
   off_process user process own apart = keys_none (place (record { user = record { 0 = user }; num = process })) P (λ at row. not_there P _ row (elsewhere _ at (λ same. absurd (apart same)))) 0 (column own)
 
   abbrev of_user : ℕ → UserNodes → List K
-  of_user user x = numbered (of_process user) 0 x.processes
+  of_user user x = told_by_number (of_process user) 0 x.processes
 
-  in_user : (x : UserNodes) → list_any P (of_user proc.user.0 x) ≡ is_some (get_or (column (process_in x proc.num)) number None)
+  in_user : (x : UserNodes) → list_any P (of_user proc.user.0 x) ≡ is_some (get_or (column (process_nodes_in x proc.num)) number None)
   in_user x =
       keys_at (of_process proc.user.0) P proc.num no_process (λ process own apart. off_process proc.user.0 process own (λ same. apart (ap (λ p. p.num) same))) (in_column (column no_process) ∙ ap is_some nothing) 0 proc.num x.processes (from_zero proc.num)
-      ∙ in_column (column (process_in x proc.num))
+      ∙ in_column (column (process_nodes_in x proc.num))
 
   pub keys_in-at : (nodes : List UserNodes) → list_any P (keys_in key column nodes) ≡ is_some (get_or (column (process_at nodes proc)) number None)
   keys_in-at nodes =
-      keys_at of_user P proc.user.0 no_processes
+      keys_at of_user P proc.user.0 no_process_nodes
       (λ user x apart. keys_none (of_process user) P (λ process own. off_process user process own (λ same. apart (ap (λ p. p.user.0) same))) 0 x.processes)
-      (in_user no_processes ∙ ap (λ own. is_some (get_or (column own) number None)) (default_of (PROCESSES + 1) proc.num no_process) ∙ ap is_some nothing)
+      (in_user no_process_nodes ∙ ap (λ own. is_some (get_or (column own) number None)) (default_of (PROCESSES + 1) proc.num no_process) ∙ ap is_some nothing)
       0 proc.user.0 nodes (from_zero proc.user.0)
-      ∙ in_user (get_or nodes proc.user.0 no_processes)
+      ∙ in_user (get_or nodes proc.user.0 no_process_nodes)
 
 -- a thread is in the set exactly if it has nodes
-pub threads-nodes : (nodes : List UserNodes) (thread : Thread) → set.contains (threads_of nodes) thread ≡ is_some (nodes_at nodes thread)
+pub threads-nodes : (nodes : List UserNodes) (thread : Thread) → set.contains (threads_of nodes) thread ≡ is_some (nodes_of_thread nodes thread)
 unfolding threads_of
 threads-nodes nodes thread =
     set.contains-from_list thread_total _ thread
@@ -122,7 +122,7 @@ pub servers-none : (users : ℕ) → servers_of (no_nodes users) ≡ set.empty
 servers-none users = same_servers _ _ (λ proc number. servers-nodes (no_nodes users) proc number ∙ ap is_some (disconnect_at-none users proc number) ∙ sym (set.contains-empty server_cmp (proc, number)))
 
 module _ (nodes : List UserNodes) (thread : Thread) (own : ThreadNodes) where
-  pub threads-with_nodes : nodes_at (with_nodes_at nodes thread own) thread ≡ Some own → threads_of (with_nodes_at nodes thread own) ≡ set.insert (threads_of nodes) thread
+  pub threads-with_nodes : nodes_of_thread (with_nodes_at nodes thread own) thread ≡ Some own → threads_of (with_nodes_at nodes thread own) ≡ set.insert (threads_of nodes) thread
   threads-with_nodes there = insert_is thread_total thread_exact (threads_of nodes) (threads_of (with_nodes_at nodes thread own)) thread
       (threads-nodes (with_nodes_at nodes thread own) thread ∙ ap is_some there)
       (λ other differs. threads-nodes (with_nodes_at nodes thread own) other ∙ ap is_some (nodes_at-other nodes thread own other differs) ∙ sym (threads-nodes nodes other))
@@ -131,8 +131,8 @@ module _ (nodes : List UserNodes) (thread : Thread) (own : ThreadNodes) where
   servers-with_nodes = same_servers _ _ (λ proc number. servers-nodes (with_nodes_at nodes thread own) proc number ∙ ap is_some (disconnect_at-with_nodes nodes thread own proc number) ∙ sym (servers-nodes nodes proc number))
 
 -- a thread's pulse stands in another line, or in none
-module _ (nodes : List UserNodes) (thread : Thread) (old own : ThreadNodes) (was : nodes_at nodes thread ≡ Some old) (is : nodes_at (with_nodes_at nodes thread own) thread ≡ Some own) where
-  same_field : (field : ThreadNodes → ℕ) → field own ≡ field old → (other : Thread) → option_map field (nodes_at (with_nodes_at nodes thread own) other) ≡ option_map field (nodes_at nodes other)
+module _ (nodes : List UserNodes) (thread : Thread) (old own : ThreadNodes) (was : nodes_of_thread nodes thread ≡ Some old) (is : nodes_of_thread (with_nodes_at nodes thread own) thread ≡ Some own) where
+  same_field : (field : ThreadNodes → ℕ) → field own ≡ field old → (other : Thread) → option_map field (nodes_of_thread (with_nodes_at nodes thread own) other) ≡ option_map field (nodes_of_thread nodes other)
   same_field field same other = elim (same_or_not other thread) [
     | inl here ↦ rw (here, is, was) (ap Some same)
     | inr differs ↦ ap (option_map field) (nodes_at-other nodes thread own other differs)
@@ -173,10 +173,10 @@ module _ (nodes : List UserNodes) (proc : Proc) (number : ℕ) (node : Option �
   servers-freed none there = remove_is server_total server_exact (servers_of nodes) _ (proc, number) (servers_here there ∙ none) servers_stay
 
 -- a thread that is in the set has nodes, and one that isn't has none
-pub nodes-there : (nodes : List UserNodes) (thread : Thread) → nodes_at nodes thread ≡ None → set.contains (threads_of nodes) thread ≡ true → ⊥
+pub nodes-there : (nodes : List UserNodes) (thread : Thread) → nodes_of_thread nodes thread ≡ None → set.contains (threads_of nodes) thread ≡ true → ⊥
 nodes-there nodes thread none there = let clash : false ≡ true = sym (ap is_some none) ∙ sym (threads-nodes nodes thread) ∙ there in cc
 
-pub nodes-absent : (nodes : List UserNodes) (thread : Thread) → set.contains (threads_of nodes) thread ≡ false → nodes_at nodes thread ≡ None
+pub nodes-absent : (nodes : List UserNodes) (thread : Thread) → set.contains (threads_of nodes) thread ≡ false → nodes_of_thread nodes thread ≡ None
 nodes-absent nodes thread absent = none_of _ (sym (threads-nodes nodes thread) ∙ absent)
 
 -- a thread that has one node has nodes
@@ -197,18 +197,18 @@ module _ (lines : List (List Queued)) (nodes : List UserNodes) (room : ℕ) (pip
   shown = record { lines = lines; threads = threads_of nodes; servers = servers_of nodes; users = length nodes; room = room; pipes = pipes; answered = answered }
 
   -- a server connection that has its disconnect node gets none, and one that has none gives none back
-  pub server-had : is_some (disconnect_at nodes proc number) ≡ true → shown ≡ with_server shown proc number
+  pub server-had : is_some (disconnect_at nodes proc number) ≡ true → shown ≡ with_server_node shown proc number
   server-had had =
       let there : set.contains (servers_of nodes) (proc, number) ≡ true = servers-nodes nodes proc number ∙ had in
       same_queues refl refl (insert-there server_total server_exact (servers_of nodes) (proc, number) there) refl (sym (rw there refl)) refl refl
 
-  pub server-lacked : is_some (disconnect_at nodes proc number) ≡ false → shown ≡ without_server shown proc number
+  pub server-lacked : is_some (disconnect_at nodes proc number) ≡ false → shown ≡ without_server_node shown proc number
   server-lacked lacked =
       let absent : set.contains (servers_of nodes) (proc, number) ≡ false = servers-nodes nodes proc number ∙ lacked in
       same_queues refl refl (remove-absent server_total server_exact (servers_of nodes) (proc, number) absent) refl (sym (rw absent refl)) refl refl
 
 -- the first threads of a process were added
-pub with_process-more : (c : Queues) (proc : Proc) (threads : ℕ) → (threads ≡ 0 → ⊥) → with_thread (with_process c proc (threads - 1)) (record { proc = proc; tid = threads }) ≡ with_process c proc threads
+pub with_process-more : (c : Queues) (proc : Proc) (threads : ℕ) → (threads ≡ 0 → ⊥) → with_thread_nodes (with_process_nodes c proc (threads - 1)) (record { proc = proc; tid = threads }) ≡ with_process_nodes c proc threads
 with_process-more c proc zero some = absurd (some refl)
 with_process-more c proc (suc threads) some = let before : suc threads - 1 ≡ threads = omega arith in rw before refl
 
@@ -239,22 +239,22 @@ none_yet : (proc : Proc) (other : Thread) → is_thread_of proc 0 other ≡ fals
 none_yet proc other = grind (arith, nat_tests)
 
 module _ (c : Queues) (proc : Proc) where
-  pub has-process : (threads : ℕ) (other : Thread) → has_thread (with_process c proc threads) other ≡ (has_thread c other || is_thread_of proc threads other)
-  has-process zero other = rw (none_yet proc other) (sym (or_false (has_thread c other)))
-  has-process (suc threads) other = has-thread (with_process c proc threads).threads (record { proc = proc; tid = suc threads }) other ∙ ap (λ b. b || is_same_thread (record { proc = proc; tid = suc threads }) other) (has-process threads other) ∙ or_assoc (has_thread c other) (is_thread_of proc threads other) _ ∙ ap (λ b. has_thread c other || b) (one_more proc threads other)
+  pub has-process : (threads : ℕ) (other : Thread) → has_thread_nodes (with_process_nodes c proc threads) other ≡ (has_thread_nodes c other || is_thread_of proc threads other)
+  has-process zero other = rw (none_yet proc other) (sym (or_false (has_thread_nodes c other)))
+  has-process (suc threads) other = has-thread (with_process_nodes c proc threads).threads (record { proc = proc; tid = suc threads }) other ∙ ap (λ b. b || is_same_thread (record { proc = proc; tid = suc threads }) other) (has-process threads other) ∙ or_assoc (has_thread_nodes c other) (is_thread_of proc threads other) _ ∙ ap (λ b. has_thread_nodes c other || b) (one_more proc threads other)
 
-  pub lines-process : (threads : ℕ) → (with_process c proc threads).lines ≡ c.lines
+  pub lines-process : (threads : ℕ) → (with_process_nodes c proc threads).lines ≡ c.lines
   lines-process zero = refl
   lines-process (suc threads) = lines-process threads
 
-  pub servers-process : (threads : ℕ) → (with_process c proc threads).servers ≡ c.servers
+  pub servers-process : (threads : ℕ) → (with_process_nodes c proc threads).servers ≡ c.servers
   servers-process zero = refl
   servers-process (suc threads) = servers-process threads
 
-  pub users-process : (threads : ℕ) → (with_process c proc threads).users ≡ c.users
+  pub users-process : (threads : ℕ) → (with_process_nodes c proc threads).users ≡ c.users
   users-process zero = refl
   users-process (suc threads) = users-process threads
 
-  pub room-process : (threads : ℕ) → (with_process c proc threads).room ≡ c.room - 2 * threads
+  pub room-process : (threads : ℕ) → (with_process_nodes c proc threads).room ≡ c.room - 2 * threads
   room-process zero = omega arith
   room-process (suc threads) = let before = room-process threads in omega (arith, before)

@@ -8,22 +8,22 @@ use Rattle.qx_machine.specs.declared.rows.Queued.{Queued}
 use Rattle.qx_machine.specs.Lines.{into, line_at, with_line}
 use Rattle.qx_machine.specs.Machine.{line_without}
 use Rattle.qx_queues.specs.Queues.{pulse_call, message_of, sender, unblock_call, unblock_of}
-use Rattle.qx_queues.specs.Kept.{KnowsPulses, is_at}
+use Rattle.qx_queues.specs.Kept.{KnowsPulses, is_line_at}
 use Rattle.qx_queues.proofs.EntryLemmas.{is_same_thread-differs, is_same_thread-self, line_at-other, line_at-same, with_line-same}
 use Rattle.qx_queues.proofs.LineLemmas.{call-asked, call-received, call-received_other, call-replied_other, replied-none, call-sent, call-withdrawn}
 use Rattle.qx_queues.proofs.NodesLemmas.{default_of, none_of, same_or_not}
 
-pub is_at-self : (number : ℕ) → is_at number (Some number) ≡ true
+pub is_at-self : (number : ℕ) → is_line_at number (Some number) ≡ true
 is_at-self number = grind (arith, nat_tests)
 
-pub is_at-other : (number other : ℕ) → other ≢ number → is_at other (Some number) ≡ false
+pub is_at-other : (number other : ℕ) → other ≢ number → is_line_at other (Some number) ≡ false
 is_at-other number other differs = elim (eqb_tells other number) [
   | inl same ↦ absurd (differs same.1)
   | inr apart ↦ apart.0
 ]
 
 -- a place is one alone
-pub at-one : (number : ℕ) (o : Option ℕ) → is_at number o ≡ true → o ≡ Some number
+pub at-one : (number : ℕ) (o : Option ℕ) → is_line_at number o ≡ true → o ≡ Some number
 at-one number None is = cc
 at-one number (Some at) is = elim (eqb_tells number at) [
   | inl same ↦ ap Some (sym same.1)
@@ -43,7 +43,7 @@ module _ (lines : List (List Queued)) (number : ℕ) (asked : Thread → Option 
     abbrev line : List Queued
     line = line_at lines number
 
-    changed : (after : Thread → Option ℕ) → ((thread : Thread) → is_some (unblock_call (change line) thread) ≡ is_at number (after thread)) → ((thread : Thread) (other : ℕ) → other ≢ number → is_at other (after thread) ≡ is_at other (asked thread)) → KnowsPulses (with_line lines number change) after
+    changed : (after : Thread → Option ℕ) → ((thread : Thread) → is_some (unblock_call (change line) thread) ≡ is_line_at number (after thread)) → ((thread : Thread) (other : ℕ) → other ≢ number → is_line_at other (after thread) ≡ is_line_at other (asked thread)) → KnowsPulses (with_line lines number change) after
     changed after here others thread other = elim (eqb_tells other number) [
       | inl same ↦ rw (same.1, line_at-same lines number change within) (here thread)
       | inr differs ↦ rw (line_at-other lines number change other differs.1) (was thread other ∙ sym (others thread other differs.1))
@@ -54,26 +54,26 @@ module _ (lines : List (List Queued)) (number : ℕ) (asked : Thread → Option 
 
     -- the pulse of one thread comes or goes
     module _ (thread : Thread) (after : Thread → Option ℕ) (same : (other : Thread) → other ≢ thread → unblock_call (change line) other ≡ unblock_call line other) (same_place : (other : Thread) → other ≢ thread → after other ≡ asked other) where
-      one : is_some (unblock_call (change line) thread) ≡ is_at number (after thread) → ((other : ℕ) → other ≢ number → is_at other (after thread) ≡ is_at other (asked thread)) → KnowsPulses (with_line lines number change) after
+      one : is_some (unblock_call (change line) thread) ≡ is_line_at number (after thread) → ((other : ℕ) → other ≢ number → is_line_at other (after thread) ≡ is_line_at other (asked thread)) → KnowsPulses (with_line lines number change) after
       one here others = changed after
           (λ other. elim (same_or_not other thread) [
             | inl is ↦ rw is here
-            | inr differs ↦ ap is_some (same other differs) ∙ was other number ∙ ap (is_at number) (sym (same_place other differs))
+            | inr differs ↦ ap is_some (same other differs) ∙ was other number ∙ ap (is_line_at number) (sym (same_place other differs))
           ])
           (λ other at differs. elim (same_or_not other thread) [
             | inl is ↦ rw is (others at differs)
-            | inr apart ↦ ap (is_at at) (same_place other apart)
+            | inr apart ↦ ap (is_line_at at) (same_place other apart)
           ])
 
       pub pulses-comes : after thread ≡ Some number → is_some (unblock_call (change line) thread) ≡ true → ((other : ℕ) → unblock_call (line_at lines other) thread ≡ None) → KnowsPulses (with_line lines number change) after
       pulses-comes now stands idle = one
-          (stands ∙ sym (ap (is_at number) now ∙ is_at-self number))
-          (λ other differs. ap (is_at other) now ∙ is_at-other number other differs ∙ sym (ap is_some (idle other)) ∙ was thread other)
+          (stands ∙ sym (ap (is_line_at number) now ∙ is_at-self number))
+          (λ other differs. ap (is_line_at other) now ∙ is_at-other number other differs ∙ sym (ap is_some (idle other)) ∙ was thread other)
 
       pub pulses-goes : after thread ≡ None → asked thread ≡ Some number → unblock_call (change line) thread ≡ None → KnowsPulses (with_line lines number change) after
       pulses-goes now before gone = one
-          (ap is_some gone ∙ sym (ap (is_at number) now))
-          (λ other differs. ap (is_at other) now ∙ sym (ap (is_at other) before ∙ is_at-other number other differs))
+          (ap is_some gone ∙ sym (ap (is_line_at number) now))
+          (λ other differs. ap (is_line_at other) now ∙ sym (ap (is_line_at other) before ∙ is_at-other number other differs))
 
   pub pulses-sent : (rank : Queued → ℕ) (thread : Thread) (prio : ℕ) → KnowsPulses (with_line lines number (λ line. into rank line (message_of thread prio))) asked
   pulses-sent rank thread prio = kept (λ line. into rank line (message_of thread prio)) (λ other. call-sent rank (line_at lines number) thread prio other)
@@ -114,9 +114,9 @@ module _ (lines : List (List Queued)) (number : ℕ) (asked : Thread → Option 
   pulses-replied thread call after same now before gone = pulses-goes (line_without thread.proc.user.0 (item.Unblock thread.proc.num thread.tid call)) thread after (λ other differs. call-replied_other (line_at lines number) thread call other differs) same now before gone
 
 -- a thread whose pulse stands elsewhere, or nowhere
-pub no_field : (lines : List (List Queued)) (number : ℕ) (asked : Thread → Option ℕ) (thread : Thread) → KnowsPulses lines asked → is_at number (asked thread) ≡ false → unblock_call (line_at lines number) thread ≡ None
+pub no_field : (lines : List (List Queued)) (number : ℕ) (asked : Thread → Option ℕ) (thread : Thread) → KnowsPulses lines asked → is_line_at number (asked thread) ≡ false → unblock_call (line_at lines number) thread ≡ None
 no_field lines number asked thread was apart = none_of _ (was thread number ∙ apart)
 
 -- and its answer takes nothing out of the line
-pub reply-none : (lines : List (List Queued)) (number : ℕ) (asked : Thread → Option ℕ) (thread : Thread) (call : ℕ) → KnowsPulses lines asked → is_at number (asked thread) ≡ false → lines ≡ with_line lines number (line_without thread.proc.user.0 (item.Unblock thread.proc.num thread.tid call))
+pub reply-none : (lines : List (List Queued)) (number : ℕ) (asked : Thread → Option ℕ) (thread : Thread) (call : ℕ) → KnowsPulses lines asked → is_line_at number (asked thread) ≡ false → lines ≡ with_line lines number (line_without thread.proc.user.0 (item.Unblock thread.proc.num thread.tid call))
 reply-none lines number asked thread call was apart = with_line-same lines number (line_without thread.proc.user.0 (item.Unblock thread.proc.num thread.tid call)) (replied-none (line_at lines number) thread call (no_field lines number asked thread was apart))

@@ -10,7 +10,7 @@ use Rattle.qx_lines.specs.Line.{IsLineOf, SameElsewhere, nodes_in, rank_at}
 use Rattle.qx_lines.proofs.LineFacts.{IsLineOf-same}
 use Rattle.qx_machine.specs.Machine.{rank}
 use Rattle.qx_machine.specs.Lines.{into}
-use Rattle.qx_queues.specs.Kept.{PutIn, entries, entry_at, nobodys, waiting_at}
+use Rattle.qx_queues.specs.Kept.{PutIn, entries, entry_of_node, nobodys, waiting_of_node}
 use Rattle.qx_queues.specs.Waiting.{Waiting, rank_of}
 use Rattle.qx_queues.proofs.EntryLemmas.{contains_into, waiting-insert_same, into-map, map-agree}
 
@@ -27,7 +27,7 @@ none_some x o none some = let clash : None ≡ Some x = sym none ∙ some in cc
 pub some_same : {A : Type 0} (x y : A) (o : Option A) → o ≡ Some x → o ≡ Some y → x ≡ y
 some_same x y o one other = let same : Some x ≡ Some y = sym one ∙ other in cc
 
-pub rank_at-entry : (t : Table Waiting) (node : ℕ) → rank_at rank_of t node ≡ rank (entry_at t node)
+pub rank_at-entry : (t : Table Waiting) (node : ℕ) → rank_at rank_of t node ≡ rank (entry_of_node t node)
 rank_at-entry t node = by_value (maps.get t.values node)
   where
     by_value : (o : Option Waiting) → unwrap_or (option_map rank_of o) 0 ≡ rank (unwrap_or o nobodys).queued
@@ -46,10 +46,10 @@ removed old new node values other differs = rw values (get-remove_other old.valu
 
 module _ (old new : Table Waiting) (node : ℕ) (same : SameBut old new node) where
   -- what another node stands for and carries stays
-  pub waiting-other : (other : ℕ) → other ≢ node → waiting_at new other ≡ waiting_at old other
+  pub waiting-other : (other : ℕ) → other ≢ node → waiting_of_node new other ≡ waiting_of_node old other
   waiting-other other differs = ap (λ o. unwrap_or o nobodys) (same other differs)
 
-  pub entry-other : (other : ℕ) → other ≢ node → entry_at new other ≡ entry_at old other
+  pub entry-other : (other : ℕ) → other ≢ node → entry_of_node new other ≡ entry_of_node old other
   entry-other other differs = ap (λ w. w.queued) (waiting-other other differs)
 
   pub contains-other : (other : ℕ) → other ≢ node → ContainsNode old other → ContainsNode new other
@@ -62,17 +62,17 @@ module _ (old new : Table Waiting) (node : ℕ) (same : SameBut old new node) wh
   pub entries-kept : (line : Line) → maps.get new.lists line.list ≡ maps.get old.lists line.list → (Contains (nodes_in old line) node → ⊥) → entries new line ≡ entries old line
   entries-kept line lists absent =
       let nodes : nodes_in new line ≡ nodes_in old line = ap (λ o. unwrap_or o []) lists in
-      rw nodes (map-agree (entry_at new) (entry_at old) (nodes_in old line) (λ other at. entry-other other (λ same. absent (rw same at at))))
+      rw nodes (map-agree (entry_of_node new) (entry_of_node old) (nodes_in old line) (λ other at. entry-other other (λ same. absent (rw same at at))))
 
   pub line-kept : (line : Line) → IsLineOf rank_of old line → maps.get new.lists line.list ≡ maps.get old.lists line.list → (Contains (nodes_in old line) node → ⊥) → IsLineOf rank_of new line
   line-kept line stands lists absent =
       IsLineOf-same rank_of old new line stands (λ list own. rw own lists) (λ other at. rank_at-entry new other ∙ ap rank (entry-other other (λ same. absent (rw same at at))) ∙ sym (rank_at-entry old other))
 
 module _ (old new : Table Waiting) (node : ℕ) (waiting : Waiting) (values : new.values ≡ maps.insert old.values node waiting) where
-  pub waiting-same : waiting_at new node ≡ waiting
+  pub waiting-same : waiting_of_node new node ≡ waiting
   waiting-same = rw values (waiting-insert_same old.values node waiting)
 
-  pub entry-same : entry_at new node ≡ waiting.queued
+  pub entry-same : entry_of_node new node ≡ waiting.queued
   entry-same = ap (λ w. w.queued) waiting-same
 
   pub contains-self : ContainsNode new node
@@ -90,12 +90,12 @@ PutIn-of old mid new before after node waiting is free line nodes elsewhere own 
     let mid_values : mid.values ≡ maps.insert old.values node waiting = ap (λ t. t.values) is in
     let mid_lists : (list : ℕ) → maps.get mid.lists list ≡ maps.get old.lists list = λ list. ap (λ t. maps.get t.lists list) is in
     let mid_nodes : nodes_in mid before ≡ nodes_in old before = ap (λ o. unwrap_or o []) (mid_lists before.list) in
-    let kept : map (entry_at mid) (nodes_in old before) ≡ entries old before = map-agree (entry_at mid) (entry_at old) (nodes_in old before) (λ other at. entry-other old mid node (inserted old mid _ _ mid_values) other (λ same. nowhere old free before.list (rw same at at))) in
-    let placed : entries new after ≡ map (entry_at mid) (into (rank_at rank_of mid) (nodes_in old before) node) = rw (nodes, elsewhere.values, mid_nodes) refl in
-    let read : into rank (map (entry_at mid) (nodes_in old before)) (entry_at mid node) ≡ into rank (entries old before) waiting.queued = rw (kept, entry-same old mid node waiting mid_values) refl in
+    let kept : map (entry_of_node mid) (nodes_in old before) ≡ entries old before = map-agree (entry_of_node mid) (entry_of_node old) (nodes_in old before) (λ other at. entry-other old mid node (inserted old mid _ _ mid_values) other (λ same. nowhere old free before.list (rw same at at))) in
+    let placed : entries new after ≡ map (entry_of_node mid) (into (rank_at rank_of mid) (nodes_in old before) node) = rw (nodes, elsewhere.values, mid_nodes) refl in
+    let read : into rank (map (entry_of_node mid) (nodes_in old before)) (entry_of_node mid node) ≡ into rank (entries old before) waiting.queued = rw (kept, entry-same old mid node waiting mid_values) refl in
     record {
       line = line;
-      entries = placed ∙ into-map (rank_at rank_of mid) rank (entry_at mid) (rank_at-entry mid) (nodes_in old before) node ∙ read;
+      entries = placed ∙ into-map (rank_at rank_of mid) rank (entry_of_node mid) (rank_at-entry mid) (nodes_in old before) node ∙ read;
       values = elsewhere.values ∙ mid_values;
       room = elsewhere.room ∙ ap (λ t. t.room) is;
       among = λ other at.

@@ -13,10 +13,10 @@ use Rattle.qx_machine.specs.declared.rows.OwnItem.{OwnItem}
 use Rattle.qx_machine.specs.declared.rows.OwnItem.TheVariants as item
 use Rattle.qx_machine.specs.declared.rows.Queued.{Queued}
 use Rattle.qx_machine.specs.declared.rows.WaitingCall.{WaitingCall}
-use Rattle.qx_queues.specs.Kept.{Carries, HasLoad, Kept, answered_calls, call_at, entries, given_at, is_pipes, owner_in, owner_of, users_call as call_with, waiting_at, waiting_lists}
+use Rattle.qx_queues.specs.Kept.{Carries, HasLoad, AreListsOfTable, answered_calls, call_at, entries, given_at, is_pipes, owner_in, node_owner, users_call_carried as call_with, waiting_of_node, waiting_lists}
 use Rattle.qx_queues.specs.Nodes.{Message, Owner, node_of}
 use Rattle.qx_queues.specs.declared.nodes.UserNodes.{UserNodes}
-use Rattle.qx_queues.specs.Queues.{IsReceived, UsersAnswer, UsersCall, as_message, caller, has_call, is_answered, is_same_thread, sender_of, stands}
+use Rattle.qx_queues.specs.Queues.{IsMessageReceived, UsersAnswer, UsersCall, as_message, caller, has_call, has_answer_among, is_same_thread, sender_of, stands}
 use Rattle.qx_queues.specs.Waiting.{Answered, Load, Nothing, Waiting, Waits, carried, carrying, no_call, nobody, waits_in}
 use Rattle.qx_queues.specs.Waits.{is_users_call, users_call}
 use Rattle.qx_queues.proofs.BesideLemmas.{get-waiting_lists, nodes_waiting, pipes_apart}
@@ -37,21 +37,21 @@ any-node test f (x ∷ xs) some = elim (cases_Bool (test (f x))) [
 pub record Found (t : Table Waiting) (node_of : Owner → Option ℕ) (list : ℕ) (test : UsersCall → Bool) : Type 0 where
   pub node : ℕ
   pub at : IsIn t list node
-  pub carries : HasLoad false (waiting_at t node).load
+  pub carries : HasLoad false (waiting_of_node t node).load
   pub own : node_of (Message (caller (call_at t node))) ≡ Some node
   pub is : test (call_at t node) ≡ true
 
-module _ {answered : ℕ} (t : Table Waiting) (lines : List Line) (node_of : Owner → Option ℕ) (kept : Kept t lines answered node_of) where
+module _ {answered : ℕ} (t : Table Waiting) (lines : List Line) (node_of : Owner → Option ℕ) (kept : AreListsOfTable t lines answered node_of) where
   -- the nodes of a pipe's list carry calls that wait, and these are what waits there
   module _ (list : ℕ) (pipes : is_pipes lines answered list ≡ true) where
-    pub carries-call : (node : ℕ) → IsIn t list node → Carries false (waiting_at t node)
+    pub carries-call : (node : ℕ) → IsIn t list node → Carries false (waiting_of_node t node)
     carries-call node at = let off = pipes_apart lines answered list pipes in rw (differs_of list answered off.1) at ((kept.listed list node at).0 off.0)
 
     pub waiting-are : unwrap_or (maps.get (waiting_lists t lines answered) list) [] ≡ map (call_at t) (nodes_of t list)
     waiting-are = let off = pipes_apart lines answered list pipes in nodes_waiting t lines answered list (differs_of list answered off.1) off.0
 
     pub caller-owns : (node : ℕ) → IsIn t list node → node_of (Message (caller (call_at t node))) ≡ Some node
-    caller-owns node at = ap node_of (sym (waits-owner (waiting_at t node) (carries-call node at))) ∙ (kept.listed list node at).1
+    caller-owns node at = ap node_of (sym (waits-owner (waiting_of_node t node) (carries-call node at))) ∙ (kept.listed list node at).1
 
   pub found : (list : ℕ) (test : UsersCall → Bool) → list_any test (unwrap_or (maps.get (waiting_lists t lines answered) list) []) ≡ true → Found t node_of list test
   found list test some = elim (cases_Bool (is_pipes lines answered list)) [
@@ -62,11 +62,11 @@ module _ {answered : ℕ} (t : Table Waiting) (lines : List Line) (node_of : Own
   ]
 
   -- an answered node carries its answer, and is its thread's
-  pub carries-answer : (node : ℕ) → IsIn t answered node → Carries true (waiting_at t node)
+  pub carries-answer : (node : ℕ) → IsIn t answered node → Carries true (waiting_of_node t node)
   carries-answer node at = rw (equal_itself answered) at ((kept.listed answered node at).0 kept.off_lines)
 
   pub given-owns : (node : ℕ) → IsIn t answered node → node_of (Message (given_at t node).thread) ≡ Some node
-  given-owns node at = ap node_of (sym (answered-owner (waiting_at t node) (carries-answer node at))) ∙ (kept.listed answered node at).1
+  given-owns node at = ap node_of (sym (answered-owner (waiting_of_node t node) (carries-answer node at))) ∙ (kept.listed answered node at).1
 
   -- a thread whose node stands in no list has no message in a line and no call that waits or has an answer
   module _ (thread : Thread) (node : ℕ) (has : node_of (Message thread) ≡ Some node) (free : IsFree t node) where
@@ -84,18 +84,18 @@ module _ {answered : ℕ} (t : Table Waiting) (lines : List Line) (node_of : Own
       | inl some ↦ let one = found list (λ own. is_same_thread (caller own) thread) some in absurd (not_in list one.node _ one.own one.at one.is)
     ]
 
-    pub received-answered : is_answered (answered_calls t answered) thread ≡ false
-    received-answered = elim (cases_Bool (is_answered (answered_calls t answered) thread)) [
+    pub received-answered : has_answer_among (answered_calls t answered) thread ≡ false
+    received-answered = elim (cases_Bool (has_answer_among (answered_calls t answered) thread)) [
       | inr none ↦ none
       | inl some ↦ let one = any-node (λ given. is_same_thread given.thread thread) (given_at t) (nodes_of t answered) some in absurd (not_in answered one.0 _ (given-owns one.0 one.1.0) one.1.0 one.1.1)
     ]
 
 -- and the node of a thread whose message was received stands in none
-pub IsFree-received : {answered : ℕ} (t : Table Waiting) (lines : List Line) (own : List UserNodes) (thread : Thread) (node : ℕ) → Kept t lines answered (node_of own) → node_of own (Message thread) ≡ Some node → IsReceived (value_of t lines answered own) thread → IsFree t node
+pub IsFree-received : {answered : ℕ} (t : Table Waiting) (lines : List Line) (own : List UserNodes) (thread : Thread) (node : ℕ) → AreListsOfTable t lines answered (node_of own) → node_of own (Message thread) ≡ Some node → IsMessageReceived (value_of t lines answered own) thread → IsFree t node
 IsFree-received t lines own thread node kept has received = IsFree-own as_message thread (Message thread) (reads-message thread) refl t lines (node_of own) node kept has received.idle (no_call-message t lines (node_of own) thread node kept has received.no_call.waiting received.no_call.answered)
 
 -- whose the node is that a call comes to wait with, and what it carries then
-module _ (entry : Queued) (user : ℕ) (call : WaitingCall) (own : owner_of entry ≡ Message (caller (users_call user call))) where
+module _ (entry : Queued) (user : ℕ) (call : WaitingCall) (own : node_owner entry ≡ Message (caller (users_call user call))) where
   user_is : entry.user.0 ≡ user
   user_is = of entry.item own
     where
@@ -122,7 +122,7 @@ both_true : (a b : Bool) → (a && b) ≡ true → (a ≡ true) × (b ≡ true)
 both_true true b is = (refl, is)
 both_true false b is = absurd (cc)
 
-module _ {answered : ℕ} (t : Table Waiting) (lines : List Line) (node_of : Owner → Option ℕ) (kept : Kept t lines answered node_of) (thread : Thread) where
+module _ {answered : ℕ} (t : Table Waiting) (lines : List Line) (node_of : Owner → Option ℕ) (kept : AreListsOfTable t lines answered node_of) (thread : Thread) where
   -- where a node of the thread is found, it is the thread's
   found-own : (list : ℕ) (test : UsersCall → Bool) (one : Found t node_of list test) → is_same_thread (caller (call_at t one.node)) thread ≡ true → node_of (Message thread) ≡ Some one.node
   found-own list test one same = ap (λ other. node_of (Message other)) (sym (is_same_thread-same _ thread same)) ∙ one.own
@@ -134,13 +134,13 @@ module _ {answered : ℕ} (t : Table Waiting) (lines : List Line) (node_of : Own
       let same : second.node ≡ first.node = some_same _ _ (node_of (Message thread)) (found-own other _ second second.is) (found-own one _ first first.is) in
       apart one other first.node first.at (rw same at second.at)
 
-  pub waits-nowhere : (number : ℕ) → ((node : ℕ) → node_of (Message thread) ≡ Some node → waits_in number (waiting_at t node).load ≡ false) → (list : ℕ) → list_any (is_users_call thread number) (unwrap_or (maps.get (waiting_lists t lines answered) list) []) ≡ false
+  pub waits-nowhere : (number : ℕ) → ((node : ℕ) → node_of (Message thread) ≡ Some node → waits_in number (waiting_of_node t node).load ≡ false) → (list : ℕ) → list_any (is_users_call thread number) (unwrap_or (maps.get (waiting_lists t lines answered) list) []) ≡ false
   waits-nowhere number not list = elim (cases_Bool (list_any (is_users_call thread number) (unwrap_or (maps.get (waiting_lists t lines answered) list) []))) [
     | inr none ↦ none
     | inl some ↦
         let one = found t lines node_of kept list (is_users_call thread number) some in
         let is = both_true _ _ one.is in
-        let clash : true ≡ false = sym is.1 ∙ waits_own number (waiting_at t one.node).load one.carries ∙ not one.node (found-own list _ one is.0) in
+        let clash : true ≡ false = sym is.1 ∙ waits_own number (waiting_of_node t one.node).load one.carries ∙ not one.node (found-own list _ one is.0) in
         absurd (cc)
   ]
 

@@ -15,29 +15,29 @@ use Rattle.qx_queues.specs.Queues.{server_cmp, thread_cmp}
 abbrev pub no_process : ProcessNodes
 no_process = record { threads = replicate (THREADS + 1) None; servers = replicate COUNT None }
 
-abbrev pub no_processes : UserNodes
-no_processes = record { processes = replicate (PROCESSES + 1) no_process }
+abbrev pub no_process_nodes : UserNodes
+no_process_nodes = record { processes = replicate (PROCESSES + 1) no_process }
 
 abbrev pub no_nodes : ℕ → List UserNodes
-no_nodes users = replicate (users + 1) no_processes
+no_nodes users = replicate (users + 1) no_process_nodes
 
-abbrev pub process_in : UserNodes → ℕ → ProcessNodes
-process_in of_user process = get_or of_user.processes process no_process
+abbrev pub process_nodes_in : UserNodes → ℕ → ProcessNodes
+process_nodes_in of_user process = get_or of_user.processes process no_process
 
 -- the nodes of a process
 abbrev pub process_at : List UserNodes → Proc → ProcessNodes
-process_at nodes proc = process_in (get_or nodes proc.user.0 no_processes) proc.num
+process_at nodes proc = process_nodes_in (get_or nodes proc.user.0 no_process_nodes) proc.num
 
 abbrev pub user_with : UserNodes → ℕ → ProcessNodes → UserNodes
 user_with of_user process own = record { processes = slice_set of_user.processes process own }
 
 -- the nodes with a process' own
 abbrev pub with_process_at : List UserNodes → Proc → ProcessNodes → List UserNodes
-with_process_at nodes proc own = slice_set nodes proc.user.0 (user_with (get_or nodes proc.user.0 no_processes) proc.num own)
+with_process_at nodes proc own = slice_set nodes proc.user.0 (user_with (get_or nodes proc.user.0 no_process_nodes) proc.num own)
 
 -- the nodes of a thread
-abbrev pub nodes_at : List UserNodes → Thread → Option ThreadNodes
-nodes_at nodes thread = row_at (process_at nodes thread.proc).threads thread.tid
+abbrev pub nodes_of_thread : List UserNodes → Thread → Option ThreadNodes
+nodes_of_thread nodes thread = row_at (process_at nodes thread.proc).threads thread.tid
 
 abbrev pub threads_with : ProcessNodes → ℕ → ThreadNodes → ProcessNodes
 threads_with of_process thread own = record { threads = slice_set of_process.threads thread (Some own); servers = of_process.servers }
@@ -64,8 +64,8 @@ pub data Owner : Type 0 where
   Disconnect : (proc : Proc) (number : ℕ) → Owner
 
 abbrev pub node_of : List UserNodes → Owner → Option ℕ
-node_of nodes (Message thread) = option_map (λ own. own.message) (nodes_at nodes thread)
-node_of nodes (Unblock thread) = option_map (λ own. own.unblock) (nodes_at nodes thread)
+node_of nodes (Message thread) = option_map (λ own. own.message) (nodes_of_thread nodes thread)
+node_of nodes (Unblock thread) = option_map (λ own. own.unblock) (nodes_of_thread nodes thread)
 node_of nodes (Disconnect proc number) = disconnect_at nodes proc number
 
 abbrev pub asked_in : Option ThreadNodes → Option ℕ
@@ -73,13 +73,13 @@ asked_in None = None
 asked_in (Some own) = option_map manager_number own.asked
 
 -- in which line an unblock pulse of the thread stands
-abbrev pub asked_at : List UserNodes → Thread → Option ℕ
-asked_at nodes thread = asked_in (nodes_at nodes thread)
+abbrev pub pulse_line_at : List UserNodes → Thread → Option ℕ
+pulse_line_at nodes thread = asked_in (nodes_of_thread nodes thread)
 
 -- what stands in numbered places, each told by its number
-abbrev pub numbered : {A K : Type 0} → (ℕ → A → List K) → ℕ → List A → List K
-numbered keys number [] = []
-numbered keys number (x ∷ xs) = keys number x ++ numbered keys (suc number) xs
+abbrev pub told_by_number : {A K : Type 0} → (ℕ → A → List K) → ℕ → List A → List K
+told_by_number keys number [] = []
+told_by_number keys number (x ∷ xs) = keys number x ++ told_by_number keys (suc number) xs
 
 abbrev pub if_there : {A K : Type 0} → K → Option A → List K
 if_there key None = []
@@ -88,9 +88,9 @@ if_there key (Some x) = key ∷ []
 -- what stands in one column of all processes, each row told by its process and its number
 abbrev pub keys_in : {A K : Type 0} → (Proc → ℕ → K) → (ProcessNodes → List (Option A)) → List UserNodes → List K
 keys_in key column nodes =
-    numbered (λ user of_user.
-    numbered (λ process own.
-    numbered (λ number row. if_there (key (record { user = record { 0 = user }; num = process }) number) row) 0 (column own))
+    told_by_number (λ user of_user.
+    told_by_number (λ process own.
+    told_by_number (λ number row. if_there (key (record { user = record { 0 = user }; num = process }) number) row) 0 (column own))
     0 of_user.processes)
     0 nodes
 
@@ -105,8 +105,8 @@ servers_of nodes = set.from_list (keys_in (λ proc number. (proc, number)) (λ o
 -- the same nodes, where the pulse of one thread stands in another line, or in none
 pub record Asked (old new : List UserNodes) (thread : Thread) (asked : Option ℕ) : Type 0 where
   pub nodes : (owner : Owner) → node_of new owner ≡ node_of old owner
-  pub here : asked_at new thread ≡ asked
-  pub others : (other : Thread) → other ≢ thread → asked_at new other ≡ asked_at old other
+  pub here : pulse_line_at new thread ≡ asked
+  pub others : (other : Thread) → other ≢ thread → pulse_line_at new other ≡ pulse_line_at old other
   pub threads : threads_of new ≡ threads_of old
   pub servers : servers_of new ≡ servers_of old
   pub users : length new ≡ length old

@@ -149,8 +149,8 @@ abbrev pub IsGone : Queued → List Queued → Type 0
 IsGone entry line = no_other entry.item (sender entry) line
 
 -- who waits in the list of a number
-abbrev pub waiting_in : Queues → ℕ → List UsersCall
-waiting_in c list = unwrap_or (maps.get c.pipes list) []
+abbrev pub waiting_in_list : Queues → ℕ → List UsersCall
+waiting_in_list c list = unwrap_or (maps.get c.pipes list) []
 
 -- a list in which calls may wait
 abbrev pub HasList : Queues → ℕ → Type 0
@@ -165,8 +165,8 @@ abbrev pub without_list : Queues → ℕ → Queues
 without_list c list = record c { pipes = maps.remove c.pipes list }
 
 -- these were answered, after all others
-abbrev pub with_answers : Queues → List UsersAnswer → Queues
-with_answers c answers = record c { answered = c.answered ++ answers }
+abbrev pub with_more_answers : Queues → List UsersAnswer → Queues
+with_more_answers c answers = record c { answered = c.answered ++ answers }
 
 -- the thread whose call it is
 abbrev pub caller : UsersCall → Thread
@@ -181,45 +181,45 @@ abbrev pub answer_to : UsersCall → Answer → UsersAnswer
 answer_to own answer = record { thread = caller own; call = own.call.call; answer = answer }
 
 -- an answer to the thread is among these
-abbrev pub is_answered : List UsersAnswer → Thread → Bool
-is_answered all thread = list_any (λ given. is_same_thread given.thread thread) all
+abbrev pub has_answer_among : List UsersAnswer → Thread → Bool
+has_answer_among all thread = list_any (λ given. is_same_thread given.thread thread) all
 
 -- no call of the thread waits in a pipe or has an answer that was not taken out yet
-pub record HasNoCall (c : Queues) (thread : Thread) : Type 0 where
-  pub waiting : (list : ℕ) → has_call (waiting_in c list) thread ≡ false
-  pub answered : is_answered c.answered thread ≡ false
+pub record HasNoListedCall (c : Queues) (thread : Thread) : Type 0 where
+  pub waiting : (list : ℕ) → has_call (waiting_in_list c list) thread ≡ false
+  pub answered : has_answer_among c.answered thread ≡ false
 
 -- the thread has nodes
-abbrev pub has_thread : Queues → Thread → Bool
-has_thread c thread = set.contains c.threads thread
+abbrev pub has_thread_nodes : Queues → Thread → Bool
+has_thread_nodes c thread = set.contains c.threads thread
 
 -- the thread's message was received: the thread has nodes, its message stands in no line, and no call of it waits or has an answer
-pub record IsReceived (c : Queues) (thread : Thread) : Type 0 where
-  pub own : IsTrue (has_thread c thread)
+pub record IsMessageReceived (c : Queues) (thread : Thread) : Type 0 where
+  pub own : IsTrue (has_thread_nodes c thread)
   pub idle : (number : ℕ) → stands (queues_line c number) thread ≡ false
-  pub no_call : HasNoCall c thread
+  pub no_call : HasNoListedCall c thread
 
 -- the process has a disconnect node at the manager of a number
-abbrev pub has_server : Queues → Proc → ℕ → Bool
-has_server c proc number = set.contains c.servers (proc, number)
+abbrev pub has_server_node : Queues → Proc → ℕ → Bool
+has_server_node c proc number = set.contains c.servers (proc, number)
 
 -- a thread of the process has nodes
-abbrev pub HasThread : Queues → Proc → Type 0
-HasThread c proc = (tid : ℕ) × IsTrue (has_thread c (record { proc = proc; tid = tid }))
+abbrev pub HasThreadNodes : Queues → Proc → Type 0
+HasThreadNodes c proc = (tid : ℕ) × IsTrue (has_thread_nodes c (record { proc = proc; tid = tid }))
 
 -- a thread has nodes from now on
-abbrev pub with_thread : Queues → Thread → Queues
-with_thread c thread = record c { threads = set.insert c.threads thread; room = c.room - 2 }
+abbrev pub with_thread_nodes : Queues → Thread → Queues
+with_thread_nodes c thread = record c { threads = set.insert c.threads thread; room = c.room - 2 }
 
 -- the first threads of a process have nodes from now on
-abbrev pub with_process : Queues → Proc → ℕ → Queues
-with_process c proc zero = c
-with_process c proc (suc threads) = with_thread (with_process c proc threads) (record { proc = proc; tid = suc threads })
+abbrev pub with_process_nodes : Queues → Proc → ℕ → Queues
+with_process_nodes c proc zero = c
+with_process_nodes c proc (suc threads) = with_thread_nodes (with_process_nodes c proc threads) (record { proc = proc; tid = suc threads })
 
 -- a process has a disconnect node at a manager from now on
-abbrev pub with_server : Queues → Proc → ℕ → Queues
-with_server c proc number = record c { servers = set.insert c.servers (proc, number); room = if has_server c proc number then c.room else c.room - 1 }
+abbrev pub with_server_node : Queues → Proc → ℕ → Queues
+with_server_node c proc number = record c { servers = set.insert c.servers (proc, number); room = if has_server_node c proc number then c.room else c.room - 1 }
 
 -- and has none any more
-abbrev pub without_server : Queues → Proc → ℕ → Queues
-without_server c proc number = record c { servers = set.remove c.servers (proc, number); room = if has_server c proc number then c.room + 1 else c.room }
+abbrev pub without_server_node : Queues → Proc → ℕ → Queues
+without_server_node c proc number = record c { servers = set.remove c.servers (proc, number); room = if has_server_node c proc number then c.room + 1 else c.room }

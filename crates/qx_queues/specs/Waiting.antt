@@ -41,8 +41,8 @@ carried (Waits call) = Some call
 carried (Answered given) = None
 
 -- the call that waits with a node
-abbrev pub call_of : Waiting → WaitingCall
-call_of waiting = unwrap_or (carried waiting.load) no_call
+abbrev pub call_carried : Waiting → WaitingCall
+call_carried waiting = unwrap_or (carried waiting.load) no_call
 
 -- the call of that number waits
 abbrev pub waits_in : ℕ → Load → Bool
@@ -62,14 +62,14 @@ given_in (Answered given) = given
 abbrev pub given_of : Waiting → UsersAnswer
 given_of waiting = given_in waiting.load
 
-abbrev pub caller_in : ℕ → Load → Thread
-caller_in user Nothing = nobody
-caller_in user (Waits call) = caller (record { user = user; call = call })
-caller_in user (Answered given) = given.thread
+abbrev pub thread_of_load : ℕ → Load → Thread
+thread_of_load user Nothing = nobody
+thread_of_load user (Waits call) = caller (record { user = user; call = call })
+thread_of_load user (Answered given) = given.thread
 
 -- the thread whose call a node carries, or carried until it was answered
-abbrev pub caller_of : Waiting → Thread
-caller_of waiting = caller_in waiting.queued.user.0 waiting.load
+abbrev pub thread_carried : Waiting → Thread
+thread_carried waiting = thread_of_load waiting.queued.user.0 waiting.load
 
 -- to which call of which thread an answer goes, and what it is
 abbrev pub addressed_by : taken.Answered → UsersAnswer

@@ -4,7 +4,7 @@ ghost use Rattle.std.specs.Prelude.{◌≡◌, ◌≢◌, ◌<◌, ◌≤◌, le
 ghost use Rattle.qx_types.specs.Managers.{manager_number};
 ghost use Rattle.qx_types.specs.declared.limits.TheConstants.Limits.{PROCESSES, THREADS};
 ghost use Rattle.qx_machine.specs.Rows.{row_at};
-ghost use Rattle.qx_queues.specs.Nodes.{Asked, disconnect_at, no_nodes, no_process, nodes_at, process_at, process_in, servers_with, threads_with, user_with, with_disconnect_at, with_nodes_at};
+ghost use Rattle.qx_queues.specs.Nodes.{Asked, disconnect_at, no_nodes, no_process, nodes_of_thread, process_at, process_nodes_in, servers_with, threads_with, user_with, with_disconnect_at, with_nodes_at};
 
 use qx_types::{Limits, Manager, Proc, Thread};
 use std::alloc::{AllocError, Global};
@@ -68,15 +68,15 @@ impl UserNodes {
     fn set(&mut self, process: u8, thread: u8, own: ThreadNodes)
         requires process { process ≤ PROCESSES }
         requires thread { thread ≤ THREADS }
-        ensures set { self.new ≡ user_with self.old process (threads_with (process_in self.old process) thread own) }
-        ensures there { row_at (process_in self.new process).threads thread ≡ Some own }
+        ensures set { self.new ≡ user_with self.old process (threads_with (process_nodes_in self.old process) thread own) }
+        ensures there { row_at (process_nodes_in self.new process).threads thread ≡ Some own }
     {
         self.processes[process as usize].set(thread, own);
     }
 
     fn set_disconnect(&mut self, process: u8, manager: Manager, node: Option<usize>)
-        ensures set { self.new ≡ user_with self.old process (servers_with (process_in self.old process) (manager_number manager) node) }
-        ensures there { process_in self.old process ≢ no_process → row_at (process_in self.new process).servers (manager_number manager) ≡ node }
+        ensures set { self.new ≡ user_with self.old process (servers_with (process_nodes_in self.old process) (manager_number manager) node) }
+        ensures there { process_nodes_in self.old process ≢ no_process → row_at (process_nodes_in self.new process).servers (manager_number manager) ≡ node }
     {
         let place = process as usize;
         if place < self.processes.len() {
@@ -115,7 +115,7 @@ impl Nodes {
 
     /// A thread's nodes.
     pub fn at(&self, thread: Thread) -> Option<ThreadNodes>
-        ensures own { result ≡ nodes_at self.now thread }
+        ensures own { result ≡ nodes_of_thread self.now thread }
         ensures place { IfSome result (λ own. (thread.proc.user.0 < length self.now) × (thread.proc.num ≤ PROCESSES) × (thread.tid ≤ THREADS)) }
     {
         let of_user = self.users.get(thread.proc.user.0 as usize)?;
@@ -129,14 +129,14 @@ impl Nodes {
         requires process { thread.proc.num ≤ PROCESSES }
         requires thread { thread.tid ≤ THREADS }
         ensures set { self.new ≡ with_nodes_at self.old thread own }
-        ensures there { nodes_at self.new thread ≡ Some own }
+        ensures there { nodes_of_thread self.new thread ≡ Some own }
     {
         self.users[thread.proc.user.0 as usize].set(thread.proc.num, thread.tid, own);
     }
 
     /// A thread's unblock pulse stands in a manager's line from now on, or in none.
     pub fn set_asked(&mut self, thread: Thread, asked: Option<Manager>)
-        requires there { IsTrue (is_some (nodes_at self.old thread)) }
+        requires there { IsTrue (is_some (nodes_of_thread self.old thread)) }
         ensures asked { Asked self.old self.new thread (option_map manager_number asked) }
     {
         let Some(own) = self.at(thread) else {

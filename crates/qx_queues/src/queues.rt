@@ -10,8 +10,8 @@ ghost use Rattle.qx_lines.specs.Line.{IsInLine, IsLineOf};
 ghost use Rattle.qx_machine.specs.Lines.{into};
 ghost use Rattle.qx_machine.specs.Machine as machine;
 ghost use Rattle.qx_machine.specs.declared.rows.OwnItem.TheVariants as item;
-ghost use Rattle.qx_queues.specs.Queues.{HasNoCall, HasThread, IsGone, IsReceived, pulse_call, queues_line, has_server, has_thread, message_of, no_queues, stands, unblock_call, unblock_of, with_queues_line, with_process, with_server, with_thread, without_server};
-ghost use Rattle.qx_queues.specs.Kept.{PutIn, TakenOut, entries, entry_at, owner_of, waiting_at};
+ghost use Rattle.qx_queues.specs.Queues.{HasNoListedCall, HasThreadNodes, IsGone, IsMessageReceived, pulse_call, queues_line, has_server_node, has_thread_nodes, message_of, no_queues, stands, unblock_call, unblock_of, with_queues_line, with_process_nodes, with_server_node, with_thread_nodes, without_server_node};
+ghost use Rattle.qx_queues.specs.Kept.{PutIn, TakenOut, entries, entry_of_node, node_owner, waiting_of_node};
 ghost use Rattle.qx_queues.specs.Nodes.{Unblock};
 ghost use Rattle.qx_queues.specs.Waiting.{addressed_by, idle, load_of, rank_of};
 
@@ -38,8 +38,8 @@ impl Model for Queues {
     ghost use Rattle.std.specs.Prelude.{◌≡◌, length, map};
     ghost use Rattle.qx_types.specs.declared.names.TheConstants.Manager.{COUNT};
     ghost use Rattle.qx_queues.specs.Queues as words;
-    ghost use Rattle.qx_queues.specs.Kept.{KnowsPulses, Kept, answered_calls, entries, waiting_lists};
-    ghost use Rattle.qx_queues.specs.Nodes.{asked_at, node_of, servers_of, threads_of};
+    ghost use Rattle.qx_queues.specs.Kept.{KnowsPulses, AreListsOfTable, answered_calls, entries, waiting_lists};
+    ghost use Rattle.qx_queues.specs.Nodes.{pulse_line_at, node_of, servers_of, threads_of};
 
     ghost Value = { words.Queues };
 
@@ -55,7 +55,7 @@ impl Model for Queues {
       answered = answered_calls c.table c.answered;
     } };
 
-    ghost invariant = { λ c. (length c.lines.items ≡ COUNT) × Kept c.table c.lines.items c.answered (node_of c.nodes) × KnowsPulses (map (entries c.table) c.lines.items) (asked_at c.nodes) };
+    ghost invariant = { λ c. (length c.lines.items ≡ COUNT) × AreListsOfTable c.table c.lines.items c.answered (node_of c.nodes) × KnowsPulses (map (entries c.table) c.lines.items) (pulse_line_at c.nodes) };
 }
 
 impl Queues {
@@ -82,9 +82,9 @@ impl Queues {
 
     /// Puts a thread's message, which stands in no line, into a line (C Library Reference: `MsgSend`).
     pub fn send(&mut self, manager: Manager, thread: Thread, prio: Prio)
-        requires own { IsTrue (has_thread self.old thread) }
+        requires own { IsTrue (has_thread_nodes self.old thread) }
         requires idle { (number : ℕ) → stands (queues_line self.old number) thread ≡ false }
-        requires no_call { HasNoCall self.old thread }
+        requires no_call { HasNoListedCall self.old thread }
         requires lowest { 1 ≤ prio.0 }
         requires highest { prio.0 ≤ PRIORITY }
         ensures sent { self.new ≡ with_queues_line self.old (manager_number manager) (λ line. into machine.rank line (message_of thread prio.0)) }
@@ -123,7 +123,7 @@ impl Queues {
     /// Puts the pulse that asks to unblock a thread from a call, where none of the thread stands in a line (C Library
     /// Reference: `ChannelCreate`, `_NTO_CHF_UNBLOCK`).
     pub fn ask_unblock(&mut self, manager: Manager, thread: Thread, call: u64, prio: Prio)
-        requires own { IsTrue (has_thread self.old thread) }
+        requires own { IsTrue (has_thread_nodes self.old thread) }
         requires idle { (number : ℕ) → unblock_call (queues_line self.old number) thread ≡ None }
         requires lowest { 1 ≤ prio.0 }
         requires highest { prio.0 ≤ PRIORITY }
@@ -181,7 +181,7 @@ impl Queues {
     pub fn take_answered(&mut self) -> Option<Answered>
         ensures first { option_map addressed_by result ≡ slice_get self.old.answered 0 }
         ensures rest { self.new ≡ record self.old { answered = drop 1 self.old.answered } }
-        ensures gone { IfSome result (λ taken. HasNoCall self.new taken.thread) }
+        ensures gone { IfSome result (λ taken. HasNoListedCall self.new taken.thread) }
     {
         let node = self.table.first(self.answered)?;
         self.table.know();
@@ -215,14 +215,14 @@ impl Queues {
 
     /// Makes the nodes of a thread that has none, for which there is room.
     pub fn add(&mut self, thread: Thread, prio: Prio)
-        requires fresh { has_thread self.old thread ≡ false }
+        requires fresh { has_thread_nodes self.old thread ≡ false }
         requires user { thread.proc.user.0 < self.old.users }
         requires process { thread.proc.num ≤ PROCESSES }
         requires thread { thread.tid ≤ THREADS }
         requires lowest { 1 ≤ prio.0 }
         requires highest { prio.0 ≤ PRIORITY }
         requires room { 2 ≤ self.old.room }
-        ensures added { self.new ≡ with_thread self.old thread }
+        ensures added { self.new ≡ with_thread_nodes self.old thread }
     {
         self.table.know();
         let message = new_node(&mut self.table, Waiting::new(queued_message(thread, prio)));
@@ -244,14 +244,14 @@ impl Queues {
 
     /// Makes the nodes of a process' threads, for which there is room, and none of which has any.
     pub fn add_process(&mut self, proc: Proc, threads: u8, prio: Prio)
-        requires fresh { (thread : ℕ) → has_thread self.old (record { proc = proc; tid = thread }) ≡ false }
+        requires fresh { (thread : ℕ) → has_thread_nodes self.old (record { proc = proc; tid = thread }) ≡ false }
         requires user { proc.user.0 < self.old.users }
         requires process { proc.num ≤ PROCESSES }
         requires threads { threads ≤ THREADS }
         requires lowest { 1 ≤ prio.0 }
         requires highest { prio.0 ≤ PRIORITY }
         requires room { 2 * threads ≤ self.old.room }
-        ensures added { self.new ≡ with_process self.old proc threads }
+        ensures added { self.new ≡ with_process_nodes self.old proc threads }
     {
         if threads == 0 {
             return;
@@ -262,9 +262,9 @@ impl Queues {
 
     /// A process has a disconnect node at a manager from now on: the one that it had, or a new one.
     pub fn add_server(&mut self, proc: Proc, manager: Manager) -> Result<(), AllocError>
-        requires started { HasThread self.old proc }
-        ensures ok { OnOk result (self.new ≡ with_server self.old proc (manager_number manager)) }
-        ensures had_node { IsTrue (has_server self.old proc (manager_number manager)) → IsOk result }
+        requires started { HasThreadNodes self.old proc }
+        ensures ok { OnOk result (self.new ≡ with_server_node self.old proc (manager_number manager)) }
+        ensures had_node { IsTrue (has_server_node self.old proc (manager_number manager)) → IsOk result }
         ensures had_room { 1 ≤ self.old.room → IsOk result }
         ensures err { OnErr result (self.new ≡ self.old) }
     {
@@ -285,7 +285,7 @@ impl Queues {
 
     /// A process has no disconnect node at a manager from now on, and room is kept for the one that it had.
     pub fn remove_server(&mut self, proc: Proc, manager: Manager)
-        ensures removed { self.new ≡ without_server self.old proc (manager_number manager) }
+        ensures removed { self.new ≡ without_server_node self.old proc (manager_number manager) }
     {
         if let Some(node) = self.nodes.disconnect(proc, manager) {
             self.table.free_node(node);
@@ -377,8 +377,8 @@ fn remove(table: &mut Table<Waiting>, line: &mut Line, node: usize)
 pub(crate) fn take_slot(table: &mut Table<Waiting>, list: usize, node: usize) -> Slot
     requires in_list { IsIn table.old list node }
     requires there { ContainsNode table.old node }
-    ensures carried { load_of result ≡ (waiting_at table.old node).load }
-    ensures taken { table.new ≡ with_value (with_nodes table.old list (without node (nodes_of table.old list))) node (idle (entry_at table.old node)) }
+    ensures carried { load_of result ≡ (waiting_of_node table.old node).load }
+    ensures taken { table.new ≡ with_value (with_nodes table.old list (without node (nodes_of table.old list))) node (idle (entry_of_node table.old node)) }
     ensures free { IsFree table.new node }
 {
     table.unlink(list, node);
@@ -388,8 +388,8 @@ pub(crate) fn take_slot(table: &mut Table<Waiting>, list: usize, node: usize) ->
 /// The call that the pulse of a node names.
 fn asked_call(table: &Table<Waiting>, node: usize) -> u64
     requires there { ContainsNode table.now node }
-    requires pulse { (thread : Thread) × (owner_of (entry_at table.now node) ≡ Unblock thread) }
-    ensures call { pulse_call (entry_at table.now node).item ≡ Some result }
+    requires pulse { (thread : Thread) × (node_owner (entry_of_node table.now node) ≡ Unblock thread) }
+    ensures call { pulse_call (entry_of_node table.now node).item ≡ Some result }
 {
     match table.value(node).queued().item {
         OwnItem::Unblock { call, .. } => call,

@@ -5,7 +5,7 @@ ghost use Rattle.std.specs.Result.{ForOk};
 ghost use Rattle.qx_types.specs.declared.limits.TheConstants.Limits.{PRIORITY, TRANSFER};
 ghost use Rattle.qx_queues.specs.Kept.{HasLoad};
 ghost use Rattle.qx_queues.specs.Queues.{answer_to};
-ghost use Rattle.qx_queues.specs.Waiting.{Answered as Given, Waits, addressed_by, call_of, carrying, idle, load_of, waits_in};
+ghost use Rattle.qx_queues.specs.Waiting.{Answered as Given, Waits, addressed_by, call_carried, carrying, idle, load_of, waits_in};
 ghost use Rattle.qx_queues.specs.Waits.{handed, users_call};
 
 use crate::calls::PipeCall;
@@ -129,7 +129,7 @@ impl Waiting {
     /// Over which open control block the call of a number waits with the node, if it does.
     pub fn waits(&self, number: u64) -> Option<u16>
         ensures waits { is_some result ≡ waits_in number self.now.load }
-        ensures block { IfSome result (λ block. block ≡ (call_of self.now).block) }
+        ensures block { IfSome result (λ block. block ≡ (call_carried self.now).block) }
     {
         match &self.slot {
             Slot::Waits(call) if call.number() == number => Some(call.block()),
@@ -140,7 +140,7 @@ impl Waiting {
     /// The call that waits with the node.
     pub fn call(&self) -> &PipeCall
         requires waits { HasLoad false self.now.load }
-        ensures call { result.now ≡ call_of self.now }
+        ensures call { result.now ≡ call_carried self.now }
     {
         match &self.slot {
             Slot::Waits(call) => call,

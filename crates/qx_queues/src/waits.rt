@@ -10,10 +10,10 @@ ghost use Rattle.qx_types.specs.declared.names.Thread.{Thread as TheThread};
 ghost use Rattle.qx_lists.specs.Table.{ContainsList, IsFree, IsIn, nodes_of, with_nodes, with_value};
 ghost use Rattle.qx_machine.specs.Waiting.{is_written as is_written_by};
 ghost use Rattle.qx_machine.specs.Pipes.{staying};
-ghost use Rattle.qx_queues.specs.Kept.{HasLoad, entry_at, waiting_at};
-ghost use Rattle.qx_queues.specs.Nodes.{Message, node_of, nodes_at};
-ghost use Rattle.qx_queues.specs.Queues.{HasList, IsReceived, answer_to, caller, has_call, waiting_in, with_answers, with_waiting, without_list};
-ghost use Rattle.qx_queues.specs.Waiting.{call_of, carrying, load_of};
+ghost use Rattle.qx_queues.specs.Kept.{HasLoad, entry_of_node, waiting_of_node};
+ghost use Rattle.qx_queues.specs.Nodes.{Message, node_of, nodes_of_thread};
+ghost use Rattle.qx_queues.specs.Queues.{HasList, IsMessageReceived, answer_to, caller, has_call, waiting_in_list, with_more_answers, with_waiting, without_list};
+ghost use Rattle.qx_queues.specs.Waiting.{call_carried, carrying, load_of};
 ghost use Rattle.qx_queues.specs.Waits.{handed, is_users_call, leaves, users_call, without_first};
 
 use crate::calls::PipeCall;
@@ -48,7 +48,7 @@ impl Queues {
     /// The first call that waits in a list.
     pub fn first_waiting(&self, list: usize) -> Option<&PipeCall>
         requires list { HasList self.now list }
-        ensures { option_copied result ≡ option_map (λ own. own.call) (slice_get (waiting_in self.now list) 0) }
+        ensures { option_copied result ≡ option_map (λ own. own.call) (slice_get (waiting_in_list self.now list) 0) }
     {
         self.table.know();
         let node = self.table.first(list)?;
@@ -58,14 +58,14 @@ impl Queues {
     /// Whether one of those calls waits in a list.
     pub fn is_waiting(&self, list: usize, which: Leaving) -> bool
         requires list { HasList self.now list }
-        ensures { result ≡ list_any (λ own. leaves which own.call) (waiting_in self.now list) }
+        ensures { result ≡ list_any (λ own. leaves which own.call) (waiting_in_list self.now list) }
     {
         first_leaving(&self.table, list, which).is_some()
     }
 
     /// Over which open control block a call of a thread waits; none where it waits nowhere.
     pub fn waits(&self, thread: Thread, call: u64) -> Option<u16>
-        ensures nowhere { IfNone result ((list : ℕ) → list_any (is_users_call thread call) (waiting_in self.now list) ≡ false) }
+        ensures nowhere { IfNone result ((list : ℕ) → list_any (is_users_call thread call) (waiting_in_list self.now list) ≡ false) }
     {
         let own = self.nodes.at(thread)?;
         self.table.value(own.message).waits(call)
@@ -73,7 +73,7 @@ impl Queues {
 
     /// Tells that a thread waits in one list at most.
     pub fn know(&self)
-        ensures once { (thread : TheThread) (one other : ℕ) → IsTrue (has_call (waiting_in self.now one) thread) → IsTrue (has_call (waiting_in self.now other) thread) → one ≡ other }
+        ensures once { (thread : TheThread) (one other : ℕ) → IsTrue (has_call (waiting_in_list self.now one) thread) → IsTrue (has_call (waiting_in_list self.now other) thread) → one ≡ other }
     {
         self.table.know();
     }
@@ -82,8 +82,8 @@ impl Queues {
     /// whom no reply is made yet).
     pub fn wait(&mut self, list: usize, user: User, call: PipeCall)
         requires list { HasList self.old list }
-        requires received { IsReceived self.old (caller (users_call user.0 call)) }
-        ensures { self.new ≡ with_waiting self.old list (waiting_in self.old list ++ users_call user.0 call ∷ []) }
+        requires received { IsMessageReceived self.old (caller (users_call user.0 call)) }
+        ensures { self.new ≡ with_waiting self.old list (waiting_in_list self.old list ++ users_call user.0 call ∷ []) }
     {
         let node = message_node(&self.nodes, call.thread(user));
         put_slot(&mut self.table, list, node, Slot::Waits(call));
@@ -97,9 +97,9 @@ impl Queues {
         call: PipeCall,
         answer: Result<(u64, &[u8]), Errno>,
     ) -> bool
-        requires received { IsReceived self.old (caller (users_call user.0 call)) }
+        requires received { IsMessageReceived self.old (caller (users_call user.0 call)) }
         requires short { ForOk answer (λ reply. length reply.1.now ≤ TRANSFER) }
-        ensures answered { self.new ≡ with_answers self.old (answer_to (users_call user.0 call) (handed answer.entry) ∷ []) }
+        ensures answered { self.new ≡ with_more_answers self.old (answer_to (users_call user.0 call) (handed answer.entry) ∷ []) }
         ensures written { result ≡ is_written_by call.bytes (handed answer.entry) }
     {
         let written = is_written(&call, answer);
@@ -117,10 +117,10 @@ impl Queues {
     /// The first call of a list is answered; tells whether that takes the bytes that it writes.
     pub fn answer_first(&mut self, list: usize, answer: Result<(u64, &[u8]), Errno>) -> bool
         requires list { HasList self.old list }
-        requires waits { 0 < length (waiting_in self.old list) }
+        requires waits { 0 < length (waiting_in_list self.old list) }
         requires short { ForOk answer (λ reply. length reply.1.now ≤ TRANSFER) }
-        ensures answered { self.new ≡ with_answers (with_waiting self.old list (drop 1 (waiting_in self.old list))) (map (λ own. answer_to own (handed answer.entry)) (take 1 (waiting_in self.old list))) }
-        ensures written { result ≡ list_any (λ own. is_written_by own.call.bytes (handed answer.entry)) (take 1 (waiting_in self.old list)) }
+        ensures answered { self.new ≡ with_more_answers (with_waiting self.old list (drop 1 (waiting_in_list self.old list))) (map (λ own. answer_to own (handed answer.entry)) (take 1 (waiting_in_list self.old list))) }
+        ensures written { result ≡ list_any (λ own. is_written_by own.call.bytes (handed answer.entry)) (take 1 (waiting_in_list self.old list)) }
     {
         match self.take_first(list, Leaving::All) {
             Some((user, call)) => self.answer(user, call, answer),
@@ -132,7 +132,7 @@ impl Queues {
     pub fn dismiss(&mut self, list: usize, which: Leaving, answer: Result<(u64, &[u8]), Errno>)
         requires list { HasList self.old list }
         requires short { ForOk answer (λ reply. length reply.1.now ≤ TRANSFER) }
-        ensures { self.new ≡ with_answers (with_waiting self.old list (staying (λ own. leaves which own.call) (waiting_in self.old list))) (map (λ own. answer_to own (handed answer.entry)) (filter (λ own. leaves which own.call) (waiting_in self.old list))) }
+        ensures { self.new ≡ with_more_answers (with_waiting self.old list (staying (λ own. leaves which own.call) (waiting_in_list self.old list))) (map (λ own. answer_to own (handed answer.entry)) (filter (λ own. leaves which own.call) (waiting_in_list self.old list))) }
     {
         'leaving: while let Some((user, call)) = self.take_first(list, which) {
             self.answer(user, call, answer);
@@ -142,7 +142,7 @@ impl Queues {
     /// Those calls leave a list, and nobody answers them.
     pub fn take_out(&mut self, list: usize, which: Leaving)
         requires list { HasList self.old list }
-        ensures { self.new ≡ with_waiting self.old list (staying (λ own. leaves which own.call) (waiting_in self.old list)) }
+        ensures { self.new ≡ with_waiting self.old list (staying (λ own. leaves which own.call) (waiting_in_list self.old list)) }
     {
         'leaving: while let Some(_taken) = self.take_first(list, which) {}
     }
@@ -150,10 +150,10 @@ impl Queues {
     /// Takes the first of those calls out of a list, with its user: its message was received then, and it waits nowhere.
     fn take_first(&mut self, list: usize, which: Leaving) -> Option<(User, PipeCall)>
         requires list { HasList self.old list }
-        ensures first { option_map (λ taken. users_call taken.0.0 taken.1) result ≡ slice_get (filter (λ own. leaves which own.call) (waiting_in self.old list)) 0 }
+        ensures first { option_map (λ taken. users_call taken.0.0 taken.1) result ≡ slice_get (filter (λ own. leaves which own.call) (waiting_in_list self.old list)) 0 }
         ensures nobody { IfNone result (self.new ≡ self.old) }
-        ensures taken { IfSome result (λ taken. self.new ≡ with_waiting self.old list (without_first (λ own. leaves which own.call) (waiting_in self.old list))) }
-        ensures received { IfSome result (λ taken. IsReceived self.new (caller (users_call taken.0.0 taken.1))) }
+        ensures taken { IfSome result (λ taken. self.new ≡ with_waiting self.old list (without_first (λ own. leaves which own.call) (waiting_in_list self.old list))) }
+        ensures received { IfSome result (λ taken. IsMessageReceived self.new (caller (users_call taken.0.0 taken.1))) }
     {
         let node = first_leaving(&self.table, list, which)?;
         self.table.know();
@@ -165,7 +165,7 @@ impl Queues {
 
 /// The node of a thread's messages.
 fn message_node(nodes: &Nodes, thread: Thread) -> usize
-    requires there { IsTrue (is_some (nodes_at nodes.now thread)) }
+    requires there { IsTrue (is_some (nodes_of_thread nodes.now thread)) }
     ensures node { node_of nodes.now (Message thread) ≡ Some result }
 {
     match nodes.at(thread) {
@@ -178,7 +178,7 @@ fn message_node(nodes: &Nodes, thread: Thread) -> usize
 fn put_slot(table: &mut Table<Waiting>, list: usize, node: usize, slot: Slot)
     requires list { ContainsList table.old list }
     requires free { IsFree table.old node }
-    ensures put { table.new ≡ with_value (with_nodes table.old list (nodes_of table.old list ++ node ∷ [])) node (carrying (entry_at table.old node) (load_of slot)) }
+    ensures put { table.new ≡ with_value (with_nodes table.old list (nodes_of table.old list ++ node ∷ [])) node (carrying (entry_of_node table.old node) (load_of slot)) }
 {
     table.value_mut(node).replace(slot);
     table.push_back(list, node);
@@ -197,8 +197,8 @@ fn is_written(call: &PipeCall, answer: Result<(u64, &[u8]), Errno>) -> bool
 /// The first node of a list whose call is meant. Calls of ended processes are not looked for: none waits in this profile.
 fn first_leaving(table: &Table<Waiting>, list: usize, which: Leaving) -> Option<usize>
     requires list { ContainsList table.now list }
-    requires wait { (node : ℕ) → IsIn table.now list node → HasLoad false (waiting_at table.now node).load }
-    ensures { result ≡ slice_get (filter (λ node. leaves which (call_of (waiting_at table.now node))) (nodes_of table.now list)) 0 }
+    requires wait { (node : ℕ) → IsIn table.now list node → HasLoad false (waiting_of_node table.now node).load }
+    ensures { result ≡ slice_get (filter (λ node. leaves which (call_carried (waiting_of_node table.now node))) (nodes_of table.now list)) 0 }
 {
     if let Leaving::Gone = which {
         return None;

@@ -21,8 +21,8 @@ write_fault total size offset count =
     else Some EFBIG
 
 -- a further offset
-abbrev pub moved_to : ℕ → ℤ → Result ℕ Errno
-moved_to base by = do
+abbrev pub moved_offset : ℕ → ℤ → Result ℕ Errno
+moved_offset base by = do
   offset ← found (moved_by base by) EINVAL
   small ← need (nat_le offset OFFSET) EINVAL
   Ok offset

@@ -1,10 +1,10 @@
 ghost use Rattle.std.specs.Prelude.{◌≡◌, ◌≤◌, ℕ, [], None, IfOk, IsOk, OnErr, length};
-ghost use Rattle.qx_iofunc.specs.Given.{replied};
-ghost use Rattle.qx_iofunc.specs.Store.{within};
+ghost use Rattle.qx_iofunc.specs.Given.{number_replied};
+ghost use Rattle.qx_iofunc.specs.Store.{with_stored};
 ghost use Rattle.qx_machine.specs.Files.{total_size, write_offset};
 ghost use Rattle.qx_machine.specs.RamManager as machine;
 ghost use Rattle.qx_machine.specs.Resources.{Resources};
-ghost use Rattle.qx_ram.specs.Given.{Grows, moved_to, write_fault};
+ghost use Rattle.qx_ram.specs.Given.{Grows, moved_offset, write_fault};
 ghost use Rattle.qx_types.specs.declared.limits.TheConstants.Limits.{TRANSFER};
 
 use bitflags::Flags;
@@ -21,7 +21,7 @@ pub fn read(store: &mut Store, opened: Opened, count: u32, reply: &mut Reply) ->
     requires count { count ≤ TRANSFER }
     requires empty { reply.old ≡ [] }
     ensures user { store.new.stored.user ≡ store.old.stored.user }
-    ensures read { (r : Resources) (moment : ℕ) → replied reply.new (within r store.new.stored) result ≡ machine.read_file (within r store.old.stored) opened count moment }
+    ensures read { (r : Resources) (moment : ℕ) → number_replied reply.new (with_stored r store.new.stored) result ≡ machine.read_file (with_stored r store.old.stored) opened count moment }
     ensures kept { OnErr result ((store.new ≡ store.old) × (reply.new ≡ [])) }
 {
     let block = store.inodes().block_for(opened.number, OFlags::READ)?;
@@ -48,11 +48,11 @@ pub fn write(
 ) -> Result<Result<u64, Errno>, AllocError>
     requires few { length new.now ≤ TRANSFER }
     ensures user { store.new.stored.user ≡ store.old.stored.user }
-    ensures written { IfOk result (λ w. (r : Resources) → replied [] (within r store.new.stored) w ≡ machine.write_file (within r store.old.stored) opened new.now moment) }
+    ensures written { IfOk result (λ w. (r : Resources) → number_replied [] (with_stored r store.new.stored) w ≡ machine.write_file (with_stored r store.old.stored) opened new.now moment) }
     ensures kept { IfOk result (λ w. OnErr w (store.new ≡ store.old)) }
     ensures err { OnErr result (store.new ≡ store.old) }
-    ensures wanted { OnErr result ((r : Resources) → IsOk (machine.write_file (within r store.old.stored) opened new.now moment)) }
-    ensures longer { OnErr result ((r : Resources) → Grows (within r store.old.stored) (machine.write_file (within r store.old.stored) opened new.now moment)) }
+    ensures wanted { OnErr result ((r : Resources) → IsOk (machine.write_file (with_stored r store.old.stored) opened new.now moment)) }
+    ensures longer { OnErr result ((r : Resources) → Grows (with_stored r store.old.stored) (machine.write_file (with_stored r store.old.stored) opened new.now moment)) }
 {
     let block = match store.inodes().block_for(opened.number, OFlags::WRITE) {
         Ok(block) => block,
@@ -79,7 +79,7 @@ pub fn write(
 /// directory, below 0, and above 2^63 - 1.
 pub fn seek(store: &mut Store, opened: Opened, whence: Whence, by: i64) -> Result<u64, Errno>
     ensures user { store.new.stored.user ≡ store.old.stored.user }
-    ensures moved { (r : Resources) (moment : ℕ) → replied [] (within r store.new.stored) result ≡ machine.seek_file (within r store.old.stored) opened whence by moment }
+    ensures moved { (r : Resources) (moment : ℕ) → number_replied [] (with_stored r store.new.stored) result ≡ machine.seek_file (with_stored r store.old.stored) opened whence by moment }
     ensures kept { OnErr result (store.new ≡ store.old) }
 {
     let Some(block) = store.inodes().block(opened.number) else {
@@ -127,7 +127,7 @@ fn write_fault(files: &Files, bytes: &Data, offset: u64, count: usize) -> Option
 
 // A further offset, from a base, else EINVAL.
 fn moved_by(base: u64, by: i64) -> Result<u64, Errno>
-    ensures { result ≡ moved_to base by }
+    ensures { result ≡ moved_offset base by }
 {
     match base.checked_add_signed(by) {
         Some(offset) if offset <= Limits::OFFSET => Ok(offset),

@@ -11,11 +11,11 @@ use Rattle.qx_types.specs.declared.outcome.Outcome.{Outcome}
 use Rattle.qx_types.specs.declared.outcome.Outcome.TheVariants.{Refused, WrongState}
 use Rattle.qx_machine.specs.declared.rows.Addressed.{Addressed}
 use Rattle.qx_machine.specs.declared.rows.ThreadRow.{ThreadRow}
-use Rattle.qx_machine.specs.Calls.{can_send, content_of, in_ranges, is_ready, may_call}
+use Rattle.qx_machine.specs.Calls.{can_send, content_of, request_in_ranges, is_ready, may_call}
 use Rattle.qx_machine.specs.Judgements.{◌>>=◌, need}
 
 abbrev Sends : Request → Type 0
-Sends asked = (rest : List (List ℕ)) → in_ranges asked ≡ true → is_rest rest ≡ true → can_send (content_of asked rest) ≡ true
+Sends asked = (rest : List (List ℕ)) → request_in_ranges asked ≡ true → is_rest rest ≡ true → can_send (content_of asked rest) ≡ true
 
 stat_sends : (path : List ℕ) → Sends (StatPath path)
 stat_sends path rest valid good = rw good refl
@@ -36,8 +36,8 @@ granted true true next e = refl
 granted true false next e = absurd (false≢true e)
 granted false valid next e = absurd (false≢true e)
 
-pub valid_call : (row : ThreadRow) (asked : Request) → IsOk (may_call row asked) → in_ranges asked ≡ true
-valid_call row asked e = granted (is_ready row.state) (in_ranges asked) _ e
+pub valid_call : (row : ThreadRow) (asked : Request) → IsOk (may_call row asked) → request_in_ranges asked ≡ true
+valid_call row asked e = granted (is_ready row.state) (request_in_ranges asked) _ e
 
 pub placed : (P : Addressed → Type 0) (served : Bool) (addressed : Addressed) → P addressed → IfOk (need served (Refused EAGAIN) >>= λ _. Ok addressed) P
 placed P true addressed p = p

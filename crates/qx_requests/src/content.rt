@@ -2,7 +2,7 @@
 
 ghost use Rattle.std.specs.Prelude.{◌≡◌, [], IsTrue, IfOk};
 ghost use Rattle.qx_machine.specs.Calls as calls;
-ghost use Rattle.qx_machine.specs.Calls.{bytes_of, can_send, content_of, in_ranges};
+ghost use Rattle.qx_machine.specs.Calls.{bytes_of, can_send, content_of, request_in_ranges};
 
 use qx_machine::Content;
 use qx_paths::Path;
@@ -37,7 +37,7 @@ fn spelled(alloc: Global, content: &Content<'_>) -> Result<MessageBytes, NoMemor
 /// Whether each field of a request is in its range. A path is judged as a path, and the connection of a dup by whether it
 /// is there.
 pub(crate) fn is_in_ranges(request: &Request) -> bool
-    ensures ranges { result ≡ in_ranges request.now }
+    ensures ranges { result ≡ request_in_ranges request.now }
 {
     match request {
         Request::Dup { .. } => true,

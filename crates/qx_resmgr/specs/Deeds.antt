@@ -33,8 +33,8 @@ HasRoomAfter before room (Ok NoReply) = room ≡ None
 HasRoomAfter before room _ = room ≡ before
 
 -- whether a message's function may want memory, of a manager whose writes may or may not
-abbrev pub wants_memory : Bool → Message → Bool
-wants_memory writes (Open flags mode rest) = true
-wants_memory writes (Mknod mode rest) = true
-wants_memory writes (Write bytes) = writes
-wants_memory writes _ = false
+abbrev pub message_wants_memory : Bool → Message → Bool
+message_wants_memory writes (Open flags mode rest) = true
+message_wants_memory writes (Mknod mode rest) = true
+message_wants_memory writes (Write bytes) = writes
+message_wants_memory writes _ = false

@@ -2,7 +2,7 @@ ghost use Rattle.std.specs.Prelude.{◌≡◌, [], IfOk, IsFalse, IsTrue, IsOk, 
 ghost use Rattle.qx_wire.specs.Table.{in_ranges};
 ghost use Rattle.qx_machine.specs.Functions as functions;
 ghost use Rattle.qx_machine.specs.Functions.{served};
-ghost use Rattle.qx_resmgr.specs.Deeds.{Did, HasRoomAfter, wants_memory};
+ghost use Rattle.qx_resmgr.specs.Deeds.{Did, HasRoomAfter, message_wants_memory};
 
 use crate::functions::{Connect, Done, Io, no_function};
 use crate::state::State;
@@ -38,7 +38,7 @@ pub fn serve<M: Connect<S, W, T> + Io<S, W, T>, S: State<W, T>, W, T>(
     ensures room { IfOk result (λ given. HasRoomAfter room.old room.new given) }
     ensures err { OnErr result ((state.new ≡ state.old) × (waits.new ≡ waits.old) × (room.new ≡ room.old)) }
     ensures wanted { OnErr result (IsOk (served M.connect M.io (S.told state.old waits.old) target opened moment message.entry)) }
-    ensures sure { IsFalse (wants_memory M.wants message.entry) → IsOk result }
+    ensures sure { IsFalse (message_wants_memory M.wants message.entry) → IsOk result }
 {
     let given = match message {
         Message::Open { flags, mode, rest } => {

@@ -2,8 +2,8 @@
 use Rattle.std.proofs.Common.{◌≡◌, ◌∙◌, ℕ, List, [], Result, Ok, Err, IfOk, OnErr, MatchResult, refl, sym, ap, subst}
 use Rattle.qx_types.specs.declared.errno.Errno.{Errno}
 use Rattle.qx_paths.specs.Prefixes.{MountPoint}
-use Rattle.qx_iofunc.specs.Given.{replied}
-use Rattle.qx_iofunc.specs.Store.{Store, Stored, within}
+use Rattle.qx_iofunc.specs.Given.{number_replied}
+use Rattle.qx_iofunc.specs.Store.{Store, Stored, with_stored}
 use Rattle.qx_machine.specs.declared.rows.Effect.{Effect}
 use Rattle.qx_machine.specs.declared.rows.Effect.TheVariants.{Keeps}
 use Rattle.qx_machine.specs.Functions.{Deed, reply_alone}
@@ -60,20 +60,20 @@ module _ (mounts : List MountPoint) (old new : Store) (c : Shared) (bytes : List
   abbrev DidAlone : Result Done Errno → Result (Deed Resources) Errno → Type 0
   DidAlone result meant = Did state (kept_with mounts old.stored) c (kept_with mounts new.stored) c bytes result meant
 
-  pub answered : (status : ℕ) (effect : Effect) (done : Done) (meant : Resources → Result (Deed Resources) Errno) → done ≡ Reply status effect → ((r : Resources) → Ok (reply_alone status bytes effect (within r new.stored)) ≡ meant r) → new.stored.user ≡ old.stored.user → DidAlone (Ok done) (meant first)
+  pub answered : (status : ℕ) (effect : Effect) (done : Done) (meant : Resources → Result (Deed Resources) Errno) → done ≡ Reply status effect → ((r : Resources) → Ok (reply_alone status bytes effect (with_stored r new.stored)) ≡ meant r) → new.stored.user ≡ old.stored.user → DidAlone (Ok done) (meant first)
   answered status effect done meant reply is user =
-      rw reply (subst (DidAlone (Ok (Reply status effect))) (is first) (refl, ap (λ user. record (within first new.stored) { pipes = pipes_of c user }) user, given-same c old.stored.user, user))
+      rw reply (subst (DidAlone (Ok (Reply status effect))) (is first) (refl, ap (λ user. record (with_stored first new.stored) { pipes = pipes_of c user }) user, given-same c old.stored.user, user))
 
   pub refused : (error : Errno) (meant : Resources → Result (Deed Resources) Errno) → ((r : Resources) → Err error ≡ meant r) → new ≡ old → bytes ≡ [] → DidAlone (Err error) (meant first)
   refused error meant is same none = subst (DidAlone (Err error)) (is first) (refl, ap (λ (s : Store). kept_with mounts s.stored) same, refl, none)
 
   -- each value is told as a reply of its own, and each error is an error
   pub told_alone : {A : Type 0} (tell : Resources → Result A Errno → Result (Deed Resources) Errno) (status : A → ℕ) → ((r : Resources) (value : A) → tell r (Ok value) ≡ Ok (reply_alone (status value) bytes Keeps r)) → ((r : Resources) (error : Errno) → tell r (Err error) ≡ Err error)
-      → (given : Result A Errno) (result : Result Done Errno) (meant : Resources → Result (Deed Resources) Errno) → ((r : Resources) → tell (within r new.stored) given ≡ meant r) → new.stored.user ≡ old.stored.user → OnErr given ((new ≡ old) × (bytes ≡ []))
+      → (given : Result A Errno) (result : Result Done Errno) (meant : Resources → Result (Deed Resources) Errno) → ((r : Resources) → tell (with_stored r new.stored) given ≡ meant r) → new.stored.user ≡ old.stored.user → OnErr given ((new ≡ old) × (bytes ≡ []))
       → MatchResult given (λ value. result ≡ Ok (Reply (status value) Keeps)) (λ error. result ≡ Err error) → DidAlone result (meant first)
   told_alone tell status ok err (Ok value) result meant is user kept gives = rw gives (answered (status value) Keeps (Reply (status value) Keeps) meant refl (λ r. sym (ok _ value) ∙ is r) user)
   told_alone tell status ok err (Err error) result meant is user kept gives = rw gives (refused error meant (λ r. sym (err _ error) ∙ is r) kept.0 kept.1)
 
-  pub replied_alone : (given : Result ℕ Errno) (result : Result Done Errno) (meant : Resources → Result (Deed Resources) Errno) → ((r : Resources) → replied bytes (within r new.stored) given ≡ meant r) → new.stored.user ≡ old.stored.user → OnErr given ((new ≡ old) × (bytes ≡ []))
+  pub replied_alone : (given : Result ℕ Errno) (result : Result Done Errno) (meant : Resources → Result (Deed Resources) Errno) → ((r : Resources) → number_replied bytes (with_stored r new.stored) given ≡ meant r) → new.stored.user ≡ old.stored.user → OnErr given ((new ≡ old) × (bytes ≡ []))
       → MatchResult given (λ status. result ≡ Ok (Reply status Keeps)) (λ error. result ≡ Err error) → DidAlone result (meant first)
-  replied_alone = told_alone (replied bytes) (λ status. status) (λ _ _. refl) (λ _ _. refl)
+  replied_alone = told_alone (number_replied bytes) (λ status. status) (λ _ _. refl) (λ _ _. refl)

@@ -13,9 +13,9 @@ write_wants Ram = true
 write_wants Pipe = false
 
 -- doing what bytes with this meaning ask a manager for may want memory
-abbrev pub wants_memory : Manager → Meaning → Bool
-wants_memory manager (Known message) = deeds.wants_memory (write_wants manager) message
-wants_memory manager _ = false
+abbrev pub bytes_want_memory : Manager → Meaning → Bool
+bytes_want_memory manager (Known message) = deeds.message_wants_memory (write_wants manager) message
+bytes_want_memory manager _ = false
 
 -- a message whose values are in their ranges, or none
 abbrev pub IsInRanges : Meaning → Type 0

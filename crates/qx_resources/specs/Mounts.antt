@@ -9,7 +9,7 @@ use Rattle.qx_machine.specs.Rows.{put_row}
 use Rattle.qx_resources.specs.State.{Kept}
 
 -- nothing refuses a mount at its prefix, and its root is the next inode
-pub record CanMount (resources : Kept) (mount : MountPoint) : Type 0 where
+pub record IsNextMount (resources : Kept) (mount : MountPoint) : Type 0 where
   pub free : mount_fault resources.mounts mount.prefix ≡ None
   pub next : inode_number resources.inodes ≡ Ok mount.root
 

@@ -8,7 +8,7 @@ use Rattle.qx_machine.specs.Files.{Files}
 use Rattle.qx_machine.specs.Inodes.{Inodes}
 use Rattle.qx_machine.specs.Names.{Names}
 use Rattle.qx_machine.specs.Resources.{Resources}
-use Rattle.qx_shared.specs.Shared.{thread_of}
+use Rattle.qx_shared.specs.Shared.{callers_thread}
 use Rattle.qx_resmgr.specs.declared.state.State.{Ghosts}
 use Rattle.qx_shared.specs.Shared.{IsReceived, Shared, pipes_of, with_pipes}
 
@@ -25,12 +25,12 @@ abbrev pub told : Kept → Shared → Resources
 told k c = record { user = k.user; mounts = k.mounts; inodes = k.inodes; names = k.names; files = k.files; pipes = pipes_of c k.user }
 
 -- the user is one of those who share
-abbrev pub Fits : Kept → Shared → Type 0
-Fits k c = k.user < length c.pipes
+abbrev pub HasUser : Kept → Shared → Type 0
+HasUser k c = k.user < length c.pipes
 
 -- the message of an opened connection's caller was received, and no call of it waits
-abbrev pub IsReady : Kept → Shared → Opened → Type 0
-IsReady k c opened = IsReceived c (thread_of k.user opened.caller)
+abbrev pub IsCallerReceived : Kept → Shared → Opened → Type 0
+IsCallerReceived k c opened = IsReceived c (callers_thread k.user opened.caller)
 
 -- what all share, where a user's resources are these and these answers were given
 abbrev pub shared : Kept → Shared → Resources → List (WaitingCall × Answer) → Shared
@@ -41,4 +41,4 @@ SameUser k l = l.user ≡ k.user
 
 -- how the managers' tables of functions see the two
 abbrev pub state : Ghosts Kept Shared Resources
-state = record { told = told; shared = shared; fits = Fits; same = SameUser }
+state = record { told = told; shared = shared; fits = HasUser; same = SameUser }

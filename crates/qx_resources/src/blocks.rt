@@ -40,7 +40,7 @@ pub fn closed(coid: Coid) -> Done
 /// Puts the bytes of a status into a reply, whose own status is 0.
 fn tell(status: Result<Status, Errno>, reply: &mut Reply) -> Result<u64, Errno>
     requires empty { reply.old ≡ [] }
-    ensures told { (r : machine.Resources) → given.replied reply.new r result ≡ given.status_told r status }
+    ensures told { (r : machine.Resources) → given.number_replied reply.new r result ≡ given.status_told r status }
     ensures kept { OnErr result (reply.new ≡ []) }
 {
     reply.push(status?.as_slice());

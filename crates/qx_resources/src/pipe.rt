@@ -78,11 +78,11 @@ impl Connect<Resources, Shared, Told> for Pipe {
 }
 
 impl Io<Resources, Shared, Told> for Pipe {
-    ghost use Rattle.qx_resources.specs.State.{IsReady};
+    ghost use Rattle.qx_resources.specs.State.{IsCallerReceived};
 
     ghost io = { pipe_io };
 
-    ghost ready = { IsReady };
+    ghost ready = { IsCallerReceived };
 
     fn read(
         state: &mut Resources,

@@ -6,12 +6,12 @@ ghost use Rattle.qx_machine.specs.Performing as performing;
 ghost use Rattle.qx_machine.specs.Performing.{deed_of};
 ghost use Rattle.qx_machine.specs.PipeManager.{cancel_call};
 ghost use Rattle.qx_machine.specs.Users.{boot_part};
-ghost use Rattle.qx_shared.specs.Shared.{thread_of};
+ghost use Rattle.qx_shared.specs.Shared.{callers_thread};
 ghost use Rattle.qx_resmgr.specs.Deeds.{Did, HasRoomAfter};
 ghost use Rattle.qx_resources.specs.Boot.{without_pipes};
-ghost use Rattle.qx_resources.specs.Memory.{IsInRanges, wants_memory};
-ghost use Rattle.qx_resources.specs.Mounts.{CanMount, with_new_mount};
-ghost use Rattle.qx_resources.specs.State.{Fits, state, told};
+ghost use Rattle.qx_resources.specs.Memory.{IsInRanges, bytes_want_memory};
+ghost use Rattle.qx_resources.specs.Mounts.{IsNextMount, with_new_mount};
+ghost use Rattle.qx_resources.specs.State.{HasUser, state, told};
 ghost use Rattle.qx_shared.specs.Shared.{IsReceived, Shared, shared_after, state_after};
 
 use crate::pipe::Pipe;
@@ -95,7 +95,7 @@ impl Resources {
         path: &'a [u8],
         manager: Manager,
     ) -> Result<NewMount<'a>, Errno>
-        ensures can { IfOk result (λ mount. CanMount self.now mount) }
+        ensures can { IfOk result (λ mount. IsNextMount self.now mount) }
         ensures mount { (all : Shared) → result ≡ mounting.new_mount name.now path.now manager (told self.now all) }
     {
         let path = read_path(path)?;
@@ -115,7 +115,7 @@ impl Resources {
 
     /// Attaches a manager, with a root of its own.
     pub fn mount(&mut self, alloc: Global, mount: &NewMount<'_>) -> Result<(), NoMemory>
-        requires can { CanMount self.old mount.now }
+        requires can { IsNextMount self.old mount.now }
         ensures ok { OnOk result (self.new ≡ with_new_mount mount.now self.old) }
         ensures err { OnErr result (self.new ≡ self.old) }
     {
@@ -149,14 +149,14 @@ impl Resources {
         room: &mut Option<Room>,
     ) -> Result<Result<Done, Errno>, AllocError>
         requires ranges { IsInRanges meaning }
-        requires fits { Fits self.old all.old }
-        requires received { IsReceived all.old (thread_of self.old.user caller) }
+        requires fits { HasUser self.old all.old }
+        requires received { IsReceived all.old (callers_thread self.old.user caller) }
         requires room { IsSome room.old }
         ensures did { IfOk result (λ given. Did state self.old all.old self.new all.new reply.new given (deed_of (told self.old all.old) process.now caller target moment meaning.entry)) }
         ensures room { IfOk result (λ given. HasRoomAfter room.old room.new given) }
         ensures err { OnErr result ((self.new ≡ self.old) × (all.new ≡ all.old) × (room.new ≡ room.old)) }
         ensures wanted { OnErr result (IsOk (deed_of (told self.old all.old) process.now caller target moment meaning.entry)) }
-        ensures sure { IsFalse (wants_memory target.manager meaning.entry) → IsOk result }
+        ensures sure { IsFalse (bytes_want_memory target.manager meaning.entry) → IsOk result }
     {
         reply.clear();
         let message = match meaning {
@@ -179,7 +179,7 @@ impl Resources {
     /// cleaned before, and others may be served then (Writing a Resource Manager: the unblock pulse). Tells whether it waited.
     pub fn cancel(&mut self, all: &mut Shared, thread: Thread, call: u64, moment: u64) -> bool
         requires user { self.old.user ≡ thread.proc.user.0 }
-        requires fits { Fits self.old all.old }
+        requires fits { HasUser self.old all.old }
         ensures user { self.new.user ≡ self.old.user }
         ensures waited { result ≡ is_ok (cancel_call (told self.old all.old) thread.proc.num thread.tid call moment) }
         ensures state { told self.new all.new ≡ state_after (told self.old all.old) (cancel_call (told self.old all.old) thread.proc.num thread.tid call moment) }

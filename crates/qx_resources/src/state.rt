@@ -29,7 +29,7 @@ impl State<Shared, Told> for Resources {
 
     ghost shared = { state.shared };
 
-    ghost fits = { state.Fits };
+    ghost fits = { state.HasUser };
 
     ghost same = { state.SameUser };
 }

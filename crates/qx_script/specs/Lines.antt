@@ -7,7 +7,7 @@ use Rattle.qx_types.specs.declared.step.Step.{Step}
 use Rattle.qx_types.specs.declared.step.Step.TheVariants.{Spawn, Call, TakeReply, SetPrio, Interrupt, Mount, Receive, Perform}
 use Rattle.qx_script.specs.declared.command.Command.{Command}
 use Rattle.qx_script.specs.declared.command.Command.TheVariants.{Take, Serve, Do, Show, Trace}
-use Rattle.qx_calls.specs.Calls.{call_of, call_said}
+use Rattle.qx_calls.specs.Calls.{call_in_line, call_said}
 use Rattle.qx_calls.specs.Forms.{◌then◌, end, Line, Saying, CanBeSaid, by, read_one_of}
 use Rattle.qx_words.specs.Kinds.{AName, AUser, AThread, AByte, AMoment, APath, AManager}
 use Rattle.qx_words.specs.Words.{◌>>=◌, moment_of}
@@ -37,14 +37,14 @@ interrupt_line = record { name = codes "interrupt"; form = AThread then end; mad
 abbrev pub mount_line : Line Step
 mount_line = record { name = codes "mount"; form = AThread then APath then AManager then end; made = λ thread path manager. Mount thread path manager }
 
-abbrev pub receive_line : Line Step
-receive_line = record { name = codes "receive"; form = AByte then AManager then end; made = λ worker manager. Receive (record { 0 = worker }) manager }
+abbrev pub line_of_receive : Line Step
+line_of_receive = record { name = codes "receive"; form = AByte then AManager then end; made = λ worker manager. Receive (record { 0 = worker }) manager }
 
 abbrev pub perform_line : Line Step
 perform_line = record { name = codes "perform"; form = AByte then AMoment then end; made = λ worker moment. Perform (record { 0 = worker }) moment }
 
 abbrev pub step_lines : List (Line Step)
-step_lines = spawn_line ∷ reply_line ∷ prio_line ∷ interrupt_line ∷ mount_line ∷ receive_line ∷ perform_line ∷ []
+step_lines = spawn_line ∷ reply_line ∷ prio_line ∷ interrupt_line ∷ mount_line ∷ line_of_receive ∷ perform_line ∷ []
 
 -- the line that takes the step
 abbrev pub step_said : Step → Saying
@@ -54,7 +54,7 @@ step_said (TakeReply thread) = by reply_line (thread, tt)
 step_said (SetPrio thread prio) = by prio_line (thread, (prio.0, tt))
 step_said (Interrupt thread) = by interrupt_line (thread, tt)
 step_said (Mount thread path manager) = by mount_line (thread, (path, (manager, tt)))
-step_said (Receive worker manager) = by receive_line (worker.0, (manager, tt))
+step_said (Receive worker manager) = by line_of_receive (worker.0, (manager, tt))
 step_said (Perform worker moment) = by perform_line (worker.0, (moment, tt))
 
 abbrev pub CanSay : List (List ℕ) → Step → Type 0
@@ -78,8 +78,8 @@ command_lines = serve_line ∷ show_line ∷ trace_line ∷ []
 abbrev pub call_step : Thread × Request → Step
 call_step call = Call call.0 call.1
 
-unfoldable pub step_of : List (List ℕ) → List ℕ → List (List ℕ) → Option Step
-step_of users name words = read_one_of step_lines (option_map call_step (call_of users name words)) users name words
+unfoldable pub step_in_line : List (List ℕ) → List ℕ → List (List ℕ) → Option Step
+step_in_line users name words = read_one_of step_lines (option_map call_step (call_in_line users name words)) users name words
 
 -- moment, a call
 unfoldable pub do_of : List (List ℕ) → List (List ℕ) → Option Command
@@ -87,11 +87,11 @@ do_of users [] = None
 do_of users (word ∷ []) = None
 do_of users (word ∷ name ∷ words) = do
   moment ← moment_of word
-  call ← call_of users name words
+  call ← call_in_line users name words
   Some (Do moment call.0 call.1)
 
 -- a line that takes steps or prints, by its first word
 unfoldable pub command_of : List (List ℕ) → List ℕ → List (List ℕ) → Option Command
 command_of users name words =
     if bytes_eq name (codes "do") then do_of users words
-    else read_one_of command_lines (option_map Take (step_of users name words)) users name words
+    else read_one_of command_lines (option_map Take (step_in_line users name words)) users name words

@@ -1,7 +1,7 @@
 ghost use Rattle.std.specs.Prelude.{◌≡◌, ℕ, IfOk, IfSome, List, map, option_map, true};
 ghost use Rattle.qx_types.specs.Configuration.{is_user_name};
 ghost use Rattle.qx_calls.specs.Forms.{read};
-ghost use Rattle.qx_script.specs.Lines.{command_of, do_of, interrupt_line, mount_line, perform_line, prio_line, receive_line, reply_line, serve_line, show_line, spawn_line, step_of, trace_line, user_line, workers_line};
+ghost use Rattle.qx_script.specs.Lines.{command_of, do_of, interrupt_line, mount_line, perform_line, prio_line, line_of_receive, reply_line, serve_line, show_line, spawn_line, step_in_line, trace_line, user_line, workers_line};
 
 use crate::command::Command;
 use qx_calls::lines::call;
@@ -105,7 +105,7 @@ fn mount(alloc: Global, users: &Users, words: &[&[u8]]) -> Result<Option<Step>, 
 
 /// `receive WORKER ram|pipe`
 fn receive(words: &[&[u8]]) -> Option<Step>
-    ensures step { (users : List (List ℕ)) → result ≡ read receive_line users (map (λ word. word.now) words.now) }
+    ensures step { (users : List (List ℕ)) → result ≡ read line_of_receive users (map (λ word. word.now) words.now) }
 {
     let [worker, manager_word] = words else {
         return None;
@@ -135,7 +135,7 @@ fn step(
     name: &[u8],
     words: &[&[u8]],
 ) -> Result<Option<Step>, NoMemory>
-    ensures step { IfOk result (λ step. step ≡ step_of users.now name.now (map (λ word. word.now) words.now)) }
+    ensures step { IfOk result (λ step. step ≡ step_in_line users.now name.now (map (λ word. word.now) words.now)) }
 {
     if name == b"spawn".as_slice() {
         Ok(spawn(users, words))

@@ -30,8 +30,8 @@ pub record Told : Type 0 where
   pub write_failed : Bool
   pub flushed : Bool
 
-abbrev pub told : {R W : Type 0} → (R → Option (List ℕ)) → (W → Option (List ℕ)) → Watched R → Watched R → Watched W → Watched W → Told
-told remaining contents reader_old reader_new writer_old writer_new = record {
+abbrev pub told_by : {R W : Type 0} → (R → Option (List ℕ)) → (W → Option (List ℕ)) → Watched R → Watched R → Watched W → Watched W → Told
+told_by remaining contents reader_old reader_new writer_old writer_new = record {
   there = held remaining reader_old;
   read_failed_before = has_failed reader_old;
   read_failed = has_failed reader_new;
@@ -44,8 +44,8 @@ told remaining contents reader_old reader_new writer_old writer_new = record {
 
 -- no read failed that was not told of before
 abbrev pub NoReadFailed : Told → Type 0
-NoReadFailed told = told.read_failed ≡ told.read_failed_before
+NoReadFailed told_by = told_by.read_failed ≡ told_by.read_failed_before
 
 -- no write and no flush failed, and no write took nothing, that was not told of before
 abbrev pub NoWriteFailed : Told → Type 0
-NoWriteFailed told = told.write_failed ≡ told.write_failed_before
+NoWriteFailed told_by = told_by.write_failed ≡ told_by.write_failed_before

@@ -2,7 +2,7 @@ ghost use Rattle.std.specs.Prelude.{◌≡◌, ◌≢◌, IfOk, IsErrOf, MatchRe
 ghost use Rattle.std.specs.IoError.{error_kind};
 ghost use Rattle.qx_sh.specs.Invocation.{EndsOn, EndsUnread, Exits};
 ghost use Rattle.qx_sh.specs.Run.{EndsAs, WritesNothing};
-ghost use Rattle.qx_sh.specs.Watched.{has_failed, held, told};
+ghost use Rattle.qx_sh.specs.Watched.{has_failed, held, told_by};
 
 use crate::ending::{End, report};
 use crate::limit::Options;
@@ -58,10 +58,10 @@ fn run_as_asked<R: Source, W: Sink>(
     input: &mut Watched<R>,
     output: &mut Watched<W>,
 ) -> End
-    ensures ran { IfOk options (λ options. EndsAs options.limit (told R.remaining W.contents input.old input.new output.old output.new) result) }
+    ensures ran { IfOk options (λ options. EndsAs options.limit (told_by R.remaining W.contents input.old input.new output.old output.new) result) }
     ensures words { IsErrOf options OptionsFault.Words → result ≡ End.Words }
     ensures memory { IsErrOf options OptionsFault.NoMemory → result ≡ End.Memory }
-    ensures writes_nothing { OnErr options (WritesNothing (told R.remaining W.contents input.old input.new output.old output.new)) }
+    ensures writes_nothing { OnErr options (WritesNothing (told_by R.remaining W.contents input.old input.new output.old output.new)) }
 {
     match options {
         Ok(options) => run(alloc, input, output, &options),

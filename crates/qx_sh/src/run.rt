@@ -2,7 +2,7 @@ ghost use Rattle.std.specs.Prelude.{◌≡◌, ◌≢◌, true, MatchResult, OnE
 ghost use Rattle.std.specs.Io.KnownBytes.{Appends};
 ghost use Rattle.qx_script.specs.Script.{said};
 ghost use Rattle.qx_sh.specs.Run.{EndsAs, EndsUnprinted, PlaysAs, Prints};
-ghost use Rattle.qx_sh.specs.Watched.{has_failed, held, is_flushed, told};
+ghost use Rattle.qx_sh.specs.Watched.{has_failed, held, is_flushed, told_by};
 ghost use Rattle.qx_sh.specs.Written.{AppendsFront};
 
 use crate::ending::End;
@@ -21,7 +21,7 @@ pub fn run<R: Source, W: Sink>(
     writer: &mut Watched<W>,
     options: &Options,
 ) -> End
-    ensures ending { EndsAs options.now.limit (told R.remaining W.contents reader.old reader.new writer.old writer.new) result }
+    ensures ending { EndsAs options.now.limit (told_by R.remaining W.contents reader.old reader.new writer.old writer.new) result }
 {
     let text = match read_all(alloc, reader, options.limit) {
         Ok(text) => text,

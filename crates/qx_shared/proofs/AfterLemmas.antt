@@ -6,11 +6,11 @@ use Rattle.std.proofs.lemmas.List.{get_or-set_same, get_or_past, map-append, set
 use Rattle.qx_types.specs.declared.limits.TheConstants.Limits.{INODES}
 use Rattle.qx_machine.specs.declared.rows.WaitingCall.{WaitingCall}
 use Rattle.qx_machine.specs.Waiting.{Pipes, no_pipes}
-use Rattle.qx_machine.specs.Pipes.{After, Pipe, and_then, pipe_of}
+use Rattle.qx_machine.specs.Pipes.{PipeAfter, Pipe, and_then, pipe_of}
 use Rattle.qx_machine.specs.Rows.{row_at}
 use Rattle.qx_process.proofs.RowLemmas.{row_at-get_or}
 use Rattle.qx_queues.proofs.TableLemmas.{absent_is}
-use Rattle.qx_shared.specs.Shared.{HasPipe, Shared, pipe_at, users_given, with_after}
+use Rattle.qx_shared.specs.Shared.{HasPipe, Shared, pipe_at, users_given, with_pipe_after}
 use Rattle.qx_shared.proofs.OwnLemmas.{row_at-none}
 
 module _ (all : List Pipes) (user inode : ℕ) (there : IsSome (row_at (get_or all user no_pipes) inode)) where
@@ -41,13 +41,13 @@ module _ (all : List Pipes) (user inode : ℕ) (there : IsSome (row_at (get_or a
       ∙ ap (λ (p : Pipes). slice_set all user (slice_set p inode two)) (got one)
       ∙ ap (slice_set all user) (set-set (get_or all user no_pipes) inode one two)
 
-module _ (s : Shared) (user inode : ℕ) (there : HasPipe s user inode) (first : After WaitingCall) where
-  pub pipe_at-after : pipe_at (with_after s user inode first) user inode ≡ first.pipe
+module _ (s : Shared) (user inode : ℕ) (there : HasPipe s user inode) (first : PipeAfter WaitingCall) where
+  pub pipe_at-after : pipe_at (with_pipe_after s user inode first) user inode ≡ first.pipe
   pipe_at-after = ap (λ o. unwrap_or o (pipe_of [] [] [])) (row-put s.pipes user inode there (Some first.pipe))
 
-  pub then-after : (next : Pipe WaitingCall → After WaitingCall) → with_after (with_after s user inode first) user inode (next (pipe_at (with_after s user inode first) user inode)) ≡ with_after s user inode (and_then first next)
+  pub then-after : (next : Pipe WaitingCall → PipeAfter WaitingCall) → with_pipe_after (with_pipe_after s user inode first) user inode (next (pipe_at (with_pipe_after s user inode first) user inode)) ≡ with_pipe_after s user inode (and_then first next)
   then-after next =
       let second = next first.pipe in
       let answered = append_assoc s.answered (map (users_given user) first.answers) (map (users_given user) second.answers) ∙ ap (λ more. s.answered ++ more) (sym (map-append (users_given user) first.answers second.answers)) in
-      ap (λ p. with_after (with_after s user inode first) user inode (next p)) pipe_at-after
+      ap (λ p. with_pipe_after (with_pipe_after s user inode first) user inode (next p)) pipe_at-after
       ∙ (λ i. record s { pipes = put-twice s.pipes user inode there (Some first.pipe) (Some second.pipe) i; answered = answered i })

@@ -12,10 +12,10 @@ use Rattle.qx_machine.specs.Pipes.{Pipe}
 use Rattle.qx_machine.specs.Rows.{row_at}
 use Rattle.qx_queues.proofs.TableLemmas.{none_some}
 use Rattle.qx_queues.specs.Queues as queues
-use Rattle.qx_queues.specs.Queues.{Queues, UsersCall, caller, has_call, is_same_thread, waiting_in}
+use Rattle.qx_queues.specs.Queues.{Queues, UsersCall, caller, has_call, is_same_thread, waiting_in_list}
 use Rattle.qx_queues.specs.Waits.{is_users_call, users_call}
-use Rattle.qx_shared.specs.Own.{AreAllPipes, AreUsers, calls_of, pipe_in, told}
-use Rattle.qx_shared.specs.Row.{Place, Row, Rows, list_at, list_on, place, row_of}
+use Rattle.qx_shared.specs.Own.{AreAllPipes, AreUsers, calls_of, shown_pipe, shown_shared}
+use Rattle.qx_shared.specs.Row.{Place, PipeRow, Rows, list_of_place, list_on, place, row_of}
 use Rattle.qx_shared.specs.Shared.{HasNoCall, IsReceived, Shared, calls_at, pipes_of, waiting_calls, waiting_on}
 use Rattle.qx_shared.specs.Shared as shared
 use Rattle.qx_shared.specs.declared.side.Side.{Side}
@@ -34,7 +34,7 @@ pub list_any-mapped : {A B : Type 0} (f : A → B) (which : B → Bool) (xs : Li
 list_any-mapped f which [] = refl
 list_any-mapped f which (x ∷ xs) = ap (λ b. which (f x) || b) (list_any-mapped f which xs)
 
-pub waiting_on-in : (c : Queues) (side : Side) (row : Row) → waiting_on side (pipe_in c row) ≡ calls_of c (list_on side row)
+pub waiting_on-in : (c : Queues) (side : Side) (row : PipeRow) → waiting_on side (shown_pipe c row) ≡ calls_of c (list_on side row)
 waiting_on-in c Reading row = refl
 waiting_on-in c Writing row = refl
 
@@ -61,7 +61,7 @@ module _ (which : WaitingCall → Bool) where
       (list_any-append which pipe.readers pipe.writers ∙ ap₂ (λ a b. a || b) (none 0 Reading pipe refl) (none 0 Writing pipe refl))
       (none-waits pipes (λ inode. none (suc inode)))
 
-absent_in : (c : Queues) (list : ℕ) → is_some (maps.get c.pipes list) ≡ false → waiting_in c list ≡ []
+absent_in : (c : Queues) (list : ℕ) → is_some (maps.get c.pipes list) ≡ false → waiting_in_list c list ≡ []
 absent_in c list is = of (maps.get c.pipes list) is
   where
     of : (o : Option (List UsersCall)) → is_some o ≡ false → unwrap_or o [] ≡ []
@@ -74,43 +74,43 @@ module _ (c : Queues) (all : List Rows) (are : AreAllPipes c all) (thread : Thre
   is_users user call = is_same_thread (caller (users_call user call)) thread
 
   -- by whose pipe it is
-  in_list : (p : Place) (list : ℕ) (row : Row) → row_of all p.user p.inode ≡ Some row → list_on p.side row ≡ list → has_call (waiting_in c list) thread ≡ list_any (is_users p.user) (waiting_on p.side (pipe_in c row))
+  in_list : (p : Place) (list : ℕ) (row : PipeRow) → row_of all p.user p.inode ≡ Some row → list_on p.side row ≡ list → has_call (waiting_in_list c list) thread ≡ list_any (is_users p.user) (waiting_on p.side (shown_pipe c row))
   in_list p list row is of =
       ap (λ calls. has_call calls thread) (are.users p list (ap (option_map (list_on p.side)) is ∙ ap Some of))
       ∙ list_any-mapped (users_call p.user) (λ own. is_same_thread (caller own) thread) (calls_of c list)
       ∙ ap (list_any (is_users p.user)) (ap (calls_of c) (sym of) ∙ sym (waiting_on-in c p.side row))
 
-  in_pipes : (user : ℕ) → has_call (shared.waiting_in (told c all) user) thread ≡ list_any (is_users user) (waiting_calls (pipes_of (told c all) user))
-  in_pipes user = list_any-mapped (users_call user) (λ own. is_same_thread (caller own) thread) (waiting_calls (pipes_of (told c all) user))
+  in_pipes : (user : ℕ) → has_call (shared.waiting_in (shown_shared c all) user) thread ≡ list_any (is_users user) (waiting_calls (pipes_of (shown_shared c all) user))
+  in_pipes user = list_any-mapped (users_call user) (λ own. is_same_thread (caller own) thread) (waiting_calls (pipes_of (shown_shared c all) user))
 
-  lists-none : ((user : ℕ) → has_call (shared.waiting_in (told c all) user) thread ≡ false) → (list : ℕ) → has_call (waiting_in c list) thread ≡ false
+  lists-none : ((user : ℕ) → has_call (shared.waiting_in (shown_shared c all) user) thread ≡ false) → (list : ℕ) → has_call (waiting_in_list c list) thread ≡ false
   lists-none none list = elim (cases_Bool (is_some (maps.get c.pipes list))) [
     | inr absent ↦ rw (absent_in c list absent) refl
     | inl there ↦
         let own = are.owned list there in
         let row = mapped-there (list_on own.0.side) (row_of all own.0.user own.0.inode) list own.1 in
         in_list own.0 list row.0 row.1 row.2
-        ∙ none-at (is_users own.0.user) (pipes_of (told c all) own.0.user) (sym (in_pipes own.0.user) ∙ none own.0.user) own.0.inode own.0.side (pipe_in c row.0) (row_of-told c all own.0.user own.0.inode ∙ ap (option_map (pipe_in c)) row.1)
+        ∙ none-at (is_users own.0.user) (pipes_of (shown_shared c all) own.0.user) (sym (in_pipes own.0.user) ∙ none own.0.user) own.0.inode own.0.side (shown_pipe c row.0) (row_of-told c all own.0.user own.0.inode ∙ ap (option_map (shown_pipe c)) row.1)
   ]
 
-  pub received : IsReceived (told c all) thread → queues.IsReceived c thread
+  pub received : IsReceived (shown_shared c all) thread → queues.IsMessageReceived c thread
   received is = record { own = is.own; idle = is.idle; no_call = record { waiting = lists-none is.no_call.waiting; answered = is.no_call.answered } }
 
-  pub no_call : HasNoCall (told c all) thread → queues.HasNoCall c thread
+  pub no_call : HasNoCall (shown_shared c all) thread → queues.HasNoListedCall c thread
   no_call is = record { waiting = lists-none is.waiting; answered = is.answered }
 
   -- and the other way
-  pub no_call-told : queues.HasNoCall c thread → HasNoCall (told c all) thread
-  no_call-told is = record { waiting = λ user. in_pipes user ∙ none-waits (is_users user) (pipes_of (told c all) user) (none user); answered = is.answered }
+  pub no_call-told : queues.HasNoListedCall c thread → HasNoCall (shown_shared c all) thread
+  no_call-told is = record { waiting = λ user. in_pipes user ∙ none-waits (is_users user) (pipes_of (shown_shared c all) user) (none user); answered = is.answered }
     where
-      none : (user inode : ℕ) (side : Side) (pipe : Pipe WaitingCall) → row_at (pipes_of (told c all) user) inode ≡ Some pipe → list_any (is_users user) (waiting_on side pipe) ≡ false
+      none : (user inode : ℕ) (side : Side) (pipe : Pipe WaitingCall) → row_at (pipes_of (shown_shared c all) user) inode ≡ Some pipe → list_any (is_users user) (waiting_on side pipe) ≡ false
       none user inode side pipe is_there =
-          let row = mapped-there (pipe_in c) (row_of all user inode) pipe (sym (row_of-told c all user inode) ∙ is_there) in
+          let row = mapped-there (shown_pipe c) (row_of all user inode) pipe (sym (row_of-told c all user inode) ∙ is_there) in
           ap (λ p. list_any (is_users user) (waiting_on side p)) (sym row.2)
           ∙ sym (in_list (place user inode side) (list_on side row.0) row.0 row.1 refl)
           ∙ is.waiting (list_on side row.0)
 
-pub no_call-taken : (c : Queues) (all : List Rows) (are : AreAllPipes c all) {A : Type 0} (thread_in : A → Thread) (o : Option A) → IfSome o (λ taken. queues.HasNoCall c (thread_in taken)) → IfSome o (λ taken. HasNoCall (told c all) (thread_in taken))
+pub no_call-taken : (c : Queues) (all : List Rows) (are : AreAllPipes c all) {A : Type 0} (thread_in : A → Thread) (o : Option A) → IfSome o (λ taken. queues.HasNoListedCall c (thread_in taken)) → IfSome o (λ taken. HasNoCall (shown_shared c all) (thread_in taken))
 no_call-taken c all are thread_in None is = tt
 no_call-taken c all are thread_in (Some taken) is = no_call-told c all are (thread_in taken) is
 
@@ -141,15 +141,15 @@ and_left false b is = is
 module _ (c : Queues) (all : List Rows) (user inode : ℕ) (which : WaitingCall → Bool) where
   -- whether one of those waits there
   abbrev pub held : Bool
-  held = holds which (row_at (pipes_of (told c all) user) inode)
+  held = holds which (row_at (pipes_of (shown_shared c all) user) inode)
 
   pub holds-none : row_of all user inode ≡ None → held ≡ false
-  holds-none none = ap (holds which) (row_of-told c all user inode ∙ ap (option_map (pipe_in c)) none)
+  holds-none none = ap (holds which) (row_of-told c all user inode ∙ ap (option_map (shown_pipe c)) none)
 
-  pub holds-told : (row : Row) → row_of all user inode ≡ Some row → held ≡ (list_any (λ own. which own.call) (waiting_in c row.readers) || list_any (λ own. which own.call) (waiting_in c row.writers))
+  pub holds-told : (row : PipeRow) → row_of all user inode ≡ Some row → held ≡ (list_any (λ own. which own.call) (waiting_in_list c row.readers) || list_any (λ own. which own.call) (waiting_in_list c row.writers))
   holds-told row is =
-      ap (holds which) (row_of-told c all user inode ∙ ap (option_map (pipe_in c)) is)
-      ∙ ap₂ (λ a b. a || b) (list_any-mapped (λ own. own.call) which (waiting_in c row.readers)) (list_any-mapped (λ own. own.call) which (waiting_in c row.writers))
+      ap (holds which) (row_of-told c all user inode ∙ ap (option_map (shown_pipe c)) is)
+      ∙ ap₂ (λ a b. a || b) (list_any-mapped (λ own. own.call) which (waiting_in_list c row.readers)) (list_any-mapped (λ own. own.call) which (waiting_in_list c row.writers))
 
 module _ (c : Queues) (all : List Rows) (are : AreAllPipes c all) (thread : Thread) (call : ℕ) where
   abbrev is_that : WaitingCall → Bool
@@ -169,37 +169,37 @@ module _ (c : Queues) (all : List Rows) (are : AreAllPipes c all) (thread : Thre
       by true false c user same is = absurd (cc)
       by false b c user same is = absurd (cc)
 
-  in-list : (list : ℕ) → AreUsers c thread.proc.user.0 list → list_any (λ own. is_that own.call) (waiting_in c list) ≡ true → list_any of_thread (waiting_in c list) ≡ true
+  in-list : (list : ℕ) → AreUsers c thread.proc.user.0 list → list_any (λ own. is_that own.call) (waiting_in_list c list) ≡ true → list_any of_thread (waiting_in_list c list) ≡ true
   in-list list users is =
       ap (list_any of_thread) users
       ∙ list_any-mapped (users_call thread.proc.user.0) of_thread (calls_of c list)
-      ∙ any-implies is_that (λ own. of_thread (users_call thread.proc.user.0 own)) that-is (calls_of c list) (list_any-mapped (λ own. own.call) is_that (waiting_in c list) ∙ is)
+      ∙ any-implies is_that (λ own. of_thread (users_call thread.proc.user.0 own)) that-is (calls_of c list) (list_any-mapped (λ own. own.call) is_that (waiting_in_list c list) ∙ is)
 
   -- on which side, and in which list
-  holds-place : (inode : ℕ) → holds_it inode ≡ true → (side : Side) × (list : ℕ) × (list_at all (place thread.proc.user.0 inode side) ≡ Some list) × (list_any of_thread (waiting_in c list) ≡ true)
+  holds-place : (inode : ℕ) → holds_it inode ≡ true → (side : Side) × (list : ℕ) × (list_of_place all (place thread.proc.user.0 inode side) ≡ Some list) × (list_any of_thread (waiting_in_list c list) ≡ true)
   holds-place inode is = of (row_of all thread.proc.user.0 inode) refl
     where
-      of : (o : Option Row) → row_of all thread.proc.user.0 inode ≡ o → (side : Side) × (list : ℕ) × (list_at all (place thread.proc.user.0 inode side) ≡ Some list) × (list_any of_thread (waiting_in c list) ≡ true)
+      of : (o : Option PipeRow) → row_of all thread.proc.user.0 inode ≡ o → (side : Side) × (list : ℕ) × (list_of_place all (place thread.proc.user.0 inode side) ≡ Some list) × (list_any of_thread (waiting_in_list c list) ≡ true)
       of None none = let clash : false ≡ true = sym (holds-none c all thread.proc.user.0 inode is_that none) ∙ is in absurd (cc)
       of (Some row) there =
-          let reading : list_at all (place thread.proc.user.0 inode Reading) ≡ Some row.readers = ap (option_map (list_on Reading)) there in
-          let writing : list_at all (place thread.proc.user.0 inode Writing) ≡ Some row.writers = ap (option_map (list_on Writing)) there in
-          elim (or_true (list_any (λ own. is_that own.call) (waiting_in c row.readers)) (list_any (λ own. is_that own.call) (waiting_in c row.writers)) (sym (holds-told c all thread.proc.user.0 inode is_that row there) ∙ is)) [
+          let reading : list_of_place all (place thread.proc.user.0 inode Reading) ≡ Some row.readers = ap (option_map (list_on Reading)) there in
+          let writing : list_of_place all (place thread.proc.user.0 inode Writing) ≡ Some row.writers = ap (option_map (list_on Writing)) there in
+          elim (or_true (list_any (λ own. is_that own.call) (waiting_in_list c row.readers)) (list_any (λ own. is_that own.call) (waiting_in_list c row.writers)) (sym (holds-told c all thread.proc.user.0 inode is_that row there) ∙ is)) [
             | inl reads ↦ (Reading, row.readers, reading, in-list row.readers (are.users (place thread.proc.user.0 inode Reading) row.readers reading) reads)
             | inr writes ↦ (Writing, row.writers, writing, in-list row.writers (are.users (place thread.proc.user.0 inode Writing) row.writers writing) writes)
           ]
 
   -- in no other
-  pub holds-once : ((other : Thread) (one two : ℕ) → has_call (waiting_in c one) other ≡ true → has_call (waiting_in c two) other ≡ true → one ≡ two) → (inode : ℕ) → holds_it inode ≡ true → (other : ℕ) → holds_it other ≡ true → other ≡ inode
+  pub holds-once : ((other : Thread) (one two : ℕ) → has_call (waiting_in_list c one) other ≡ true → has_call (waiting_in_list c two) other ≡ true → one ≡ two) → (inode : ℕ) → holds_it inode ≡ true → (other : ℕ) → holds_it other ≡ true → other ≡ inode
   holds-once once inode is other also =
       let here = holds-place inode is in
       let there = holds-place other also in
-      let has : (list : ℕ) → list_any of_thread (waiting_in c list) ≡ true → has_call (waiting_in c list) thread ≡ true = λ list. any-implies of_thread (λ own. is_same_thread (caller own) thread) (λ own. and_left (is_same_thread (caller own) thread) (own.call.call == call)) (waiting_in c list) in
+      let has : (list : ℕ) → list_any of_thread (waiting_in_list c list) ≡ true → has_call (waiting_in_list c list) thread ≡ true = λ list. any-implies of_thread (λ own. is_same_thread (caller own) thread) (λ own. and_left (is_same_thread (caller own) thread) (own.call.call == call)) (waiting_in_list c list) in
       let same : there.1 ≡ here.1 = once thread there.1 here.1 (has there.1 there.3) (has here.1 here.3) in
       ap (λ p. p.inode) (are.apart (place thread.proc.user.0 other there.0) (place thread.proc.user.0 inode here.0) here.1 (there.2 ∙ ap Some same) here.2)
 
   -- in none
-  pub holds-nowhere : {A : Type 0} (o : Option A) → IfNone o ((list : ℕ) → list_any of_thread (waiting_in c list) ≡ false) → IfNone o ((inode : ℕ) → holds_it inode ≡ false)
+  pub holds-nowhere : {A : Type 0} (o : Option A) → IfNone o ((list : ℕ) → list_any of_thread (waiting_in_list c list) ≡ false) → IfNone o ((inode : ℕ) → holds_it inode ≡ false)
   holds-nowhere (Some found) none = tt
   holds-nowhere None none = λ inode. elim (cases_Bool (holds_it inode)) [
     | inr not ↦ not

@@ -15,9 +15,9 @@ use Rattle.qx_process.proofs.RowLemmas.{row_at-get_or}
 use Rattle.qx_queues.specs.Queues as queues
 use Rattle.qx_queues.specs.Queues.{Queues, no_queues}
 use Rattle.qx_queues.proofs.TableLemmas.{absent_is, none_some}
-use Rattle.qx_shared.specs.Own.{AreAllPipes, pipe_in, pipes_in, told}
-use Rattle.qx_shared.specs.Row.{HasRow, Place, Row, Rows, list_at, list_on, row_of, with_row_of}
-use Rattle.qx_shared.specs.Shared.{HasPipe, nothing_shared, pipe_at, pipes_of, with_process, with_thread}
+use Rattle.qx_shared.specs.Own.{AreAllPipes, shown_pipe, pipes_in, shown_shared}
+use Rattle.qx_shared.specs.Row.{HasRow, Place, PipeRow, Rows, list_of_place, list_on, row_of, with_row_of}
+use Rattle.qx_shared.specs.Shared.{HasPipe, nothing_shared, pipe_at, pipes_of, with_shared_process, with_shared_thread}
 use Rattle.qx_shared.proofs.RowLemmas.{row_at-mapped, rows-agree}
 
 -- ---- places
@@ -48,33 +48,33 @@ mapped-there f (Some x) y is = (x, refl, same_Some (f x) y is)
 
 -- ---- one pipe of all
 
-pub row_of-told : (c : Queues) (all : List Rows) (user inode : ℕ) → row_at (pipes_of (told c all) user) inode ≡ option_map (pipe_in c) (row_of all user inode)
+pub row_of-told : (c : Queues) (all : List Rows) (user inode : ℕ) → row_at (pipes_of (shown_shared c all) user) inode ≡ option_map (shown_pipe c) (row_of all user inode)
 row_of-told c [] user inode = row_at-none (INODES + 1) inode
-row_of-told c (rows ∷ all) zero inode = row_at-mapped (pipe_in c) rows inode
+row_of-told c (rows ∷ all) zero inode = row_at-mapped (shown_pipe c) rows inode
 row_of-told c (rows ∷ all) (suc user) inode = row_of-told c all user inode
 
 -- where there is a pipe, there is a row
-pub has_row : (c : Queues) (all : List Rows) (user inode : ℕ) → HasPipe (told c all) user inode → HasRow all user inode
+pub has_row : (c : Queues) (all : List Rows) (user inode : ℕ) → HasPipe (shown_shared c all) user inode → HasRow all user inode
 has_row c all user inode there = of (row_of all user inode) refl
   where
-    of : (o : Option Row) → row_of all user inode ≡ o → HasRow all user inode
+    of : (o : Option PipeRow) → row_of all user inode ≡ o → HasRow all user inode
     of (Some row) is = (row, is)
-    of None is = absurd (absent_is (row_at (pipes_of (told c all) user) inode) there (row_of-told c all user inode ∙ ap (option_map (pipe_in c)) is))
+    of None is = absurd (absent_is (row_at (pipes_of (shown_shared c all) user) inode) there (row_of-told c all user inode ∙ ap (option_map (shown_pipe c)) is))
 
-pub pipe_at-row : (c : Queues) (all : List Rows) (user inode : ℕ) (o : Option Row) → row_of all user inode ≡ o → pipe_at (told c all) user inode ≡ unwrap_or (option_map (pipe_in c) o) (pipe_of [] [] [])
-pipe_at-row c all user inode o is = ap (λ o. unwrap_or o (pipe_of [] [] [])) (row_of-told c all user inode ∙ ap (option_map (pipe_in c)) is)
+pub pipe_at-row : (c : Queues) (all : List Rows) (user inode : ℕ) (o : Option PipeRow) → row_of all user inode ≡ o → pipe_at (shown_shared c all) user inode ≡ unwrap_or (option_map (shown_pipe c) o) (pipe_of [] [] [])
+pipe_at-row c all user inode o is = ap (λ o. unwrap_or o (pipe_of [] [] [])) (row_of-told c all user inode ∙ ap (option_map (shown_pipe c)) is)
 
-pub pipe_at-told : (c : Queues) (all : List Rows) (user inode : ℕ) (row : Row) → row_of all user inode ≡ Some row → pipe_at (told c all) user inode ≡ pipe_in c row
+pub pipe_at-told : (c : Queues) (all : List Rows) (user inode : ℕ) (row : PipeRow) → row_of all user inode ≡ Some row → pipe_at (shown_shared c all) user inode ≡ shown_pipe c row
 pipe_at-told c all user inode row is = pipe_at-row c all user inode (Some row) is
 
-pub has-told : (c : Queues) (all : List Rows) (user inode : ℕ) → is_some (row_of all user inode) ≡ is_some (row_at (pipes_of (told c all) user) inode)
+pub has-told : (c : Queues) (all : List Rows) (user inode : ℕ) → is_some (row_of all user inode) ≡ is_some (row_at (pipes_of (shown_shared c all) user) inode)
 has-told c all user inode = of (row_of all user inode) ∙ ap is_some (sym (row_of-told c all user inode))
   where
-    of : (o : Option Row) → is_some o ≡ is_some (option_map (pipe_in c) o)
+    of : (o : Option PipeRow) → is_some o ≡ is_some (option_map (shown_pipe c) o)
     of None = refl
     of (Some row) = refl
 
-pub row_of-within : (all : List Rows) (user inode : ℕ) (row : Row) → row_of all user inode ≡ Some row → (user < length all) × (inode < length (get_or all user []))
+pub row_of-within : (all : List Rows) (user inode : ℕ) (row : PipeRow) → row_of all user inode ≡ Some row → (user < length all) × (inode < length (get_or all user []))
 row_of-within [] user inode row is = absurd (none_some row None refl is)
 row_of-within (rows ∷ all) zero inode row is = (omega arith, row_at-within rows inode row is)
 row_of-within (rows ∷ all) (suc user) inode row is = let rest = row_of-within all user inode row is in (omega (arith, rest.0), rest.1)
@@ -82,59 +82,59 @@ row_of-within (rows ∷ all) (suc user) inode row is = let rest = row_of-within 
 abbrev pub IsAt : ℕ → ℕ → Place → Type 0
 IsAt user inode p = (p.user ≡ user) × (p.inode ≡ inode)
 
-pub row_of-same : (all : List Rows) (user inode : ℕ) (row : Option Row) → user < length all → inode < length (get_or all user []) → row_of (with_row_of all user inode row) user inode ≡ row
+pub row_of-same : (all : List Rows) (user inode : ℕ) (row : Option PipeRow) → user < length all → inode < length (get_or all user []) → row_of (with_row_of all user inode row) user inode ≡ row
 row_of-same [] user inode row within here = absurd (omega (arith, within))
 row_of-same (rows ∷ all) zero inode row within here = row_at-get_or (slice_set rows inode row) inode ∙ get_or-set_same rows inode row None here
 row_of-same (rows ∷ all) (suc user) inode row within here = row_of-same all user inode row (omega (arith, within)) here
 
-pub row_of-other : (all : List Rows) (user inode : ℕ) (row : Option Row) (other at : ℕ) → ((other ≡ user) × (at ≡ inode) → ⊥) → row_of (with_row_of all user inode row) other at ≡ row_of all other at
+pub row_of-other : (all : List Rows) (user inode : ℕ) (row : Option PipeRow) (other at : ℕ) → ((other ≡ user) × (at ≡ inode) → ⊥) → row_of (with_row_of all user inode row) other at ≡ row_of all other at
 row_of-other [] user inode row other at differs = refl
 row_of-other (rows ∷ all) zero inode row zero at differs = row_at-set_other rows inode at row (λ same. differs (refl, same))
 row_of-other (rows ∷ all) zero inode row (suc other) at differs = refl
 row_of-other (rows ∷ all) (suc user) inode row zero at differs = refl
 row_of-other (rows ∷ all) (suc user) inode row (suc other) at differs = row_of-other all user inode row other at (λ same. differs (ap suc same.0, same.1))
 
-pub rows-length : (all : List Rows) (user inode : ℕ) (row : Option Row) (other : ℕ) → length (get_or (with_row_of all user inode row) other []) ≡ length (get_or all other [])
+pub rows-length : (all : List Rows) (user inode : ℕ) (row : Option PipeRow) (other : ℕ) → length (get_or (with_row_of all user inode row) other []) ≡ length (get_or all other [])
 rows-length [] user inode row other = refl
 rows-length (rows ∷ all) zero inode row zero = length-set rows inode row
 rows-length (rows ∷ all) zero inode row (suc other) = refl
 rows-length (rows ∷ all) (suc user) inode row zero = refl
 rows-length (rows ∷ all) (suc user) inode row (suc other) = rows-length all user inode row other
 
-pub row-same : (all : List Rows) (user inode : ℕ) (row : Row) → row_of all user inode ≡ Some row → with_row_of all user inode (Some row) ≡ all
+pub row-same : (all : List Rows) (user inode : ℕ) (row : PipeRow) → row_of all user inode ≡ Some row → with_row_of all user inode (Some row) ≡ all
 row-same all user inode row is = ap (slice_set all user) (ap (slice_set (get_or all user []) inode) (sym is) ∙ set-row_at (get_or all user []) inode) ∙ set-get_or all user []
 
 -- pipes that are read alike, but the one that was written
-pub told-set : (c d : Queues) (all : List Rows) (user inode : ℕ) (row : Option Row) → user < length all → ((other at : ℕ) (r : Row) → ((other ≡ user) × (at ≡ inode) → ⊥) → row_of all other at ≡ Some r → pipe_in d r ≡ pipe_in c r) →
-    map (pipes_in d) (with_row_of all user inode row) ≡ slice_set (map (pipes_in c) all) user (slice_set (pipes_of (told c all) user) inode (option_map (pipe_in d) row))
+pub told-set : (c d : Queues) (all : List Rows) (user inode : ℕ) (row : Option PipeRow) → user < length all → ((other at : ℕ) (r : PipeRow) → ((other ≡ user) × (at ≡ inode) → ⊥) → row_of all other at ≡ Some r → shown_pipe d r ≡ shown_pipe c r) →
+    map (pipes_in d) (with_row_of all user inode row) ≡ slice_set (map (pipes_in c) all) user (slice_set (pipes_of (shown_shared c all) user) inode (option_map (shown_pipe d) row))
 told-set c d all user inode row within same = read-set (pipes_in d) (pipes_in c) all user (slice_set (get_or all user []) inode row) _ own others
   where
-    one : (at : ℕ) (o : Option Row) → (at ≡ inode → ⊥) → slice_get (get_or all user []) at ≡ Some o → option_map (pipe_in d) o ≡ option_map (pipe_in c) o
+    one : (at : ℕ) (o : Option PipeRow) → (at ≡ inode → ⊥) → slice_get (get_or all user []) at ≡ Some o → option_map (shown_pipe d) o ≡ option_map (shown_pipe c) o
     one at None differs is = refl
     one at (Some r) differs is = ap Some (same user at r (λ both. differs both.1) (ap (λ o. unwrap_or o None) is))
 
-    own : pipes_in d (slice_set (get_or all user []) inode row) ≡ slice_set (pipes_of (told c all) user) inode (option_map (pipe_in d) row)
+    own : pipes_in d (slice_set (get_or all user []) inode row) ≡ slice_set (pipes_of (shown_shared c all) user) inode (option_map (shown_pipe d) row)
     own =
-        read-set (option_map (pipe_in d)) (option_map (pipe_in c)) (get_or all user []) inode row _ refl one
-        ∙ ap (λ (pipes : Pipes). slice_set pipes inode (option_map (pipe_in d) row)) (sym (get_or-map (pipes_in c) all user [] no_pipes within))
+        read-set (option_map (shown_pipe d)) (option_map (shown_pipe c)) (get_or all user []) inode row _ refl one
+        ∙ ap (λ (pipes : Pipes). slice_set pipes inode (option_map (shown_pipe d) row)) (sym (get_or-map (pipes_in c) all user [] no_pipes within))
 
     others : (other : ℕ) (rows : Rows) → (other ≡ user → ⊥) → slice_get all other ≡ Some rows → pipes_in d rows ≡ pipes_in c rows
-    others other rows differs is = rows-agree (pipe_in d) (pipe_in c) rows (λ at r there. same other at r (λ both. differs both.0) (ap (λ (p : Rows). row_at p at) (get_or_from_slice_get all other rows [] is) ∙ there))
+    others other rows differs is = rows-agree (shown_pipe d) (shown_pipe c) rows (λ at r there. same other at r (λ both. differs both.0) (ap (λ (p : Rows). row_at p at) (get_or_from_slice_get all other rows [] is) ∙ there))
 
 -- ---- queues that have the same lists
 
 -- the first threads of a process get nodes
-pub process-pipes : (c : Queues) (proc : Proc) (threads : ℕ) → (queues.with_process c proc threads).pipes ≡ c.pipes
+pub process-pipes : (c : Queues) (proc : Proc) (threads : ℕ) → (queues.with_process_nodes c proc threads).pipes ≡ c.pipes
 process-pipes c proc zero = refl
 process-pipes c proc (suc threads) = process-pipes c proc threads
 
-pub process-users : (c : Queues) (proc : Proc) (threads : ℕ) → (queues.with_process c proc threads).users ≡ c.users
+pub process-users : (c : Queues) (proc : Proc) (threads : ℕ) → (queues.with_process_nodes c proc threads).users ≡ c.users
 process-users c proc zero = refl
 process-users c proc (suc threads) = process-users c proc threads
 
-pub process-told : (c : Queues) (all : List Rows) (proc : Proc) (threads : ℕ) → told (queues.with_process c proc threads) all ≡ with_process (told c all) proc threads
+pub process-told : (c : Queues) (all : List Rows) (proc : Proc) (threads : ℕ) → shown_shared (queues.with_process_nodes c proc threads) all ≡ with_shared_process (shown_shared c all) proc threads
 process-told c all proc zero = refl
-process-told c all proc (suc threads) = ap (λ s. with_thread s (record { proc = proc; tid = suc threads })) (process-told c all proc threads)
+process-told c all proc (suc threads) = ap (λ s. with_shared_thread s (record { proc = proc; tid = suc threads })) (process-told c all proc threads)
 
 pub all-same : (c d : Queues) (all : List Rows) → d.pipes ≡ c.pipes → d.users ≡ c.users → AreAllPipes c all → AreAllPipes d all
 all-same c d all same users are = record {
@@ -151,7 +151,7 @@ all-same c d all same users are = record {
 abbrev pub no_rows : Rows
 no_rows = replicate (INODES + 1) None
 
-none-told : (c : Queues) (n : ℕ) → map (option_map (pipe_in c)) (replicate n None) ≡ replicate n None
+none-told : (c : Queues) (n : ℕ) → map (option_map (shown_pipe c)) (replicate n None) ≡ replicate n None
 none-told c zero = refl
 none-told c (suc n) = ap (λ rest. None ∷ rest) (none-told c n)
 
@@ -159,7 +159,7 @@ all-told : (c : Queues) (n : ℕ) → map (pipes_in c) (replicate n no_rows) ≡
 all-told c zero = refl
 all-told c (suc n) = ap₂ (λ a b. a ∷ b) (none-told c (INODES + 1)) (all-told c n)
 
-pub boot-told : (users : ℕ) (all : List Rows) → all ≡ replicate (users + 1) no_rows → told (no_queues users) all ≡ nothing_shared users
+pub boot-told : (users : ℕ) (all : List Rows) → all ≡ replicate (users + 1) no_rows → shown_shared (no_queues users) all ≡ nothing_shared users
 boot-told users all none = let pipes : map (pipes_in (no_queues users)) all ≡ replicate (users + 1) no_pipes = ap (map (pipes_in (no_queues users))) none ∙ all-told (no_queues users) (users + 1) in ap (λ all. record (nothing_shared users) { pipes = all }) pipes
 
 no_row : (n user inode : ℕ) → row_of (replicate n no_rows) user inode ≡ None
@@ -179,16 +179,16 @@ boot-all users all none = record {
   where
     places : (n user : ℕ) → user < length (replicate n no_rows) → length (get_or (replicate n no_rows) user []) ≡ INODES + 1
     places zero user within = absurd (omega (arith, within))
-    places (suc n) zero within = length-replicate {A = Option Row} (INODES + 1) None
+    places (suc n) zero within = length-replicate {A = Option PipeRow} (INODES + 1) None
     places (suc n) (suc user) within = places n user (omega (arith, within))
 
-    nowhere : (p : Place) (list : ℕ) → list_at all p ≡ Some list → ⊥
-    nowhere p list at = none_some list (list_at all p) (ap (λ xs. list_at xs p) none ∙ ap (option_map (list_on p.side)) (no_row (users + 1) p.user p.inode)) at
+    nowhere : (p : Place) (list : ℕ) → list_of_place all p ≡ Some list → ⊥
+    nowhere p list at = none_some list (list_of_place all p) (ap (λ xs. list_of_place xs p) none ∙ ap (option_map (list_on p.side)) (no_row (users + 1) p.user p.inode)) at
 
 -- each user has a place for the pipe of each inode, and so has who is no user
-pub places-told : (c : Queues) (all : List Rows) → AreAllPipes c all → (user : ℕ) → length (pipes_of (told c all) user) ≡ INODES + 1
+pub places-told : (c : Queues) (all : List Rows) → AreAllPipes c all → (user : ℕ) → length (pipes_of (shown_shared c all) user) ≡ INODES + 1
 places-told c all own user = elim (nat_lt_or_le user (length all)) [
-  | inl within ↦ ap length (get_or-mapped all user within) ∙ length-map (get_or all user []) (option_map (pipe_in c)) ∙ own.places user within
+  | inl within ↦ ap length (get_or-mapped all user within) ∙ length-map (get_or all user []) (option_map (shown_pipe c)) ∙ own.places user within
   | inr past ↦ ap length (get_or-past all user past) ∙ length-replicate (INODES + 1) nothing
 ]
   where

@@ -8,11 +8,11 @@ use Rattle.qx_lists.proofs.MapLemmas.{get-insert_same, get-insert_other, get-rem
 use Rattle.qx_types.specs.declared.limits.TheConstants.Limits.{INODES}
 use Rattle.qx_machine.specs.Pipes.{pipe_of}
 use Rattle.qx_machine.specs.Rows.{row_at}
-use Rattle.qx_queues.specs.Queues.{HasList, Queues, UsersCall, waiting_in, with_waiting, without_list}
+use Rattle.qx_queues.specs.Queues.{HasList, Queues, UsersCall, waiting_in_list, with_waiting, without_list}
 use Rattle.qx_queues.specs.Waits.{users_call}
 use Rattle.qx_queues.proofs.TableLemmas.{absent_is, none_some}
-use Rattle.qx_shared.specs.Own.{AreAllPipes, AreUsers, calls_of, pipe_in, pipes_in, told}
-use Rattle.qx_shared.specs.Row.{Place, Row, Rows, list_at, list_on, place, row_of, with_row_of}
+use Rattle.qx_shared.specs.Own.{AreAllPipes, AreUsers, calls_of, shown_pipe, pipes_in, shown_shared}
+use Rattle.qx_shared.specs.Row.{Place, PipeRow, Rows, list_of_place, list_on, place, row_of, with_row_of}
 use Rattle.qx_shared.specs.Shared.{pipes_of, with_row_at}
 use Rattle.qx_shared.specs.declared.side.Side.{Side}
 use Rattle.qx_shared.specs.declared.side.Side.TheVariants.{Reading, Writing}
@@ -20,7 +20,7 @@ use Rattle.qx_shared.proofs.ChangeLemmas.{SameElsewhere, at-cases, pipes-set, us
 use Rattle.qx_shared.proofs.OwnLemmas.{IsAt, row_of-other, row_of-same, row_of-told, row_of-within, rows-length}
 
 -- another row stands under the number of an inode, or none, and its lists are of no other
-module _ (c d : Queues) (all : List Rows) (user inode : ℕ) (row : Option Row) where
+module _ (c d : Queues) (all : List Rows) (user inode : ℕ) (row : Option PipeRow) where
   abbrev pub IsOf : Side → ℕ → Type 0
   IsOf side list = option_map (list_on side) row ≡ Some list
 
@@ -31,17 +31,17 @@ module _ (c d : Queues) (all : List Rows) (user inode : ℕ) (row : Option Row) 
     pub own : (side : Side) (list : ℕ) → IsOf side list → HasList d list × AreUsers d user list
     pub two : (one other : Side) (list : ℕ) → IsOf one list → IsOf other list → one ≡ other
     pub others : SameElsewhere c d all user inode
-    pub fresh : (side : Side) (list : ℕ) (p : Place) → IsOf side list → list_at all p ≡ Some list → IsAt user inode p
-    pub owned : (list : ℕ) → HasList d list → ((side : Side) × IsOf side list) ⊎ ((p : Place) × (list_at all p ≡ Some list) × (IsAt user inode p → ⊥))
+    pub fresh : (side : Side) (list : ℕ) (p : Place) → IsOf side list → list_of_place all p ≡ Some list → IsAt user inode p
+    pub owned : (list : ℕ) → HasList d list → ((side : Side) × IsOf side list) ⊎ ((p : Place) × (list_of_place all p ≡ Some list) × (IsAt user inode p → ⊥))
 
   module _ (are : AreAllPipes c all) (placed : IsPlaced) where
     abbrev new : List Rows
     new = with_row_of all user inode row
 
-    at-new : (p : Place) → IsAt user inode p → list_at new p ≡ option_map (list_on p.side) row
+    at-new : (p : Place) → IsAt user inode p → list_of_place new p ≡ option_map (list_on p.side) row
     at-new p at = rw (at.0, at.1) (ap (option_map (list_on p.side)) (row_of-same all user inode row placed.within placed.here))
 
-    off-new : (p : Place) → (IsAt user inode p → ⊥) → list_at new p ≡ list_at all p
+    off-new : (p : Place) → (IsAt user inode p → ⊥) → list_of_place new p ≡ list_of_place all p
     off-new p differs = ap (option_map (list_on p.side)) (row_of-other all user inode row p.user p.inode differs)
 
     pub placed-all : AreAllPipes d new
@@ -75,27 +75,27 @@ module _ (c d : Queues) (all : List Rows) (user inode : ℕ) (row : Option Row) 
     }
 
 -- as a change of the user's pipes gives it
-put-row : (all : List Rows) (user inode : ℕ) (own changed : Rows) (row : Option Row) → user < length all → own ≡ get_or all user own → changed ≡ slice_set own inode row → slice_set all user changed ≡ with_row_of all user inode row
+put-row : (all : List Rows) (user inode : ℕ) (own changed : Rows) (row : Option PipeRow) → user < length all → own ≡ get_or all user own → changed ≡ slice_set own inode row → slice_set all user changed ≡ with_row_of all user inode row
 put-row all user inode own changed row within read put = ap (slice_set all user) (put ∙ ap (λ (p : Rows). slice_set p inode row) (read ∙ get_or_default all user own [] within))
 
 -- ---- a new pipe
 
-module _ (c : Queues) (all : List Rows) (are : AreAllPipes c all) (user inode : ℕ) (within : user < length (told c all).pipes) (few : inode ≤ INODES) (none : row_at (pipes_of (told c all) user) inode ≡ None) (readers writers : ℕ) (new_readers : maps.get c.pipes readers ≡ None) (new_writers : maps.get (with_waiting c readers []).pipes writers ≡ None) where
+module _ (c : Queues) (all : List Rows) (are : AreAllPipes c all) (user inode : ℕ) (within : user < length (shown_shared c all).pipes) (few : inode ≤ INODES) (none : row_at (pipes_of (shown_shared c all) user) inode ≡ None) (readers writers : ℕ) (new_readers : maps.get c.pipes readers ≡ None) (new_writers : maps.get (with_waiting c readers []).pipes writers ≡ None) where
   abbrev made : Queues
   made = with_waiting (with_waiting c readers []) writers []
 
-  abbrev made_row : Row
+  abbrev made_row : PipeRow
   made_row = record { bytes = []; readers = readers; writers = writers }
 
   no_row : row_of all user inode ≡ None
   no_row = of (row_of all user inode) (sym (row_of-told c all user inode) ∙ none)
     where
-      of : (o : Option Row) → option_map (pipe_in c) o ≡ None → o ≡ None
+      of : (o : Option PipeRow) → option_map (shown_pipe c) o ≡ None → o ≡ None
       of None is = refl
       of (Some row) is = absurd (cc)
 
-  nowhere : (p : Place) (list : ℕ) → IsAt user inode p → list_at all p ≡ Some list → ⊥
-  nowhere p list at is = none_some list (list_at all p) (ap₂ (λ u i. option_map (list_on p.side) (row_of all u i)) at.0 at.1 ∙ ap (option_map (list_on p.side)) no_row) is
+  nowhere : (p : Place) (list : ℕ) → IsAt user inode p → list_of_place all p ≡ Some list → ⊥
+  nowhere p list at is = none_some list (list_of_place all p) (ap₂ (λ u i. option_map (list_on p.side) (row_of all u i)) at.0 at.1 ∙ ap (option_map (list_on p.side)) no_row) is
 
   two_lists : writers ≢ readers
   two_lists same = none_some [] (maps.get (with_waiting c readers []).pipes writers) new_writers (ap (maps.get (with_waiting c readers []).pipes) same ∙ get-insert_same c.pipes readers [])
@@ -131,7 +131,7 @@ module _ (c : Queues) (all : List Rows) (are : AreAllPipes c all) (user inode : 
     users = refl;
     own = λ side list is.
         let empty : maps.get made.pipes list ≡ Some [] = ap (maps.get made.pipes) (sym (same_Some _ _ is)) ∙ got side in
-        let nobody : waiting_in made list ≡ [] = ap (λ o. unwrap_or o []) empty in
+        let nobody : waiting_in_list made list ≡ [] = ap (λ o. unwrap_or o []) empty in
         (ap is_some empty, nobody ∙ ap (λ (own : List UsersCall). map (users_call user) (map (λ own. own.call) own)) (sym nobody));
     two = λ one other list is also. side-is one other (same_Some _ _ is ∙ sym (same_Some _ _ also));
     others = λ p list is differs. made-other list (off Reading list (are.there p list is)) (off Writing list (are.there p list is));
@@ -147,18 +147,18 @@ module _ (c : Queues) (all : List Rows) (are : AreAllPipes c all) (user inode : 
     ];
   }
 
-  added-told : told made (with_row_of all user inode (Some made_row)) ≡ with_row_at (told c all) user inode (Some (pipe_of [] [] []))
+  added-told : shown_shared made (with_row_of all user inode (Some made_row)) ≡ with_row_at (shown_shared c all) user inode (Some (pipe_of [] [] []))
   added-told =
       let calls : (side : Side) → calls_of made (list_on side made_row) ≡ [] = λ side. ap (λ o. map (λ own. own.call) (unwrap_or o [])) (got side) in
       let pipes =
       pipes-set c made all user inode (Some made_row) placed.within placed.others
-      ∙ (λ i. slice_set (map (pipes_in c) all) user (slice_set (pipes_of (told c all) user) inode (Some (pipe_of [] (calls Reading i) (calls Writing i))))) in
-      λ i. record (told c all) { pipes = pipes i }
+      ∙ (λ i. slice_set (map (pipes_in c) all) user (slice_set (pipes_of (shown_shared c all) user) inode (Some (pipe_of [] (calls Reading i) (calls Writing i))))) in
+      λ i. record (shown_shared c all) { pipes = pipes i }
 
-  pub added : (d : Queues) (own changed : Rows) → d ≡ made → own ≡ get_or all user own → changed ≡ slice_set own inode (Some made_row) → (told d (slice_set all user changed) ≡ with_row_at (told c all) user inode (Some (pipe_of [] [] []))) × AreAllPipes d (slice_set all user changed)
+  pub added : (d : Queues) (own changed : Rows) → d ≡ made → own ≡ get_or all user own → changed ≡ slice_set own inode (Some made_row) → (shown_shared d (slice_set all user changed) ≡ with_row_at (shown_shared c all) user inode (Some (pipe_of [] [] []))) × AreAllPipes d (slice_set all user changed)
   added d own changed queues read put =
       let rows = put-row all user inode own changed (Some made_row) placed.within read put in
-      (ap₂ told queues rows ∙ added-told, rw (queues, rows) (placed-all c made all user inode (Some made_row) are placed))
+      (ap₂ shown_shared queues rows ∙ added-told, rw (queues, rows) (placed-all c made all user inode (Some made_row) are placed))
 
 -- a list that was made goes again
 pub list-unmade : (c : Queues) (list : ℕ) → maps.get c.pipes list ≡ None → without_list (with_waiting c list []) list ≡ c
@@ -169,11 +169,11 @@ list-unmade c list none = ap (λ pipes. record c { pipes = pipes }) (same_map (m
 
 -- ---- a pipe goes
 
-module _ (c : Queues) (all : List Rows) (are : AreAllPipes c all) (user inode : ℕ) (row : Row) (is : row_of all user inode ≡ Some row) where
+module _ (c : Queues) (all : List Rows) (are : AreAllPipes c all) (user inode : ℕ) (row : PipeRow) (is : row_of all user inode ≡ Some row) where
   abbrev pub freed : Queues
   freed = without_list (without_list c row.readers) row.writers
 
-  own-list : (side : Side) → list_at all (place user inode side) ≡ Some (list_on side row)
+  own-list : (side : Side) → list_of_place all (place user inode side) ≡ Some (list_on side row)
   own-list side = ap (option_map (list_on side)) is
 
   freed-other : (list : ℕ) → list ≢ row.readers → list ≢ row.writers → maps.get freed.pipes list ≡ maps.get c.pipes list
@@ -191,7 +191,7 @@ module _ (c : Queues) (all : List Rows) (are : AreAllPipes c all) (user inode : 
   left-list side list there same = absent_is (maps.get freed.pipes list) there (ap (maps.get freed.pipes) same ∙ none-left side)
 
   -- a list of another pipe
-  others-list : (p : Place) (list : ℕ) → list_at all p ≡ Some list → (IsAt user inode p → ⊥) → (side : Side) → list ≢ list_on side row
+  others-list : (p : Place) (list : ℕ) → list_of_place all p ≡ Some list → (IsAt user inode p → ⊥) → (side : Side) → list ≢ list_on side row
   others-list p list at differs side same = let q = are.apart p (place user inode side) list at (own-list side ∙ ap Some (sym same)) in differs (ap (λ p. p.user) q, ap (λ p. p.inode) q)
 
   gone : IsPlaced c freed all user inode None
@@ -208,12 +208,12 @@ module _ (c : Queues) (all : List Rows) (are : AreAllPipes c all) (user inode : 
         inr (before.0, before.1, λ at. left-list before.0.side list there (same_Some _ _ (sym before.1 ∙ ap₂ (λ u i. option_map (list_on before.0.side) (row_of all u i)) at.0 at.1 ∙ own-list before.0.side)));
   }
 
-  removed-told : told freed (with_row_of all user inode None) ≡ with_row_at (told c all) user inode None
+  removed-told : shown_shared freed (with_row_of all user inode None) ≡ with_row_at (shown_shared c all) user inode None
   removed-told =
       let pipes = pipes-set c freed all user inode None gone.within gone.others in
-      λ i. record (told c all) { pipes = pipes i }
+      λ i. record (shown_shared c all) { pipes = pipes i }
 
-  module _ (readers writers : ℕ) (reading : list_at all (place user inode Reading) ≡ Some readers) (writing : list_at all (place user inode Writing) ≡ Some writers) where
+  module _ (readers writers : ℕ) (reading : list_of_place all (place user inode Reading) ≡ Some readers) (writing : list_of_place all (place user inode Writing) ≡ Some writers) where
     reading-is : row.readers ≡ readers
     reading-is = same_Some _ _ (sym (own-list Reading) ∙ reading)
 
@@ -223,8 +223,8 @@ module _ (c : Queues) (all : List Rows) (are : AreAllPipes c all) (user inode : 
     pub other-there : HasList (without_list c readers) writers
     other-there = ap is_some (get-remove_other c.pipes readers writers (λ same. lists-apart (writing-is ∙ same ∙ sym reading-is))) ∙ are.there (place user inode Writing) writers writing
 
-    pub removed : (d e : Queues) (own changed : Rows) → d ≡ without_list c readers → e ≡ without_list d writers → own ≡ get_or all user own → changed ≡ slice_set own inode None → (told e (slice_set all user changed) ≡ with_row_at (told c all) user inode None) × AreAllPipes e (slice_set all user changed)
+    pub removed : (d e : Queues) (own changed : Rows) → d ≡ without_list c readers → e ≡ without_list d writers → own ≡ get_or all user own → changed ≡ slice_set own inode None → (shown_shared e (slice_set all user changed) ≡ with_row_at (shown_shared c all) user inode None) × AreAllPipes e (slice_set all user changed)
     removed d e own changed first second read put =
         let rows = put-row all user inode own changed None gone.within read put in
         let queues : e ≡ freed = second ∙ ap₂ without_list (first ∙ ap (without_list c) (sym reading-is)) (sym writing-is) in
-        (ap₂ told queues rows ∙ removed-told, rw (queues, rows) (placed-all c freed all user inode None are gone))
+        (ap₂ shown_shared queues rows ∙ removed-told, rw (queues, rows) (placed-all c freed all user inode None are gone))

@@ -5,30 +5,30 @@ use Rattle.qx_shared.specs.declared.side.Side.{Side}
 use Rattle.qx_shared.specs.declared.side.Side.TheVariants.{Reading, Writing}
 
 -- the bytes that stand, and in which lists calls wait to read and to write
-pub record Row : Type 0 where
+pub record PipeRow : Type 0 where
   pub bytes : List ℕ
   pub readers : ℕ
   pub writers : ℕ
 
-abbrev pub with_bytes : Row → List ℕ → Row
-with_bytes row bytes = record row { bytes = bytes }
+abbrev pub row_with_bytes : PipeRow → List ℕ → PipeRow
+row_with_bytes row bytes = record row { bytes = bytes }
 
 -- the pipes of a user under the numbers of their inodes
 abbrev pub Rows : Type 0
-Rows = List (Option Row)
+Rows = List (Option PipeRow)
 
 -- the pipe of an inode of a user
-abbrev pub row_of : List Rows → ℕ → ℕ → Option Row
+abbrev pub row_of : List Rows → ℕ → ℕ → Option PipeRow
 row_of all user inode = row_at (get_or all user []) inode
 
 abbrev pub HasRow : List Rows → ℕ → ℕ → Type 0
-HasRow all user inode = (row : Row) × (row_of all user inode ≡ Some row)
+HasRow all user inode = (row : PipeRow) × (row_of all user inode ≡ Some row)
 
 -- another stands there, or none
-abbrev pub with_row_of : List Rows → ℕ → ℕ → Option Row → List Rows
+abbrev pub with_row_of : List Rows → ℕ → ℕ → Option PipeRow → List Rows
 with_row_of all user inode row = slice_set all user (slice_set (get_or all user []) inode row)
 
-abbrev pub list_on : Side → Row → ℕ
+abbrev pub list_on : Side → PipeRow → ℕ
 list_on Reading row = row.readers
 list_on Writing row = row.writers
 
@@ -42,5 +42,5 @@ abbrev pub place : ℕ → ℕ → Side → Place
 place user inode side = record { user = user; inode = inode; side = side }
 
 -- in which list calls wait there
-abbrev pub list_at : List Rows → Place → Option ℕ
-list_at all p = option_map (list_on p.side) (row_of all p.user p.inode)
+abbrev pub list_of_place : List Rows → Place → Option ℕ
+list_of_place all p = option_map (list_on p.side) (row_of all p.user p.inode)

@@ -17,10 +17,10 @@ use Rattle.qx_machine.specs.declared.rows.WaitingCall.{WaitingCall}
 use Rattle.qx_machine.specs.Functions.{Deed}
 use Rattle.qx_machine.specs.Lines.{line_at, with_line}
 use Rattle.qx_machine.specs.Waiting.{Pipes, is_written, no_pipes}
-use Rattle.qx_machine.specs.Pipes.{After, Pipe, pipe_of, readers_dismissed, writers_dismissed}
+use Rattle.qx_machine.specs.Pipes.{PipeAfter, Pipe, pipe_of, readers_dismissed, writers_dismissed}
 use Rattle.qx_machine.specs.Resources.{Resources}
 use Rattle.qx_machine.specs.Rows.{row_at}
-use Rattle.qx_queues.specs.Queues.{UsersAnswer, UsersCall, answer_code, answer_to, caller, has_call, is_answered, server_cmp, stands, thread_cmp}
+use Rattle.qx_queues.specs.Queues.{UsersAnswer, UsersCall, answer_code, answer_to, caller, has_call, has_answer_among, server_cmp, stands, thread_cmp}
 use Rattle.qx_queues.specs.Waits.{users_call}
 use Rattle.qx_shared.specs.declared.side.Side.{Side}
 use Rattle.qx_shared.specs.declared.side.Side.TheVariants.{Reading, Writing}
@@ -76,29 +76,29 @@ abbrev pub has_thread : Shared → Thread → Bool
 has_thread c thread = set.contains c.threads thread
 
 -- the process has a disconnect node at the manager of a number
-abbrev pub has_server : Shared → Proc → ℕ → Bool
-has_server c proc number = set.contains c.servers (proc, number)
+abbrev pub has_disconnect_node : Shared → Proc → ℕ → Bool
+has_disconnect_node c proc number = set.contains c.servers (proc, number)
 
 -- a thread of the process has nodes
 abbrev pub HasThread : Shared → Proc → Type 0
 HasThread c proc = (tid : ℕ) × IsTrue (has_thread c (record { proc = proc; tid = tid }))
 
 -- a thread has nodes from now on
-abbrev pub with_thread : Shared → Thread → Shared
-with_thread c thread = record c { threads = set.insert c.threads thread; room = c.room - 2 }
+abbrev pub with_shared_thread : Shared → Thread → Shared
+with_shared_thread c thread = record c { threads = set.insert c.threads thread; room = c.room - 2 }
 
 -- the first threads of a process have nodes from now on
-abbrev pub with_process : Shared → Proc → ℕ → Shared
-with_process c proc zero = c
-with_process c proc (suc threads) = with_thread (with_process c proc threads) (record { proc = proc; tid = suc threads })
+abbrev pub with_shared_process : Shared → Proc → ℕ → Shared
+with_shared_process c proc zero = c
+with_shared_process c proc (suc threads) = with_shared_thread (with_shared_process c proc threads) (record { proc = proc; tid = suc threads })
 
 -- a process has a disconnect node at a manager from now on
-abbrev pub with_server : Shared → Proc → ℕ → Shared
-with_server c proc number = record c { servers = set.insert c.servers (proc, number); room = if has_server c proc number then c.room else c.room - 1 }
+abbrev pub with_shared_server : Shared → Proc → ℕ → Shared
+with_shared_server c proc number = record c { servers = set.insert c.servers (proc, number); room = if has_disconnect_node c proc number then c.room else c.room - 1 }
 
 -- and has none any more
-abbrev pub without_server : Shared → Proc → ℕ → Shared
-without_server c proc number = record c { servers = set.remove c.servers (proc, number); room = if has_server c proc number then c.room + 1 else c.room }
+abbrev pub without_shared_server : Shared → Proc → ℕ → Shared
+without_shared_server c proc number = record c { servers = set.remove c.servers (proc, number); room = if has_disconnect_node c proc number then c.room + 1 else c.room }
 
 -- ---- pipes
 
@@ -115,16 +115,16 @@ abbrev pub waiting_calls : Pipes → List WaitingCall
 waiting_calls pipes = flat_map calls_at pipes
 
 -- who waits in a user's pipes, with the user
-abbrev pub waiting_at : List Pipes → ℕ → List UsersCall
-waiting_at pipes user = map (λ call. record { user = user; call = call }) (waiting_calls (get_or pipes user no_pipes))
+abbrev pub users_waiting : List Pipes → ℕ → List UsersCall
+users_waiting pipes user = map (λ call. record { user = user; call = call }) (waiting_calls (get_or pipes user no_pipes))
 
 abbrev pub waiting_in : Shared → ℕ → List UsersCall
-waiting_in c user = waiting_at c.pipes user
+waiting_in c user = users_waiting c.pipes user
 
 -- no call of the thread waits in a pipe or has an answer that was not taken out yet
 pub record HasNoCall (c : Shared) (thread : Thread) : Type 0 where
   pub waiting : (user : ℕ) → has_call (waiting_in c user) thread ≡ false
-  pub answered : is_answered c.answered thread ≡ false
+  pub answered : has_answer_among c.answered thread ≡ false
 
 -- the thread's message was received: the thread has nodes, its message stands in no line, and no call of it waits or has an answer
 pub record IsReceived (c : Shared) (thread : Thread) : Type 0 where
@@ -136,8 +136,8 @@ abbrev pub users_given : ℕ → WaitingCall × Answer → UsersAnswer
 users_given user given = answer_to (users_call user given.0) given.1
 
 -- the thread of a caller
-abbrev pub thread_of : ℕ → Caller → Thread
-thread_of user caller = record { proc = record { user = record { 0 = user }; num = caller.process }; tid = caller.thread }
+abbrev pub callers_thread : ℕ → Caller → Thread
+callers_thread user caller = record { proc = record { user = record { 0 = user }; num = caller.process }; tid = caller.thread }
 
 -- a user's pipes are these, and who was answered stands last, in order
 abbrev pub with_pipes : Shared → ℕ → Pipes → List (WaitingCall × Answer) → Shared
@@ -158,8 +158,8 @@ abbrev pub with_row_at : Shared → ℕ → ℕ → Option (Pipe WaitingCall) �
 with_row_at c user inode row = record c { pipes = slice_set c.pipes user (slice_set (pipes_of c user) inode row) }
 
 -- a pipe as it is once something was done to it, and who was answered stands last, in order
-abbrev pub with_after : Shared → ℕ → ℕ → After WaitingCall → Shared
-with_after c user inode after = with_pipes c user (slice_set (pipes_of c user) inode (Some after.pipe)) after.answers
+abbrev pub with_pipe_after : Shared → ℕ → ℕ → PipeAfter WaitingCall → Shared
+with_pipe_after c user inode after = with_pipes c user (slice_set (pipes_of c user) inode (Some after.pipe)) after.answers
 
 -- who waits on a side of a pipe, in order
 abbrev pub waiting_on : Side → Pipe WaitingCall → List WaitingCall
@@ -180,16 +180,16 @@ abbrev pub with_answer_to : Shared → ℕ → WaitingCall → Answer → Shared
 with_answer_to c user call answer = record c { answered = c.answered ++ users_given user (call, answer) ∷ [] }
 
 -- those who wait on a side and are to leave are answered
-abbrev pub dismissed_on : Side → (WaitingCall → Bool) → Answer → Pipe WaitingCall → After WaitingCall
+abbrev pub dismissed_on : Side → (WaitingCall → Bool) → Answer → Pipe WaitingCall → PipeAfter WaitingCall
 dismissed_on Reading leaves answer p = readers_dismissed leaves answer p
 dismissed_on Writing leaves answer p = writers_dismissed leaves answer p
 
 -- so many of the first bytes go to these, of whom there is one at most
-abbrev pub passed_to : ℕ → List WaitingCall → Pipe WaitingCall → After WaitingCall
+abbrev pub passed_to : ℕ → List WaitingCall → Pipe WaitingCall → PipeAfter WaitingCall
 passed_to count readers p = record { pipe = record p { bytes = drop count p.bytes }; answers = map (λ reader. (reader, Reply count (take count p.bytes))) readers }
 
 -- the bytes of these, of whom there is one at most, go in last
-abbrev pub taken_from : List WaitingCall → Pipe WaitingCall → After WaitingCall
+abbrev pub taken_from : List WaitingCall → Pipe WaitingCall → PipeAfter WaitingCall
 taken_from writers p = record { pipe = record p { bytes = p.bytes ++ flat_map (λ writer. writer.bytes) writers }; answers = map (λ writer. (writer, Reply (length writer.bytes) [])) writers }
 
 -- whether bytes go in with these answers

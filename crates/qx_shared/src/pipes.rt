@@ -8,8 +8,8 @@ ghost use Rattle.qx_machine.specs.Waiting.{holds, is_call, is_written};
 ghost use Rattle.qx_machine.specs.Pipes.{nobody_answered, pipe_of, removed};
 ghost use Rattle.qx_machine.specs.Rows.{row_at};
 ghost use Rattle.qx_queues.specs.Waits.{handed, leaves};
-ghost use Rattle.qx_shared.specs.Row.{HasRow, list_at, place, row_of};
-ghost use Rattle.qx_shared.specs.Shared.{HasPipe, IsCallReceived, dismissed_on, passed_to, pipe_at, pipes_of, taken_from, waiting_on, went_in, with_after, with_answer_to, with_row_at, with_waiting_on};
+ghost use Rattle.qx_shared.specs.Row.{HasRow, list_of_place, place, row_of};
+ghost use Rattle.qx_shared.specs.Shared.{HasPipe, IsCallReceived, dismissed_on, passed_to, pipe_at, pipes_of, taken_from, waiting_on, went_in, with_pipe_after, with_answer_to, with_row_at, with_waiting_on};
 ghost use Rattle.qx_types.specs.declared.limits.TheConstants.Limits.{INODES, PIPE, TRANSFER};
 
 use crate::row::{PipeRow, UserPipes};
@@ -119,7 +119,7 @@ impl Shared {
     pub fn wait(&mut self, user: User, inode: u32, side: Side, call: PipeCall)
         requires pipe { HasPipe self.old user.0 inode }
         requires received { IsCallReceived self.old user.0 call }
-        ensures { self.new ≡ with_after self.old user.0 inode (nobody_answered (with_waiting_on side (waiting_on side (pipe_at self.old user.0 inode) ++ call ∷ []) (pipe_at self.old user.0 inode))) }
+        ensures { self.new ≡ with_pipe_after self.old user.0 inode (nobody_answered (with_waiting_on side (waiting_on side (pipe_at self.old user.0 inode) ++ call ∷ []) (pipe_at self.old user.0 inode))) }
     {
         let list = list(&self.pipes, user, inode, side);
         self.queues.wait(list, user, call);
@@ -152,7 +152,7 @@ impl Shared {
         requires pipe { HasPipe self.old user.0 inode }
         requires waits { 0 < length (waiting_on side (pipe_at self.old user.0 inode)) }
         requires short { ForOk answer (λ reply. length reply.1.now ≤ TRANSFER) }
-        ensures answered { self.new ≡ with_after self.old user.0 inode (record {
+        ensures answered { self.new ≡ with_pipe_after self.old user.0 inode (record {
           pipe = with_waiting_on side (drop 1 (waiting_on side (pipe_at self.old user.0 inode))) (pipe_at self.old user.0 inode);
           answers = map (λ call. (call, handed answer.entry)) (take 1 (waiting_on side (pipe_at self.old user.0 inode)));
         }) }
@@ -173,7 +173,7 @@ impl Shared {
     )
         requires pipe { HasPipe self.old user.0 inode }
         requires short { ForOk answer (λ reply. length reply.1.now ≤ TRANSFER) }
-        ensures { self.new ≡ with_after self.old user.0 inode (dismissed_on side (leaves which) (handed answer.entry) (pipe_at self.old user.0 inode)) }
+        ensures { self.new ≡ with_pipe_after self.old user.0 inode (dismissed_on side (leaves which) (handed answer.entry) (pipe_at self.old user.0 inode)) }
     {
         let list = list(&self.pipes, user, inode, side);
         self.queues.dismiss(list, which, answer);
@@ -182,7 +182,7 @@ impl Shared {
     /// Those calls leave a pipe, and nobody answers them.
     pub fn take_out(&mut self, user: User, inode: u32, which: Leaving)
         requires pipe { HasPipe self.old user.0 inode }
-        ensures { self.new ≡ with_after self.old user.0 inode (nobody_answered (removed (leaves which) (pipe_at self.old user.0 inode))) }
+        ensures { self.new ≡ with_pipe_after self.old user.0 inode (nobody_answered (removed (leaves which) (pipe_at self.old user.0 inode))) }
     {
         let readers = list(&self.pipes, user, inode, Side::Reading);
         let writers = list(&self.pipes, user, inode, Side::Writing);
@@ -195,7 +195,7 @@ impl Shared {
         requires pipe { HasPipe self.old user.0 inode }
         requires waits { 0 < length (pipe_at self.old user.0 inode).readers }
         requires count { count ≤ length (pipe_at self.old user.0 inode).bytes }
-        ensures passed { self.new ≡ with_after self.old user.0 inode (passed_to count (take 1 (pipe_at self.old user.0 inode).readers) (record (pipe_at self.old user.0 inode) { readers = drop 1 (pipe_at self.old user.0 inode).readers })) }
+        ensures passed { self.new ≡ with_pipe_after self.old user.0 inode (passed_to count (take 1 (pipe_at self.old user.0 inode).readers) (record (pipe_at self.old user.0 inode) { readers = drop 1 (pipe_at self.old user.0 inode).readers })) }
         ensures written { result ≡ went_in (passed_to count (take 1 (pipe_at self.old user.0 inode).readers) (pipe_at self.old user.0 inode)).answers }
     {
         let readers = list(&self.pipes, user, inode, Side::Reading);
@@ -211,7 +211,7 @@ impl Shared {
         requires pipe { HasPipe self.old user.0 inode }
         requires received { IsCallReceived self.old user.0 call }
         requires count { count ≤ length (pipe_at self.old user.0 inode).bytes }
-        ensures passed { self.new ≡ with_after self.old user.0 inode (passed_to count (call ∷ []) (pipe_at self.old user.0 inode)) }
+        ensures passed { self.new ≡ with_pipe_after self.old user.0 inode (passed_to count (call ∷ []) (pipe_at self.old user.0 inode)) }
         ensures written { result ≡ went_in (passed_to count (call ∷ []) (pipe_at self.old user.0 inode)).answers }
     {
         let mut bytes = [0; Limits::PIPE];
@@ -225,7 +225,7 @@ impl Shared {
         requires pipe { HasPipe self.old user.0 inode }
         requires waits { 0 < length (pipe_at self.old user.0 inode).writers }
         requires fits { length (pipe_at self.old user.0 inode).bytes + length (flat_map (λ call. call.bytes) (take 1 (pipe_at self.old user.0 inode).writers)) ≤ PIPE }
-        ensures taken { self.new ≡ with_after self.old user.0 inode (taken_from (take 1 (pipe_at self.old user.0 inode).writers) (record (pipe_at self.old user.0 inode) { writers = drop 1 (pipe_at self.old user.0 inode).writers })) }
+        ensures taken { self.new ≡ with_pipe_after self.old user.0 inode (taken_from (take 1 (pipe_at self.old user.0 inode).writers) (record (pipe_at self.old user.0 inode) { writers = drop 1 (pipe_at self.old user.0 inode).writers })) }
         ensures written { result ≡ went_in (taken_from (take 1 (pipe_at self.old user.0 inode).writers) (pipe_at self.old user.0 inode)).answers }
     {
         let writers = list(&self.pipes, user, inode, Side::Writing);
@@ -243,7 +243,7 @@ impl Shared {
         requires pipe { HasPipe self.old user.0 inode }
         requires received { IsCallReceived self.old user.0 call }
         requires fits { length (pipe_at self.old user.0 inode).bytes + length call.bytes ≤ PIPE }
-        ensures taken { self.new ≡ with_after self.old user.0 inode (taken_from (call ∷ []) (pipe_at self.old user.0 inode)) }
+        ensures taken { self.new ≡ with_pipe_after self.old user.0 inode (taken_from (call ∷ []) (pipe_at self.old user.0 inode)) }
         ensures written { result ≡ went_in (taken_from (call ∷ []) (pipe_at self.old user.0 inode)).answers }
     {
         let bytes = call.bytes();
@@ -255,7 +255,7 @@ impl Shared {
     /// The bytes that stand in a pipe go.
     pub fn discard(&mut self, user: User, inode: u32)
         requires pipe { HasPipe self.old user.0 inode }
-        ensures { self.new ≡ with_after self.old user.0 inode (nobody_answered (record (pipe_at self.old user.0 inode) { bytes = [] })) }
+        ensures { self.new ≡ with_pipe_after self.old user.0 inode (nobody_answered (record (pipe_at self.old user.0 inode) { bytes = [] })) }
     {
         self.pipes[user.0 as usize].clear(inode);
     }
@@ -271,7 +271,7 @@ fn row(pipes: &[UserPipes], user: User, inode: u32) -> Option<&PipeRow>
 /// In which list calls wait on a side of a pipe.
 fn list(pipes: &[UserPipes], user: User, inode: u32, side: Side) -> usize
     requires there { HasRow pipes.now user.0 inode }
-    ensures list { list_at pipes.now (place user.0 inode side) ≡ Some result }
+    ensures list { list_of_place pipes.now (place user.0 inode side) ≡ Some result }
 {
     let Some(row) = row(pipes, user, inode) else {
         unreachable!();

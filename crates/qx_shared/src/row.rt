@@ -5,7 +5,7 @@ ghost use Rattle.std.specs.Borrow.{sem};
 ghost use Rattle.std.specs.Option.{option_copied, option_copied_mut};
 ghost use Rattle.qx_machine.specs.Rows.{row_at};
 ghost use Rattle.qx_shared.specs.Lends.{lends_row};
-ghost use Rattle.qx_shared.specs.Row.{Row, list_on, with_bytes};
+ghost use Rattle.qx_shared.specs.Row.{PipeRow, list_on, row_with_bytes};
 ghost use Rattle.qx_types.specs.declared.limits.TheConstants.Limits.{INODES, PIPE};
 
 use crate::side::Side;
@@ -25,10 +25,10 @@ pub struct PipeRow {
 
 impl Model for PipeRow {
     ghost use Rattle.std.specs.Prelude.{◌≡◌, ◌≤◌, length};
-    ghost use Rattle.qx_shared.specs.Row.{Row};
+    ghost use Rattle.qx_shared.specs.Row.{PipeRow};
     ghost use Rattle.qx_types.specs.declared.limits.TheConstants.Limits.{PIPE};
 
-    ghost Value = { Row };
+    ghost Value = { PipeRow };
 
     ghost view = { λ p. record { bytes = p.bytes.items; readers = p.readers; writers = p.writers } };
 
@@ -63,7 +63,7 @@ impl PipeRow {
         requires room { length into.old ≡ PIPE }
         ensures within { count ≤ PIPE }
         ensures taken { take count into.new ≡ take count self.old.bytes }
-        ensures rest { self.new ≡ with_bytes self.old (drop count self.old.bytes) }
+        ensures rest { self.new ≡ row_with_bytes self.old (drop count self.old.bytes) }
     {
         self.bytes.read_into(&mut into[..count]);
     }
@@ -71,14 +71,14 @@ impl PipeRow {
     /// Bytes that fit go in last.
     pub(crate) fn append(&mut self, bytes: &[u8])
         requires fits { length self.old.bytes + length bytes.now ≤ PIPE }
-        ensures appended { self.new ≡ with_bytes self.old (self.old.bytes ++ bytes.now) }
+        ensures appended { self.new ≡ row_with_bytes self.old (self.old.bytes ++ bytes.now) }
     {
         self.bytes.fill_from_slice(bytes);
     }
 
     /// The bytes that stand go.
     pub(crate) fn clear(&mut self)
-        ensures cleared { self.new ≡ with_bytes self.old [] }
+        ensures cleared { self.new ≡ row_with_bytes self.old [] }
     {
         self.bytes.clear();
     }
@@ -92,9 +92,9 @@ pub struct UserPipes {
 
 impl Model for UserPipes {
     ghost use Rattle.std.specs.Prelude.{List, Option};
-    ghost use Rattle.qx_shared.specs.Row.{Row};
+    ghost use Rattle.qx_shared.specs.Row.{PipeRow};
 
-    ghost Value = { List (Option Row) };
+    ghost Value = { List (Option PipeRow) };
 
     ghost view = { λ p. p.rows.items };
 }
@@ -140,11 +140,11 @@ impl UserPipes {
 
     /// So many of the first bytes that stand in a pipe go into a slice with room for all.
     pub(crate) fn take(&mut self, inode: u32, count: usize, into: &mut [u8])
-        requires stand { (row : Row) × (row_at self.old inode ≡ Some row) × (count ≤ length row.bytes) }
+        requires stand { (row : PipeRow) × (row_at self.old inode ≡ Some row) × (count ≤ length row.bytes) }
         requires room { length into.old ≡ PIPE }
         ensures within { count ≤ PIPE }
         ensures taken { IfSome (row_at self.old inode) (λ row. take count into.new ≡ take count row.bytes) }
-        ensures rest { IfSome (row_at self.old inode) (λ row. self.new ≡ slice_set self.old inode (Some (with_bytes row (drop count row.bytes)))) }
+        ensures rest { IfSome (row_at self.old inode) (λ row. self.new ≡ slice_set self.old inode (Some (row_with_bytes row (drop count row.bytes)))) }
     {
         let Some(row) = self.row_mut(inode) else {
             unreachable!();
@@ -155,7 +155,7 @@ impl UserPipes {
     /// Bytes that fit go last into a pipe.
     pub(crate) fn append(&mut self, inode: u32, bytes: &[u8])
         requires fits { IfSome (row_at self.old inode) (λ row. length row.bytes + length bytes.now ≤ PIPE) }
-        ensures appended { IfSome (row_at self.old inode) (λ row. self.new ≡ slice_set self.old inode (Some (with_bytes row (row.bytes ++ bytes.now)))) }
+        ensures appended { IfSome (row_at self.old inode) (λ row. self.new ≡ slice_set self.old inode (Some (row_with_bytes row (row.bytes ++ bytes.now)))) }
     {
         if let Some(row) = self.row_mut(inode) {
             row.append(bytes);
@@ -164,7 +164,7 @@ impl UserPipes {
 
     /// The bytes that stand in a pipe go.
     pub(crate) fn clear(&mut self, inode: u32)
-        ensures cleared { IfSome (row_at self.old inode) (λ row. self.new ≡ slice_set self.old inode (Some (with_bytes row []))) }
+        ensures cleared { IfSome (row_at self.old inode) (λ row. self.new ≡ slice_set self.old inode (Some (row_with_bytes row []))) }
     {
         if let Some(row) = self.row_mut(inode) {
             row.clear();

@@ -9,7 +9,7 @@ ghost use Rattle.qx_machine.specs.Machine as machine;
 ghost use Rattle.qx_machine.specs.declared.rows.OwnItem.TheVariants as item;
 ghost use Rattle.qx_queues.specs.Queues.{IsGone, message_of, stands, unblock_call, unblock_of};
 ghost use Rattle.qx_queues.specs.Waiting.{addressed_by};
-ghost use Rattle.qx_shared.specs.Shared.{HasNoCall, HasThread, has_server, has_thread, nothing_shared, shared_line, with_process, with_server, with_shared_line, without_server};
+ghost use Rattle.qx_shared.specs.Shared.{HasNoCall, HasThread, has_disconnect_node, has_thread, nothing_shared, shared_line, with_shared_process, with_shared_server, with_shared_line, without_shared_server};
 
 use crate::row::UserPipes;
 use qx_machine::Queued;
@@ -27,14 +27,14 @@ pub struct Shared {
 }
 
 impl Model for Shared {
-    ghost use Rattle.qx_shared.specs.Own.{AreAllPipes, told};
+    ghost use Rattle.qx_shared.specs.Own.{AreAllPipes, shown_shared};
     ghost use Rattle.qx_shared.specs.Shared as words;
 
     ghost Value = { words.Shared };
 
     ghost coded = { words.shared_code };
 
-    ghost view = { λ c. told c.queues c.pipes.items };
+    ghost view = { λ c. shown_shared c.queues c.pipes.items };
 
     ghost invariant = { λ c. AreAllPipes c.queues c.pipes.items };
 }
@@ -147,7 +147,7 @@ impl Shared {
         requires lowest { 1 ≤ prio.0 }
         requires highest { prio.0 ≤ PRIORITY }
         requires room { 2 * threads ≤ self.old.room }
-        ensures added { self.new ≡ with_process self.old proc threads }
+        ensures added { self.new ≡ with_shared_process self.old proc threads }
     {
         self.queues.add_process(proc, threads, prio);
     }
@@ -155,8 +155,8 @@ impl Shared {
     /// A process has a disconnect node at a manager from now on: the one that it had, or a new one.
     pub fn add_server(&mut self, proc: Proc, manager: Manager) -> Result<(), AllocError>
         requires started { HasThread self.old proc }
-        ensures ok { OnOk result (self.new ≡ with_server self.old proc (manager_number manager)) }
-        ensures had_node { IsTrue (has_server self.old proc (manager_number manager)) → IsOk result }
+        ensures ok { OnOk result (self.new ≡ with_shared_server self.old proc (manager_number manager)) }
+        ensures had_node { IsTrue (has_disconnect_node self.old proc (manager_number manager)) → IsOk result }
         ensures had_room { 1 ≤ self.old.room → IsOk result }
         ensures err { OnErr result (self.new ≡ self.old) }
     {
@@ -165,7 +165,7 @@ impl Shared {
 
     /// A process has no disconnect node at a manager from now on, and room is kept for the one that it had.
     pub fn remove_server(&mut self, proc: Proc, manager: Manager)
-        ensures removed { self.new ≡ without_server self.old proc (manager_number manager) }
+        ensures removed { self.new ≡ without_shared_server self.old proc (manager_number manager) }
     {
         self.queues.remove_server(proc, manager);
     }

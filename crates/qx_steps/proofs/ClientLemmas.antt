@@ -29,7 +29,7 @@ use Rattle.qx_process.proofs.RowLemmas.{set-row, with_row-none}
 use Rattle.qx_procs.specs.Calls.{after_or, spawn_outcome, spawned, with_prio}
 use Rattle.qx_chan.specs.Calls.{answer_of, queued_in}
 use Rattle.qx_chan.specs.Channel.{Channel, after_asking, after_ranking, after_send, after_spawn, after_taking, after_withdrawing}
-use Rattle.qx_chan.specs.Users.{prio_outcome_in, spawn_number_in, thread_row, IsReady}
+use Rattle.qx_chan.specs.Users.{prio_outcome_in, spawn_number_in, thread_row, IsThreadReady}
 use Rattle.qx_steps.specs.Parts.{parts_of, told_world, SameUsers}
 use Rattle.qx_steps.specs.Steps.{sent_to, target_in}
 use Rattle.qx_chan.proofs.RowReads.{option_cases}
@@ -211,7 +211,7 @@ spawn-refused (Ok number) refusal = refusal
 spawn-refused (Err outcome) refusal = refl
 
 -- what is judged so comes from a thread that is ready
-pub judged-ready : (given : Result Addressed Outcome) (row : Option ThreadRow) → IfOk given (λ _. option_map (λ row. row.state) row ≡ Some state.Ready) → IfOk given (λ _. IsReady row)
+pub judged-ready : (given : Result Addressed Outcome) (row : Option ThreadRow) → IfOk given (λ _. option_map (λ row. row.state) row ≡ Some state.Ready) → IfOk given (λ _. IsThreadReady row)
 judged-ready (Ok addressed) (Some row) is = let ready : row.state ≡ state.Ready = cc in ready
 judged-ready (Ok addressed) None is = cc
 judged-ready (Err outcome) row is = tt

@@ -27,7 +27,7 @@ use Rattle.qx_resources.specs.Mounts.{with_new_mount}
 use Rattle.qx_resources.specs.State.{told, Kept}
 use Rattle.qx_chan.specs.Channel.{Channel, lists}
 use Rattle.qx_steps.specs.Parts.{part_of, parts_of, told_all, world_of}
-use Rattle.qx_steps.specs.Reads.{is_thread_ready, process_in, thread_row}
+use Rattle.qx_steps.specs.Reads.{is_thread_ready, process_of_part, row_among_parts}
 use Rattle.qx_steps.specs.Steps.{after_mount, mount_from, mount_in, CanMount, IsMountable}
 use Rattle.qx_chan.proofs.RowReads.{option_cases}
 use Rattle.qx_steps.proofs.PartsLemmas.{mapped-put, row_at-parts, told-none, told-there}
@@ -49,16 +49,16 @@ nobody-mount w us rs thread path manager is none =
       | inr ps ↦ rw ps.1 refl
     ])
 
-ready_part : (config : Configuration) (thread : Thread) (path : List ℕ) (manager : Manager) (ps : Option (List (Option Process))) (r : Resources) → is_thread_ready (thread_of thread.tid (process_in thread.proc.num (part_of ps (Some r)))) ≡ true
+ready_part : (config : Configuration) (thread : Thread) (path : List ℕ) (manager : Manager) (ps : Option (List (Option Process))) (r : Resources) → is_thread_ready (thread_of thread.tid (process_of_part thread.proc.num (part_of ps (Some r)))) ≡ true
     → (mount_from config thread path manager (part_of ps (Some r)) ≡ or_refused (new_mount (name_bytes config thread.proc.user.0) path manager r)) × ((mount : MountPoint) → IsMountable r mount → CanMount (part_of ps (Some r)) mount)
 ready_part config thread path manager None r is = absurd (false≢true is)
 ready_part config thread path manager (Some ps) r is = (ready config thread path manager (record { processes = ps; resources = r }) is, λ mount can. can)
 
-pub ready-mount : (w : World) (us : List (Option (List (Option Process)))) (rs : List (Option Resources)) (thread : Thread) (path : List ℕ) (manager : Manager) (r : Resources) → w.parts ≡ parts_of us rs → row_at rs thread.proc.user.0 ≡ Some r → is_thread_ready (thread_row w.parts thread) ≡ true
+pub ready-mount : (w : World) (us : List (Option (List (Option Process)))) (rs : List (Option Resources)) (thread : Thread) (path : List ℕ) (manager : Manager) (r : Resources) → w.parts ≡ parts_of us rs → row_at rs thread.proc.user.0 ≡ Some r → is_thread_ready (row_among_parts w.parts thread) ≡ true
     → (mount_in w thread path manager ≡ or_refused (new_mount (name_bytes w.config thread.proc.user.0) path manager r)) × ((mount : MountPoint) → IsMountable r mount → CanMount (row_at w.parts thread.proc.user.0) mount)
 ready-mount w us rs thread path manager r parts there is =
     let row : row_at w.parts thread.proc.user.0 ≡ part_of (row_at us thread.proc.user.0) (Some r) = rw (parts, row_at-parts us rs thread.proc.user.0, there) refl in
-    let free : is_thread_ready (thread_of thread.tid (process_in thread.proc.num (part_of (row_at us thread.proc.user.0) (Some r)))) ≡ true = rw row at is in
+    let free : is_thread_ready (thread_of thread.tid (process_of_part thread.proc.num (part_of (row_at us thread.proc.user.0) (Some r)))) ≡ true = rw row at is in
     rw row (ready_part w.config thread path manager (row_at us thread.proc.user.0) r free)
 
 pub still_ok : (given : Result MountPoint Errno) (P Q : MountPoint → Type 0) → ((mount : MountPoint) → P mount → Q mount) → IfOk given P → IfOk (or_refused given) Q
@@ -124,7 +124,7 @@ can_by : (ps : Option (List (Option Process))) (r : Resources) (mount : MountPoi
 can_by None r mount can = absurd can
 can_by (Some ps) r mount can = can
 
-pub attached-can : (c : Channel) (ks : List (Option Kept)) (user : ℕ) (k : Kept) (mount : MountPoint) → row_at ks user ≡ Some k → CanMount (row_at (parts_of c.users (told_all c ks)) user) mount → mounts.CanMount k mount
+pub attached-can : (c : Channel) (ks : List (Option Kept)) (user : ℕ) (k : Kept) (mount : MountPoint) → row_at ks user ≡ Some k → CanMount (row_at (parts_of c.users (told_all c ks)) user) mount → mounts.IsNextMount k mount
 attached-can c ks user k mount there can =
     let free : IsMountable (told k (lists c)) mount = can_by (row_at c.users user) (told k (lists c)) mount (rw (row_at-parts c.users (told_all c ks) user, told-there c ks user k there) at can) in
     record { free = free.0; next = free.1 }

@@ -20,7 +20,7 @@ use Rattle.qx_chan.specs.Channel.{Channel, empty_channel, lists}
 use Rattle.qx_chan.specs.Users as users
 use Rattle.qx_chan.specs.Users.{no_processes}
 use Rattle.qx_steps.specs.Parts.{part_of, parts_of, told_all, world_of, AreResourcesOf, SameUsers}
-use Rattle.qx_steps.specs.Reads.{process_of, thread_row}
+use Rattle.qx_steps.specs.Reads.{process_among_parts, row_among_parts}
 
 pub result_cases : {A E : Type 0} (r : Result A E) → ((x : A) × (r ≡ Ok x)) ⊎ ((e : E) × (r ≡ Err e))
 result_cases (Ok x) = inl (x, refl)
@@ -49,13 +49,13 @@ part-there us rs user ps same there = elim (option_cases (row_at rs user)) [
 pub part-none : (us : List (Option (List (Option Process)))) (rs : List (Option Resources)) (user : ℕ) → row_at us user ≡ None → row_at (parts_of us rs) user ≡ None
 part-none us rs user none = row_at-parts us rs user ∙ rw none refl
 
-pub process_of-parts : (us : List (Option (List (Option Process)))) (rs : List (Option Resources)) (proc : Proc) → SameUsers us rs → process_of (parts_of us rs) proc ≡ users.process_of us proc
+pub process_of-parts : (us : List (Option (List (Option Process)))) (rs : List (Option Resources)) (proc : Proc) → SameUsers us rs → process_among_parts (parts_of us rs) proc ≡ users.process_of us proc
 process_of-parts us rs proc same = elim (option_cases (row_at us proc.user.0)) [
   | inl none ↦ rw (part-none us rs proc.user.0 none, none) refl
   | inr ps ↦ rw ((part-there us rs proc.user.0 ps.0 same ps.1).1.1, ps.1) refl
 ]
 
-pub thread_row-parts : (us : List (Option (List (Option Process)))) (rs : List (Option Resources)) (thread : Thread) → SameUsers us rs → thread_row (parts_of us rs) thread ≡ users.thread_row us thread
+pub thread_row-parts : (us : List (Option (List (Option Process)))) (rs : List (Option Resources)) (thread : Thread) → SameUsers us rs → row_among_parts (parts_of us rs) thread ≡ users.thread_row us thread
 thread_row-parts us rs thread same = ap (thread_of thread.tid) (process_of-parts us rs thread.proc same)
 
 -- ---- a change of one user's row in one column, or in both
@@ -138,7 +138,7 @@ module _ (c : Channel) (ks : List (Option Kept)) where
   pub same-told : AreResourcesOf c ks → SameUsers c.users (told_all c ks)
   same-told of user = of.same user ∙ (there-mapped tell (row_at ks user) ∙ sym (ap is_some (row_at-told user)))
 
-  pub thread_row-told : (thread : Thread) → AreResourcesOf c ks → thread_row (parts_of c.users (told_all c ks)) thread ≡ users.thread_row c.users thread
+  pub thread_row-told : (thread : Thread) → AreResourcesOf c ks → row_among_parts (parts_of c.users (told_all c ks)) thread ≡ users.thread_row c.users thread
   thread_row-told thread of = thread_row-parts c.users (told_all c ks) thread (same-told of)
 
 -- a user's resources change

@@ -19,7 +19,7 @@ use Rattle.qx_chan.specs.Channel.{Channel, lists}
 use Rattle.qx_chan.specs.Serving.{part_in, PartServed, Serves}
 use Rattle.qx_chan.proofs.RowReads.{option_cases}
 use Rattle.qx_steps.specs.Parts.{part_of, parts_of, told_all, world_of, AreResourcesOf, SameUsers}
-use Rattle.qx_steps.specs.Steps.{after_serving, with_served}
+use Rattle.qx_steps.specs.Steps.{world_after_serving, with_served}
 use Rattle.qx_steps.proofs.PartsLemmas.{mapped-put, no_resources, parts-set_both, row_at-parts, same-with_processes, still-resources, told-none, told-there}
 use Rattle.qx_steps.proofs.StillLemmas.{of-users}
 
@@ -81,7 +81,7 @@ module _ (c d : Channel) (ks : List (Option Kept)) (of : AreResourcesOf c ks) (u
 
   -- ---- the machine's world
 
-  pub world-serving : (config : Configuration) (hands : List (Option Held)) → world_of config d (slice_set ks user (Some l)) hands ≡ after_serving (world_of config c ks hands) user served
+  pub world-serving : (config : Configuration) (hands : List (Option Held)) → world_of config d (slice_set ks user (Some l)) hands ≡ world_after_serving (world_of config c ks hands) user served
   world-serving config hands = elim (option_cases (row_at c.users user)) [
     | inl none ↦
         let clash : is_some (row_at c.users user) ≡ is_some (row_at ks user) = of.same user in
@@ -101,7 +101,7 @@ module _ (c d : Channel) (ks : List (Option Kept)) (of : AreResourcesOf c ks) (u
 
 -- where there are no resources of the user, there is nobody to serve
 pub world-nobody : (config : Configuration) (c : Channel) (ks : List (Option Kept)) (hands : List (Option Held)) (user : ℕ) (served : Part → Served) → row_at ks user ≡ None
-    → world_of config c ks hands ≡ after_serving (world_of config c ks hands) user served
+    → world_of config c ks hands ≡ world_after_serving (world_of config c ks hands) user served
 world-nobody config c ks hands user served none =
     let row : row_at (parts_of c.users (told_all c ks)) user ≡ None = row_at-parts c.users (told_all c ks) user ∙ (ap (part_of (row_at c.users user)) (told-none c ks user none) ∙ no_resources (row_at c.users user)) in
     sym (ap (with_served (world_of config c ks hands) user served) row)

@@ -14,11 +14,11 @@ use Rattle.qx_steps.specs.declared.work.Work.{Work}
 use Rattle.qx_steps.specs.declared.work.Work.TheVariants as work
 use Rattle.qx_steps.specs.declared.work.WorkRef.{WorkRef}
 use Rattle.qx_steps.specs.declared.work.WorkRef.TheVariants as lent
-use Rattle.qx_steps.specs.Reads.{thread_row}
+use Rattle.qx_steps.specs.Reads.{row_among_parts}
 
 -- the message of an item that was received and is not served
 abbrev pub taken_item : List (Option Part) → ℕ → OwnItem → Option Sent
-taken_item parts user (item.Message process thread) = taken_of (thread_row parts (named_thread user process thread))
+taken_item parts user (item.Message process thread) = taken_of (row_among_parts parts (named_thread user process thread))
 taken_item parts user (item.Unblock process thread call) = None
 
 abbrev pub work_of_sent : Option Sent → Option Work
@@ -27,7 +27,7 @@ work_of_sent (Some sent) = Some (work.Message sent.bytes)
 
 -- the work of an item of a user: the bytes of a received message, or a pulse
 abbrev pub work_of : List (Option Part) → ℕ → OwnItem → Option Work
-work_of parts user (item.Message process thread) = work_of_sent (taken_of (thread_row parts (named_thread user process thread)))
+work_of parts user (item.Message process thread) = work_of_sent (taken_of (row_among_parts parts (named_thread user process thread)))
 work_of parts user (item.Unblock process thread call) = Some work.Pulse
 
 abbrev pub work_in_hand : World → Option Held → Option Work
@@ -70,6 +70,6 @@ abbrev pub holds_wanting : World → ℕ → ℕ → Bool
 holds_wanting w worker moment = hand_wants_memory w (row_at w.hands worker) moment
 
 -- the bytes of the message that is to be done
-abbrev pub bytes_in : Work → Option (List ℕ)
-bytes_in (work.Message bytes) = Some bytes
-bytes_in work.Pulse = None
+abbrev pub bytes_of_work : Work → Option (List ℕ)
+bytes_of_work (work.Message bytes) = Some bytes
+bytes_of_work work.Pulse = None

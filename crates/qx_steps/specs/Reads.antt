@@ -10,25 +10,25 @@ use Rattle.qx_machine.specs.Parts.{Part, thread_of}
 use Rattle.qx_machine.specs.Processes.{Process}
 use Rattle.qx_machine.specs.Rows.{row_at}
 
-abbrev pub process_in : ℕ → Option Part → Option Process
-process_in number None = None
-process_in number (Some part) = row_at part.processes number
+abbrev pub process_of_part : ℕ → Option Part → Option Process
+process_of_part number None = None
+process_of_part number (Some part) = row_at part.processes number
 
 -- a process among the rows of all users
-abbrev pub process_of : List (Option Part) → Proc → Option Process
-process_of parts proc = process_in proc.num (row_at parts proc.user.0)
+abbrev pub process_among_parts : List (Option Part) → Proc → Option Process
+process_among_parts parts proc = process_of_part proc.num (row_at parts proc.user.0)
 
 -- a thread's row among the rows of all users
-abbrev pub thread_row : List (Option Part) → Thread → Option ThreadRow
-thread_row parts thread = thread_of thread.tid (process_of parts thread.proc)
+abbrev pub row_among_parts : List (Option Part) → Thread → Option ThreadRow
+row_among_parts parts thread = thread_of thread.tid (process_among_parts parts thread.proc)
 
-abbrev pub is_answered : State → Bool
-is_answered (Answered answer) = true
-is_answered _ = false
+abbrev pub is_state_answered : State → Bool
+is_state_answered (Answered answer) = true
+is_state_answered _ = false
 
 abbrev pub is_thread_answered : Option ThreadRow → Bool
 is_thread_answered None = false
-is_thread_answered (Some row) = is_answered row.state
+is_thread_answered (Some row) = is_state_answered row.state
 
 abbrev pub is_thread_ready : Option ThreadRow → Bool
 is_thread_ready None = false

@@ -58,13 +58,13 @@ with_served w user served None = w
 with_served w user served (Some part) = serve_end w user part (served part)
 
 -- the world once that is done for a user
-abbrev pub after_serving : World → ℕ → (Part → Served) → World
-after_serving w user served = with_served w user served (row_at w.parts user)
+abbrev pub world_after_serving : World → ℕ → (Part → Served) → World
+world_after_serving w user served = with_served w user served (row_at w.parts user)
 
 -- once the message of a thread, which was received, is done at a moment
 abbrev pub after_message : World → Thread → ℕ → World
-after_message w thread moment = after_serving w thread.proc.user.0 (λ part. or_kept part (serve_message part thread.proc.num thread.tid moment))
+after_message w thread moment = world_after_serving w thread.proc.user.0 (λ part. or_kept part (serve_message part thread.proc.num thread.tid moment))
 
 -- once a pulse is done, which asks to unblock a thread from a call
 abbrev pub after_pulse : World → Thread → ℕ → ℕ → World
-after_pulse w thread call moment = after_serving w thread.proc.user.0 (λ part. or_kept part (serve_pulse part thread.proc.num thread.tid call moment))
+after_pulse w thread call moment = world_after_serving w thread.proc.user.0 (λ part. or_kept part (serve_pulse part thread.proc.num thread.tid call moment))

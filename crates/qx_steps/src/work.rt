@@ -1,6 +1,6 @@
 ghost use Rattle.std.specs.Prelude.{◌≡◌};
 ghost use Rattle.std.specs.Option.{option_copied};
-ghost use Rattle.qx_steps.specs.Held.{bytes_in};
+ghost use Rattle.qx_steps.specs.Held.{bytes_of_work};
 
 use qx_types::{MessageBytes, NoMemory};
 use qx_wire::Parsed;
@@ -17,7 +17,7 @@ pub enum Work {
 impl Work {
     /// The message, with what its bytes mean; none of a pulse.
     pub fn message(&self) -> Option<&Parsed>
-        ensures { option_copied result ≡ bytes_in self.now }
+        ensures { option_copied result ≡ bytes_of_work self.now }
     {
         match self {
             Work::Message(message) => Some(message),

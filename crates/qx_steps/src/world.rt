@@ -8,11 +8,11 @@ ghost use Rattle.qx_machine.specs.Machine as machine;
 ghost use Rattle.qx_machine.specs.Calls.{can_send, content_of};
 ghost use Rattle.qx_machine.specs.Rows.{row_at};
 ghost use Rattle.qx_process.specs.Reads.{is_thread_blocked, CanCall, CanGo};
-ghost use Rattle.qx_chan.specs.Users.{IsReady};
+ghost use Rattle.qx_chan.specs.Users.{IsThreadReady};
 ghost use Rattle.qx_chan.specs.Calls.{taken_of};
 ghost use Rattle.qx_chan.specs.Serving.{IsReadOf};
-ghost use Rattle.qx_steps.specs.Held.{bytes_in, hand_wants_memory, held_work, holds_wanting, taken_item, thread_wants_memory, work_now, IsReadFor, IsStale};
-ghost use Rattle.qx_steps.specs.Reads.{is_thread_answered, is_thread_ready, thread_row};
+ghost use Rattle.qx_steps.specs.Held.{bytes_of_work, hand_wants_memory, held_work, holds_wanting, taken_item, thread_wants_memory, work_now, IsReadFor, IsStale};
+ghost use Rattle.qx_steps.specs.Reads.{is_thread_answered, is_thread_ready, row_among_parts};
 ghost use Rattle.qx_steps.specs.Steps.{after_message, after_mount, after_pulse, mount_in, target_in, CanMount};
 
 use crate::work::{PerformFault, Work, WorkRef};
@@ -168,8 +168,8 @@ impl World {
 
     /// Where a call goes, or the outcome of one that goes nowhere.
     fn judge<'a>(&self, thread: Thread, request: &'a Request) -> Result<Addressed<'a>, Outcome>
-        ensures ready { IfOk result (λ _. IsReady (thread_row self.now.parts thread)) }
-        ensures countable { IfOk result (λ _. CanCall (thread_row self.now.parts thread)) }
+        ensures ready { IfOk result (λ _. IsThreadReady (row_among_parts self.now.parts thread)) }
+        ensures countable { IfOk result (λ _. CanCall (row_among_parts self.now.parts thread)) }
         ensures goes { IfOk result (λ addressed. CanGo addressed.target) }
         ensures sendable { IfOk result (λ addressed. IsTrue (can_send (content_of request.now addressed.rest))) }
         ensures target { result ≡ target_in self.now thread request.now }
@@ -232,7 +232,7 @@ impl World {
 
     /// Whether a thread is there and ready.
     fn is_ready(&self, thread: Thread) -> bool
-        ensures { result ≡ is_thread_ready (thread_row self.now.parts thread) }
+        ensures { result ≡ is_thread_ready (row_among_parts self.now.parts thread) }
     {
         match self.channel.thread(thread) {
             Some(row) => matches!(row.state, State::Ready),
@@ -377,7 +377,7 @@ impl World {
         read: Option<&Parsed>,
         moment: u64,
     ) -> Result<(), AllocError>
-        requires read { IsReadOf (option_copied read) (taken_of (thread_row self.old.parts thread)) }
+        requires read { IsReadOf (option_copied read) (taken_of (row_among_parts self.old.parts thread)) }
         ensures ok { OnOk result (self.new ≡ after_message self.old thread moment) }
         ensures err { OnErr result (self.new ≡ self.old) }
         ensures sure { IsFalse (thread_wants_memory self.old.parts thread moment) → IsOk result }
@@ -401,7 +401,7 @@ impl World {
     /// Whether something is held that the work is not.
     pub fn is_stale(&self, worker: Worker, work: &Work) -> bool
         ensures stale { IsTrue result ↔ IsStale (held_work self.now worker.0) work.now }
-        ensures fresh { IsFalse result → IsReadFor (bytes_in work.now) (held_work self.now worker.0) }
+        ensures fresh { IsFalse result → IsReadFor (bytes_of_work work.now) (held_work self.now worker.0) }
     {
         match self.held(worker) {
             Some(held) => !is_same_work(held, work),
@@ -438,7 +438,7 @@ impl World {
 
     /// Whether a thread has an answer that it has not yet taken. False for a thread that is not there.
     pub fn answered(&self, thread: Thread) -> bool
-        ensures { result ≡ is_thread_answered (thread_row self.now.parts thread) }
+        ensures { result ≡ is_thread_answered (row_among_parts self.now.parts thread) }
     {
         match self.channel.thread(thread) {
             Some(row) => matches!(row.state, State::Answered(_)),
@@ -449,7 +449,7 @@ impl World {
     /// Whether a thread waits for an answer: its message stands in a line, or was received, or its call waits in a pipe.
     /// False for a thread that is not there.
     pub fn blocked(&self, thread: Thread) -> bool
-        ensures { result ≡ is_thread_blocked (thread_row self.now.parts thread) }
+        ensures { result ≡ is_thread_blocked (row_among_parts self.now.parts thread) }
     {
         match self.channel.thread(thread) {
             Some(row) => matches!(

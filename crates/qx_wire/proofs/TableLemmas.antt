@@ -17,7 +17,7 @@ use Rattle.qx_types.specs.declared.fields.NotifyAction.TheVariants as action
 use Rattle.qx_wire.specs.Rests.{joined, components_of, is_component, is_rest}
 use Rattle.qx_wire.specs.Table.{row, body, in_ranges, framed, spelling, Spells, IsOfNoKind}
 use Rattle.qx_wire.specs.Laws.{IfKnown}
-use Rattle.qx_wire.specs.Reading.{ended, open_at, mknod_at, read_at, dup_at, lseek_at, chmod_at, notify_at, known_or_malformed, Arm, arms, found, body_cut, Frame, frame_at, frame_cut, cut, judged, meaning}
+use Rattle.qx_wire.specs.Reading.{ended, open_at, mknod_at, read_at, dup_at, lseek_at, chmod_at, notify_at, known_or_malformed, Arm, arms, meaning_found, body_cut, Frame, frame_at, frame_cut, cut, judged, meaning}
 use Rattle.qx_wire.proofs.FieldLemmas.{IsBytes, some_else_none, and_true, wide16, wide32, peel, put_back, number_again}
 use Rattle.qx_wire.proofs.ReadLemmas.{Has, Takes, open_takes, open_again, stat_takes, unlink_takes, rest_again, mknod_takes, mknod_again, read_takes, read_again, write_takes, list_takes, close_takes, fstat_takes, dup_takes, dup_again, lseek_takes, lseek_again, chmod_takes, chmod_again, notify_takes, notify_again}
 
@@ -77,10 +77,10 @@ not_true true h = absurd (h refl)
 not_true false h = refl
 
 -- a message that was found is the arm's of that type and subtype
-found_known : (t s : ℕ) (bytes : List ℕ) (list : List Arm) → AreArms bytes list → (m : Message) → found t s list ≡ Known m → Has t s bytes m
+found_known : (t s : ℕ) (bytes : List ℕ) (list : List Arm) → AreArms bytes list → (m : Message) → meaning_found t s list ≡ Known m → Has t s bytes m
 found_known t s bytes [] none m e = absurd cc
 found_known t s bytes (a ∷ others) (is ⊗ are) m e =
-    elim (chosen (eqb t a.type && eqb s a.subtype) (known_or_malformed a.cut) (found t s others) (Known m) e) [
+    elim (chosen (eqb t a.type && eqb s a.subtype) (known_or_malformed a.cut) (meaning_found t s others) (Known m) e) [
       | inl p ↦
           let both = and_true (eqb t a.type) (eqb s a.subtype) p.0 in
           let has = is.takes m (known_cut a.cut m p.1) in
@@ -89,7 +89,7 @@ found_known t s bytes (a ∷ others) (is ⊗ are) m e =
     ]
 
 -- nothing is found where no message is of that type and subtype
-not_found : (t s : ℕ) (bytes : List ℕ) (list : List Arm) → AreArms bytes list → ((m : Message) → (row m).type ≡ t → (row m).subtype ≡ s → ⊥) → found t s list ≡ Unknown
+not_found : (t s : ℕ) (bytes : List ℕ) (list : List Arm) → AreArms bytes list → ((m : Message) → (row m).type ≡ t → (row m).subtype ≡ s → ⊥) → meaning_found t s list ≡ Unknown
 not_found t s bytes [] none absent = refl
 not_found t s bytes (a ∷ others) (is ⊗ are) absent =
     let k = is.kind in
@@ -97,7 +97,7 @@ not_found t s bytes (a ∷ others) (is ⊗ are) absent =
     rw other (not_found t s bytes others are absent)
 
 -- each message is of the type and subtype of an arm
-has_arm : (m : Message) (bytes : List ℕ) → found (row m).type (row m).subtype (arms bytes) ≡ Unknown → ⊥
+has_arm : (m : Message) (bytes : List ℕ) → meaning_found (row m).type (row m).subtype (arms bytes) ≡ Unknown → ⊥
 has_arm (msg.Open f mode rest) bytes e = cut_not_unknown (open_at bytes) e
 has_arm (msg.Stat rest) bytes e = cut_not_unknown (Some (msg.Stat (components_of bytes))) e
 has_arm (msg.Unlink rest) bytes e = cut_not_unknown (Some (msg.Unlink (components_of bytes))) e
@@ -118,7 +118,7 @@ has_arm (msg.Notify action.TranArm c code value) bytes e = cut_not_unknown (noti
 
 -- a message in ranges, as its body is read
 pub record IsRead (m : Message) : Type 0 where
-  pub again : found (row m).type (row m).subtype (arms (body (row m).fields)) ≡ Known m
+  pub again : meaning_found (row m).type (row m).subtype (arms (body (row m).fields)) ≡ Known m
   pub type : (row m).type < 2 ^ 16
   pub subtype : (row m).subtype < 2 ^ 16
   pub short : length (body (row m).fields) ≤ BODY

@@ -104,13 +104,13 @@ known_or_malformed None = Malformed
 known_or_malformed (Some m) = Known m
 
 -- what the arm of that type and subtype gives; Unknown where there is none
-abbrev pub found : ℕ → ℕ → List Arm → Meaning
-found type subtype [] = Unknown
-found type subtype (a ∷ others) = if type == a.type && subtype == a.subtype then known_or_malformed a.cut else found type subtype others
+abbrev pub meaning_found : ℕ → ℕ → List Arm → Meaning
+meaning_found type subtype [] = Unknown
+meaning_found type subtype (a ∷ others) = if type == a.type && subtype == a.subtype then known_or_malformed a.cut else meaning_found type subtype others
 
 -- what a body of that type and subtype is cut into
 unfoldable pub body_cut : ℕ → ℕ → List ℕ → Meaning
-body_cut type subtype body = found type subtype (arms body)
+body_cut type subtype body = meaning_found type subtype (arms body)
 
 -- ---- header and body
 

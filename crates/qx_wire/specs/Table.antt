@@ -39,8 +39,8 @@ directory = number w16 (λ n. n == 2) 2
 abbrev pub count : ℕ → Field
 count n = number w32 (λ n. nat_le n TRANSFER) n
 
-abbrev pub connection : ℕ → Field
-connection n = number w16 (λ n. nat_le FIRST_CONNECTION n && nat_le n LAST_CONNECTION) n
+abbrev pub connection_field : ℕ → Field
+connection_field n = number w16 (λ n. nat_le FIRST_CONNECTION n && nat_le n LAST_CONNECTION) n
 
 -- 64 bits with a sign
 abbrev pub is_i64 : ℤ → Bool
@@ -52,8 +52,8 @@ abbrev pub offset : ℤ → Field
 offset z = record { bytes = to_le_bytes w64 (cast_unsigned w64 z); good = is_i64 z }
 
 -- INPUT (1), OUTPUT (2) or both
-abbrev pub conditions : ℕ → Field
-conditions n = number w8 (λ n. nat_le 1 n && nat_le n 3) n
+abbrev pub conditions_field : ℕ → Field
+conditions_field n = number w8 (λ n. nat_le 1 n && nat_le n 3) n
 
 abbrev pub pulse_code : ℕ → Field
 pulse_code n = number w8 (λ n. nat_le n PULSE_CODE) n
@@ -76,12 +76,12 @@ payload bytes = record { bytes = bytes; good = nat_le (length bytes) TRANSFER }
 -- ---- the table
 
 -- a line of the table, filled in
-pub record Row : Type 0 where
+pub record TableLine : Type 0 where
   pub type : ℕ
   pub subtype : ℕ
   pub fields : List Field
 
-abbrev pub line : ℕ → ℕ → List Field → Row
+abbrev pub line : ℕ → ℕ → List Field → TableLine
 line type subtype fields = record { type = type; subtype = subtype; fields = fields }
 
 abbrev pub whence_number : Whence → ℕ
@@ -95,7 +95,7 @@ action_number action.PollArm = 1
 action_number action.TranArm = 2
 
 -- type, subtype and fields of each message
-abbrev pub row : Message → Row
+abbrev pub row : Message → TableLine
 row (msg.Open f m r) = line 256 1 (flags f.0 ∷ mode m ∷ rest r ∷ [])
 row (msg.Stat r) = line 256 2 (rest r ∷ [])
 row (msg.Unlink r) = line 256 3 (rest r ∷ [])
@@ -103,12 +103,12 @@ row (msg.Mknod m r) = line 256 4 (directory ∷ mode m ∷ rest r ∷ [])
 row (msg.Read n) = line 257 0 (count n ∷ [])
 row (msg.Write bytes) = line 258 0 (payload bytes ∷ [])
 row msg.Close = line 259 0 []
-row (msg.Dup old) = line 260 0 (connection old.0 ∷ [])
+row (msg.Dup old) = line 260 0 (connection_field old.0 ∷ [])
 row (msg.Lseek from by) = line 261 (whence_number from) (offset by ∷ [])
 row msg.Fstat = line 262 0 []
 row (msg.List after) = line 263 0 (name after ∷ [])
 row (msg.Chmod m) = line 264 0 (mode m ∷ [])
-row (msg.Notify act c code value) = line 265 (action_number act) (conditions c.0 ∷ pulse_code code ∷ pulse_value value ∷ [])
+row (msg.Notify act c code value) = line 265 (action_number act) (conditions_field c.0 ∷ pulse_code code ∷ pulse_value value ∷ [])
 
 -- ---- spelling
 

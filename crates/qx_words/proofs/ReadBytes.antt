@@ -9,7 +9,7 @@ use Rattle.hex.specs.Hex.{IsBytes, decode_of, decode_sized, encode_lower, encode
 use Rattle.hex.proofs.HexLemmas.{decode_of-encode_lower, decode_of-ok, decode_sized-encode_lower, decode_sized-ok, decode_sized-twice, length-encode_with}
 use Rattle.qx_words.specs.Kinds.{is_word, is_word_byte}
 use Rattle.qx_words.specs.WordText.{bytes_text}
-use Rattle.qx_words.specs.Words.{◌>>=◌, bytes_of, greatest_byte, hex_byte_of}
+use Rattle.qx_words.specs.Words.{◌>>=◌, bytes_in_word, greatest_byte, hex_byte_of}
 use Rattle.qx_words.proofs.PlainWords.{all_weaker, and_true, hex_digit_in_word}
 use Rattle.qx_words.proofs.ReadValues.{bind_some, of_some}
 use Rattle.qx_words.proofs.ReadWords.{some_length}
@@ -30,8 +30,8 @@ is_no_dash : (byte : ℕ) (bytes : List ℕ) (A : Type 0) (x y : A) → cond (by
 unfolding encode_with
 is_no_dash byte bytes A x y = never _ A x y
 
-pub bytes_again : (bytes : List ℕ) → IsBytes bytes → bytes_of (bytes_text bytes) ≡ Some bytes
-unfolding bytes_of bytes_text
+pub bytes_again : (bytes : List ℕ) → IsBytes bytes → bytes_in_word (bytes_text bytes) ≡ Some bytes
+unfolding bytes_in_word bytes_text
 bytes_again [] are = refl
 bytes_again (byte ∷ bytes) are =
     is_no_dash byte bytes (Option (List ℕ)) (Some []) (result_ok (decode_of (encode_lower (byte ∷ bytes))))
@@ -54,8 +54,8 @@ by_dash : (dash : Bool) (others : Option (List ℕ)) (bytes : List ℕ) → (oth
 by_dash true others bytes within is = subst IsBytes (of_some [] bytes is) no_bytes
 by_dash false others bytes within is = within is
 
-pub bytes_within : (word bytes : List ℕ) → bytes_of word ≡ Some bytes → IsBytes bytes
-unfolding bytes_of
+pub bytes_within : (word bytes : List ℕ) → bytes_in_word word ≡ Some bytes → IsBytes bytes
+unfolding bytes_in_word
 bytes_within word bytes is =
     by_dash (bytes_eq word (codes "-")) (result_ok (decode_of word)) bytes
     (λ found. (decode_of-ok word bytes (decoded (decode_of word) bytes found)).3) is

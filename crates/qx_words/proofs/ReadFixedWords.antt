@@ -8,7 +8,7 @@ use Rattle.qx_types.specs.declared.fields.Whence.TheVariants.{Set, Current, End}
 use Rattle.qx_types.specs.declared.flags.Conds.{Conds}
 use Rattle.qx_types.specs.declared.names.Manager.{Manager}
 use Rattle.qx_types.specs.declared.names.Manager.TheVariants.{Ram, Pipe}
-use Rattle.qx_words.specs.FixedWords.{action_of, action_text, conditions, conditions_of, conditions_text, manager_of, manager_text, whence_of, whence_text}
+use Rattle.qx_words.specs.FixedWords.{action_of, action_text, conditions_named, conditions_of, conditions_text, manager_of, manager_text, whence_of, whence_text}
 use Rattle.qx_words.specs.Kinds.{is_word}
 
 -- it is one word, which is read as the value
@@ -32,7 +32,7 @@ action_word Poll = (refl, refl)
 action_word PollArm = (refl, refl)
 action_word TranArm = (refl, refl)
 
-bits_word : (bits : ℕ) → 1 ≤ bits → bits ≤ 3 → IsWordOf conditions_of (conditions bits) (conditions_text (conditions bits))
+bits_word : (bits : ℕ) → 1 ≤ bits → bits ≤ 3 → IsWordOf conditions_of (conditions_named bits) (conditions_text (conditions_named bits))
 unfolding conditions_of
 bits_word zero some few = absurd (omega arith)
 bits_word (suc zero) some few = (refl, refl)

@@ -5,7 +5,7 @@ use Rattle.std.proofs.lemmas.Bool.Decides.{nat_tests}
 use Rattle.std.proofs.lemmas.Option.{cond_some}
 use Rattle.qx_types.specs.Configuration.{Configuration, IsConfiguration, is_user_name}
 use Rattle.qx_words.specs.Kinds.{AName, AUser, AThread, ANumber, AnOffset, APath, SomeFlags, AMode, SomeBytes, AHexByte, AManager, AWhence, AnAction, SomeConditions, CanName, Kind, Value, is_word, value_of, value_text}
-use Rattle.qx_words.specs.Words.{greatest_moment, name_of}
+use Rattle.qx_words.specs.Words.{greatest_moment, name_in_word}
 use Rattle.qx_words.proofs.ReadBytes.{bytes_again, bytes_are_word, bytes_within, hex_byte_again, hex_byte_is_word, hex_byte_within}
 use Rattle.qx_words.proofs.ReadFixedWords.{action_word, conditions_within, conditions_word, manager_word, whence_word}
 use Rattle.qx_words.proofs.ReadOffsets.{offset_again, offset_is_word, offset_within}
@@ -15,10 +15,10 @@ use Rattle.qx_words.proofs.ReadWords.{chosen, flags_again, flags_are_word, mode_
 in_64_bits : (n greatest : ℕ) → n ≤ greatest → nat_le greatest greatest_moment ≡ true → n < 2 ^ 64
 in_64_bits n greatest few fits = grind (arith, nat_tests)
 
-name_again : (name : List ℕ) → is_user_name name ≡ true → name_of name ≡ Some name
+name_again : (name : List ℕ) → is_user_name name ≡ true → name_in_word name ≡ Some name
 name_again name good = chosen (is_user_name name) (Some name) None good
 
-name_within : (word name : List ℕ) → name_of word ≡ Some name → is_user_name name ≡ true
+name_within : (word name : List ℕ) → name_in_word word ≡ Some name → is_user_name name ≡ true
 name_within word name is =
     let parts = cond_some (is_user_name word) word name is in
     subst (λ (n : List ℕ). is_user_name n ≡ true) parts.1 parts.0

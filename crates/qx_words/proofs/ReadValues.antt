@@ -13,7 +13,7 @@ use Rattle.qx_types.specs.declared.limits.TheConstants.Limits.{MODE}
 use Rattle.qx_types.specs.declared.names.Thread.{Thread}
 use Rattle.qx_types.specs.declared.names.User.{User}
 use Rattle.qx_words.specs.Kinds.{is_word, is_word_byte, CanNameUser, CanNameThread}
-use Rattle.qx_words.specs.Words.{◌>>=◌, around_dot, byte_of, flag_of, flags_after, flags_of, greatest_byte, is_numeral, lines_of, mode_of, number_of, numbered_user, octal_of, thread_of, three_of, user_of, with_flag, words_of}
+use Rattle.qx_words.specs.Words.{◌>>=◌, around_dot, byte_of, flag_of, flags_after, flags_of, greatest_byte, is_numeral, lines_of, mode_of, number_of, numbered_user, octal_of, thread_in_word, three_of, user_in_word, with_flag, words_of}
 use Rattle.qx_words.proofs.PlainWords.{and_true, both_true, all_weaker}
 
 pub bind_some : {A B : Type 0} (known : Option A) (next : A → Option B) (y : B) → (known >>= next) ≡ Some y → (x : A) × (known ≡ Some x) × (next x ≡ Some y)
@@ -39,19 +39,19 @@ number_within greatest word n is =
     let within : digits_value 10 word ≤ greatest = grind (arith, nat_tests) in
     omega (arith, parts.1)
 
-pub user_within : (users : List (List ℕ)) (word : List ℕ) (user : User) → user_of users word ≡ Some user → CanNameUser users user
-unfolding user_of
+pub user_within : (users : List (List ℕ)) (word : List ℕ) (user : User) → user_in_word users word ≡ Some user → CanNameUser users user
+unfolding user_in_word
 user_within users word user is =
     let place = mapped numbered_user (position (λ name. bytes_eq name word) users) user is in
     let at = position-Some (λ name. bytes_eq name word) users place.0 [] place.1 in
     let number : place.0 + 1 ≡ user.0 = ap (λ (u : User). u.0) place.2 in
     (omega arith, omega (arith, at.0))
 
-pub thread_within : (users : List (List ℕ)) (word : List ℕ) (thread : Thread) → thread_of users word ≡ Some thread → CanNameThread users thread
-unfolding thread_of
+pub thread_within : (users : List (List ℕ)) (word : List ℕ) (thread : Thread) → thread_in_word users word ≡ Some thread → CanNameThread users thread
+unfolding thread_in_word
 thread_within users word thread is =
     let parts = bind_some (around_dot word) _ thread is in
-    let user = bind_some (user_of users parts.0.0) _ thread parts.2 in
+    let user = bind_some (user_in_word users parts.0.0) _ thread parts.2 in
     let numbers = bind_some (around_dot parts.0.1) _ thread user.2 in
     let process = bind_some (byte_of numbers.0.0) _ thread numbers.2 in
     let number = bind_some (byte_of numbers.0.1) _ thread process.2 in

@@ -20,7 +20,7 @@ use Rattle.qx_types.specs.declared.names.Thread.{Thread}
 use Rattle.qx_types.specs.declared.names.User.{User}
 use Rattle.qx_words.specs.Kinds.{is_word, is_word_byte, CanNameUser, CanNameThread}
 use Rattle.qx_words.specs.WordText.{flags_text, mode_text, process_text, thread_text, user_text}
-use Rattle.qx_words.specs.Words.{around_dot, byte_of, begins_well, flags_of, greatest_byte, is_numeral, mode_of, number_of, thread_of, user_of}
+use Rattle.qx_words.specs.Words.{around_dot, byte_of, begins_well, flags_of, greatest_byte, is_numeral, mode_of, number_of, thread_in_word, user_in_word}
 use Rattle.qx_words.proofs.Numbers.{own}
 use Rattle.qx_words.proofs.PlainWords.{all_joined, all_weaker, and_true, both_true, digit_in_word, digit_is_no_dot, is_no_dot, name_byte_in_word, name_byte_is_no_dot}
 
@@ -84,8 +84,8 @@ numbered : ℕ → User
 numbered n = record { 0 = n }
 
 user_numbered : (config : Configuration) (n : ℕ) → IsConfiguration config.users config.workers → 1 ≤ n → n ≤ length config.users
-    → user_of config.users (user_text config n) ≡ Some (numbered n)
-unfolding user_of numbered
+    → user_in_word config.users (user_text config n) ≡ Some (numbered n)
+unfolding user_in_word numbered
 user_numbered config zero valid some few = absurd (omega arith)
 user_numbered config (suc k) valid some few =
     let within : k < length config.users = omega arith in
@@ -96,7 +96,7 @@ user_numbered config (suc k) valid some few =
     rw (named config.users k within config refl, place) (ap (λ (n : ℕ). Some (numbered n)) same)
 
 pub user_again : (config : Configuration) (user : User) → IsConfiguration config.users config.workers → CanNameUser config.users user
-    → user_of config.users (user_text config user.0) ≡ Some user
+    → user_in_word config.users (user_text config user.0) ≡ Some user
 unfolding numbered
 user_again config user valid can = user_numbered config user.0 valid can.0 can.1
 
@@ -164,8 +164,8 @@ pub byte_again : (n : ℕ) → n ≤ greatest_byte → byte_of (decimal n) ≡ S
 byte_again n few = number_again greatest_byte n few (omega arith)
 
 pub thread_again : (config : Configuration) (thread : Thread) → IsConfiguration config.users config.workers → CanNameThread config.users thread
-    → thread_of config.users (thread_text config thread) ≡ Some thread
-unfolding thread_of
+    → thread_in_word config.users (thread_text config thread) ≡ Some thread
+unfolding thread_in_word
 thread_again config thread valid can =
     let numbers = decimal thread.proc.num ++ 46 ∷ decimal thread.tid in
     let plain = user_has_no_dot config thread.proc.user valid can.0 in

@@ -40,10 +40,10 @@ action_of word = value_with action_text (Poll ∷ PollArm ∷ TranArm ∷ []) wo
 
 -- input, output or both
 abbrev pub conditions_text : Conds → List ℕ
-conditions_text conditions = if conditions.0 == 1 then codes "i" else if conditions.0 == 2 then codes "o" else codes "io"
+conditions_text conditions_named = if conditions_named.0 == 1 then codes "i" else if conditions_named.0 == 2 then codes "o" else codes "io"
 
-abbrev pub conditions : ℕ → Conds
-conditions bits = record { 0 = bits }
+abbrev pub conditions_named : ℕ → Conds
+conditions_named bits = record { 0 = bits }
 
 unfoldable pub conditions_of : List ℕ → Option Conds
-conditions_of word = value_with conditions_text (conditions 1 ∷ conditions 2 ∷ conditions 3 ∷ []) word
+conditions_of word = value_with conditions_text (conditions_named 1 ∷ conditions_named 2 ∷ conditions_named 3 ∷ []) word

@@ -15,7 +15,7 @@ use Rattle.qx_types.specs.declared.names.Thread.{Thread}
 use Rattle.qx_types.specs.declared.names.User.{User}
 use Rattle.qx_words.specs.FixedWords.{action_of, action_text, conditions_of, conditions_text, manager_of, manager_text, whence_of, whence_text}
 use Rattle.qx_words.specs.WordText.{bytes_text, flags_text, mode_text, thread_text, user_text}
-use Rattle.qx_words.specs.Words.{bytes_of, flags_of, greatest_byte, greatest_moment, greatest_of_four_bytes, greatest_of_two_bytes, hex_byte_of, mode_of, name_of, number_of, offset_of, thread_of, user_of}
+use Rattle.qx_words.specs.Words.{bytes_in_word, flags_of, greatest_byte, greatest_moment, greatest_of_four_bytes, greatest_of_two_bytes, hex_byte_of, mode_of, name_in_word, number_of, offset_of, thread_in_word, user_in_word}
 
 -- neither a space nor a newline
 abbrev pub is_word_byte : ℕ → Bool
@@ -80,15 +80,15 @@ Value SomeConditions = Conds
 
 -- how it is read, where the users have these names
 abbrev pub value_of : (kind : Kind) → List (List ℕ) → List ℕ → Option (Value kind)
-value_of AName users word = name_of word
-value_of AUser users word = user_of users word
-value_of AThread users word = thread_of users word
+value_of AName users word = name_in_word word
+value_of AUser users word = user_in_word users word
+value_of AThread users word = thread_in_word users word
 value_of (ANumber greatest fits) users word = number_of greatest word
 value_of AnOffset users word = offset_of word
 value_of APath users word = Some word
 value_of SomeFlags users word = flags_of word
 value_of AMode users word = mode_of word
-value_of SomeBytes users word = bytes_of word
+value_of SomeBytes users word = bytes_in_word word
 value_of AHexByte users word = hex_byte_of word
 value_of AManager users word = manager_of word
 value_of AWhence users word = whence_of word

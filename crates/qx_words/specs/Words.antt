@@ -68,15 +68,15 @@ offset_of word =
     else option_map pos (number_of (2 ^ 63 - 1) word)
 
 -- a name that a user may have
-abbrev pub name_of : List ℕ → Option (List ℕ)
-name_of word = if is_user_name word then Some word else None
+abbrev pub name_in_word : List ℕ → Option (List ℕ)
+name_in_word word = if is_user_name word then Some word else None
 
 abbrev pub numbered_user : ℕ → User
 numbered_user place = record { 0 = place + 1 }
 
 -- the user of that name; users are numbered from 1
-unfoldable pub user_of : List (List ℕ) → List ℕ → Option User
-user_of users word = option_map numbered_user (position (λ name. bytes_eq name word) users)
+unfoldable pub user_in_word : List (List ℕ) → List ℕ → Option User
+user_in_word users word = option_map numbered_user (position (λ name. bytes_eq name word) users)
 
 abbrev pub around : List ℕ → ℕ → List ℕ × List ℕ
 around word place = (take place word, drop (place + 1) word)
@@ -86,10 +86,10 @@ unfoldable pub around_dot : List ℕ → Option (List ℕ × List ℕ)
 around_dot word = option_map (around word) (position (λ byte. byte == 46) word)
 
 -- USER.PROCESS.THREAD
-unfoldable pub thread_of : List (List ℕ) → List ℕ → Option Thread
-thread_of users word = do
+unfoldable pub thread_in_word : List (List ℕ) → List ℕ → Option Thread
+thread_in_word users word = do
   parts ← around_dot word
-  user ← user_of users parts.0
+  user ← user_in_word users parts.0
   numbers ← around_dot parts.1
   process ← byte_of numbers.0
   thread ← byte_of numbers.1
@@ -140,8 +140,8 @@ mode_of word = do
   Some (high * 64 + middle * 8 + low)
 
 -- hexadecimal digits in pairs, in either case, or `-` for no bytes
-unfoldable pub bytes_of : List ℕ → Option (List ℕ)
-bytes_of word = if bytes_eq word (codes "-") then Some [] else result_ok (decode_of word)
+unfoldable pub bytes_in_word : List ℕ → Option (List ℕ)
+bytes_in_word word = if bytes_eq word (codes "-") then Some [] else result_ok (decode_of word)
 
 -- one byte as two hexadecimal digits
 unfoldable pub hex_byte_of : List ℕ → Option ℕ

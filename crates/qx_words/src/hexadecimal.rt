@@ -1,7 +1,7 @@
 //! Words of hexadecimal digits.
 
 ghost use Rattle.std.specs.Prelude.{◌≡◌, IfOk};
-ghost use Rattle.qx_words.specs.Words.{bytes_of, hex_byte_of};
+ghost use Rattle.qx_words.specs.Words.{bytes_in_word, hex_byte_of};
 
 use hex::FromHexError;
 use qx_types::{Bytes, NoMemory};
@@ -10,7 +10,7 @@ use std::alloc::Global;
 /// Bytes as pairs of hexadecimal digits, or `-` for none.
 #[tactic(auto, unfolding(crate::specs::Words::bytes_of))]
 pub fn bytes(alloc: Global, word: &[u8]) -> Result<Option<Bytes>, NoMemory>
-    ensures bytes { IfOk result (λ bytes. bytes ≡ bytes_of word.now) }
+    ensures bytes { IfOk result (λ bytes. bytes ≡ bytes_in_word word.now) }
 {
     if word == b"-".as_slice() {
         return Ok(Some(Bytes::new(alloc)));

@@ -3,7 +3,7 @@ ghost use Rattle.std.specs.List.{list_any};
 ghost use Rattle.std.specs.Str.{bytes_eq};
 ghost use Rattle.qx_types.specs.Configuration.{is_user_name};
 ghost use Rattle.qx_types.specs.declared.limits.TheConstants.Limits.{USERS, WORKERS};
-ghost use Rattle.qx_words.specs.Words.{user_of};
+ghost use Rattle.qx_words.specs.Words.{user_in_word};
 
 use qx_types::{Bytes, Config, Limits, NoMemory, User};
 use std::alloc::Global;
@@ -79,7 +79,7 @@ impl Users {
     /// The user of that name.
     #[tactic(auto, unfolding(crate::specs::Words::user_of))]
     pub fn find(&self, word: &[u8]) -> Option<User>
-        ensures found { result ≡ user_of self.now word.now }
+        ensures found { result ≡ user_in_word self.now word.now }
     {
         let place = place_of(&self.names, word)?;
         Some(User(place as u8 + 1))

@@ -2,7 +2,7 @@ ghost use Rattle.std.specs.Prelude.{true, ◌≡◌, ◌==◌, ◌<◌, ◌≤�
 ghost use Rattle.std.specs.Char.{is_ascii_digit};
 ghost use Rattle.std.specs.List.{list_all};
 ghost use Rattle.qx_types.specs.Configuration.{is_user_name};
-ghost use Rattle.qx_words.specs.Words.{byte_of, flag_of, flags_after, flags_of, greatest_of_four_bytes, greatest_of_two_bytes, is_numeral, lines_of, mode_of, moment_of, name_of, negative, number_of, octal_of, offset_of, around_dot, thread_of, with_flag, words_of};
+ghost use Rattle.qx_words.specs.Words.{byte_of, flag_of, flags_after, flags_of, greatest_of_four_bytes, greatest_of_two_bytes, is_numeral, lines_of, mode_of, moment_of, name_in_word, negative, number_of, octal_of, offset_of, around_dot, thread_in_word, with_flag, words_of};
 
 pub use crate::fixed_words::{action, conditions, manager, whence};
 pub use crate::hexadecimal::{bytes, hex_byte};
@@ -101,7 +101,7 @@ pub fn byte(word: &[u8]) -> Option<u8>
 
 /// A name that a user may have.
 pub fn name(word: &[u8]) -> Option<&[u8]>
-    ensures name { option_map (λ name. name.now) result ≡ name_of word.now }
+    ensures name { option_map (λ name. name.now) result ≡ name_in_word word.now }
     ensures good { IfSome result (λ name. is_user_name name.now ≡ true) }
 {
     if Config::is_user_name(word) {
@@ -177,7 +177,7 @@ fn around_dot(word: &[u8]) -> Option<(&[u8], &[u8])>
 /// A thread, as `ann.1.2`.
 #[tactic(auto, unfolding(crate::specs::Words::thread_of))]
 pub fn thread(users: &Users, word: &[u8]) -> Option<Thread>
-    ensures thread { result ≡ thread_of users.now word.now }
+    ensures thread { result ≡ thread_in_word users.now word.now }
 {
     let (user, numbers) = around_dot(word)?;
     let user = users.find(user)?;

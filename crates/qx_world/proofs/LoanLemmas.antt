@@ -20,7 +20,7 @@ use Rattle.qx_types.specs.declared.step.Step.{Step}
 use Rattle.qx_world.specs.declared.trace.Unstored.{Unstored}
 use Rattle.qx_machine.specs.Machine.{boot, step}
 use Rattle.qx_machine.specs.Runs.{world_after}
-use Rattle.qx_world.specs.Trace.{Trace, IsAfter, IsLast, outcome_of}
+use Rattle.qx_world.specs.Trace.{Trace, IsAfter, IsLast, outcome_now}
 
 -- what ends so ends as anything that follows from it
 module _ {M : Type 1} {𝓤 : Ura M} (𝓛 : Logic 𝓤) (R T : RattleType) (γ : GName) (m : Option GName) (P : T.Denot → R.Denot → Type 0) (P₀ P₁ : R.Denot → Type 0) (h : (x : R.Denot) → P₀ x → P₁ x) where
@@ -58,7 +58,7 @@ told-ready before after e (Err u) is = tt
 pub told-after : (before after t : Trace) (e : Step) (stored : Result (Unit {0}) Unstored) (result : Result (Bor Outcome) Unstored) → IsAfter before e (is_ok stored) after → is_ok result ≡ is_ok stored → t ≡ after → IsAfter before e (is_ok result) t
 told-after before after t e stored result is same ends = rw (same, ends) is
 
-pub told-outcome : (before after shown : Trace) (e : Step) (stored : Result (Unit {0}) Unstored) (result : Result (Bor Outcome) Unstored) → IsAfter before e (is_ok stored) after → is_ok result ≡ is_ok stored → shown ≡ after → IfOk result (λ outcome. IsLast shown outcome.now) → IfOk result (λ outcome. outcome.now ≡ outcome_of before e)
+pub told-outcome : (before after shown : Trace) (e : Step) (stored : Result (Unit {0}) Unstored) (result : Result (Bor Outcome) Unstored) → IsAfter before e (is_ok stored) after → is_ok result ≡ is_ok stored → shown ≡ after → IfOk result (λ outcome. IsLast shown outcome.now) → IfOk result (λ outcome. outcome.now ≡ outcome_now before e)
 told-outcome before after shown e stored (Ok outcome) is same here last =
     let done = rw (← same) at is in
     last before.steps e (ap (λ trace. trace.steps) here ∙ done.steps) ∙ ap (λ config. (step (world_after (boot config) before.steps) e).outcome) (ap (λ trace. trace.config) here ∙ done.config)

@@ -28,8 +28,8 @@ pub record IsAfter (before : Trace) (e : Step) (stored : Bool) (after : Trace) :
   pub room : before.room ≤ (if stored then after.room + 1 else after.room)
 
 -- what a step would give now
-abbrev pub outcome_of : Trace → Step → Outcome
-outcome_of trace e = (step (run_of trace).world e).outcome
+abbrev pub outcome_now : Trace → Step → Outcome
+outcome_now trace e = (step (run_of trace).world e).outcome
 
 -- the outcome of the last step
 abbrev pub IsLast : Trace → Outcome → Type 0

@@ -11,7 +11,7 @@ ghost use Rattle.qx_machine.specs.Runs.{run, received, erase};
 ghost use Rattle.qx_types.specs.Step.{actor_of};
 ghost use Rattle.qx_steps.specs.declared.work.PerformFault.{PerformFault};
 ghost use Rattle.qx_steps.specs.Held.{held_work, IsStale};
-ghost use Rattle.qx_world.specs.Trace.{IsAfter, IsLast, run_of, outcome_of, wants_memory, owners_from};
+ghost use Rattle.qx_world.specs.Trace.{IsAfter, IsLast, run_of, outcome_now, wants_memory, owners_from};
 
 use qx_machine::{Entry, Seen, laws};
 use qx_steps::{PerformFault, Work, World};
@@ -140,7 +140,7 @@ impl Traced {
     /// Takes a step, stores it with its outcome, and lends the outcome; or hands the step back.
     pub fn step(&mut self, step: Step) -> Result<&Outcome, Unstored>
         ensures* after { sem 𝓛 (Ends self.entry (IsAfter self.old step (is_ok result))) }
-        ensures outcome { IfOk result (λ outcome. outcome.now ≡ outcome_of self.old step) }
+        ensures outcome { IfOk result (λ outcome. outcome.now ≡ outcome_now self.old step) }
         ensures handed_back { IfErr result (λ unstored. unstored.step ≡ step) }
         ensures sure { 0 < self.old.room → IsFalse (wants_memory (run_of self.old).world step) → IsOk result }
     {
@@ -166,7 +166,7 @@ impl Traced {
         moment: u64,
     ) -> Result<&Outcome, PerformFault>
         ensures* after { sem 𝓛 (Ends self.entry (IsAfter self.old (Step.Perform worker moment) (is_ok result))) }
-        ensures outcome { IfOk result (λ outcome. outcome.now ≡ outcome_of self.old (Step.Perform worker moment)) }
+        ensures outcome { IfOk result (λ outcome. outcome.now ≡ outcome_now self.old (Step.Perform worker moment)) }
         ensures stale { IsErrOf result PerformFault.Stale ↔ IsStale (held_work (run_of self.old).world worker.0) work.now }
         ensures sure { 0 < self.old.room → IsFalse (wants_memory (run_of self.old).world (Step.Perform worker moment)) → result ≢ Err PerformFault.NoMemory }
     {

@@ -1,7 +1,7 @@
 //! Nodes of queues that are given back, and made again with no memory.
 
 ghost use Rattle.std.specs.Prelude.{◌<◌, IfOk, OnOk};
-ghost use Rattle.qx_queues.specs.Queues.{HasThread};
+ghost use Rattle.qx_queues.specs.Queues.{HasThreadNodes};
 
 use all_memory::take_all_memory;
 use qx_queues::Queues;
@@ -13,7 +13,7 @@ fn with_thread(alloc: Global, thread: Thread) -> Result<Queues, AllocError>
     requires user { thread.proc.user.0 < 2 }
     requires process { thread.proc.num < 17 }
     requires thread { thread.tid < 5 }
-    ensures { IfOk result (λ queues. HasThread queues thread.proc) }
+    ensures { IfOk result (λ queues. HasThreadNodes queues thread.proc) }
 {
     let mut queues = Queues::new(alloc, 1)?;
     queues.reserve(1)?;
@@ -23,8 +23,8 @@ fn with_thread(alloc: Global, thread: Thread) -> Result<Queues, AllocError>
 
 /// A process gets its disconnect node at a manager, and gives it back.
 fn take_and_give_back(queues: &mut Queues, proc: Proc) -> Result<(), AllocError>
-    requires { HasThread queues.old proc }
-    ensures { OnOk result (HasThread queues.new proc) }
+    requires { HasThreadNodes queues.old proc }
+    ensures { OnOk result (HasThreadNodes queues.new proc) }
 {
     queues.add_server(proc, Manager::Ram)?;
     queues.remove_server(proc, Manager::Ram);
@@ -33,7 +33,7 @@ fn take_and_give_back(queues: &mut Queues, proc: Proc) -> Result<(), AllocError>
 
 /// With all memory taken, whether a byte is refused while a process gets its disconnect node.
 fn takes_without_memory(alloc: Global, queues: &mut Queues, proc: Proc) -> Result<bool, AllocError>
-    requires { HasThread queues.old proc }
+    requires { HasThreadNodes queues.old proc }
 {
     let pieces = take_all_memory(alloc)?;
     let taken = queues.add_server(proc, Manager::Ram).is_ok();

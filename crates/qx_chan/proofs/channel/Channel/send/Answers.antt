@@ -1,19 +1,19 @@
-use Rattle.qx_chan.specs.Users.{IsReady, thread_row}
+use Rattle.qx_chan.specs.Users.{IsThreadReady, thread_row}
 use Rattle.qx_chan.proofs.SendLemmas.{Kept-sent, Kept-with_room, calls-nowhere, has-sender}
 use Rattle.qx_chan.proofs.channel.Channel.send.Goals as goal
 
 pub send-requires-2-clause-no_call : goal.send-requires-2-clause-no_call
 send-requires-2-clause-no_call c =
-    let ready : IsReady (thread_row c.self.inside.users c.args.thread) = rw (← c.self.view_is) at c.requires.ready in
+    let ready : IsThreadReady (thread_row c.self.inside.users c.args.thread) = rw (← c.self.view_is) at c.requires.ready in
     rw c.in_ok-reserve.ensures.ok (calls-nowhere c.self.inside.users _ c.args.thread ready (Kept-with_room _ _ _ c.self.invariant))
 
 pub attach-requires-clause-started : goal.attach-requires-clause-started
 attach-requires-clause-started c =
-    let ready : IsReady (thread_row c.self.inside.users c.args.thread) = rw (← c.self.view_is) at c.requires.ready in
+    let ready : IsThreadReady (thread_row c.self.inside.users c.args.thread) = rw (← c.self.view_is) at c.requires.ready in
     (c.args.thread.tid, rw (c.send-2.ensures.sent, c.in_ok-reserve.ensures.ok) (has-sender c.self.inside.users _ c.args.thread ready (Kept-with_room _ _ _ c.self.invariant)))
 
 pub invariant_of-self-2 : goal.invariant_of-self-2
 invariant_of-self-2 c =
-    let ready : IsReady (thread_row c.self.inside.users c.args.thread) = rw (← c.self.view_is) at c.requires.ready in
+    let ready : IsThreadReady (thread_row c.self.inside.users c.args.thread) = rw (← c.self.view_is) at c.requires.ready in
     rw (c.attach.ensures.attached, c.send-2.ensures.sent, c.in_ok-send.ensures.ok, c.in_ok-reserve.ensures.ok)
     (Kept-sent c.self.inside.users _ c.args.thread c.args.sent ready (Kept-with_room _ _ _ c.self.invariant))

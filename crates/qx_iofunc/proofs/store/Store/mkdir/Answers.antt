@@ -4,7 +4,7 @@ use Rattle.qx_iofunc.proofs.StoreLemmas.{StoreFits, made_fits, number_fresh}
 use Rattle.qx_iofunc.specs.Store.{Stored}
 use Rattle.qx_machine.specs.declared.rows.Kind.TheVariants.{Directory}
 use Rattle.qx_machine.specs.Rows.{row_at}
-use Rattle.qx_names.specs.Paths.{IsUnnamed}
+use Rattle.qx_names.specs.Paths.{HasNoPath}
 use Rattle.qx_names.specs.Spots.{spot_of}
 use Rattle.qx_types.specs.declared.errno.Errno.TheVariants.{EEXIST}
 use Rattle.qx_iofunc.proofs.store.Store.mkdir.Goals.{In-Ok-may_make_directory}
@@ -19,7 +19,7 @@ fits c = rw (← c.self-inside.view_is) at c.self.invariant
 makes : (c : In-Ok-may_make_directory) → MakesDirectory (stored c).inodes c.in-Ok.at.parent c.in-Ok.at.inode c.in-Ok-may_make_directory.new
 makes c = makes_directory (stored c).inodes (stored c).user c.in-Ok.at.parent c.in-Ok.at.inode c.in-Ok-may_make_directory.new (sym c.in-Ok-may_make_directory.ensures.may)
 
-fresh : (c : In-Ok-may_make_directory) → IsUnnamed (stored c).names c.in-Ok-may_make_directory.new.inode × (row_at (stored c).files c.in-Ok-may_make_directory.new.inode ≡ None)
+fresh : (c : In-Ok-may_make_directory) → HasNoPath (stored c).names c.in-Ok-may_make_directory.new.inode × (row_at (stored c).files c.in-Ok-may_make_directory.new.inode ≡ None)
 fresh c = number_fresh (stored c) c.in-Ok-may_make_directory.new.inode (makes c).number_is (fits c)
 
 pub make-requires-clause-missing : goal.make-requires-clause-missing

@@ -1,11 +1,11 @@
 use Rattle.std.proofs.Common.{◌≡◌, ◌∙◌, Ok, false, ap, refl, subst, sym}
 use Rattle.std.specs.Option.{IsSome}
 use Rattle.std.specs.Result.{IsOk}
-use Rattle.qx_attr.specs.Counts.{Reserved, numbered}
+use Rattle.qx_attr.specs.Counts.{Reserved, with_number}
 use Rattle.qx_iofunc.proofs.StoreLemmas.{StoreFits, emptied_fits, emptied_in, emptied_number, emptied_there}
 use Rattle.qx_iofunc.proofs.OpenLemmas.{all_allowed, done, existing_done, may_open_is, opened_fits}
 use Rattle.qx_iofunc.specs.declared.store.Store.TheInside.{Inside}
-use Rattle.qx_iofunc.specs.Store.{Store, Stored, with_truncated, within}
+use Rattle.qx_iofunc.specs.Store.{Store, Stored, with_truncated, with_stored}
 use Rattle.qx_iofunc.specs.Given as given
 use Rattle.qx_machine.specs.Defaults.{open_existing}
 use Rattle.qx_machine.specs.Inodes.{block_number, open_block}
@@ -62,7 +62,7 @@ returns-clause-opened c = λ r coid.
     let number = c.opened.result in
     let now = c.opened.new.inodes.inodes in
     let after = ap (λ (inside : Inside). inside.tables.stored) c.self-inside-2.view_is ∙ emptied (goal.at.returns-clause-opened c).Joined-contains in
-    let opened = subst (λ (stored : Stored). numbered now (Ok number) ≡ open_block stored.inodes inode wish.flags) after c.opened.ensures.opened in
+    let opened = subst (λ (stored : Stored). with_number now (Ok number) ≡ open_block stored.inodes inode wish.flags) after c.opened.ensures.opened in
     let may = all_allowed stored inode wish c.requires.allowed in
-    subst (λ (after : Stored). open_existing (within r stored) coid inode wish ≡ Ok (given.opened coid wish.kind (record { number = number; inode = inode; is_new = false }) (within r (record after { inodes = now })))) (sym after)
+    subst (λ (after : Stored). open_existing (with_stored r stored) coid inode wish ≡ Ok (given.open_given coid wish.kind (record { number = number; inode = inode; is_new = false }) (with_stored r (record after { inodes = now })))) (sym after)
     (existing_done stored now number inode wish may opened r coid)

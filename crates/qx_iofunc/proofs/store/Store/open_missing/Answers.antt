@@ -1,16 +1,16 @@
 use Rattle.std.proofs.Common.{◌≡◌, ◌∙◌, None, Ok, true, ap, subst, sym}
 use Rattle.std.specs.Prelude.{IsSome}
-use Rattle.qx_attr.specs.Counts.{Reserved, numbered}
+use Rattle.qx_attr.specs.Counts.{Reserved, with_number}
 use Rattle.qx_iofunc.proofs.OpenLemmas.{Makes, missing_done, missing_makes, opened_fits}
 use Rattle.qx_iofunc.proofs.StoreLemmas.{StoreFits, made_fits, made_there, number_fresh}
 use Rattle.qx_iofunc.specs.declared.store.Store.TheInside.{Inside}
 use Rattle.qx_iofunc.specs.Given as given
 use Rattle.qx_iofunc.specs.Makes.{may_make}
-use Rattle.qx_iofunc.specs.Store.{Store, Stored, with_made, within}
+use Rattle.qx_iofunc.specs.Store.{Store, Stored, with_made, with_stored}
 use Rattle.qx_machine.specs.Defaults.{open_missing}
 use Rattle.qx_machine.specs.Inodes.{open_block}
 use Rattle.qx_machine.specs.Rows.{row_at}
-use Rattle.qx_names.specs.Paths.{IsUnnamed}
+use Rattle.qx_names.specs.Paths.{HasNoPath}
 use Rattle.qx_names.specs.Spots.{spot_of}
 use Rattle.qx_iofunc.proofs.store.Store.open_missing.Goals.{In_ok-make, In_ok-reserve}
 use Rattle.qx_iofunc.proofs.store.Store.open_missing.Goals as goal
@@ -27,7 +27,7 @@ judged c = rw (← c.self.view_is, ← c.self-inside.view_is) at c.requires.judg
 makes : (c : In_ok-reserve) → Makes (stored c).inodes (stored c).user c.args.at.parent c.args.wish.flags c.args.new
 makes c = missing_makes (stored c).inodes (stored c).user c.args.at.parent c.args.new c.args.wish.flags (judged c)
 
-fresh : (c : In_ok-reserve) → IsUnnamed (stored c).names c.args.new.inode × (row_at (stored c).files c.args.new.inode ≡ None)
+fresh : (c : In_ok-reserve) → HasNoPath (stored c).names c.args.new.inode × (row_at (stored c).files c.args.new.inode ≡ None)
 fresh c = number_fresh (stored c) c.args.new.inode (makes c).number_is (fits c)
 
 pub make-requires-clause-unnamed : goal.make-requires-clause-unnamed
@@ -73,7 +73,7 @@ returns-clause-opened c =
     let wish = c.args.wish in
     let number = c.opened.result in
     let now = c.opened.new.inodes.inodes in
-    let opened = subst (λ (stored : Stored). numbered now (Ok number) ≡ open_block stored.inodes new.inode wish.flags) after c.opened.ensures.opened in
+    let opened = subst (λ (stored : Stored). with_number now (Ok number) ≡ open_block stored.inodes new.inode wish.flags) after c.opened.ensures.opened in
     rw (← c.self.view_is, ← c.self-inside.view_is) (λ r coid.
-    subst (λ (after : Stored). open_missing (within r (stored before)) coid at wish ≡ Ok (given.opened coid wish.kind (record { number = number; inode = new.inode; is_new = true }) (within r (record after { inodes = now })))) (sym after)
+    subst (λ (after : Stored). open_missing (with_stored r (stored before)) coid at wish ≡ Ok (given.open_given coid wish.kind (record { number = number; inode = new.inode; is_new = true }) (with_stored r (record after { inodes = now })))) (sym after)
     (missing_done r (stored before) coid at wish new now number (judged before) opened))

@@ -1,6 +1,6 @@
 use Rattle.std.proofs.Common.{◌≡◌, ℕ, suc, [], ◌∷◌, ◌++◌, ◌+◌, ◌-◌, length, length-append, List, true, false, ap, refl, sym, ◌∙◌, arith}
 use Rattle.std.specs.FinMap as map
-use Rattle.qx_machine.specs.Names.{behind, fitting, listing}
+use Rattle.qx_machine.specs.Names.{names_behind, fitting, listing}
 use Rattle.qx_types.specs.declared.limits.TheConstants.Limits.{TRANSFER}
 use Rattle.qx_names.proofs.FolderLemmas.{keys-folder_of}
 use Rattle.qx_names.proofs.ListingLemmas.{left, left_on, left_out, left_stop, listing_on, test_is}
@@ -8,9 +8,9 @@ use Rattle.qx_names.proofs.folder.Folder.list.Goals as goal
 
 pub loop-name-init : goal.loop-name-init
 loop-name-init c =
-    let all : left c.args.after.now 4096 c.into_iter-name-iterator.result ≡ fitting TRANSFER (behind c.args.after.now (map.keys c.args.self.now)) =
+    let all : left c.args.after.now 4096 c.into_iter-name-iterator.result ≡ fitting TRANSFER (names_behind c.args.after.now (map.keys c.args.self.now)) =
     ap (left c.args.after.now 4096) (c.into_iter-name-iterator.ensures.into_iter_gives ∙ c.keys-name-items.ensures.rest)
-    ∙ ap (λ names. fitting TRANSFER (behind c.args.after.now names)) (sym (keys-folder_of c.self.inside.entries.entries c.keys-name-items.ensures.ordered) ∙ ap (λ (folder : map.FinMap _ ℕ). map.keys folder) c.self.view_is)
+    ∙ ap (λ names. fitting TRANSFER (names_behind c.args.after.now names)) (sym (keys-folder_of c.self.inside.entries.entries c.keys-name-items.ensures.ordered) ∙ ap (λ (folder : map.FinMap _ ℕ). map.keys folder) c.self.view_is)
     in
     let none : length c.args.reply.now ≡ 0 = ap length c.requires.empty in
     record {

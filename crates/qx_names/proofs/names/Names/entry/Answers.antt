@@ -1,6 +1,6 @@
 use Rattle.std.proofs.Common.{◌≡◌, ℕ, Bool, List, Option, None, Some, IfSome, sym, ◌∙◌, ap}
 use Rattle.qx_machine.specs.Names as machine
-use Rattle.qx_names.specs.Paths.{IsNamed, path_of}
+use Rattle.qx_names.specs.Paths.{HasPath, path_of}
 use Rattle.qx_names.specs.Shows.{Shows}
 use Rattle.std.specs.FinMap as map
 use Rattle.qx_names.proofs.PathLemmas.{is_named, path_is}
@@ -15,7 +15,7 @@ named : (root : ℕ → Bool) (entry : ℕ → List ℕ → Option ℕ) (names :
 named root entry names s key None e = tt
 named root entry names s key (Some inode) e = path_is root entry names s key inode e
 
-led : (names : machine.Names) (key : machine.Key) (x : Option ℕ) → map.get names key ≡ x → IfSome x (λ inode. IsNamed names inode)
+led : (names : machine.Names) (key : machine.Key) (x : Option ℕ) → map.get names key ≡ x → IfSome x (λ inode. HasPath names inode)
 led names key None e = tt
 led names key (Some inode) e = is_named names key inode e
 

@@ -6,7 +6,7 @@ use Rattle.qx_names.proofs.NamesLemmas.{no_row_names, row_names}
 use Rattle.qx_names.proofs.names.Names.list.Goals as goal
 
 abbrev listed_of : List ℕ → List (List ℕ) → List (List ℕ)
-listed_of after names = machine.fitting TRANSFER (machine.behind after names)
+listed_of after names = machine.fitting TRANSFER (machine.names_behind after names)
 
 pub returns-in-Some-clause-names : goal.returns-in-Some-clause-names
 returns-in-Some-clause-names c =

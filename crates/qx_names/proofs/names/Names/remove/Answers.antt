@@ -1,7 +1,7 @@
 use Rattle.std.proofs.Common.{sym, subst, IfSome}
 use Rattle.std.specs.FinMap as map
 use Rattle.qx_machine.specs.Names as machine
-use Rattle.qx_names.specs.Paths.{IsUnnamed, path_of}
+use Rattle.qx_names.specs.Paths.{HasNoPath, path_of}
 use Rattle.qx_names.proofs.NamesLemmas.{remove_shows, removed_unnamed}
 use Rattle.qx_names.proofs.ShowsLemmas.{names_are}
 use Rattle.qx_names.proofs.names.Names.remove.Goals as goal
@@ -16,5 +16,5 @@ returns-clause-removed c =
 
 pub returns-clause-unnamed : goal.returns-clause-unnamed
 returns-clause-unnamed c =
-    subst (λ (names : machine.Names). IfSome (map.get c.args.self.now (machine.under (path_of c.args.self.now c.args.directory) c.args.name.now)) (IsUnnamed names)) (sym (returns-clause-removed c))
+    subst (λ (names : machine.Names). IfSome (map.get c.args.self.now (machine.under (path_of c.args.self.now c.args.directory) c.args.name.now)) (HasNoPath names)) (sym (returns-clause-removed c))
     (removed_unnamed c.self.inside.roots.items c.self.inside.folders.items c.self.inside.kept c.args.self.now c.self.view_is c.take.new.folders.items c.args.directory c.args.name.now c.requires.directory c.requires.empty c.take.ensures.taken)

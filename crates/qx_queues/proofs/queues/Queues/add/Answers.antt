@@ -1,6 +1,6 @@
 use Rattle.std.proofs.Common.{◌≡◌, ◌-◌, None, map, option_map, refl, ap, arith, ◌∙◌}
 use Rattle.qx_queues.specs.Kept.{entries}
-use Rattle.qx_queues.specs.Nodes.{Message, Unblock, nodes_at}
+use Rattle.qx_queues.specs.Nodes.{Message, Unblock, nodes_of_thread}
 use Rattle.qx_queues.proofs.KeptLemmas.{Kept-made, calls-made, entries-made, shown-kept}
 use Rattle.qx_queues.proofs.NodesLemmas.{asked_at-added, half, half-first, half-second, length-with_nodes}
 use Rattle.qx_queues.proofs.PresenceLemmas.{nodes-absent, same_queues, servers-with_nodes, threads-with_nodes}
@@ -9,7 +9,7 @@ use Rattle.qx_queues.proofs.queues.Queues.add.Goals as goal
 
 pub invariant_of-self : goal.invariant_of-self
 invariant_of-self c =
-    let fresh : nodes_at c.self.inside.nodes c.args.thread ≡ None = nodes-absent _ _ (rw (← c.self.view_is) at c.requires.fresh) in
+    let fresh : nodes_of_thread c.self.inside.nodes c.args.thread ≡ None = nodes-absent _ _ (rw (← c.self.view_is) at c.requires.fresh) in
     let gets = rw c.set.ensures.set at c.set.ensures.there in
     let shown : map (entries c.new_node-unblock.new.table) c.self.inside.lines.items ≡ map (entries c.self.inside.table) c.self.inside.lines.items = shown-kept c.self.inside.table c.new_node-unblock.new.table c.self.inside.lines.items (λ line. entries-made c.new_node-message.new.table _ _ _ _ c.new_node-unblock.ensures.made c.new_node-unblock.ensures.was_new c.know-2.ensures.there line ∙ entries-made c.self.inside.table _ _ _ _ c.new_node-message.ensures.made c.new_node-message.ensures.was_new c.know.ensures.there line) in
     let first = Kept-made c.self.inside.table _ _ _ _ c.new_node-message.ensures.made c.new_node-message.ensures.was_new c.know.ensures.there c.self.inside.lines.items _ (half c.self.inside.nodes c.args.thread (record { message = c.new_node-message.result; unblock = c.new_node-unblock.result; asked = None })) (Message c.args.thread)

@@ -1,6 +1,6 @@
 use Rattle.std.proofs.Common.{◌≡◌, ◌≢◌, ◌-◌, is_some, false, true, sym, max, ap, arith, refl, rules, ◌∙◌}
 use Rattle.qx_lines.specs.declared.Line.{Line}
-use Rattle.qx_queues.specs.Kept.{Kept, entries}
+use Rattle.qx_queues.specs.Kept.{AreListsOfTable, entries}
 use Rattle.qx_queues.specs.Nodes.{Disconnect, asked_in, disconnect_at, no_process, node_of, process_at}
 use Rattle.qx_types.specs.Managers.{manager_number}
 use Rattle.qx_queues.proofs.BesideLemmas.{same_calls-room}
@@ -21,7 +21,7 @@ returns-in_err-reserve-clause-had_node c = λ had.
 
 pub invariant_of-self-2 : goal.invariant_of-self-2
 invariant_of-self-2 c =
-    let kept : Kept c.reserve.new.self c.self.inside.lines.items c.self.inside.answered (node_of c.self.inside.nodes) = Kept-room c.self.inside.table _ _ _ (ap (λ t. t.lists) c.in_ok-reserve.ensures.ok) (ap (λ t. t.values) c.in_ok-reserve.ensures.ok) c.self.invariant.1 in
+    let kept : AreListsOfTable c.reserve.new.self c.self.inside.lines.items c.self.inside.answered (node_of c.self.inside.nodes) = Kept-room c.self.inside.table _ _ _ (ap (λ t. t.lists) c.in_ok-reserve.ensures.ok) (ap (λ t. t.values) c.in_ok-reserve.ensures.ok) c.self.invariant.1 in
     let there : process_at c.self.inside.nodes c.args.proc ≢ no_process = started _ _ (rw (← c.self.view_is) at c.requires.started) in
     let same : (line : Line) → entries c.new_node-node.new.table line ≡ entries c.self.inside.table line = λ line. entries-made c.reserve.new.self _ _ _ _ c.new_node-node.ensures.made c.new_node-node.ensures.was_new c.know.ensures.there line ∙ ap (λ t. entries t line) c.in_ok-reserve.ensures.ok in
     let gets = rw c.set_disconnect.ensures.set at c.set_disconnect.ensures.there there in (

@@ -1,5 +1,5 @@
 use Rattle.std.proofs.Common.{◌∙◌, [], ◌∷◌, ◌++◌, ◌==◌, ap, sym}
-use Rattle.qx_queues.specs.Kept.{Carries, answered_calls, entry_at}
+use Rattle.qx_queues.specs.Kept.{Carries, answered_calls, entry_of_node}
 use Rattle.qx_queues.specs.Nodes.{Message, node_of}
 use Rattle.qx_queues.specs.Queues.{caller}
 use Rattle.qx_queues.specs.Waiting.{Answered, addressed_by, carrying, given_of}
@@ -27,7 +27,7 @@ invariant_of-self c =
     let has = ap (λ thread. node_of c.self.inside.nodes (Message thread)) (sym c.thread.ensures.thread) ∙ c.message_node-node.ensures.node in
     let free = IsFree-received c.self.inside.table c.self.inside.lines.items c.self.inside.nodes _ c.message_node-node.result c.self.invariant.1 has (rw (← c.self.view_is) at c.requires.received) in
     let names = kept.names (Message (caller (users_call c.args.user.0 c.args.call))) c.message_node-node.result has in
-    let carries : Carries (c.self.inside.answered == c.self.inside.answered) (carrying (entry_at table c.message_node-node.result) (Answered (addressed_by c.new-answered.result))) = rw (equal_itself c.self.inside.answered) (answer-carried _ c.args.user.0 c.args.call names (addressed_by c.new-answered.result) (ap (λ given. given.thread) c.new-answered.ensures.answered)) in (
+    let carries : Carries (c.self.inside.answered == c.self.inside.answered) (carrying (entry_of_node table c.message_node-node.result) (Answered (addressed_by c.new-answered.result))) = rw (equal_itself c.self.inside.answered) (answer-carried _ c.args.user.0 c.args.call names (addressed_by c.new-answered.result) (ap (λ given. given.thread) c.new-answered.ensures.answered)) in (
       c.self.invariant.0,
       Kept-in table _ _ _ _ _ _ kept c.put_slot.ensures.put free kept.off_lines carries (ap (node_of c.self.inside.nodes) names ∙ has),
       pulses-moved table _ _ _ _ _ kept (Moved-in table _ _ _ _ _ _ kept c.put_slot.ensures.put free) kept.off_lines _ c.self.invariant.2,

@@ -1,17 +1,17 @@
 use Rattle.std.proofs.Common.{◌∙◌, [], ◌∷◌, ap}
-use Rattle.qx_queues.specs.Queues.{answer_to, waiting_in, with_answers}
+use Rattle.qx_queues.specs.Queues.{answer_to, waiting_in_list, with_more_answers}
 use Rattle.qx_queues.specs.Waits.{handed, users_call}
 use Rattle.qx_queues.proofs.LeavingLemmas.{first-answered, first-there, first-written}
 use Rattle.qx_queues.proofs.queues.Queues.answer_first.Goals as goal
 
 pub unreachable-requires : goal.unreachable-requires
-unreachable-requires c = first-there (waiting_in c.args.self.now c.args.list) c.requires.waits c.in-None.ensures.first
+unreachable-requires c = first-there (waiting_in_list c.args.self.now c.args.list) c.requires.waits c.in-None.ensures.first
 
 pub returns-clause-answered : goal.returns-clause-answered
 returns-clause-answered c =
     let own = users_call c.in-Some.user.0 c.in-Some.call in
-    c.answer.ensures.answered ∙ ap (λ q. with_answers q (answer_to own (handed c.args.answer) ∷ [])) c.in-Some.ensures.taken
-    ∙ first-answered (handed c.args.answer) own c.args.self.now c.args.list (waiting_in c.args.self.now c.args.list) c.in-Some.ensures.first
+    c.answer.ensures.answered ∙ ap (λ q. with_more_answers q (answer_to own (handed c.args.answer) ∷ [])) c.in-Some.ensures.taken
+    ∙ first-answered (handed c.args.answer) own c.args.self.now c.args.list (waiting_in_list c.args.self.now c.args.list) c.in-Some.ensures.first
 
 pub returns-clause-written : goal.returns-clause-written
-returns-clause-written c = c.answer.ensures.written ∙ first-written (handed c.args.answer) (users_call c.in-Some.user.0 c.in-Some.call) (waiting_in c.args.self.now c.args.list) c.in-Some.ensures.first
+returns-clause-written c = c.answer.ensures.written ∙ first-written (handed c.args.answer) (users_call c.in-Some.user.0 c.in-Some.call) (waiting_in_list c.args.self.now c.args.list) c.in-Some.ensures.first

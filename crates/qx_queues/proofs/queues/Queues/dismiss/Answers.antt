@@ -1,5 +1,5 @@
 use Rattle.std.proofs.Common.{◌≡◌, ◌∙◌, [], ◌∷◌, ap, refl, sym}
-use Rattle.qx_queues.specs.Queues.{UsersCall, answer_to, with_answers}
+use Rattle.qx_queues.specs.Queues.{UsersCall, answer_to, with_more_answers}
 use Rattle.qx_queues.specs.Waits.{handed, leaves, users_call}
 use Rattle.qx_queues.proofs.LeavingLemmas.{dismissed, dismissed-first, dismissed-none, first-fewer, first_gone, has-waiting}
 use Rattle.qx_queues.proofs.queues.Queues.dismiss.Goals as goal
@@ -14,8 +14,8 @@ pub leaving-preserved : goal.leaving-preserved
 leaving-preserved c =
     let test = λ (own : UsersCall). leaves c.args.which own.call in
     let own = users_call c.in-Some.user.0 c.in-Some.call in
-    let after : c.answer.new.self ≡ with_answers (first_gone test c.args.list c.leaving.self) (answer_to own (handed c.args.answer) ∷ []) =
-    c.answer.ensures.answered ∙ ap (λ q. with_answers q (answer_to own (handed c.args.answer) ∷ [])) c.in-Some.ensures.taken in
+    let after : c.answer.new.self ≡ with_more_answers (first_gone test c.args.list c.leaving.self) (answer_to own (handed c.args.answer) ∷ []) =
+    c.answer.ensures.answered ∙ ap (λ q. with_more_answers q (answer_to own (handed c.args.answer) ∷ [])) c.in-Some.ensures.taken in
     record {
       list = rw after (has-waiting c.leaving.self c.args.list _);
       same = ap (dismissed test c.args.list (handed c.args.answer)) after ∙ dismissed-first test c.args.list c.leaving.self own (sym c.in-Some.ensures.first) (handed c.args.answer) ∙ c.leaving.invariant.same;
@@ -25,8 +25,8 @@ pub leaving-smaller : goal.leaving-smaller
 leaving-smaller c =
     let test = λ (own : UsersCall). leaves c.args.which own.call in
     let own = users_call c.in-Some.user.0 c.in-Some.call in
-    let after : c.answer.new.self ≡ with_answers (first_gone test c.args.list c.leaving.self) (answer_to own (handed c.args.answer) ∷ []) =
-    c.answer.ensures.answered ∙ ap (λ q. with_answers q (answer_to own (handed c.args.answer) ∷ [])) c.in-Some.ensures.taken in
+    let after : c.answer.new.self ≡ with_more_answers (first_gone test c.args.list c.leaving.self) (answer_to own (handed c.args.answer) ∷ []) =
+    c.answer.ensures.answered ∙ ap (λ q. with_more_answers q (answer_to own (handed c.args.answer) ∷ [])) c.in-Some.ensures.taken in
     rw after (first-fewer test c.args.list c.leaving.self own (sym c.in-Some.ensures.first))
 
 pub returns : goal.returns

@@ -2,8 +2,8 @@ use Rattle.std.proofs.Common.{◌≡◌, ◌∙◌, None, Some, ap, refl, unwrap
 use Rattle.std.proofs.lemmas.Option.{slice_get-map}
 use Rattle.qx_lists.proofs.ListLemmas.{contains_slice_first}
 use Rattle.qx_lists.specs.Table.{nodes_of}
-use Rattle.qx_queues.specs.Kept.{call_at, nobodys, waiting_at}
-use Rattle.qx_queues.specs.Waiting.{call_of}
+use Rattle.qx_queues.specs.Kept.{call_at, nobodys, waiting_of_node}
+use Rattle.qx_queues.specs.Waiting.{call_carried}
 use Rattle.qx_queues.proofs.BesideLemmas.{list_shown}
 use Rattle.qx_queues.proofs.WaitLemmas.{carries-call, waiting-are}
 use Rattle.qx_queues.proofs.queues.Queues.first_waiting.Goals as goal
@@ -32,5 +32,5 @@ returns c =
     let table = c.self.inside.table in
     let pipes = (list_shown table _ _ _ (rw (← c.self.view_is) at c.requires.list)).0 in
     let first : slice_get (nodes_of table c.args.list) 0 ≡ Some c.in_ok-node.node = sym c.first.ensures ∙ c.in_ok-node.was in
-    let own : c.call.result.now ≡ call_of (waiting_at table c.in_ok-node.node) = c.call.ensures.call ∙ ap (λ o. call_of (unwrap_or o nobodys)) (sym c.value.ensures) in
+    let own : c.call.result.now ≡ call_carried (waiting_of_node table c.in_ok-node.node) = c.call.ensures.call ∙ ap (λ o. call_carried (unwrap_or o nobodys)) (sym c.value.ensures) in
     rw (← c.self.view_is, waiting-are table _ _ c.self.invariant.1 c.args.list pipes, slice_get-map (call_at table) (nodes_of table c.args.list) 0, first) (ap Some own)

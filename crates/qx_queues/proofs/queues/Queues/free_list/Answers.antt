@@ -3,7 +3,7 @@ use Rattle.std.specs.FinMap as maps
 use Rattle.qx_lists.proofs.MapLemmas.{get-insert_same, get-remove_other, get-remove_same}
 use Rattle.qx_lists.specs.Table.{Table}
 use Rattle.qx_queues.specs.Kept.{Moved}
-use Rattle.qx_queues.specs.Queues.{waiting_in, without_list}
+use Rattle.qx_queues.specs.Queues.{waiting_in_list, without_list}
 use Rattle.qx_queues.specs.Waiting.{Waiting}
 use Rattle.qx_queues.proofs.BesideLemmas.{list_shown, pipes_apart, waiting-empty}
 use Rattle.qx_queues.proofs.CallLemmas.{Kept-moved, pulses-moved, value-gone}
@@ -23,7 +23,7 @@ freed old new list is = rw is (record {
 
 pub free_list-requires : goal.free_list-requires
 free_list-requires c =
-    let all : maps.get c.take_out.new.self.pipes c.args.list ≡ Some [] = ap (λ q. maps.get q.pipes c.args.list) c.take_out.ensures ∙ get-insert_same c.args.self.now.pipes c.args.list _ ∙ ap Some (none-stays (waiting_in c.args.self.now c.args.list)) in
+    let all : maps.get c.take_out.new.self.pipes c.args.list ≡ Some [] = ap (λ q. maps.get q.pipes c.args.list) c.take_out.ensures ∙ get-insert_same c.args.self.now.pipes c.args.list _ ∙ ap Some (none-stays (waiting_in_list c.args.self.now c.args.list)) in
     waiting-empty c.self.inside.table c.self.inside.lines.items c.self.inside.answered c.args.list (ap (λ q. maps.get q.pipes c.args.list) c.self.view_is ∙ all)
 
 pub invariant_of-self : goal.invariant_of-self

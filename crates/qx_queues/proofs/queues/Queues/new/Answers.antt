@@ -2,8 +2,8 @@ use Rattle.std.proofs.Common.{◌≡◌, ◌+◌, [], length, length-append, rep
 use Rattle.std.proofs.lemmas.List.{length-replicate}
 use Rattle.std.specs.FinMap as maps
 use Rattle.qx_types.specs.declared.names.TheConstants.Manager.{COUNT}
-use Rattle.qx_queues.specs.Kept.{Kept}
-use Rattle.qx_queues.specs.Nodes.{asked_in, no_nodes, no_processes, node_of}
+use Rattle.qx_queues.specs.Kept.{AreListsOfTable}
+use Rattle.qx_queues.specs.Nodes.{asked_in, no_nodes, no_process_nodes, node_of}
 use Rattle.qx_queues.proofs.BesideLemmas.{first_list, no_pipes-line, waiting-none}
 use Rattle.qx_queues.proofs.KeptLemmas.{Kept-line, Kept-none, answered-none, shown-none}
 use Rattle.qx_queues.proofs.NodesLemmas.{node_of-none, nodes_at-none}
@@ -16,7 +16,7 @@ managers-init c =
     let lists = ap (λ t. t.lists) c.in_ok-answered.ensures.made ∙ ap (λ t. maps.insert t.lists c.in_ok-answered.answered []) c.new-table.ensures in
     let first = first_list c.add_list.new.self c.in_ok-answered.answered lists in
     let values = ap (λ t. t.values) c.in_ok-answered.ensures.made ∙ ap (λ t. t.values) c.new-table.ensures in
-    let kept : Kept c.add_list.new.self [] c.in_ok-answered.answered (node_of (no_nodes c.args.users)) = Kept-none c.add_list.new.self c.in_ok-answered.answered _ values first.empty first.there (node_of-none c.args.users) in
+    let kept : AreListsOfTable c.add_list.new.self [] c.in_ok-answered.answered (node_of (no_nodes c.args.users)) = Kept-none c.add_list.new.self c.in_ok-answered.answered _ values first.empty first.there (node_of-none c.args.users) in
     (ap length c.new-lines.ensures.items, ap (λ t. t.room) c.in_ok-answered.ensures.made ∙ ap (λ t. t.room) c.new-table.ensures, rw c.new-lines.ensures.items kept, rw c.new-lines.ensures.items first.no_pipes)
 
 pub managers-preserved : goal.managers-preserved
@@ -37,4 +37,4 @@ invariant_of-result c = (
 pub returns : goal.returns
 returns c =
     let all : length c.managers.lines.items ≡ COUNT = omega (arith, c.managers.invariant.0, c.managers-test.false, c.managers.auto.counter-end) in
-    rw c.in_ok-nodes.ensures.none (record { empty = same_queues (shown-none c.managers.table c.managers.lines.items _ c.managers.invariant.2 (node_of-none c.args.users) ∙ ap (λ n. replicate n []) all) (threads-none c.args.users) (servers-none c.args.users) (length-replicate (c.args.users + 1) no_processes) c.managers.invariant.1 (waiting-none c.managers.table c.managers.lines.items c.in_ok-answered.answered c.managers.invariant.3) (answered-none c.managers.table c.managers.lines.items _ c.managers.invariant.2 (node_of-none c.args.users)) })
+    rw c.in_ok-nodes.ensures.none (record { empty = same_queues (shown-none c.managers.table c.managers.lines.items _ c.managers.invariant.2 (node_of-none c.args.users) ∙ ap (λ n. replicate n []) all) (threads-none c.args.users) (servers-none c.args.users) (length-replicate (c.args.users + 1) no_process_nodes) c.managers.invariant.1 (waiting-none c.managers.table c.managers.lines.items c.in_ok-answered.answered c.managers.invariant.3) (answered-none c.managers.table c.managers.lines.items _ c.managers.invariant.2 (node_of-none c.args.users)) })

@@ -10,8 +10,8 @@ use Rattle.qx_machine.specs.declared.rows.OwnItem.TheVariants as item
 use Rattle.qx_machine.specs.Lines.{line_at, with_line}
 use Rattle.qx_machine.specs.Machine.{line_without}
 use Rattle.qx_queues.specs.Queues.{pulse_call, unblock_call}
-use Rattle.qx_queues.specs.Kept.{entries, entry_at, is_at}
-use Rattle.qx_queues.specs.Nodes.{Unblock, asked_at, asked_in, node_of}
+use Rattle.qx_queues.specs.Kept.{entries, entry_of_node, is_line_at}
+use Rattle.qx_queues.specs.Nodes.{Unblock, pulse_line_at, asked_in, node_of}
 use Rattle.qx_queues.proofs.EntryLemmas.{reads-call, with_line-same}
 use Rattle.qx_queues.proofs.KeptLemmas.{Kept-owners, Kept-taken, calls-taken, gone-own, in_line-own, line_at-shown, other-stays, other-field, pulse-leaves, shown-taken}
 use Rattle.qx_queues.proofs.NodesLemmas.{none_of}
@@ -21,19 +21,19 @@ use Rattle.qx_queues.proofs.queues.Queues.reply.Goals as goal
 
 pub returns-in_default-clause-replied : goal.returns-in_default-clause-replied
 returns-in_default-clause-replied c =
-    let apart : is_at (manager_number c.args.manager) (asked_at c.self.inside.nodes c.args.thread) ≡ false = ap (λ o. is_at (manager_number c.args.manager) (asked_in o)) (sym c.at.ensures.own ∙ c.in_default.is) in
+    let apart : is_line_at (manager_number c.args.manager) (pulse_line_at c.self.inside.nodes c.args.thread) ≡ false = ap (λ o. is_line_at (manager_number c.args.manager) (asked_in o)) (sym c.at.ensures.own ∙ c.in_default.is) in
     rw (← c.self.view_is) (same_queues (reply-none _ (manager_number c.args.manager) _ c.args.thread c.args.call c.self.invariant.2 apart) refl refl refl refl refl refl)
 
 pub returns-in_default-asked-clause-replied : goal.returns-in_default-asked-clause-replied
 returns-in_default-asked-clause-replied c =
-    let asked : asked_at c.self.inside.nodes c.args.thread ≡ None = ap asked_in (sym c.at.ensures.own ∙ c.in-Some.is) ∙ ap (option_map manager_number) c.in_default-asked.is in
-    let apart : is_at (manager_number c.args.manager) (asked_at c.self.inside.nodes c.args.thread) ≡ false = ap (is_at (manager_number c.args.manager)) asked in
+    let asked : pulse_line_at c.self.inside.nodes c.args.thread ≡ None = ap asked_in (sym c.at.ensures.own ∙ c.in-Some.is) ∙ ap (option_map manager_number) c.in_default-asked.is in
+    let apart : is_line_at (manager_number c.args.manager) (pulse_line_at c.self.inside.nodes c.args.thread) ≡ false = ap (is_line_at (manager_number c.args.manager)) asked in
     rw (← c.self.view_is) (same_queues (reply-none _ (manager_number c.args.manager) _ c.args.thread c.args.call c.self.invariant.2 apart) refl refl refl refl refl refl)
 
 pub returns-then-number-clause-replied : goal.returns-then-number-clause-replied
 returns-then-number-clause-replied c =
-    let asked : asked_at c.self.inside.nodes c.args.thread ≡ Some (manager_number c.in-Some-asked.asked) = ap asked_in (sym c.at.ensures.own ∙ c.in-Some.is) ∙ ap (option_map manager_number) c.in-Some-asked.is in
-    let apart : is_at (manager_number c.args.manager) (asked_at c.self.inside.nodes c.args.thread) ≡ false = ap (is_at (manager_number c.args.manager)) asked ∙ is_at-other (manager_number c.in-Some-asked.asked) (manager_number c.args.manager) (λ same. c.if-number.true (c.number.ensures.number ∙ sym same ∙ sym c.number-2.ensures.number)) in
+    let asked : pulse_line_at c.self.inside.nodes c.args.thread ≡ Some (manager_number c.in-Some-asked.asked) = ap asked_in (sym c.at.ensures.own ∙ c.in-Some.is) ∙ ap (option_map manager_number) c.in-Some-asked.is in
+    let apart : is_line_at (manager_number c.args.manager) (pulse_line_at c.self.inside.nodes c.args.thread) ≡ false = ap (is_line_at (manager_number c.args.manager)) asked ∙ is_at-other (manager_number c.in-Some-asked.asked) (manager_number c.args.manager) (λ same. c.if-number.true (c.number.ensures.number ∙ sym same ∙ sym c.number-2.ensures.number)) in
     rw (← c.self.view_is) (same_queues (reply-none _ (manager_number c.args.manager) _ c.args.thread c.args.call c.self.invariant.2 apart) refl refl refl refl refl refl)
 
 pub asked_call-requires-clause-there : goal.asked_call-requires-clause-there
@@ -59,18 +59,18 @@ pub remove-requires-clause-in_line : goal.remove-requires-clause-in_line
 remove-requires-clause-in_line c =
     let is : slice_get c.self.inside.lines.items c.number-3.result ≡ Some c.index_mut-line.result.now = slice_get_read c.self.inside.lines.items COUNT c.number-3.result c.index_mut-line.result.now (sym c.self.invariant.0) c.number-3.ensures.few c.index_mut-line.ensures.value in
     let has : node_of c.self.inside.nodes (Unblock c.args.thread) ≡ Some c.in-Some.own.unblock = ap (option_map (λ own. own.unblock)) (sym c.at.ensures.own ∙ c.in-Some.is) in
-    let asked : asked_at c.self.inside.nodes c.args.thread ≡ Some c.number-3.result = ap asked_in (sym c.at.ensures.own ∙ c.in-Some.is) ∙ ap (option_map manager_number) c.in-Some-asked.is ∙ ap Some (sym c.number.ensures.number ∙ c.if-number.false ∙ c.number-2.ensures.number ∙ sym c.number-3.ensures.number) in
-    let told : is_some (unblock_call (line_at (map (entries c.self.inside.table) c.self.inside.lines.items) c.number-3.result) c.args.thread) ≡ true = c.self.invariant.2 c.args.thread c.number-3.result ∙ ap (is_at c.number-3.result) asked ∙ is_at-self c.number-3.result in
+    let asked : pulse_line_at c.self.inside.nodes c.args.thread ≡ Some c.number-3.result = ap asked_in (sym c.at.ensures.own ∙ c.in-Some.is) ∙ ap (option_map manager_number) c.in-Some-asked.is ∙ ap Some (sym c.number.ensures.number ∙ c.if-number.false ∙ c.number-2.ensures.number ∙ sym c.number-3.ensures.number) in
+    let told : is_some (unblock_call (line_at (map (entries c.self.inside.table) c.self.inside.lines.items) c.number-3.result) c.args.thread) ≡ true = c.self.invariant.2 c.args.thread c.number-3.result ∙ ap (is_line_at c.number-3.result) asked ∙ is_at-self c.number-3.result in
     in_line-own pulse_call c.args.thread (Unblock c.args.thread) (reads-call c.args.thread) refl c.self.inside.table _ _ _ c.self.invariant.1 has c.index_mut-line.result.now (sym (ap (λ l. is_some (unblock_call l c.args.thread)) (line_at-shown c.self.inside.table _ c.number-3.result _ is)) ∙ told)
 
 pub invariant_of-self : goal.invariant_of-self
 invariant_of-self c =
     let is : slice_get c.self.inside.lines.items c.number-3.result ≡ Some c.index_mut-line.result.now = slice_get_read c.self.inside.lines.items COUNT c.number-3.result c.index_mut-line.result.now (sym c.self.invariant.0) c.number-3.ensures.few c.index_mut-line.ensures.value in
     let has : node_of c.self.inside.nodes (Unblock c.args.thread) ≡ Some c.in-Some.own.unblock = ap (option_map (λ own. own.unblock)) (sym c.at.ensures.own ∙ c.in-Some.is) in
-    let asked : asked_at c.self.inside.nodes c.args.thread ≡ Some c.number-3.result = ap asked_in (sym c.at.ensures.own ∙ c.in-Some.is) ∙ ap (option_map manager_number) c.in-Some-asked.is ∙ ap Some (sym c.number.ensures.number ∙ c.if-number.false ∙ c.number-2.ensures.number ∙ sym c.number-3.ensures.number) in
-    let names : pulse_call (entry_at c.self.inside.table c.in-Some.own.unblock).item ≡ Some c.args.call = c.asked_call.ensures.call ∙ ap Some c.if-asked_call-call.false in
+    let asked : pulse_line_at c.self.inside.nodes c.args.thread ≡ Some c.number-3.result = ap asked_in (sym c.at.ensures.own ∙ c.in-Some.is) ∙ ap (option_map manager_number) c.in-Some-asked.is ∙ ap Some (sym c.number.ensures.number ∙ c.if-number.false ∙ c.number-2.ensures.number ∙ sym c.number-3.ensures.number) in
+    let names : pulse_call (entry_of_node c.self.inside.table c.in-Some.own.unblock).item ≡ Some c.args.call = c.asked_call.ensures.call ∙ ap Some c.if-asked_call-call.false in
     let within : c.number-3.result < length (map (entries c.self.inside.table) c.self.inside.lines.items) = omega (arith, length-map c.self.inside.lines.items (entries c.self.inside.table), c.self.invariant.0, c.number-3.ensures.few) in
-    let left : map (entry_at c.self.inside.table) (without c.in-Some.own.unblock (nodes_in c.self.inside.table c.index_mut-line.result.now)) ≡ line_without c.args.thread.proc.user.0 (item.Unblock c.args.thread.proc.num c.args.thread.tid c.args.call) (entries c.self.inside.table c.index_mut-line.result.now) = pulse-leaves c.self.inside.table _ _ c.args.thread c.in-Some.own.unblock c.self.invariant.1 c.index_mut-line.result.now has c.args.call names (c.know.ensures.distinct c.index_mut-line.result.now.list) in
+    let left : map (entry_of_node c.self.inside.table) (without c.in-Some.own.unblock (nodes_in c.self.inside.table c.index_mut-line.result.now)) ≡ line_without c.args.thread.proc.user.0 (item.Unblock c.args.thread.proc.num c.args.thread.tid c.args.call) (entries c.self.inside.table c.index_mut-line.result.now) = pulse-leaves c.self.inside.table _ _ c.args.thread c.in-Some.own.unblock c.self.invariant.1 c.index_mut-line.result.now has c.args.call names (c.know.ensures.distinct c.index_mut-line.result.now.list) in
     let shown : map (entries c.remove.new.table) (slice_set c.self.inside.lines.items c.number-3.result c.remove.new.line) ≡ with_line (map (entries c.self.inside.table) c.self.inside.lines.items) c.number-3.result (line_without c.args.thread.proc.user.0 (item.Unblock c.args.thread.proc.num c.args.thread.tid c.args.call)) = shown-taken c.self.inside.table _ _ c.number-3.result _ _ (without c.in-Some.own.unblock) _ c.self.invariant.1 is c.remove.ensures.out (line_without c.args.thread.proc.user.0 (item.Unblock c.args.thread.proc.num c.args.thread.tid c.args.call)) left in
     let gone : unblock_call (line_without c.args.thread.proc.user.0 (item.Unblock c.args.thread.proc.num c.args.thread.tid c.args.call) (line_at (map (entries c.self.inside.table) c.self.inside.lines.items) c.number-3.result)) c.args.thread ≡ None = rw (line_at-shown c.self.inside.table _ c.number-3.result _ is, ← left) (none_of _ (gone-own pulse_call c.args.thread (Unblock c.args.thread) (reads-call c.args.thread) refl c.self.inside.table _ _ c.in-Some.own.unblock c.self.invariant.1 has c.index_mut-line.result.now _ (λ x at. contains_without c.in-Some.own.unblock x _ at) (λ at. absent_without c.in-Some.own.unblock _ at))) in (
       length-set c.self.inside.lines.items c.number-3.result c.remove.new.line ∙ c.self.invariant.0,
@@ -82,8 +82,8 @@ pub returns-clause-replied : goal.returns-clause-replied
 returns-clause-replied c =
     let is : slice_get c.self.inside.lines.items c.number-3.result ≡ Some c.index_mut-line.result.now = slice_get_read c.self.inside.lines.items COUNT c.number-3.result c.index_mut-line.result.now (sym c.self.invariant.0) c.number-3.ensures.few c.index_mut-line.ensures.value in
     let has : node_of c.self.inside.nodes (Unblock c.args.thread) ≡ Some c.in-Some.own.unblock = ap (option_map (λ own. own.unblock)) (sym c.at.ensures.own ∙ c.in-Some.is) in
-    let names : pulse_call (entry_at c.self.inside.table c.in-Some.own.unblock).item ≡ Some c.args.call = c.asked_call.ensures.call ∙ ap Some c.if-asked_call-call.false in
-    let left : map (entry_at c.self.inside.table) (without c.in-Some.own.unblock (nodes_in c.self.inside.table c.index_mut-line.result.now)) ≡ line_without c.args.thread.proc.user.0 (item.Unblock c.args.thread.proc.num c.args.thread.tid c.args.call) (entries c.self.inside.table c.index_mut-line.result.now) = pulse-leaves c.self.inside.table _ _ c.args.thread c.in-Some.own.unblock c.self.invariant.1 c.index_mut-line.result.now has c.args.call names (c.know.ensures.distinct c.index_mut-line.result.now.list) in
+    let names : pulse_call (entry_of_node c.self.inside.table c.in-Some.own.unblock).item ≡ Some c.args.call = c.asked_call.ensures.call ∙ ap Some c.if-asked_call-call.false in
+    let left : map (entry_of_node c.self.inside.table) (without c.in-Some.own.unblock (nodes_in c.self.inside.table c.index_mut-line.result.now)) ≡ line_without c.args.thread.proc.user.0 (item.Unblock c.args.thread.proc.num c.args.thread.tid c.args.call) (entries c.self.inside.table c.index_mut-line.result.now) = pulse-leaves c.self.inside.table _ _ c.args.thread c.in-Some.own.unblock c.self.invariant.1 c.index_mut-line.result.now has c.args.call names (c.know.ensures.distinct c.index_mut-line.result.now.list) in
     let shown : map (entries c.remove.new.table) (slice_set c.self.inside.lines.items c.number-3.result c.remove.new.line) ≡ with_line (map (entries c.self.inside.table) c.self.inside.lines.items) c.number-3.result (line_without c.args.thread.proc.user.0 (item.Unblock c.args.thread.proc.num c.args.thread.tid c.args.call)) = shown-taken c.self.inside.table _ _ c.number-3.result _ _ (without c.in-Some.own.unblock) _ c.self.invariant.1 is c.remove.ensures.out (line_without c.args.thread.proc.user.0 (item.Unblock c.args.thread.proc.num c.args.thread.tid c.args.call)) left in
     let calls = calls-taken c.self.inside.table _ _ c.number-3.result _ _ (without c.in-Some.own.unblock) _ c.self.invariant.1 is c.remove.ensures.out in
     rw (← c.self.view_is, ← c.number-3.ensures.number) (same_queues shown c.set_asked.ensures.asked.threads c.set_asked.ensures.asked.servers c.set_asked.ensures.asked.users c.remove.ensures.out.room calls.waiting calls.given)
@@ -92,6 +92,6 @@ pub returns-clause-gone : goal.returns-clause-gone
 returns-clause-gone c = λ stood.
     let is : slice_get c.self.inside.lines.items c.number-3.result ≡ Some c.index_mut-line.result.now = slice_get_read c.self.inside.lines.items COUNT c.number-3.result c.index_mut-line.result.now (sym c.self.invariant.0) c.number-3.ensures.few c.index_mut-line.ensures.value in
     let has : node_of c.self.inside.nodes (Unblock c.args.thread) ≡ Some c.in-Some.own.unblock = ap (option_map (λ own. own.unblock)) (sym c.at.ensures.own ∙ c.in-Some.is) in
-    let names : pulse_call (entry_at c.self.inside.table c.in-Some.own.unblock).item ≡ Some c.args.call = c.asked_call.ensures.call ∙ ap Some c.if-asked_call-call.false in
-    let left : map (entry_at c.self.inside.table) (without c.in-Some.own.unblock (nodes_in c.self.inside.table c.index_mut-line.result.now)) ≡ line_without c.args.thread.proc.user.0 (item.Unblock c.args.thread.proc.num c.args.thread.tid c.args.call) (entries c.self.inside.table c.index_mut-line.result.now) = pulse-leaves c.self.inside.table _ _ c.args.thread c.in-Some.own.unblock c.self.invariant.1 c.index_mut-line.result.now has c.args.call names (c.know.ensures.distinct c.index_mut-line.result.now.list) in
+    let names : pulse_call (entry_of_node c.self.inside.table c.in-Some.own.unblock).item ≡ Some c.args.call = c.asked_call.ensures.call ∙ ap Some c.if-asked_call-call.false in
+    let left : map (entry_of_node c.self.inside.table) (without c.in-Some.own.unblock (nodes_in c.self.inside.table c.index_mut-line.result.now)) ≡ line_without c.args.thread.proc.user.0 (item.Unblock c.args.thread.proc.num c.args.thread.tid c.args.call) (entries c.self.inside.table c.index_mut-line.result.now) = pulse-leaves c.self.inside.table _ _ c.args.thread c.in-Some.own.unblock c.self.invariant.1 c.index_mut-line.result.now has c.args.call names (c.know.ensures.distinct c.index_mut-line.result.now.list) in
     rw (← c.self.view_is, ← c.number-3.ensures.number, line_at-shown c.self.inside.table _ c.number-3.result _ is, ← left) (none_of _ (gone-own pulse_call c.args.thread (Unblock c.args.thread) (reads-call c.args.thread) refl c.self.inside.table _ _ c.in-Some.own.unblock c.self.invariant.1 has c.index_mut-line.result.now _ (λ x at. contains_without c.in-Some.own.unblock x _ at) (λ at. absent_without c.in-Some.own.unblock _ at)))

@@ -3,7 +3,7 @@ use Rattle.std.specs.FinMap as maps
 use Rattle.qx_lists.specs.Table.{Table, nodes_of}
 use Rattle.qx_machine.specs.declared.rows.Queued.{Queued}
 use Rattle.qx_machine.specs.declared.rows.WaitingCall.{WaitingCall}
-use Rattle.qx_queues.specs.Kept.{call_at, nobodys, users_call as call_with, waiting_at}
+use Rattle.qx_queues.specs.Kept.{call_at, nobodys, users_call_carried as call_with, waiting_of_node}
 use Rattle.qx_queues.specs.Nodes.{Message, node_of}
 use Rattle.qx_queues.specs.Queues.{UsersCall, caller}
 use Rattle.qx_queues.specs.Waiting.{Waiting, Waits, carried, no_call}
@@ -16,7 +16,7 @@ use Rattle.qx_queues.proofs.WalkLemmas.{first-mapped, leads}
 use Rattle.qx_queues.proofs.queues.Queues.take_first.Goals as goal
 
 -- the call that a node carried, with its user
-own-call : (t : Table Waiting) (node : ℕ) (value : Waiting) (queued : Queued) (call : WaitingCall) → maps.get t.values node ≡ Some value → queued ≡ value.queued → Waits call ≡ (waiting_at t node).load → call_at t node ≡ users_call queued.user.0 call
+own-call : (t : Table Waiting) (node : ℕ) (value : Waiting) (queued : Queued) (call : WaitingCall) → maps.get t.values node ≡ Some value → queued ≡ value.queued → Waits call ≡ (waiting_of_node t node).load → call_at t node ≡ users_call queued.user.0 call
 own-call t node value queued call at entry load = ap₂ users_call (ap (λ o. (unwrap_or o nobodys).queued.user.0) at ∙ sym (ap (λ q. q.user.0) entry)) (ap (λ l. unwrap_or (carried l) no_call) (sym load))
 
 pub first_leaving-requires-clause-list : goal.first_leaving-requires-clause-list

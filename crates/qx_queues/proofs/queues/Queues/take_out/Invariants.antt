@@ -1,5 +1,5 @@
 use Rattle.std.proofs.Common.{◌≡◌, length}
-use Rattle.qx_queues.specs.Queues.{HasList, waiting_in}
+use Rattle.qx_queues.specs.Queues.{HasList, waiting_in_list}
 use Rattle.qx_queues.specs.Waits.{leaves}
 use Rattle.qx_queues.proofs.LeavingLemmas.{taken}
 use Rattle.qx_queues.proofs.queues.Queues.take_out.Given as goal
@@ -11,4 +11,4 @@ invariant-leaving l = record {
 }
 
 abbrev pub decreases-leaving : goal.decreases-leaving
-decreases-leaving l = length (waiting_in l.self l.list)
+decreases-leaving l = length (waiting_in_list l.self l.list)

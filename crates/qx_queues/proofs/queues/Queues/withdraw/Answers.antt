@@ -10,7 +10,7 @@ use Rattle.qx_machine.specs.declared.rows.OwnItem.TheVariants as item
 use Rattle.qx_machine.specs.Lines.{with_line}
 use Rattle.qx_machine.specs.Machine.{line_without}
 use Rattle.qx_queues.specs.Queues.{as_message, stands}
-use Rattle.qx_queues.specs.Kept.{entries, entry_at}
+use Rattle.qx_queues.specs.Kept.{entries, entry_of_node}
 use Rattle.qx_queues.specs.Nodes.{Message, node_of}
 use Rattle.qx_queues.proofs.EntryLemmas.{reads-message}
 use Rattle.qx_queues.proofs.KeptLemmas.{Kept-taken, calls-taken, gone-own, in_line-own, line_at-shown, message-leaves, shown-taken, stands-owned}
@@ -54,5 +54,5 @@ pub returns-clause-gone : goal.returns-clause-gone
 returns-clause-gone c =
     let is : slice_get c.self.inside.lines.items c.number.result ≡ Some c.index_mut-line.result.now = slice_get_read c.self.inside.lines.items COUNT c.number.result c.index_mut-line.result.now (sym c.self.invariant.0) c.number.ensures.few c.index_mut-line.ensures.value in
     let has : node_of c.self.inside.nodes (Message c.args.thread) ≡ Some c.in-Some.own.message = ap (option_map (λ own. own.message)) (sym c.at.ensures.own ∙ c.in-Some.is) in
-    let left : map (entry_at c.self.inside.table) (without c.in-Some.own.message (nodes_in c.self.inside.table c.index_mut-line.result.now)) ≡ line_without c.args.thread.proc.user.0 (item.Message c.args.thread.proc.num c.args.thread.tid) (entries c.self.inside.table c.index_mut-line.result.now) = message-leaves c.self.inside.table _ _ c.args.thread c.in-Some.own.message c.self.invariant.1 c.index_mut-line.result.now has (c.know.ensures.distinct c.index_mut-line.result.now.list) in
+    let left : map (entry_of_node c.self.inside.table) (without c.in-Some.own.message (nodes_in c.self.inside.table c.index_mut-line.result.now)) ≡ line_without c.args.thread.proc.user.0 (item.Message c.args.thread.proc.num c.args.thread.tid) (entries c.self.inside.table c.index_mut-line.result.now) = message-leaves c.self.inside.table _ _ c.args.thread c.in-Some.own.message c.self.invariant.1 c.index_mut-line.result.now has (c.know.ensures.distinct c.index_mut-line.result.now.list) in
     rw (← c.self.view_is, ← c.number.ensures.number, line_at-shown c.self.inside.table _ c.number.result _ is, ← left) (gone-own as_message c.args.thread (Message c.args.thread) (reads-message c.args.thread) refl c.self.inside.table _ _ c.in-Some.own.message c.self.invariant.1 has c.index_mut-line.result.now _ (λ x at. contains_without c.in-Some.own.message x _ at) (λ at. absent_without c.in-Some.own.message _ at))

@@ -1,6 +1,6 @@
 use Rattle.std.proofs.Common.{rules, ◌≡◌, [], Err, refl}
 use Rattle.qx_machine.specs.declared.rows.Effect.TheVariants.{Opens}
-use Rattle.qx_pipes.specs.Pipes.{opened}
+use Rattle.qx_pipes.specs.Pipes.{open_of_block}
 use Rattle.qx_resources.proofs.KeptLemmas.{told_so}
 use Rattle.qx_resources.specs.State.{told}
 use Rattle.qx_resources.specs.contracts.resources.Resources.{the_view}
@@ -16,5 +16,5 @@ returns-clause-did c =
     let coid = c.in-Ok.over.coid in
     let does = c.in_ok-opened.ensures in
     rw (c.in-Ok.is, ← c.state.view_is)
-    (told_so c.state.inside.mounts c.state.inside.store.stored c.open.new.store.stored c.args.waits.now c.open.new.shared [] (opened coid) (λ _. coid.0) (λ number. Opens coid number) (λ _ _. refl) (λ _ _. refl) c.in_ok-opened.opened c.map.result _
+    (told_so c.state.inside.mounts c.state.inside.store.stored c.open.new.store.stored c.args.waits.now c.open.new.shared [] (open_of_block coid) (λ _. coid.0) (λ number. Opens coid number) (λ _ _. refl) (λ _ _. refl) c.in_ok-opened.opened c.map.result _
     (λ r. does.left r coid) (λ r. does.opened r coid) does.user refl (search rules))

@@ -3,7 +3,7 @@ use Rattle.qx_types.specs.declared.outcome.Answer.TheVariants.{Reply}
 use Rattle.qx_shared.proofs.CallLemmas.{received}
 use Rattle.qx_shared.proofs.ChangeLemmas.{put-bytes, refilled, stand, taken-of}
 use Rattle.qx_shared.proofs.OwnLemmas.{has_row, row_of-within}
-use Rattle.qx_shared.specs.Own.{told}
+use Rattle.qx_shared.specs.Own.{shown_shared}
 use Rattle.qx_shared.specs.Shared.{pipe_at}
 use Rattle.qx_shared.proofs.shared.Shared.hand_bytes.Goals as goal
 
@@ -25,10 +25,10 @@ pub invariant_of-self : goal.invariant_of-self
 invariant_of-self c =
     let row = has_row c.self.inside.queues c.self.inside.pipes.items c.args.user.0 c.args.inode (rw (← c.self.view_is) at c.requires.pipe) in
     let taken = taken-of _ _ c.self.invariant _ _ row.0 row.1 _ c.index_mut.ensures.value c.args.count c.take.new.into c.take.ensures.taken in
-    (refilled _ _ c.self.invariant _ _ row.0 row.1 _ ((c.args.call, Reply c.args.count (take c.args.count (pipe_at (told c.self.inside.queues c.self.inside.pipes.items) c.args.user.0 c.args.inode).bytes)) ∷ []) _ _ (rw taken at c.answer.ensures.answered) (put-bytes _ _ c.self.invariant _ _ row.0 row.1 _ c.index_mut.ensures.value _ (drop c.args.count) c.take.ensures.rest)).all_are
+    (refilled _ _ c.self.invariant _ _ row.0 row.1 _ ((c.args.call, Reply c.args.count (take c.args.count (pipe_at (shown_shared c.self.inside.queues c.self.inside.pipes.items) c.args.user.0 c.args.inode).bytes)) ∷ []) _ _ (rw taken at c.answer.ensures.answered) (put-bytes _ _ c.self.invariant _ _ row.0 row.1 _ c.index_mut.ensures.value _ (drop c.args.count) c.take.ensures.rest)).all_are
 
 pub returns-clause-passed : goal.returns-clause-passed
 returns-clause-passed c =
     let row = has_row c.self.inside.queues c.self.inside.pipes.items c.args.user.0 c.args.inode (rw (← c.self.view_is) at c.requires.pipe) in
     let taken = taken-of _ _ c.self.invariant _ _ row.0 row.1 _ c.index_mut.ensures.value c.args.count c.take.new.into c.take.ensures.taken in
-    rw (← c.self.view_is) (refilled _ _ c.self.invariant _ _ row.0 row.1 _ ((c.args.call, Reply c.args.count (take c.args.count (pipe_at (told c.self.inside.queues c.self.inside.pipes.items) c.args.user.0 c.args.inode).bytes)) ∷ []) _ _ (rw taken at c.answer.ensures.answered) (put-bytes _ _ c.self.invariant _ _ row.0 row.1 _ c.index_mut.ensures.value _ (drop c.args.count) c.take.ensures.rest)).told_is
+    rw (← c.self.view_is) (refilled _ _ c.self.invariant _ _ row.0 row.1 _ ((c.args.call, Reply c.args.count (take c.args.count (pipe_at (shown_shared c.self.inside.queues c.self.inside.pipes.items) c.args.user.0 c.args.inode).bytes)) ∷ []) _ _ (rw taken at c.answer.ensures.answered) (put-bytes _ _ c.self.invariant _ _ row.0 row.1 _ c.index_mut.ensures.value _ (drop c.args.count) c.take.ensures.rest)).told_is

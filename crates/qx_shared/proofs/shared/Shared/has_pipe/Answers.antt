@@ -1,11 +1,11 @@
 use Rattle.std.proofs.Common.{◌≡◌, ◌∙◌, Option, Some, None, ap, is_some, refl}
 use Rattle.std.specs.Borrow.{Bor}
 use Rattle.std.specs.Option.{option_copied}
-use Rattle.qx_shared.specs.Row.{Row}
+use Rattle.qx_shared.specs.Row.{PipeRow}
 use Rattle.qx_shared.proofs.OwnLemmas.{has-told, places-told}
 use Rattle.qx_shared.proofs.shared.Shared.has_pipe.Goals as goal
 
-copied : (o : Option (Bor Row)) → is_some o ≡ is_some (option_copied o)
+copied : (o : Option (Bor PipeRow)) → is_some o ≡ is_some (option_copied o)
 copied None = refl
 copied (Some row) = refl
 

@@ -2,7 +2,7 @@ use Rattle.std.proofs.Common.{◌∙◌, drop, take}
 use Rattle.qx_types.specs.declared.outcome.Answer.TheVariants.{Reply}
 use Rattle.qx_shared.proofs.ChangeLemmas.{first-written, first_answered, put-bytes, stand, taken-of, waiting-some}
 use Rattle.qx_shared.proofs.OwnLemmas.{has_row}
-use Rattle.qx_shared.specs.Own.{told}
+use Rattle.qx_shared.specs.Own.{shown_shared}
 use Rattle.qx_shared.specs.Row.{place}
 use Rattle.qx_shared.specs.Shared.{pipe_at}
 use Rattle.qx_shared.specs.declared.side.Side.TheVariants.{Reading}
@@ -26,13 +26,13 @@ pub invariant_of-self : goal.invariant_of-self
 invariant_of-self c =
     let row = has_row c.self.inside.queues c.self.inside.pipes.items c.args.user.0 c.args.inode (rw (← c.self.view_is) at c.requires.pipe) in
     let taken = taken-of _ _ c.self.invariant _ _ row.0 row.1 _ c.index_mut.ensures.value c.args.count c.take.new.into c.take.ensures.taken in
-    (first_answered _ _ c.self.invariant _ _ Reading _ (rw c.deref.ensures.value at c.list-readers.ensures.list) _ (Reply c.args.count (take c.args.count (pipe_at (told c.self.inside.queues c.self.inside.pipes.items) c.args.user.0 c.args.inode).bytes)) _ _ (rw taken at c.answer_first.ensures.answered) (put-bytes _ _ c.self.invariant _ _ row.0 row.1 _ c.index_mut.ensures.value _ (drop c.args.count) c.take.ensures.rest)).all_are
+    (first_answered _ _ c.self.invariant _ _ Reading _ (rw c.deref.ensures.value at c.list-readers.ensures.list) _ (Reply c.args.count (take c.args.count (pipe_at (shown_shared c.self.inside.queues c.self.inside.pipes.items) c.args.user.0 c.args.inode).bytes)) _ _ (rw taken at c.answer_first.ensures.answered) (put-bytes _ _ c.self.invariant _ _ row.0 row.1 _ c.index_mut.ensures.value _ (drop c.args.count) c.take.ensures.rest)).all_are
 
 pub returns-clause-passed : goal.returns-clause-passed
 returns-clause-passed c =
     let row = has_row c.self.inside.queues c.self.inside.pipes.items c.args.user.0 c.args.inode (rw (← c.self.view_is) at c.requires.pipe) in
     let taken = taken-of _ _ c.self.invariant _ _ row.0 row.1 _ c.index_mut.ensures.value c.args.count c.take.new.into c.take.ensures.taken in
-    rw (← c.self.view_is) (first_answered _ _ c.self.invariant _ _ Reading _ (rw c.deref.ensures.value at c.list-readers.ensures.list) _ (Reply c.args.count (take c.args.count (pipe_at (told c.self.inside.queues c.self.inside.pipes.items) c.args.user.0 c.args.inode).bytes)) _ _ (rw taken at c.answer_first.ensures.answered) (put-bytes _ _ c.self.invariant _ _ row.0 row.1 _ c.index_mut.ensures.value _ (drop c.args.count) c.take.ensures.rest)).told_is
+    rw (← c.self.view_is) (first_answered _ _ c.self.invariant _ _ Reading _ (rw c.deref.ensures.value at c.list-readers.ensures.list) _ (Reply c.args.count (take c.args.count (pipe_at (shown_shared c.self.inside.queues c.self.inside.pipes.items) c.args.user.0 c.args.inode).bytes)) _ _ (rw taken at c.answer_first.ensures.answered) (put-bytes _ _ c.self.invariant _ _ row.0 row.1 _ c.index_mut.ensures.value _ (drop c.args.count) c.take.ensures.rest)).told_is
 
 pub returns-clause-written : goal.returns-clause-written
-returns-clause-written c = rw (← c.self.view_is) (c.answer_first.ensures.written ∙ first-written _ _ c.self.invariant _ _ Reading _ (rw c.deref.ensures.value at c.list-readers.ensures.list) (Reply c.args.count (take c.args.count (pipe_at (told c.self.inside.queues c.self.inside.pipes.items) c.args.user.0 c.args.inode).bytes)))
+returns-clause-written c = rw (← c.self.view_is) (c.answer_first.ensures.written ∙ first-written _ _ c.self.invariant _ _ Reading _ (rw c.deref.ensures.value at c.list-readers.ensures.list) (Reply c.args.count (take c.args.count (pipe_at (shown_shared c.self.inside.queues c.self.inside.pipes.items) c.args.user.0 c.args.inode).bytes)))

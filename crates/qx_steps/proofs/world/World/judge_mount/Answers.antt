@@ -7,7 +7,7 @@ use Rattle.qx_resources.specs.Mounts as mounts
 use Rattle.qx_resources.specs.State.{told}
 use Rattle.qx_chan.specs.Channel.{lists}
 use Rattle.qx_steps.specs.Parts.{told_all, world_of}
-use Rattle.qx_steps.specs.Reads.{is_thread_ready, thread_row}
+use Rattle.qx_steps.specs.Reads.{is_thread_ready, row_among_parts}
 use Rattle.qx_steps.specs.Steps.{CanMount}
 use Rattle.qx_steps.proofs.MountLemmas.{nobody-mount, ready-mount, still_ok}
 use Rattle.qx_steps.proofs.PartsLemmas.{told-none, told-there}
@@ -25,10 +25,10 @@ returns-clause-can c =
     let r = told c.in-Some.resources.now (lists c.self.inside.channel) in
     let there = told-there c.self.inside.channel c.self.inside.resources c.args.thread.proc.user.0 c.in-Some.resources.now (sym c.in-Some.ensures.row) in
     let refused : c.map_err.result ≡ or_refused c.new_mount.result = search rules in
-    let is : is_thread_ready (thread_row c.args.self.now.parts c.args.thread) ≡ true = search rules in
+    let is : is_thread_ready (row_among_parts c.args.self.now.parts c.args.thread) ≡ true = search rules in
     let can = (ready-mount w c.self.inside.channel.users (told_all c.self.inside.channel c.self.inside.resources) c.args.thread c.args.path.now c.args.manager r refl there (rw (← c.self.view_is) at is)).1 in
     rw (refused, ← c.self.view_is)
-    (still_ok c.new_mount.result (λ mount. mounts.CanMount c.in-Some.resources.now mount) (λ mount. CanMount (row_at w.parts c.args.thread.proc.user.0) mount) (λ mount free. can mount (free.free, free.next)) c.new_mount.ensures.can)
+    (still_ok c.new_mount.result (λ mount. mounts.IsNextMount c.in-Some.resources.now mount) (λ mount. CanMount (row_at w.parts c.args.thread.proc.user.0) mount) (λ mount free. can mount (free.free, free.next)) c.new_mount.ensures.can)
 
 pub returns-clause-mount : goal.returns-clause-mount
 returns-clause-mount c =
@@ -36,7 +36,7 @@ returns-clause-mount c =
     let r = told c.in-Some.resources.now (lists c.self.inside.channel) in
     let there = told-there c.self.inside.channel c.self.inside.resources c.args.thread.proc.user.0 c.in-Some.resources.now (sym c.in-Some.ensures.row) in
     let refused : c.map_err.result ≡ or_refused c.new_mount.result = search rules in
-    let is : is_thread_ready (thread_row c.args.self.now.parts c.args.thread) ≡ true = search rules in
+    let is : is_thread_ready (row_among_parts c.args.self.now.parts c.args.thread) ≡ true = search rules in
     let judged = (ready-mount w c.self.inside.channel.users (told_all c.self.inside.channel c.self.inside.resources) c.args.thread c.args.path.now c.args.manager r refl there (rw (← c.self.view_is) at is)).0 in
     let path = c.new_mount.ensures.mount (lists c.self.inside.channel) in
     let given : c.new_mount.result ≡ new_mount (name_bytes c.self.inside.config c.args.thread.proc.user.0) c.args.path.now c.args.manager r = search rules in

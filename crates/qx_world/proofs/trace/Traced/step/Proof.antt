@@ -35,7 +35,7 @@ use Rattle.qx_types.specs.contracts.outcome.Outcome.{the_row as O}
 use Rattle.qx_types.proofs.outcome.Outcome.TheLaws.{the_row_laws as outcome_laws}
 use Rattle.qx_world.proofs.trace.Unstored.TheLaws.{the_row_laws as unstored_laws}
 use Rattle.qx_world.specs.Lending.{Ends}
-use Rattle.qx_world.specs.Trace.{Trace, IsAfter, IsLast, outcome_of, run_of, wants_memory}
+use Rattle.qx_world.specs.Trace.{Trace, IsAfter, IsLast, outcome_now, run_of, wants_memory}
 use Rattle.qx_world.specs.contracts.trace.Traced.rest as h
 use Rattle.qx_world.proofs.trace.Traced.rest.Met.{met as rests}
 use Rattle.qx_world.specs.contracts.trace.told as k
@@ -149,7 +149,7 @@ step_spec 𝓤 𝓛 𝓜 𝓡 wired =
     returns ! (look_at ! 0 refl) $ free_all ! refl $ keep ! (3 ∷ 0 ∷ 1 ∷ 5 ∷ []) $
     -- [what the trace ends as; the result; the token of κ; the step's end]
     let After : Trace → Type 0 = IsAfter r.now e (is_ok given) in
-    let Given : Type 0 = IfOk given (λ outcome. outcome.now ≡ outcome_of r.now e) in
+    let Given : Type 0 = IfOk given (λ outcome. outcome.now ≡ outcome_now r.now e) in
     let Back : Type 0 = IfErr given (λ unstored. unstored.step ≡ e) in
     let Sure : Type 0 = 0 < r.now.room → IsFalse (wants_memory (run_of r.now).world e) → IsOk given in
     use1 𝓛 (‵ (Ends r After)) (so-weaker 𝓛 R R r.ghost_name none (λ _ _. ⊤) (λ trace. trace ≡ ws.0) After (λ trace ends. told-after r.now ws.0 trace e x given after kind ends)) $
