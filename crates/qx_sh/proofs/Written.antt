@@ -1,5 +1,5 @@
 -- Bytes that are written in several pieces.
-use Rattle.std.proofs.Common.{◌≡◌, ℕ, ◌+◌, ◌-◌, List, [], ◌++◌, Option, Some, None, Result, Ok, Err, OnErr, OnOk, sym, ap, ◌∙◌, arith, take, drop, length, subst, append_assoc, append-nil, take-append-drop}
+use Rattle.std.proofs.Common.{◌≡◌, ℕ, ◌+◌, ◌-◌, List, [], ◌++◌, Option, Result, Ok, Err, OnErr, OnOk, sym, ap, ◌∙◌, arith, take, drop, length, subst, append_assoc, append-nil, take-append-drop}
 use Rattle.std.proofs.Math.Seq.{take-add}
 use Rattle.std.proofs.lemmas.Grind.{common_steps}
 use Rattle.std.specs.Io.KnownBytes.{Appends, Keeps}

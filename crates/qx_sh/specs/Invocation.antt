@@ -7,7 +7,7 @@ use Rattle.clap.specs.Walk.{Text}
 use Rattle.qx_sh.specs.declared.ending.End.{End}
 use Rattle.qx_sh.specs.declared.ending.End.TheVariants.{Done, Input, Output, Words, Line, Memory}
 use Rattle.qx_sh.specs.Options.{AsksFor, AsksForNone}
-use Rattle.qx_sh.specs.Run.{EndsAs}
+use Rattle.qx_sh.specs.Run.{EndsAs, WritesNothing}
 use Rattle.qx_sh.specs.Watched.{Told}
 use Rattle.qx_sh.specs.Written.{AppendsFront, report_text, status_of}
 
@@ -22,15 +22,15 @@ abbrev pub EndsOn : List Text → Told → End → Type 0
 EndsOn words told Done = EndsWithin words told Done
 EndsOn words told Input = EndsWithin words told Input
 EndsOn words told Output = EndsWithin words told Output
-EndsOn words told Words = AsksForNone words × (told.after ≡ told.before)
+EndsOn words told Words = AsksForNone words × WritesNothing told
 EndsOn words told (Line line) = EndsWithin words told (Line line)
-EndsOn words told Memory = told.after ≡ told.before
+EndsOn words told Memory = WritesNothing told
 
 -- how it ends where the words could not be had, for want of memory or since they are no text: nothing is written
-pub record EndsUnread (kind : ErrorKind) (old new : Option (List ℕ)) (end : End) : Type 0 where
+pub record EndsUnread (kind : ErrorKind) (told : Told) (end : End) : Type 0 where
   pub memory : kind ≡ OutOfMemory → end ≡ Memory
   pub words : kind ≢ OutOfMemory → end ≡ Words
-  pub unwritten : new ≡ old
+  pub writes_nothing : WritesNothing told
 
 -- the status is that of an end that came about so; its line is all that was appended to the errors, or a front of it where they have failed
 pub record Exits (Ends : End → Type 0) (old new : Option (List ℕ)) (failed : Bool) (status : ℕ) : Type 0 where

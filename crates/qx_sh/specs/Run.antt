@@ -1,13 +1,14 @@
 -- How a run ends, told by what its reader and its writer tell.
-use Rattle.std.specs.Prelude.{◌≡◌, ◌<◌, ◌≤◌, ◌⊎◌, ℕ, true, List, Option, IfSome, length}
+use Rattle.std.specs.Prelude.{◌≡◌, ◌<◌, ◌≤◌, ◌⊎◌, ℕ, true, List, Option, Result, Err, IfSome, MatchResult, length}
+use Rattle.std.specs.Global.{Vec}
 use Rattle.std.specs.Io.KnownBytes.{Appends}
 use Rattle.qx_types.specs.Configuration.{Configuration}
 use Rattle.qx_script.specs.declared.command.Command.{Command}
 use Rattle.qx_sh.specs.declared.ending.End.{End}
 use Rattle.qx_sh.specs.declared.ending.End.TheVariants.{Done, Input, Output, Words, Line, Memory}
 use Rattle.qx_play.specs.Play.{shown}
-use Rattle.qx_script.specs.Script.{script, Bad, Good}
-use Rattle.qx_sh.specs.Watched.{Told}
+use Rattle.qx_script.specs.Script.{Script, script, Bad, Good}
+use Rattle.qx_sh.specs.Watched.{NoReadFailed, NoWriteFailed, Told}
 use Rattle.qx_sh.specs.Written.{AppendsFront}
 
 -- the script is good, and this is the text that it prints
@@ -30,11 +31,20 @@ pub record WritesAll (limit : ℕ) (told : Told) : Type 0 where
   pub prints : Prints bytes text
   pub appends : Appends told.before told.after text
   pub flushed : told.flushed ≡ true
+  pub no_read_failed : NoReadFailed told
+  pub no_write_failed : NoWriteFailed told
+
+-- nothing was written, and neither the reader nor the writer failed
+pub record WritesNothing (told : Told) : Type 0 where
+  pub unwritten : told.after ≡ told.before
+  pub no_read_failed : NoReadFailed told
+  pub no_write_failed : NoWriteFailed told
 
 -- `Input`: the reader has failed, or has more bytes than the limit, where they are known; nothing was written
 pub record Unread (limit : ℕ) (told : Told) : Type 0 where
   pub cause : (told.read_failed ≡ true) ⊎ IfSome told.there (λ there. limit < length there)
   pub unwritten : told.after ≡ told.before
+  pub no_write_failed : NoWriteFailed told
 
 -- `Output`: a script was read, a write or a flush has failed, or a write took nothing, and a front of the script's text was written
 pub record WritesFront (limit : ℕ) (told : Told) : Type 0 where
@@ -44,13 +54,14 @@ pub record WritesFront (limit : ℕ) (told : Told) : Type 0 where
   pub prints : Prints bytes text
   pub appends : AppendsFront told.before told.after text
   pub has_failed : told.write_failed ≡ true
+  pub no_read_failed : NoReadFailed told
 
--- `Line`: a script was read that is bad, first at this line, and nothing was written
+-- `Line`: a script was read that is bad, first at this line
 pub record RefusedAt (line limit : ℕ) (told : Told) : Type 0 where
   pub bytes : List ℕ
   pub read : IsRead limit told.there bytes
   pub bad : script bytes ≡ Bad line
-  pub unwritten : told.after ≡ told.before
+  pub writes_nothing : WritesNothing told
 
 -- how a run ends, by the most bytes that it may read and what its reader and writer tell; it never refuses words
 abbrev pub EndsAs : ℕ → Told → End → Type 0
@@ -59,7 +70,12 @@ EndsAs limit told Input = Unread limit told
 EndsAs limit told Output = WritesFront limit told
 EndsAs limit told Words = ⊥
 EndsAs limit told (Line line) = RefusedAt line limit told
-EndsAs limit told Memory = told.after ≡ told.before
+EndsAs limit told Memory = WritesNothing told
+
+-- a good script prints its text, or ends for want of memory; a bad one ends at its line
+abbrev pub PlaysAs : Script → Result (Vec ℕ) End → Type 0
+PlaysAs (Good config commands) played = MatchResult played (λ text. text.items ≡ shown config commands) (λ end. end ≡ Memory)
+PlaysAs (Bad line) played = played ≡ Err (Line line)
 
 -- how a script ends that prints nothing
 abbrev pub EndsUnprinted : List ℕ → End → Type 0

@@ -4,9 +4,8 @@ ghost use Rattle.qx_sh.specs.Watched.{has_failed, held};
 ghost use Rattle.qx_sh.specs.Written.{AppendsFront, report_text, status_of};
 
 use crate::streams::write_out;
-use crate::watched::{Watched, WriteFailed};
+use crate::watched::{Sink, Watched, WriteFailed};
 use itoa::Buffer;
-use std::io::Write;
 
 /// How the program ended.
 #[derive(Clone, Copy, Debug, PartialEq, Eq)]
@@ -40,7 +39,7 @@ impl End {
 }
 
 /// Writes the line that tells the end; after `Done` there is none. Where a write fails, a front of it is written.
-pub fn report<W: Write>(end: &End, writer: &mut Watched<W>)
+pub fn report<W: Sink>(end: &End, writer: &mut Watched<W>)
     ensures whole { has_failed writer.new ≡ false → Appends (held W.contents writer.old) (held W.contents writer.new) (report_text end.now) }
     ensures front { AppendsFront (held W.contents writer.old) (held W.contents writer.new) (report_text end.now) }
 {
@@ -48,7 +47,7 @@ pub fn report<W: Write>(end: &End, writer: &mut Watched<W>)
 }
 
 /// Writes the line that tells the end.
-fn write_report<W: Write>(end: &End, writer: &mut Watched<W>) -> Result<(), WriteFailed>
+fn write_report<W: Sink>(end: &End, writer: &mut Watched<W>) -> Result<(), WriteFailed>
     ensures whole { OnOk result (Appends (held W.contents writer.old) (held W.contents writer.new) (report_text end.now)) }
     ensures front { OnErr result (AppendsFront (held W.contents writer.old) (held W.contents writer.new) (report_text end.now)) }
     ensures failed { OnErr result (has_failed writer.new ≡ true) }
@@ -64,7 +63,7 @@ fn write_report<W: Write>(end: &End, writer: &mut Watched<W>) -> Result<(), Writ
 }
 
 /// Writes the line that tells of a bad line.
-fn write_line<W: Write>(line: u64, writer: &mut Watched<W>) -> Result<(), WriteFailed>
+fn write_line<W: Sink>(line: u64, writer: &mut Watched<W>) -> Result<(), WriteFailed>
     ensures whole { OnOk result (Appends (held W.contents writer.old) (held W.contents writer.new) (codes "qnxsh: line " ++ decimal line ++ codes "\n")) }
     ensures front { OnErr result (AppendsFront (held W.contents writer.old) (held W.contents writer.new) (codes "qnxsh: line " ++ decimal line ++ codes "\n")) }
     ensures failed { OnErr result (has_failed writer.new ≡ true) }
@@ -75,7 +74,7 @@ fn write_line<W: Write>(line: u64, writer: &mut Watched<W>) -> Result<(), WriteF
 }
 
 /// Writes a number.
-fn write_number<W: Write>(number: u64, writer: &mut Watched<W>) -> Result<(), WriteFailed>
+fn write_number<W: Sink>(number: u64, writer: &mut Watched<W>) -> Result<(), WriteFailed>
     ensures whole { OnOk result (Appends (held W.contents writer.old) (held W.contents writer.new) (decimal number)) }
     ensures front { OnErr result (AppendsFront (held W.contents writer.old) (held W.contents writer.new) (decimal number)) }
     ensures failed { OnErr result (has_failed writer.new ≡ true) }

@@ -1,21 +1,23 @@
-ghost use Rattle.std.specs.Prelude.{◌≡◌, ◌≢◌, MatchResult, map};
+ghost use Rattle.std.specs.Prelude.{◌≡◌, ◌≢◌, IfOk, IsErrOf, MatchResult, OnErr, map};
 ghost use Rattle.std.specs.IoError.{error_kind};
 ghost use Rattle.qx_sh.specs.Invocation.{EndsOn, EndsUnread, Exits};
+ghost use Rattle.qx_sh.specs.Run.{EndsAs, WritesNothing};
 ghost use Rattle.qx_sh.specs.Watched.{has_failed, held, told_by};
 
 use crate::ending::{End, report};
+use crate::limit::Options;
 use crate::options::{OptionsFault, options};
 use crate::run::run;
-use crate::watched::Watched;
+use crate::watched::{Sink, Source, Watched};
 use std::alloc::Global;
 use std::convert::AsStr;
 use std::io;
-use std::io::{ErrorKind, Read, Write};
+use std::io::ErrorKind;
 
 /// The whole shell: takes the words of the command line, or the error for which they could not be had, runs the script
 /// from the input, writes its text to the output and one line on any other end than `Done` to the errors. Returns the
 /// exit status.
-pub fn invoke<S: AsStr + Drop, R: Read, W: Write, E: Write>(
+pub fn invoke<S: AsStr + Drop, R: Source, W: Sink, E: Sink>(
     alloc: Global,
     words: io::Result<Vec<S>>,
     input: &mut Watched<R>,
@@ -24,7 +26,7 @@ pub fn invoke<S: AsStr + Drop, R: Read, W: Write, E: Write>(
 ) -> u8
     ensures exit { Exits (λ end. MatchResult words
         (λ words. EndsOn (map S.text words.items) (told R.remaining W.contents input.old input.new output.old output.new) end)
-        (λ error. EndsUnread (error_kind error) (held W.contents output.old) (held W.contents output.new) end))
+        (λ error. EndsUnread (error_kind error) (told R.remaining W.contents input.old input.new output.old output.new) end))
         (held E.contents errors.old) (held E.contents errors.new) (has_failed errors.new) result }
 {
     let end = end_of(alloc, words, input, output);
@@ -33,7 +35,7 @@ pub fn invoke<S: AsStr + Drop, R: Read, W: Write, E: Write>(
 }
 
 /// How the shell ends, before that is reported.
-fn end_of<S: AsStr + Drop, R: Read, W: Write>(
+fn end_of<S: AsStr + Drop, R: Source, W: Sink>(
     alloc: Global,
     words: io::Result<Vec<S>>,
     input: &mut Watched<R>,
@@ -41,24 +43,27 @@ fn end_of<S: AsStr + Drop, R: Read, W: Write>(
 ) -> End
     ensures ends { MatchResult words
         (λ words. EndsOn (map S.text words.items) (told R.remaining W.contents input.old input.new output.old output.new) result)
-        (λ error. EndsUnread (error_kind error) (held W.contents output.old) (held W.contents output.new) result) }
+        (λ error. EndsUnread (error_kind error) (told R.remaining W.contents input.old input.new output.old output.new) result) }
 {
     match words {
-        Ok(words) => run_as_asked(alloc, &words, input, output),
+        Ok(words) => run_as_asked(alloc, options(alloc, &words), input, output),
         Err(error) => unread(&error),
     }
 }
 
-/// How the shell ends on these words.
-fn run_as_asked<S: AsStr, R: Read, W: Write>(
+/// How the shell ends with these options, or where the words give none.
+fn run_as_asked<R: Source, W: Sink>(
     alloc: Global,
-    words: &[S],
+    options: Result<Options, OptionsFault>,
     input: &mut Watched<R>,
     output: &mut Watched<W>,
 ) -> End
-    ensures ends { EndsOn (map S.text words.now) (told_by R.remaining W.contents input.old input.new output.old output.new) result }
+    ensures ran { IfOk options (λ options. EndsAs options.limit (told_by R.remaining W.contents input.old input.new output.old output.new) result) }
+    ensures words { IsErrOf options OptionsFault.Words → result ≡ End.Words }
+    ensures memory { IsErrOf options OptionsFault.NoMemory → result ≡ End.Memory }
+    ensures writes_nothing { OnErr options (WritesNothing (told_by R.remaining W.contents input.old input.new output.old output.new)) }
 {
-    match options(alloc, words) {
+    match options {
         Ok(options) => run(alloc, input, output, &options),
         Err(OptionsFault::Words) => End::Words,
         Err(OptionsFault::NoMemory) => End::Memory,

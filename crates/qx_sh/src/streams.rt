@@ -1,12 +1,11 @@
-ghost use Rattle.std.specs.Prelude.{[], ◌≡◌, true, ◌+◌, ◌^◌, ◌<◌, ◌≤◌, IfOk, IfSome, IsErrOf, IsOk, OnErr, OnOk, drop, length};
+ghost use Rattle.std.specs.Prelude.{[], ◌≡◌, ◌≢◌, true, ◌+◌, ◌^◌, ◌<◌, ◌≤◌, IfOk, IfSome, Err, IsErrOf, IsOk, OnErr, OnOk, drop, length};
 ghost use Rattle.std.specs.Io.{StartsWith};
 ghost use Rattle.std.specs.Io.KnownBytes.{Appends, Consumes, IsAtEnd};
 ghost use Rattle.qx_sh.specs.Watched.{has_failed, held};
 ghost use Rattle.qx_sh.specs.Written.{AppendsFront};
 
-use crate::watched::{Watched, WriteFailed};
+use crate::watched::{Sink, Source, Watched, WriteFailed};
 use std::alloc::Global;
-use std::io::{Read, Write};
 
 /// Why not all was read.
 #[derive(Clone, Copy, Debug, PartialEq, Eq)]
@@ -23,7 +22,7 @@ pub enum ReadFault {
 const CHUNK: usize = 4096;
 
 /// Reads to the end, where that comes after at most `limit` bytes.
-pub fn read_all<R: Read>(
+pub fn read_all<R: Source>(
     alloc: Global,
     reader: &mut Watched<R>,
     limit: usize,
@@ -34,6 +33,7 @@ pub fn read_all<R: Read>(
     ensures at_end { OnOk result (IsAtEnd (held R.remaining reader.new)) }
     ensures too_long { IsErrOf result ReadFault.TooLong → IfSome (held R.remaining reader.old) (λ bytes. limit < length bytes) }
     ensures failed { IsErrOf result ReadFault.Failed → has_failed reader.new ≡ true }
+    ensures no_worse { result ≢ Err ReadFault.Failed → has_failed reader.new ≡ has_failed reader.old }
 {
     let mut text = Vec::new(alloc);
     'reads: while text.len() <= limit {
@@ -46,7 +46,7 @@ pub fn read_all<R: Read>(
 }
 
 /// Reads once, at most one byte past the limit, and says how many bytes that gave.
-fn read_more<R: Read>(
+fn read_more<R: Source>(
     reader: &mut Watched<R>,
     text: &mut Vec<u8>,
     limit: usize,
@@ -60,6 +60,7 @@ fn read_more<R: Read>(
     ensures at_end { IfOk result (λ count. count ≡ 0 → IsAtEnd (held R.remaining reader.new)) }
     ensures not_long { IsErrOf result ReadFault.TooLong → ⊥ }
     ensures failed { IsErrOf result ReadFault.Failed → has_failed reader.new ≡ true }
+    ensures no_worse { result ≢ Err ReadFault.Failed → has_failed reader.new ≡ has_failed reader.old }
 {
     let mut chunk = [0; CHUNK];
     let room = CHUNK.min(limit + 1 - text.len());
@@ -73,7 +74,7 @@ fn read_more<R: Read>(
 }
 
 /// Writes all bytes, or a front of them. Where there are none it does not fail.
-pub fn write_out<W: Write>(writer: &mut Watched<W>, bytes: &[u8]) -> Result<(), WriteFailed>
+pub fn write_out<W: Sink>(writer: &mut Watched<W>, bytes: &[u8]) -> Result<(), WriteFailed>
     ensures whole { OnOk result (Appends (held W.contents writer.old) (held W.contents writer.new) bytes.now) }
     ensures front { OnErr result (AppendsFront (held W.contents writer.old) (held W.contents writer.new) bytes.now) }
     ensures nothing { bytes.now ≡ [] → IsOk result }

@@ -13,7 +13,7 @@ fn opens_the_root(rt: HostRuntime) -> Result<(), NoMemory> {
         flags: OFlags::READ,
         mode: 0,
     };
-    let answer = ask(&mut traced, first_thread(User(1)), open, 5)?;
-    assert!(rt; answer == Outcome::Reply(3, MessageBytes::inline(rt.alloc(), b"")));
+    assert!(rt; ask(&mut traced, first_thread(User(1)), open, 5).is_ok());
+    assert!(rt; *traced.last() == Outcome::Reply(3, MessageBytes::inline(rt.alloc(), b"")));
     Ok(())
 }

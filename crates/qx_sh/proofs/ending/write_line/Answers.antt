@@ -13,10 +13,10 @@ returns-in_err-write_number-clause-front g c =
 
 pub returns-clause-whole : goal.returns-clause-whole
 returns-clause-whole g c =
-    whole_second c.write_out-2.result _ (held g.W.Write.contents c.write_number.new.writer) (held g.W.Write.contents c.write_out-2.new.writer) (codes "qnxsh: line " ++ decimal c.args.line) (codes "\n")
+    whole_second c.write_out-2.result _ (held g.W.Sink.contents c.write_number.new.writer) (held g.W.Sink.contents c.write_out-2.new.writer) (codes "qnxsh: line " ++ decimal c.args.line) (codes "\n")
     (Appends-trans _ _ _ (codes "qnxsh: line ") (decimal c.args.line) c.in_ok-write_out.ensures.whole c.in_ok-write_number.ensures.whole) c.write_out-2.ensures.whole
 
 pub returns-clause-front : goal.returns-clause-front
 returns-clause-front g c =
-    front_last c.write_out-2.result _ (held g.W.Write.contents c.write_number.new.writer) (held g.W.Write.contents c.write_out-2.new.writer) (codes "qnxsh: line " ++ decimal c.args.line) (codes "\n")
+    front_last c.write_out-2.result _ (held g.W.Sink.contents c.write_number.new.writer) (held g.W.Sink.contents c.write_out-2.new.writer) (codes "qnxsh: line " ++ decimal c.args.line) (codes "\n")
     (Appends-trans _ _ _ (codes "qnxsh: line ") (decimal c.args.line) c.in_ok-write_out.ensures.whole c.in_ok-write_number.ensures.whole) c.write_out-2.ensures.front

@@ -6,7 +6,7 @@ use Rattle.qx_sh.proofs.streams.write_out.Given as goal
 abbrev pub invariant-writes : goal.invariant-writes
 invariant-writes g l = record {
   within : l.written ≤ length l.bytes;
-  appends : Appends (held g.W.Write.contents l.initial.writer) (held g.W.Write.contents l.writer) (take l.written l.bytes);
+  appends : Appends (held g.W.Sink.contents l.initial.writer) (held g.W.Sink.contents l.writer) (take l.written l.bytes);
   no_worse : has_failed l.writer ≡ has_failed l.initial.writer;
 }
 
