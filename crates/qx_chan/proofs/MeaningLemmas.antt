@@ -6,7 +6,7 @@ use Rattle.qx_wire.specs.declared.message.Meaning.{Meaning}
 use Rattle.qx_wire.specs.declared.message.Meaning.TheVariants.{Known, Unknown, Malformed}
 use Rattle.qx_wire.specs.Reading.{cut, judged, meaning}
 use Rattle.qx_wire.specs.Table.{in_ranges}
-use Rattle.qx_resources.specs.Memory.{IsInRanges}
+use Rattle.qx_resources.specs.Ranges.{IsInRanges}
 
 -- bytes mean no message whose values are out of their ranges
 judged-in_ranges : (given : Meaning) → IsInRanges (judged given)

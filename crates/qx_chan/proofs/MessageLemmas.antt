@@ -12,18 +12,18 @@ use Rattle.qx_machine.specs.Parts.{Part, thread_at, thread_of}
 use Rattle.qx_machine.specs.Performing.{caller_of, deed_of, or_kept, serve_message, served_by, taken_in}
 use Rattle.qx_machine.specs.Processes.{Process, served_state, served_thread, with_thread}
 use Rattle.qx_machine.specs.Rows.{row_at}
+use Rattle.qx_machine.specs.Wants.{bytes_want_memory, thread_wants_memory}
 use Rattle.qx_process.specs.Reads.{unserved_state, unserved_thread}
 use Rattle.qx_queues.specs.Queues.{caller, has_answer_among}
 use Rattle.qx_shared.specs.Shared.{IsReceived, Shared, waiting_in}
 use Rattle.qx_resmgr.specs.Deeds.{HasRoomAfter, IsReplied}
 use Rattle.qx_resmgr.specs.declared.functions.Done.{Done}
 use Rattle.qx_resmgr.specs.declared.functions.Done.TheVariants.{NoReply, Reply}
-use Rattle.qx_resources.specs.Memory.{bytes_want_memory}
 use Rattle.qx_resources.specs.State as state
 use Rattle.qx_resources.specs.State.{told}
 use Rattle.qx_chan.specs.Calls.{taken_bytes, taken_call}
 use Rattle.qx_chan.specs.Kept.{StandTogether}
-use Rattle.qx_chan.specs.Serving.{Sends, Serves, caller_of_call, deed_in, part_in, part_wants_memory, process_wants_memory, row_wants_memory, sent_wants_memory}
+use Rattle.qx_chan.specs.Serving.{Sends, Serves, caller_of_call, deed_in, part_in}
 use Rattle.qx_chan.specs.Users.{Users, process_of_user, process_of, thread_row, with_thread_row}
 use Rattle.qx_chan.specs.declared.call.Call.{Call}
 use Rattle.qx_chan.proofs.AnswerLemmas.{taken-stands, taken-unwaiting}
@@ -151,13 +151,10 @@ module _ (thread : Thread) (moment : ℕ) where
 
 -- doing a received message may want memory, where its function may and the message is done
 pub received-wants : (users : Users) (queues : Shared) (k : state.Kept) (thread : Thread) (call : Call) (its : Received users thread call) → k.user ≡ thread.proc.user.0 → (moment : ℕ)
-    → part_wants_memory thread moment (part_in (shown users queues) k) ≡ (bytes_want_memory call.target.manager (meaning its.sent.bytes) && is_ok (deed_in k queues its.process thread call moment its.sent.bytes))
+    → thread_wants_memory (part_in (shown users queues) k) thread.proc.num thread.tid moment ≡ (bytes_want_memory call.target.manager (meaning its.sent.bytes) && is_ok (deed_in k queues its.process thread call moment its.sent.bytes))
 received-wants users queues k thread call its of moment =
-    ap (λ row. part_wants_memory thread moment (option_map (λ processes. record { processes = processes; resources = told k queues }) row)) (ap (row_at users) of ∙ its.user)
-    ∙ ap (process_wants_memory (told k queues) thread moment) its.there
-    ∙ ap (row_wants_memory (told k queues) its.process thread moment) its.at
-    ∙ ap (sent_wants_memory (told k queues) its.process thread its.row moment) (ap taken_in its.is)
-    ∙ ap (λ (call : Call). bytes_want_memory call.target.manager (meaning its.sent.bytes) && is_ok (deed_in k queues its.process thread call moment its.sent.bytes)) its.call_is
+    rw (ap (row_at users) of ∙ its.user, its.there, its.at, ap taken_in its.is)
+    (ap (λ (call : Call). bytes_want_memory call.target.manager (meaning its.sent.bytes) && is_ok (deed_in k queues its.process thread call moment its.sent.bytes)) its.call_is)
 
 -- the room for a reply is there still, where there is a reply
 pub room-there : {R : Type 0} (before room : Option R) (given : Result Done Errno) → IsSome before → HasRoomAfter before room given → IsReplied given → IsSome room

@@ -9,15 +9,16 @@ ghost use Rattle.qx_machine.specs.Machine.{line_without};
 ghost use Rattle.qx_machine.specs.Performing.{or_kept, serve_message, serve_pulse};
 ghost use Rattle.qx_machine.specs.Processes as machine;
 ghost use Rattle.qx_machine.specs.Processes.{served_thread};
+ghost use Rattle.qx_machine.specs.Wants.{bytes_want_memory, thread_wants_memory};
 ghost use Rattle.qx_machine.specs.declared.rows.OwnItem.TheVariants as item;
 ghost use Rattle.qx_queues.specs.Queues.{unblock_call};
 ghost use Rattle.qx_shared.specs.Shared.{IsReceived, shared_line};
 ghost use Rattle.qx_resmgr.specs.Deeds.{Did, IsReplied};
-ghost use Rattle.qx_resources.specs.Memory.{IsInRanges, bytes_want_memory};
+ghost use Rattle.qx_resources.specs.Ranges.{IsInRanges};
 ghost use Rattle.qx_resources.specs.State.{HasUser, state};
 ghost use Rattle.qx_chan.specs.Answers.{answered_queues, answered_users};
 ghost use Rattle.qx_chan.specs.Calls.{taken_call, taken_of};
-ghost use Rattle.qx_chan.specs.Serving.{IsReadOf, Sends, Serves, caller_of_call, deed_in, part_in, part_wants_memory};
+ghost use Rattle.qx_chan.specs.Serving.{IsReadOf, Sends, Serves, caller_of_call, deed_in, part_in};
 ghost use Rattle.qx_chan.specs.Users.{thread_row, with_thread_row};
 
 use crate::answers::give_answers;
@@ -53,7 +54,7 @@ impl Channel {
         requires read { IsReadOf (option_copied read) (taken_of (thread_row self.old.users thread)) }
         ensures ok { OnOk result (Serves self.old self.new resources.old resources.new (λ part. or_kept part (serve_message part thread.proc.num thread.tid moment))) }
         ensures err { OnErr result ((self.new ≡ self.old) × (resources.new ≡ resources.old)) }
-        ensures sure { IsFalse (part_wants_memory thread moment (part_in self.old resources.old)) → IsOk result }
+        ensures sure { IsFalse (thread_wants_memory (part_in self.old resources.old) thread.proc.num thread.tid moment) → IsOk result }
     {
         let Some(call) = self.taken(thread) else {
             return Ok(());

@@ -11,7 +11,7 @@ use Rattle.qx_types.specs.declared.outcome.Answer.{Answer}
 use Rattle.qx_types.specs.declared.outcome.Outcome.{Outcome}
 use Rattle.qx_types.specs.declared.outcome.Outcome.TheVariants.{WrongState}
 use Rattle.qx_types.specs.declared.step.Step.{Step}
-use Rattle.qx_types.specs.declared.step.Step.TheVariants.{Spawn, Call, TakeReply, SetPrio, Interrupt, Mount, Receive, Perform}
+use Rattle.qx_types.specs.declared.step.Step.TheVariants.{Spawn, Call, TakeReply, SetPrio, Interrupt, Mount}
 use Rattle.qx_wire.specs.declared.message.Meaning.{Meaning}
 use Rattle.qx_wire.specs.declared.message.Meaning.TheVariants.{Known, Unknown, Malformed}
 use Rattle.qx_wire.specs.Reading.{meaning}
@@ -48,9 +48,10 @@ use Rattle.qx_types.specs.Step.{actor_of, user_of}
 use Rattle.qx_types.specs.declared.names.Actor.{Actor}
 use Rattle.qx_machine.specs.declared.rows.Held.{Held}
 use Rattle.qx_machine.specs.declared.rows.Queued.{Queued}
-use Rattle.qx_machine.specs.Machine.{After, World, boot, boot_parts, client_step, is_worker, line_of, own_held, perform_hand, performed_part, receive_hand, receive_line, received_part, server_step, step, step_end, step_of, with_empty_hand, with_taken}
+use Rattle.qx_machine.specs.Machine.{World, boot, boot_parts, client_step, own_held, performed_part, received_part, server_step, step, step_end, step_of, with_empty_hand, with_taken}
 use Rattle.qx_machine.specs.Runs.{run, world_after}
 use Rattle.qx_machine.proofs.Places.{row_at-set_cases, row_at-set_other}
+use Rattle.qx_machine.proofs.Workers.{server_leaves}
 use Rattle.qx_machine.specs.declared.rows.OwnItem.TheVariants as item
 use Rattle.qx_machine.specs.declared.rows.State.TheVariants as state
 
@@ -194,17 +195,9 @@ module _ (P : ℕ → Part → Type 0) (keeps : IsKept P) where
       let given = client w.config user (own_held user w.hands) part e in
       end-holds user part given.part given.changes w h (keeps.client_step w.config user (own_held user w.hands) part e (h user part is))
 
-  received-holds : (w : World) (first : Queued) (row : Option Part) → row_at w.parts first.user.0 ≡ row → HoldsIn w.parts → HoldsIn (received_part w first row).parts
-  received-holds w first None is h = h
-  received-holds w first (Some part) is h = end-holds first.user.0 part (take part first.item) [] w h (keeps.taking first.user.0 part first.item (h first.user.0 part is))
-
-  line-holds : (w : World) (worker : ℕ) (manager : Manager) (line : List Queued) → HoldsIn w.parts → HoldsIn (receive_line w worker manager line).world.parts
-  line-holds w worker manager [] h = h
-  line-holds w worker manager (first ∷ rest) h = received-holds (with_taken w worker first rest manager) first (row_at w.parts first.user.0) refl h
-
-  hand-holds : (w : World) (worker : ℕ) (manager : Manager) (hand : Option Held) → HoldsIn w.parts → HoldsIn (receive_hand w worker manager hand).world.parts
-  hand-holds w worker manager None h = line-holds w worker manager (line_of w manager) h
-  hand-holds w worker manager (Some held) h = h
+  received-holds : (w : World) (taken : Held) (row : Option Part) → row_at w.parts taken.user.0 ≡ row → HoldsIn w.parts → HoldsIn (received_part w taken row).parts
+  received-holds w taken None is h = h
+  received-holds w taken (Some part) is h = end-holds taken.user.0 part (take part taken.item) [] w h (keeps.taking taken.user.0 part taken.item (h taken.user.0 part is))
 
   performed-holds : (w : World) (held : Held) (moment : ℕ) (row : Option Part) → row_at w.parts held.user.0 ≡ row → HoldsIn w.parts → HoldsIn (performed_part w held moment row).parts
   performed-holds w held moment None is h = h
@@ -213,16 +206,10 @@ module _ (P : ℕ → Part → Type 0) (keeps : IsKept P) where
       let given = serve w.config user (own_held user w.hands) part held.item moment in
       end-holds user part given.part given.changes w h (keeps.serving w.config user (own_held user w.hands) part held.item moment (h user part is))
 
-  perform-holds : (w : World) (worker moment : ℕ) (hand : Option Held) → HoldsIn w.parts → HoldsIn (perform_hand w worker moment hand).world.parts
-  perform-holds w worker moment None h = h
-  perform-holds w worker moment (Some held) h = performed-holds (with_empty_hand w worker) held moment (row_at w.parts held.user.0) refl h
-
   server-holds : (w : World) (e : Step) → HoldsIn w.parts → HoldsIn (server_step w e).world.parts
-  server-holds w (Receive worker manager) h =
-      cond_both {A = After} (is_worker w.config worker.0) _ _ (λ after. HoldsIn after.world.parts) (λ is. hand-holds w worker.0 manager (row_at w.hands worker.0) h) (λ is. h)
-  server-holds w (Perform worker moment) h =
-      cond_both {A = After} (is_worker w.config worker.0) _ _ (λ after. HoldsIn after.world.parts) (λ is. perform-holds w worker.0 moment (row_at w.hands worker.0) h) (λ is. h)
-  server-holds w _ h = h
+  server-holds w e h = server_leaves w e (λ v. HoldsIn v.parts) h
+      (λ worker manager taken. received-holds (with_taken w worker manager taken) taken (row_at w.parts taken.user.0) refl h)
+      (λ worker moment held. performed-holds (with_empty_hand w worker) held moment (row_at w.parts held.user.0) refl h)
 
   step_of-holds : (w : World) (e : Step) (actor : Option Actor) → HoldsIn w.parts → HoldsIn (step_of w e actor).world.parts
   step_of-holds w e None h = server-holds w e h

@@ -1,6 +1,6 @@
 -- What a user's changes of a line do to the items of that user and of others.
 use Rattle.std.proofs.Common.{◌≡◌, eq-eqb, ℕ, ◌≤◌, List, [], ◌∷◌, true, false, refl, sym, ap, ◌∙◌, arith, zero, suc}
-use Rattle.std.specs.Prelude.{◌==◌, ◌&&◌, All, Option, Some, None, map, slice_set}
+use Rattle.std.specs.Prelude.{◌==◌, ◌&&◌, All, Option, Some, None, drop, map, slice_set}
 use Rattle.std.proofs.lemmas.List.{map-set}
 use Rattle.std.proofs.lemmas.Bool.{cond_both}
 use Rattle.std.proofs.lemmas.Bool.Decides.{nat_tests}
@@ -119,5 +119,14 @@ own_hand-emptied user worker hands = map-set (own_hand user) hands worker None
 pub own_hand-emptied_other : (user worker : ℕ) (held : Held) (hands : List (Option Held)) → row_at hands worker ≡ Some held → (held.user.0 == user) ≡ false → map (own_hand user) (slice_set hands worker None) ≡ map (own_hand user) hands
 own_hand-emptied_other user worker held hands holds differ = map-set_unseen (own_hand user) hands worker None None (rw (holds, differ) refl)
 
-pub own_lines-rest : (user number : ℕ) (first : Queued) (rest : List Queued) (lines : List (List Queued)) → line_at lines number ≡ first ∷ rest → (first.user.0 == user) ≡ false → map (own_line user) (slice_set lines number rest) ≡ map (own_line user) lines
-own_lines-rest user number first rest lines is differ = map-set_unseen (own_line user) lines number [] rest (rw (is, differ) refl)
+-- a line without its first item
+pub own_lines-rest : (user number : ℕ) (first : Queued) (rest : List Queued) (lines : List (List Queued)) → line_at lines number ≡ first ∷ rest → (first.user.0 == user) ≡ true
+    → map (own_line user) (with_line lines number (drop 1)) ≡ with_line (map (own_line user) lines) number (drop 1)
+own_lines-rest user number first rest lines is own =
+    let line : drop 1 (own_line user (line_at lines number)) ≡ own_line user (drop 1 (line_at lines number)) = rw (is, own) refl in
+    map-set (own_line user) lines number (drop 1 (line_at lines number))
+    ∙ ap (slice_set (map (own_line user) lines) number) (sym line ∙ ap (drop 1) (sym (at-map (own_line user) lines number [] [] refl)))
+
+pub own_lines-rest_other : (user number : ℕ) (first : Queued) (rest : List Queued) (lines : List (List Queued)) → line_at lines number ≡ first ∷ rest → (first.user.0 == user) ≡ false
+    → map (own_line user) (with_line lines number (drop 1)) ≡ map (own_line user) lines
+own_lines-rest_other user number first rest lines is differ = map-set_unseen (own_line user) lines number [] (drop 1 (line_at lines number)) (rw (is, differ) refl)

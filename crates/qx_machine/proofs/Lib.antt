@@ -22,3 +22,5 @@ pub mod Steps
 pub mod Views
 -- who waits in pipes, and who is answered
 pub mod Waiters
+-- a worker's step, by the item that it takes or does
+pub mod Workers

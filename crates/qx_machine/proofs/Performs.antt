@@ -1,16 +1,16 @@
 -- What a worker's performing does to the view of the item's user, and to the views of others.
-use Rattle.std.proofs.Common.{◌≡◌, ℕ, Bool, true, false, refl, sym, ap, subst, ◌∙◌}
-use Rattle.std.specs.Prelude.{◌==◌, Option, Some, None, if◌then◌else◌, option_map, map, slice_set}
-use Rattle.std.proofs.lemmas.Bool.{eqb-true, false≢true}
-use Rattle.qx_types.specs.declared.outcome.Outcome.TheVariants.{WrongState, Handled}
+use Rattle.std.proofs.Common.{◌≡◌, ℕ, true, false, refl, sym, ap, subst, ◌∙◌}
+use Rattle.std.specs.Prelude.{◌==◌, Option, Some, None, Ok, map, slice_set}
+use Rattle.std.proofs.lemmas.Bool.{eqb-true}
+use Rattle.qx_types.specs.declared.outcome.Outcome.TheVariants.{Handled}
 use Rattle.qx_machine.specs.declared.rows.Held.{Held}
-use Rattle.qx_machine.specs.Machine.{World, boot, own_held, own_hand, own_line, same_world, with_empty_hand, serve_end, performed_part, perform_hand, view}
+use Rattle.qx_machine.specs.Machine.{World, boot, own_held, own_line, item_to_do, with_empty_hand, serve_end, performed_part, view}
 use Rattle.qx_machine.specs.Rows.{row_at}
-use Rattle.qx_machine.specs.Runs.{is_owner}
 use Rattle.qx_machine.specs.Parts.{Part}
 use Rattle.qx_machine.specs.Users.{serve}
 use Rattle.qx_machine.proofs.Changes.{own_held-view, own_hand-emptied, own_hand-emptied_other}
-use Rattle.qx_machine.proofs.Views.{IsReached, viewed, row_at-view, row_at-hands, acted_self, acted_other, reached_acted}
+use Rattle.qx_machine.proofs.Views.{IsReached, viewed, row_at-view, acted_self, acted_other, reached_acted}
+use Rattle.qx_machine.proofs.Workers.{after_doing, holds}
 
 emptied_own : (w : World) (user worker : ℕ) → view user (with_empty_hand w worker) ≡ with_empty_hand (view user w) worker
 unfolding view
@@ -56,39 +56,18 @@ reached_served w held moment (Some part) h =
     let given = serve w.config held.user.0 (own_held held.user.0 w.hands) part held.item moment in
     reached_acted held.user.0 part given.part given.changes w h
 
-abbrev pub holder : Option Held → Option ℕ
-holder hand = option_map (λ held. held.user.0) hand
-
-perform_hand_own : (w : World) (user worker moment : ℕ) (hand : Option Held) → IsReached w → is_owner user (holder hand) ≡ true → perform_hand (view user w) worker moment (own_hand user hand) ≡ viewed user (perform_hand w worker moment hand)
-perform_hand_own w user worker moment None h own = absurd (false≢true own)
-perform_hand_own w user worker moment (Some held) h own =
+pub perform_own : (w : World) (user worker moment : ℕ) (held : Held) → IsReached w → (held.user.0 == user) ≡ true → after_doing (view user w) worker moment held ≡ viewed user (after_doing w worker moment held)
+perform_own w user worker moment held h own =
     let same : held.user.0 ≡ user = eqb-true held.user.0 user own in
     let emptied = emptied_own w user worker in
     let row = row_at-view user held.user.0 w h same in
-    rw own (ap (λ world. record { world = world; outcome = Handled })
+    ap (λ world. record { world = world; outcome = Handled })
     ((λ i. performed_part (sym emptied i) held moment (row i))
-    ∙ served_own (with_empty_hand w worker) user held moment (row_at w.parts held.user.0) (reached_emptied w worker h) same))
+    ∙ served_own (with_empty_hand w worker) user held moment (row_at w.parts held.user.0) (reached_emptied w worker h) same)
 
-pub perform_worker_own : (w : World) (user worker moment : ℕ) (is_one : Bool) → IsReached w → is_owner user (if is_one then holder (row_at w.hands worker) else None) ≡ true
-    → (if is_one then perform_hand (view user w) worker moment (row_at (view user w).hands worker) else same_world (view user w) WrongState)
-    ≡ viewed user (if is_one then perform_hand w worker moment (row_at w.hands worker) else same_world w WrongState)
-perform_worker_own w user worker moment true h own = rw (row_at-hands user w worker) (perform_hand_own w user worker moment (row_at w.hands worker) h own)
-perform_worker_own w user worker moment false h own = absurd (false≢true own)
+pub perform_other : (w : World) (user worker moment : ℕ) (held : Held) → item_to_do w worker ≡ Ok held → (held.user.0 == user) ≡ false → view user (after_doing w worker moment held).world ≡ view user w
+perform_other w user worker moment held is differ =
+    served_other (with_empty_hand w worker) user held moment (row_at w.parts held.user.0) differ ∙ emptied_other w user worker held (holds w worker held is) differ
 
-perform_hand_other : (w : World) (user worker moment : ℕ) (hand : Option Held) → row_at w.hands worker ≡ hand → is_owner user (holder hand) ≡ false → view user (perform_hand w worker moment hand).world ≡ view user w
-perform_hand_other w user worker moment None holds differ = refl
-perform_hand_other w user worker moment (Some held) holds differ =
-    served_other (with_empty_hand w worker) user held moment (row_at w.parts held.user.0) differ ∙ emptied_other w user worker held holds differ
-
-pub perform_worker_other : (w : World) (user worker moment : ℕ) (is_one : Bool) → is_owner user (if is_one then holder (row_at w.hands worker) else None) ≡ false
-    → view user (if is_one then perform_hand w worker moment (row_at w.hands worker) else same_world w WrongState).world ≡ view user w
-perform_worker_other w user worker moment true differ = perform_hand_other w user worker moment (row_at w.hands worker) refl differ
-perform_worker_other w user worker moment false differ = refl
-
-reached_performed : (w : World) (worker moment : ℕ) (hand : Option Held) → IsReached w → IsReached (perform_hand w worker moment hand).world
-reached_performed w worker moment None h = h
-reached_performed w worker moment (Some held) h = reached_served (with_empty_hand w worker) held moment (row_at w.parts held.user.0) (reached_emptied w worker h)
-
-pub reached_perform : (w : World) (worker moment : ℕ) (is_one : Bool) → IsReached w → IsReached (if is_one then perform_hand w worker moment (row_at w.hands worker) else same_world w WrongState).world
-reached_perform w worker moment true h = reached_performed w worker moment (row_at w.hands worker) h
-reached_perform w worker moment false h = h
+pub reached_perform : (w : World) (worker moment : ℕ) (held : Held) → IsReached w → IsReached (after_doing w worker moment held).world
+reached_perform w worker moment held h = reached_served (with_empty_hand w worker) held moment (row_at w.parts held.user.0) (reached_emptied w worker h)

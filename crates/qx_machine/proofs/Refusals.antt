@@ -1,31 +1,28 @@
 -- What a step that is refused leaves as it was: everything.
-use Rattle.std.proofs.Common.{◌≡◌, ℕ, List, [], ◌∷◌, Bool, true, false, refl, sym, ap, ◌∙◌}
-use Rattle.std.specs.Prelude.{⊤, Option, Some, None, Result, Ok, Err, slice_set, if◌then◌else◌}
+use Rattle.std.proofs.Common.{◌≡◌, ℕ, List, [], true, false, refl, sym, ap, ◌∙◌}
+use Rattle.std.specs.Prelude.{⊤, Option, Some, None, Result, Ok, Err, slice_set}
 use Rattle.std.proofs.lemmas.Bool.{cond_both, false≢true}
 use Rattle.qx_types.specs.Configuration.{Configuration}
 use Rattle.qx_types.specs.declared.names.Actor.{Actor}
 use Rattle.qx_types.specs.declared.names.Thread.{Thread}
-use Rattle.qx_types.specs.declared.names.Manager.{Manager}
 use Rattle.qx_types.specs.declared.outcome.Answer.{Answer}
 use Rattle.qx_types.specs.declared.outcome.Answer.TheVariants as answer
 use Rattle.qx_types.specs.declared.outcome.Outcome.{Outcome}
-use Rattle.qx_types.specs.declared.outcome.Outcome.TheVariants.{WrongState}
 use Rattle.qx_types.specs.declared.step.Step.{Step}
-use Rattle.qx_types.specs.declared.step.Step.TheVariants.{Spawn, Call, TakeReply, SetPrio, Interrupt, Mount, Receive, Perform}
-use Rattle.qx_machine.specs.declared.rows.Held.{Held}
+use Rattle.qx_types.specs.declared.step.Step.TheVariants.{Spawn, Call, TakeReply, SetPrio, Interrupt, Mount}
 use Rattle.qx_machine.specs.declared.rows.OwnItem.{OwnItem}
 use Rattle.qx_machine.specs.declared.rows.State.{State}
 use Rattle.qx_machine.specs.declared.rows.State.TheVariants.{Queued as queued, Taken, Waiting}
-use Rattle.qx_machine.specs.declared.rows.Queued.{Queued}
 use Rattle.qx_machine.specs.Judgements.{◌>>=◌}
 use Rattle.qx_machine.specs.Laws.{is_refusal}
-use Rattle.qx_machine.specs.Machine.{World, step_end, client_step, is_worker, line_of, own_held, perform_hand, receive_hand, receive_line, server_step, step, step_of, same_world}
+use Rattle.qx_machine.specs.Machine.{World, step_end, client_step, own_held, step, step_of}
 use Rattle.qx_types.specs.Step.{actor_of, user_of}
 use Rattle.qx_machine.specs.Rows.{row_at}
 use Rattle.qx_machine.specs.Clients.{ClientStep, client_given, interrupt_in, or_unchanged, outcome_of}
 use Rattle.qx_machine.specs.Parts.{Part}
 use Rattle.qx_machine.specs.Users.{client, settle}
 use Rattle.qx_machine.proofs.Places.{set-row_at}
+use Rattle.qx_machine.proofs.Workers.{server_same}
 
 -- a step that is not refused at once gives no refusal
 abbrev IsNoRefusal : Result ClientStep Outcome → Type 0
@@ -79,33 +76,6 @@ client_same : (w : World) (user : ℕ) (e : Step) (row : Option Part) → row_at
 client_same w user e None here refused = refl
 client_same w user e (Some part) here refused =
     ap (λ given. step_end user part given.part given.changes w) (client_stays w.config user (own_held user w.hands) part e refused) ∙ acted_same w user part here
-
-line_same : (w : World) (worker : ℕ) (manager : Manager) (line : List Queued) → is_refusal (receive_line w worker manager line).outcome ≡ true → (receive_line w worker manager line).world ≡ w
-line_same w worker manager [] refused = refl
-line_same w worker manager (first ∷ rest) refused = absurd (false≢true refused)
-
-hand_same : (w : World) (worker : ℕ) (manager : Manager) (hand : Option Held) → is_refusal (receive_hand w worker manager hand).outcome ≡ true → (receive_hand w worker manager hand).world ≡ w
-hand_same w worker manager None refused = line_same w worker manager (line_of w manager) refused
-hand_same w worker manager (Some held) refused = refl
-
-receive_same : (w : World) (worker : ℕ) (manager : Manager) (is_one : Bool) → is_refusal (if is_one then receive_hand w worker manager (row_at w.hands worker) else same_world w WrongState).outcome ≡ true
-    → (if is_one then receive_hand w worker manager (row_at w.hands worker) else same_world w WrongState).world ≡ w
-receive_same w worker manager true refused = hand_same w worker manager (row_at w.hands worker) refused
-receive_same w worker manager false refused = refl
-
-held_same : (w : World) (worker moment : ℕ) (hand : Option Held) → is_refusal (perform_hand w worker moment hand).outcome ≡ true → (perform_hand w worker moment hand).world ≡ w
-held_same w worker moment None refused = refl
-held_same w worker moment (Some held) refused = absurd (false≢true refused)
-
-perform_same : (w : World) (worker moment : ℕ) (is_one : Bool) → is_refusal (if is_one then perform_hand w worker moment (row_at w.hands worker) else same_world w WrongState).outcome ≡ true
-    → (if is_one then perform_hand w worker moment (row_at w.hands worker) else same_world w WrongState).world ≡ w
-perform_same w worker moment true refused = held_same w worker moment (row_at w.hands worker) refused
-perform_same w worker moment false refused = refl
-
-server_same : (w : World) (e : Step) → is_refusal (server_step w e).outcome ≡ true → (server_step w e).world ≡ w
-server_same w (Receive worker manager) refused = receive_same w worker.0 manager (is_worker w.config worker.0) refused
-server_same w (Perform worker moment) refused = perform_same w worker.0 moment (is_worker w.config worker.0) refused
-server_same w _ refused = refl
 
 step_of_same : (w : World) (e : Step) (by : Option Actor) → is_refusal (step_of w e by).outcome ≡ true → (step_of w e by).world ≡ w
 step_of_same w e None refused = server_same w e refused

@@ -21,3 +21,8 @@ need false error = Err error
 abbrev pub or_refused : {A : Type 0} → Result A Errno → Result A Outcome
 or_refused (Ok value) = Ok value
 or_refused (Err errno) = Err (Refused errno)
+
+-- what is not reached is not so
+abbrev pub or_false : {E : Type 0} → Result Bool E → Bool
+or_false (Ok so) = so
+or_false (Err error) = false

@@ -26,3 +26,4 @@ pub mod Runs
 pub mod Servers
 pub mod Users
 pub mod Waiting
+pub mod Wants

@@ -1,5 +1,5 @@
 -- The machine: the rows of all users, the lines and the workers, and what each step does to them.
-use Rattle.std.specs.Prelude.{ℕ, ◌+◌, ◌==◌, ◌&&◌, Bool, false, List, [], ◌∷◌, Option, Some, None, nat_le, if◌then◌else◌, slice_set, filter, map, option_map, replicate}
+use Rattle.std.specs.Prelude.{ℕ, ◌+◌, ◌==◌, ◌&&◌, Bool, false, List, [], ◌∷◌, Option, Some, None, Result, Ok, Err, drop, is_none, nat_le, if◌then◌else◌, slice_get, slice_set, filter, map, replicate}
 use Rattle.qx_types.specs.Configuration.{Configuration}
 use Rattle.qx_types.specs.Managers.{manager_number}
 use Rattle.qx_types.specs.Step.{actor_of, user_of}
@@ -18,6 +18,7 @@ use Rattle.qx_machine.specs.declared.rows.OwnItem.{OwnItem}
 use Rattle.qx_machine.specs.declared.rows.OwnItem.TheVariants.{Message, Unblock}
 use Rattle.qx_machine.specs.declared.rows.Queued.{Queued}
 use Rattle.qx_machine.specs.Clients.{ClientStep}
+use Rattle.qx_machine.specs.Judgements.{◌>>=◌, found, need}
 use Rattle.qx_machine.specs.Lines.{into, line_at, with_line}
 use Rattle.qx_machine.specs.Parts.{Part, Change, Put, Remove}
 use Rattle.qx_machine.specs.Performing.{Served}
@@ -114,11 +115,11 @@ is_worker config worker = nat_le 1 worker && nat_le worker config.workers
 abbrev pub line_of : World → Manager → List Queued
 line_of w manager = line_at w.lines (manager_number manager)
 
--- the world with a manager's line replaced and an item in a worker's hand
-abbrev pub with_taken : World → ℕ → Queued → List Queued → Manager → World
-with_taken w worker first rest manager = record w {
-  lines = slice_set w.lines (manager_number manager) rest;
-  hands = slice_set w.hands worker (Some (record { user = first.user; item = first.item }));
+-- the world without the first item of a manager's line, and with an item in a worker's hand
+abbrev pub with_taken : World → ℕ → Manager → Held → World
+with_taken w worker manager taken = record w {
+  lines = with_line w.lines (manager_number manager) (drop 1);
+  hands = slice_set w.hands worker (Some taken);
 }
 
 abbrev pub named_thread : ℕ → ℕ → ℕ → Thread
@@ -129,26 +130,33 @@ abbrev pub shown_item : ℕ → OwnItem → Item
 shown_item user (Message process thread) = public.Message (named_thread user process thread)
 shown_item user (Unblock process thread call) = public.Unblock (named_thread user process thread)
 
--- the first item goes into the worker's hand
-abbrev pub received_part : World → Queued → Option Part → World
-received_part w first None = w
-received_part w first (Some part) = step_end first.user.0 part (take part first.item) [] w
+-- the item that a worker takes, the first of the line, or the outcome where it takes none
+abbrev pub item_to_take : World → ℕ → Manager → Result Held Outcome
+item_to_take w worker manager = do
+  valid ← need (is_worker w.config worker) WrongState
+  free ← need (is_none (row_at w.hands worker)) Busy
+  first ← found (slice_get (line_of w manager) 0) Idle
+  Ok (record { user = first.user; item = first.item })
 
-abbrev pub receive_line : World → ℕ → Manager → List Queued → After
-receive_line w worker manager [] = same_world w Idle
-receive_line w worker manager (first ∷ rest) = record {
-  world = received_part (with_taken w worker first rest manager) first (row_at w.parts first.user.0);
-  outcome = Took (shown_item first.user.0 first.item);
-}
+-- the item that a worker does, which it holds, or the outcome where it does none
+abbrev pub item_to_do : World → ℕ → Result Held Outcome
+item_to_do w worker = do
+  valid ← need (is_worker w.config worker) WrongState
+  found (row_at w.hands worker) Nothing
 
-abbrev pub receive_hand : World → ℕ → Manager → Option Held → After
-receive_hand w worker manager None = receive_line w worker manager (line_of w manager)
-receive_hand w worker manager (Some held) = same_world w Busy
+-- an item is taken for its user; one that is not configured has no rows
+abbrev pub received_part : World → Held → Option Part → World
+received_part w taken None = w
+received_part w taken (Some part) = step_end taken.user.0 part (take part taken.item) [] w
 
 -- a worker takes the first item of a line (C Library Reference: MsgReceive)
-abbrev pub receive : World → ℕ → Manager → After
-receive w worker manager =
-    if is_worker w.config worker then receive_hand w worker manager (row_at w.hands worker) else same_world w WrongState
+abbrev pub receive : World → ℕ → Manager → Result After Outcome
+receive w worker manager = do
+  taken ← item_to_take w worker manager
+  Ok (record {
+    world = received_part (with_taken w worker manager taken) taken (row_at w.parts taken.user.0);
+    outcome = Took (shown_item taken.user.0 taken.item);
+  })
 
 abbrev pub with_empty_hand : World → ℕ → World
 with_empty_hand w worker = record w { hands = slice_set w.hands worker None }
@@ -156,26 +164,32 @@ with_empty_hand w worker = record w { hands = slice_set w.hands worker None }
 abbrev pub serve_end : World → ℕ → Part → Served → World
 serve_end w user part given = step_end user part given.part given.changes w
 
+-- an item is done for its user
 abbrev pub performed_part : World → Held → ℕ → Option Part → World
 performed_part w held moment None = w
 performed_part w held moment (Some part) =
     serve_end w held.user.0 part (serve w.config held.user.0 (own_held held.user.0 w.hands) part held.item moment)
 
-abbrev pub perform_hand : World → ℕ → ℕ → Option Held → After
-perform_hand w worker moment None = same_world w Nothing
-perform_hand w worker moment (Some held) =
-    record { world = performed_part (with_empty_hand w worker) held moment (row_at w.parts held.user.0); outcome = Handled }
-
 -- a worker does what it holds
-abbrev pub perform : World → ℕ → ℕ → After
-perform w worker moment =
-    if is_worker w.config worker then perform_hand w worker moment (row_at w.hands worker) else same_world w WrongState
+abbrev pub perform : World → ℕ → ℕ → Result After Outcome
+perform w worker moment = do
+  held ← item_to_do w worker
+  Ok (record { world = performed_part (with_empty_hand w worker) held moment (row_at w.parts held.user.0); outcome = Handled })
+
+-- what a worker's step gives, or the outcome of one that changes nothing
+abbrev pub server_given : World → Step → Result After Outcome
+server_given w (Receive worker manager) = receive w worker.0 manager
+server_given w (Perform worker moment) = perform w worker.0 moment
+server_given w _ = Err WrongState
+
+-- a step that is refused leaves the world as it was
+abbrev pub or_same_world : World → Result After Outcome → After
+or_same_world w (Ok after) = after
+or_same_world w (Err outcome) = same_world w outcome
 
 -- a worker's step
 abbrev pub server_step : World → Step → After
-server_step w (Receive worker manager) = receive w worker.0 manager
-server_step w (Perform worker moment) = perform w worker.0 moment
-server_step w _ = same_world w WrongState
+server_step w e = or_same_world w (server_given w e)
 
 abbrev pub step_of : World → Step → Option Actor → After
 step_of w e (Some actor) = client_step w (user_of actor) e (row_at w.parts (user_of actor))
@@ -185,20 +199,18 @@ step_of w e None = server_step w e
 unfoldable pub step : World → Step → After
 step w e = step_of w e (actor_of e)
 
-abbrev pub first_user : List Queued → Option ℕ
-first_user [] = None
-first_user (first ∷ line) = Some first.user.0
+-- the item that a worker's step takes or does
+abbrev pub server_item : World → Step → Result Held Outcome
+server_item w (Receive worker manager) = item_to_take w worker.0 manager
+server_item w (Perform worker moment) = item_to_do w worker.0
+server_item w _ = Err WrongState
 
-abbrev pub receive_owner : List Queued → Option Held → Option ℕ
-receive_owner line None = first_user line
-receive_owner line (Some held) = None
+abbrev pub user_of_item : Result Held Outcome → Option ℕ
+user_of_item (Ok held) = Some held.user.0
+user_of_item (Err outcome) = None
 
 abbrev pub server_owner : World → Step → Option ℕ
-server_owner w (Receive worker manager) =
-    if is_worker w.config worker.0 then receive_owner (line_of w manager) (row_at w.hands worker.0) else None
-server_owner w (Perform worker moment) =
-    if is_worker w.config worker.0 then option_map (λ held. held.user.0) (row_at w.hands worker.0) else None
-server_owner w _ = None
+server_owner w e = user_of_item (server_item w e)
 
 abbrev pub owner_of : World → Step → Option Actor → Option ℕ
 owner_of w e (Some actor) = Some (user_of actor)

@@ -11,10 +11,11 @@
 //! - `Performing.antt`: what bytes that a worker holds come to
 //! - `Users.antt`: all that the machine knows of a user's rows: `boot_part`, `client`, `take`, `serve`, `settle`
 //! - `Machine.antt`, `Runs.antt`: the world and the step; run, received and erase
+//! - `Wants.antt`: which steps may be refused for want of memory
 //! - `Laws.antt`, `Examples.antt`: the words of the laws; a run that is worked out
 //!
 //! `rows.rt` has the types of the rows, `laws.rt` the laws, `examples.rt` the worked run. Isolation is carried by
-//! `proofs/Views.antt`, `Changes.antt`, `Receives.antt`, `Performs.antt`, `Steps.antt` and `Runs.antt`; the others are
+//! `proofs/Workers.antt`, `Views.antt`, `Changes.antt`, `Receives.antt`, `Performs.antt`, `Steps.antt` and `Runs.antt`; the others are
 //! a law's own, or of rows.
 #![tactic(auto)]
 

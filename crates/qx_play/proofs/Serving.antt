@@ -1,6 +1,6 @@
 -- Serving leaves no item waiting.
 use Rattle.std.proofs.Common.{◌≡◌, ◌⊎◌, inl, inr, ℕ, suc, zero, ◌+◌, ◌≤◌, ◌<◌, Bool, true, false, List, [], ◌∷◌, ◌++◌, Option, Some, None, length, refl, sym, ap, ◌∙◌, subst, arith, if◌then◌else◌, slice_set, cond, is_some}
-use Rattle.std.specs.Prelude.{⊤, ◌==◌, ◌&&◌, find, map, nat_lt, slice_get, sum_by, Result, Ok, Err}
+use Rattle.std.specs.Prelude.{⊤, ◌==◌, ◌&&◌, drop, find, map, nat_lt, slice_get, sum_by, Result, Ok, Err}
 use Rattle.std.specs.List.{range_with_len}
 use Rattle.std.proofs.lemmas.Grind.{common_steps}
 use Rattle.std.proofs.lemmas.List.{length-replicate, length-set}
@@ -23,7 +23,7 @@ use Rattle.qx_machine.specs.declared.rows.OwnItem.{OwnItem}
 use Rattle.qx_machine.specs.declared.rows.OwnItem.TheVariants.{Message, Unblock}
 use Rattle.qx_machine.specs.declared.rows.Queued.{Queued}
 use Rattle.qx_machine.specs.Lines.{line_at, with_line}
-use Rattle.qx_machine.specs.Machine.{World, After, step_end, changed_manager, line_after, own_held, step, step_of, server_step, boot, client_step, receive_hand, receive_line, received_part, with_taken, perform_hand, performed_part, with_empty_hand, is_same_item, is_worker, line_of, line_without, lines_after}
+use Rattle.qx_machine.specs.Machine.{World, step_end, changed_manager, line_after, own_held, step, step_of, server_step, boot, client_step, received_part, with_taken, performed_part, with_empty_hand, is_same_item, is_worker, line_of, line_without, lines_after}
 use Rattle.qx_wire.specs.Reading.{meaning}
 use Rattle.qx_machine.specs.declared.rows.Caller.{Caller}
 use Rattle.qx_machine.specs.declared.rows.WaitingCall.{WaitingCall}
@@ -37,6 +37,7 @@ use Rattle.qx_machine.specs.Rows.{row_at}
 use Rattle.qx_machine.specs.Runs.{world_after}
 use Rattle.qx_machine.specs.Users as users
 use Rattle.qx_machine.specs.Users.{serve}
+use Rattle.qx_machine.proofs.Workers.{after_doing, after_item, after_taking, item_done, item_taken, server_leaves}
 use Rattle.qx_play.specs.Play.{first_worker, has_waiting, items_waiting, next_manager, round, rounds, world_played, hand_emptied, all_served, with_lines_served}
 
 -- what each step keeps: the number of workers, a place for each one's hand and a line for each manager
@@ -53,28 +54,16 @@ lines_kept user lines (change ∷ changes) =
 acts : (n : ℕ) (w : World) (user : ℕ) (before after : Part) (changes : List Change) → Keeps w n → Keeps (step_end user before after changes w) n
 acts n w user before after changes k = record { same = k.same; hands = k.hands; lines = lines_kept user w.lines changes ∙ k.lines }
 
-choice : (n : ℕ) (b : Bool) (x y : After) → Keeps x.world n → Keeps y.world n → Keeps (if b then x else y).world n
-choice n true x y p q = p
-choice n false x y p q = q
-
 client : (n : ℕ) (w : World) (user : ℕ) (e : Step) (part : Option Part) → Keeps w n → Keeps (client_step w user e part).world n
 client n w user e None k = k
 client n w user e (Some part) k = acts n w user part _ (users.client w.config user (own_held user w.hands) part e).changes k
 
-taken : (n : ℕ) (w : World) (worker : ℕ) (first : Queued) (rest : List Queued) (manager : Manager) → Keeps w n → Keeps (with_taken w worker first rest manager) n
-taken n w worker first rest manager k = record { same = k.same; hands = simp length-set k.hands; lines = length-set w.lines _ rest ∙ k.lines }
+taken : (n : ℕ) (w : World) (worker : ℕ) (manager : Manager) (held : Held) → Keeps w n → Keeps (with_taken w worker manager held) n
+taken n w worker manager held k = record { same = k.same; hands = simp length-set k.hands; lines = length-set w.lines _ _ ∙ k.lines }
 
-given : (n : ℕ) (w : World) (first : Queued) (part : Option Part) → Keeps w n → Keeps (received_part w first part) n
-given n w first None k = k
-given n w first (Some part) k = acts n w first.user.0 part _ [] k
-
-line : (n : ℕ) (w : World) (worker : ℕ) (manager : Manager) (items : List Queued) → Keeps w n → Keeps (receive_line w worker manager items).world n
-line n w worker manager [] k = k
-line n w worker manager (first ∷ rest) k = given n _ first (row_at w.parts first.user.0) (taken n w worker first rest manager k)
-
-hand : (n : ℕ) (w : World) (worker : ℕ) (manager : Manager) (held : Option Held) → Keeps w n → Keeps (receive_hand w worker manager held).world n
-hand n w worker manager None k = line n w worker manager (line_of w manager) k
-hand n w worker manager (Some held) k = k
+given : (n : ℕ) (w : World) (held : Held) (part : Option Part) → Keeps w n → Keeps (received_part w held part) n
+given n w held None k = k
+given n w held (Some part) k = acts n w held.user.0 part _ [] k
 
 done : (n : ℕ) (w : World) (held : Held) (moment : ℕ) (part : Option Part) → Keeps w n → Keeps (performed_part w held moment part) n
 done n w held moment None k = k
@@ -84,14 +73,10 @@ done n w held moment (Some part) k =
 emptied : (n : ℕ) (w : World) (worker : ℕ) → Keeps w n → Keeps (with_empty_hand w worker) n
 emptied n w worker k = record { same = k.same; hands = simp length-set k.hands; lines = k.lines }
 
-does : (n : ℕ) (w : World) (worker moment : ℕ) (held : Option Held) → Keeps w n → Keeps (perform_hand w worker moment held).world n
-does n w worker moment None k = k
-does n w worker moment (Some held) k = done n _ held moment (row_at w.parts held.user.0) (emptied n w worker k)
-
 server : (n : ℕ) (w : World) (e : Step) → Keeps w n → Keeps (server_step w e).world n
-server n w (Receive worker manager) k = choice n (is_worker w.config worker.0) _ _ (hand n w worker.0 manager (row_at w.hands worker.0) k) k
-server n w (Perform worker moment) k = choice n (is_worker w.config worker.0) _ _ (does n w worker.0 moment (row_at w.hands worker.0) k) k
-server n w _ k = k
+server n w e k = server_leaves w e (λ v. Keeps v n) k
+    (λ worker manager held. given n _ held (row_at w.parts held.user.0) (taken n w worker manager held k))
+    (λ worker moment held. done n _ held moment (row_at w.parts held.user.0) (emptied n w worker k))
 
 by : (n : ℕ) (w : World) (e : Step) (actor : Option Actor) → Keeps w n → Keeps (step_of w e actor).world n
 by n w e None k = server n w e k
@@ -172,32 +157,27 @@ performed_fewer : (w : World) (held : Held) (moment : ℕ) (part : Option Part) 
 performed_fewer w held moment None = omega arith
 performed_fewer w held moment (Some part) = lines_fewer held.user.0 w.lines (serve w.config held.user.0 (own_held held.user.0 w.hands) part held.item moment).changes (serve_takes w.config held.user.0 (own_held held.user.0 w.hands) part held.item moment)
 
-chosen : (b : Bool) (x y : After) → b ≡ true → (if b then x else y) ≡ x
-chosen true x y e = refl
-chosen false x y e = cc
-
 is_first : (n : ℕ) (w : World) → 1 ≤ n → Keeps w n → is_worker w.config 1 ≡ true
 is_first n w some k = let more : 1 ≤ w.config.workers = omega (arith, k.same) in grind (arith, common_steps)
 
-received_is : (n : ℕ) (w : World) (manager : Manager) → 1 ≤ n → Keeps w n → row_at w.hands 1 ≡ None
-    → (step w (Receive first_worker manager)).world ≡ (receive_line w 1 manager (line_of w manager)).world
+received_is : (n : ℕ) (w : World) (manager : Manager) (first : Queued) (rest : List Queued) → 1 ≤ n → Keeps w n → row_at w.hands 1 ≡ None → line_of w manager ≡ first ∷ rest
+    → (step w (Receive first_worker manager)).world ≡ (after_taking w 1 manager (record { user = first.user; item = first.item })).world
 unfolding step
-received_is n w manager some k free =
-    ap (λ a. a.world) (chosen (is_worker w.config 1) _ _ (is_first n w some k)) ∙ ap (λ h. (receive_hand w 1 manager h).world) free
+received_is n w manager first rest some k free e =
+    ap (λ item. (after_item w item (after_taking w 1 manager)).world) (item_taken w 1 manager first rest (is_first n w some k) free e)
 
 performed_is : (n : ℕ) (w : World) (moment : ℕ) (held : Held) → 1 ≤ n → Keeps w n → row_at w.hands 1 ≡ Some held
-    → (step w (Perform first_worker moment)).world ≡ performed_part (with_empty_hand w 1) held moment (row_at w.parts held.user.0)
+    → (step w (Perform first_worker moment)).world ≡ (after_doing w 1 moment held).world
 unfolding step
-performed_is n w moment held some k full =
-    ap (λ a. a.world) (chosen (is_worker w.config 1) _ _ (is_first n w some k)) ∙ ap (λ h. (perform_hand w 1 moment h).world) full
+performed_is n w moment held some k full = ap (λ item. (after_item w item (after_doing w 1 moment)).world) (item_done w 1 held (is_first n w some k) full)
 
-given_lines : (w : World) (first : Queued) (part : Option Part) → (received_part w first part).lines ≡ w.lines
-given_lines w first None = refl
-given_lines w first (Some part) = refl
+given_lines : (w : World) (held : Held) (part : Option Part) → (received_part w held part).lines ≡ w.lines
+given_lines w held None = refl
+given_lines w held (Some part) = refl
 
-given_hands : (w : World) (first : Queued) (part : Option Part) → (received_part w first part).hands ≡ w.hands
-given_hands w first None = refl
-given_hands w first (Some part) = refl
+given_hands : (w : World) (held : Held) (part : Option Part) → (received_part w held part).hands ≡ w.hands
+given_hands w held None = refl
+given_hands w held (Some part) = refl
 
 performed_hands : (w : World) (held : Held) (moment : ℕ) (part : Option Part) → (performed_part w held moment part).hands ≡ w.hands
 performed_hands w held moment None = refl
@@ -235,22 +215,23 @@ record Took (w u : World) (first : Queued) : Type 0 where
 
 -- a line without its first item is one item shorter, and so are all lines together
 shorter : (lines : List (List Queued)) (number : ℕ) (first : Queued) (rest : List Queued) → line_at lines number ≡ first ∷ rest
-    → sum_by length (slice_set lines number rest) + 1 ≡ sum_by length lines
+    → sum_by length (with_line lines number (drop 1)) + 1 ≡ sum_by length lines
 shorter [] number first rest e = cc
 shorter (line ∷ lines) zero first rest e =
-    let one_less : length line ≡ length (first ∷ rest) = ap length e in
-    omega (arith, sum_by-cons length rest lines, sum_by-cons length line lines, one_less)
+    let one_less : length (drop 1 line) + 1 ≡ length line = rw e (omega arith) in
+    omega (arith, sum_by-cons length (drop 1 line) lines, sum_by-cons length line lines, one_less)
 shorter (line ∷ lines) (suc number) first rest e =
-    omega (arith, sum_by-cons length line (slice_set lines number rest), sum_by-cons length line lines, shorter lines number first rest e)
+    omega (arith, sum_by-cons length line (with_line lines number (drop 1)), sum_by-cons length line lines, shorter lines number first rest e)
 
 took : (w : World) (manager : Manager) (first : Queued) (rest : List Queued) → 1 < length w.hands → line_of w manager ≡ first ∷ rest
-    → Took w (receive_line w 1 manager (first ∷ rest)).world first
+    → Took w (after_taking w 1 manager (record { user = first.user; item = first.item })).world first
 took w manager first rest room e =
-    let v = with_taken w 1 first rest manager in
+    let held : Held = record { user = first.user; item = first.item } in
+    let v = with_taken w 1 manager held in
     let part = row_at w.parts first.user.0 in
     record {
-      fewer = ap (λ lines. sum_by length lines + 1) (given_lines v first part) ∙ shorter w.lines (manager_number manager) first rest e;
-      full = ap (λ hands. row_at hands 1) (given_hands v first part) ∙ at_one w.hands _ room;
+      fewer = ap (λ lines. sum_by length lines + 1) (given_lines v held part) ∙ shorter w.lines (manager_number manager) first rest e;
+      full = ap (λ hands. row_at hands 1) (given_hands v held part) ∙ at_one w.hands _ room;
     }
 
 -- one round, at a line that holds an item
@@ -259,8 +240,7 @@ pub one_round : (n : ℕ) (w : World) (moment : ℕ) (manager : Manager) (first 
 one_round n w moment manager first rest some k free e =
     let v = (step w (Receive first_worker manager)).world in
     let room : 1 < length w.hands = omega (arith, k.hands) in
-    let is : v ≡ (receive_line w 1 manager (first ∷ rest)).world = received_is n w manager some k free ∙ ap (λ items. (receive_line w 1 manager items).world) e in
-    let t : Took w v first = subst (λ x. Took w x first) (sym is) (took w manager first rest room e) in
+    let t : Took w v first = subst (λ x. Took w x first) (sym (received_is n w manager first rest some k free e)) (took w manager first rest room e) in
     let d = does_item n v moment _ some (kept n w _ k) t.full in
     record {
       fewer = omega (arith, d.lines, t.fewer);

@@ -1,8 +1,6 @@
--- What a function came to, and which messages want memory.
-use Rattle.std.specs.Prelude.{ℕ, ◌≡◌, Bool, true, false, List, [], Option, Some, None, Result, Ok, Err}
+-- What a function came to.
+use Rattle.std.specs.Prelude.{ℕ, ◌≡◌, List, [], Option, Some, None, Result, Ok, Err}
 use Rattle.qx_types.specs.declared.errno.Errno.{Errno}
-use Rattle.qx_wire.specs.declared.message.Message.{Message}
-use Rattle.qx_wire.specs.declared.message.Message.TheVariants.{Open, Mknod, Write}
 use Rattle.qx_machine.specs.Functions as functions
 use Rattle.qx_machine.specs.Functions.{Deed}
 use Rattle.qx_resmgr.specs.declared.functions.Done.{Done}
@@ -31,10 +29,3 @@ IsReplied _ = Unit {0}
 abbrev pub HasRoomAfter : {R : Type 0} → Option R → Option R → Result Done Errno → Type 0
 HasRoomAfter before room (Ok NoReply) = room ≡ None
 HasRoomAfter before room _ = room ≡ before
-
--- whether a message's function may want memory, of a manager whose writes may or may not
-abbrev pub message_wants_memory : Bool → Message → Bool
-message_wants_memory writes (Open flags mode rest) = true
-message_wants_memory writes (Mknod mode rest) = true
-message_wants_memory writes (Write bytes) = writes
-message_wants_memory writes _ = false

@@ -5,8 +5,7 @@
 //!   `no_function`, the one that is left out
 //! - `serving.rt`: `serve`
 //!
-//! `Deeds.antt` says what a function that came to a `Done` did (`Did`), when the memory for a later reply goes, and
-//! which messages want memory as they are performed.
+//! `Deeds.antt` says what a function that came to a `Done` did (`Did`), and when the memory for a later reply goes.
 #![tactic(auto)]
 
 mod functions;

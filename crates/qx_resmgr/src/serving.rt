@@ -2,7 +2,8 @@ ghost use Rattle.std.specs.Prelude.{◌≡◌, [], IfOk, IsFalse, IsTrue, IsOk, 
 ghost use Rattle.qx_wire.specs.Table.{in_ranges};
 ghost use Rattle.qx_machine.specs.Functions as functions;
 ghost use Rattle.qx_machine.specs.Functions.{served};
-ghost use Rattle.qx_resmgr.specs.Deeds.{Did, HasRoomAfter, message_wants_memory};
+ghost use Rattle.qx_machine.specs.Wants.{message_wants_memory};
+ghost use Rattle.qx_resmgr.specs.Deeds.{Did, HasRoomAfter};
 
 use crate::functions::{Connect, Done, Io, no_function};
 use crate::state::State;

@@ -1,5 +1,5 @@
 pub mod Boot
 pub mod Lends
-pub mod Memory
 pub mod Mounts
+pub mod Ranges
 pub mod State

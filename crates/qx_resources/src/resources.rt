@@ -6,11 +6,12 @@ ghost use Rattle.qx_machine.specs.Performing as performing;
 ghost use Rattle.qx_machine.specs.Performing.{deed_of};
 ghost use Rattle.qx_machine.specs.PipeManager.{cancel_call};
 ghost use Rattle.qx_machine.specs.Users.{boot_part};
+ghost use Rattle.qx_machine.specs.Wants.{bytes_want_memory};
 ghost use Rattle.qx_shared.specs.Shared.{callers_thread};
 ghost use Rattle.qx_resmgr.specs.Deeds.{Did, HasRoomAfter};
 ghost use Rattle.qx_resources.specs.Boot.{without_pipes};
-ghost use Rattle.qx_resources.specs.Memory.{IsInRanges, bytes_want_memory};
 ghost use Rattle.qx_resources.specs.Mounts.{IsNextMount, with_new_mount};
+ghost use Rattle.qx_resources.specs.Ranges.{IsInRanges};
 ghost use Rattle.qx_resources.specs.State.{HasUser, state, told};
 ghost use Rattle.qx_shared.specs.Shared.{IsReceived, Shared, shared_after, state_after};
 

@@ -1,5 +1,5 @@
 -- A worker's step, by what the channel makes of it and what is done for the user.
-use Rattle.std.proofs.Common.{◌≡◌, inl, inr, ℕ, zero, suc, List, [], ◌∷◌, true, false, Option, Some, None, slice_set, is_some, refl, sym, ap}
+use Rattle.std.proofs.Common.{◌≡◌, inl, inr, ℕ, zero, suc, List, [], ◌∷◌, true, false, Option, Some, None, slice_set, is_some, refl, sym, ap, ◌∙◌}
 use Rattle.std.specs.Prelude.{slice_get}
 use Rattle.qx_types.specs.Configuration.{Configuration}
 use Rattle.qx_types.specs.Managers.{manager_number}
@@ -12,14 +12,16 @@ use Rattle.qx_machine.specs.declared.rows.OwnItem.{OwnItem}
 use Rattle.qx_machine.specs.declared.rows.OwnItem.TheVariants as item
 use Rattle.qx_machine.specs.declared.rows.Queued.{Queued}
 use Rattle.qx_machine.specs.Lines.{line_at}
-use Rattle.qx_machine.specs.Machine.{World, is_worker, named_thread, performed_part, receive_hand, receive_line, received_part, shown_item, step, with_empty_hand, with_taken}
+use Rattle.qx_machine.specs.Machine.{World, is_worker, named_thread, performed_part, received_part, shown_item, step, with_empty_hand, with_taken}
 use Rattle.qx_machine.specs.Resources.{Resources}
 use Rattle.qx_machine.specs.Processes.{taken_thread, with_thread}
 use Rattle.qx_machine.specs.Rows.{row_at, with_row}
 use Rattle.qx_machine.specs.Users.{serve, settle, take}
+use Rattle.qx_machine.specs.Wants.{item_wants_memory, wants_memory}
+use Rattle.qx_machine.proofs.Workers.{after_item, after_taking, item_taken}
 use Rattle.qx_process.proofs.RowLemmas.{set-row, with_row-none}
 use Rattle.qx_chan.specs.Calls.{taken_of}
-use Rattle.qx_chan.specs.Channel.{Channel, after_receive, channel_line, with_first_taken}
+use Rattle.qx_chan.specs.Channel.{Channel, after_receive, channel_line}
 use Rattle.qx_steps.specs.Parts.{told_world, SameUsers}
 use Rattle.qx_steps.specs.Held.{held_work, work_of_sent}
 use Rattle.qx_steps.specs.Reads.{row_among_parts as thread_of_parts}
@@ -49,13 +51,9 @@ pub receive-no_worker : (w : World) (worker : Worker) (manager : Manager) → is
 unfolding step
 receive-no_worker w worker manager invalid = rw invalid
 
-receive_busy_by : (w : World) (worker : ℕ) (manager : Manager) (hand : Option Held) → is_some hand ≡ true → receive_hand w worker manager hand ≡ record { world = w; outcome = Busy }
-receive_busy_by w worker manager None some = cc
-receive_busy_by w worker manager (Some held) some = refl
-
 pub receive-busy : (w : World) (worker : Worker) (manager : Manager) → is_worker w.config worker.0 ≡ true → is_some (row_at w.hands worker.0) ≡ true → step w (Receive worker manager) ≡ record { world = w; outcome = Busy }
 unfolding step
-receive-busy w worker manager valid hand = rw valid (receive_busy_by w worker.0 manager (row_at w.hands worker.0) hand)
+receive-busy w worker manager valid hand = rw (valid, hand)
 
 pub perform-no_worker : (w : World) (worker : Worker) (moment : ℕ) → is_worker w.config worker.0 ≡ false → step w (Perform worker moment) ≡ record { world = w; outcome = WrongState }
 unfolding step
@@ -70,9 +68,14 @@ pub perform-handled : (w : World) (worker : Worker) (moment : ℕ) (held : Held)
 unfolding step
 perform-handled w worker moment held valid hand = rw (valid, hand) refl
 
+-- doing what is held may want memory, where the item may
+pub perform-wants : (w : World) (worker : Worker) (moment : ℕ) (held : Held) → is_worker w.config worker.0 ≡ true → row_at w.hands worker.0 ≡ Some held
+    → wants_memory w (Perform worker moment) ≡ item_wants_memory (row_at w.parts held.user.0) held.item moment
+perform-wants w worker moment held valid hand = rw (valid, hand) refl
+
 pub ruleset receive_steps = (receive-no_worker, receive-busy)
 
-pub ruleset perform_steps = (perform-no_worker, perform-nothing, perform-handled)
+pub ruleset perform_steps = (perform-no_worker, perform-nothing, perform-handled, perform-wants)
 
 -- ---- a message that a worker holds, or a pulse
 
@@ -109,29 +112,31 @@ module _ (config : Configuration) (c : Channel) (rs : List (Option Resources)) (
       let line : channel_line c manager ≡ [] = none_first (channel_line c manager) none in
       rw (valid, none_of (row_at hands worker.0) hand, line, set-empty c.lines (manager_number manager) line) refl
 
-  received : (worker : ℕ) (user : ℕ) (own : OwnItem) (prio : ℕ) (rest : List Queued) (manager : Manager)
-      → received_part (with_taken w worker (record { user = record { 0 = user }; item = own; prio = record { 0 = prio } }) rest manager) (record { user = record { 0 = user }; item = own; prio = record { 0 = prio } }) (row_at w.parts user)
-      ≡ told_world config (record c { users = with_first_taken c.users (Some (record { user = record { 0 = user }; item = own; prio = record { 0 = prio } })); lines = slice_set c.lines (manager_number manager) rest }) rs (slice_set hands worker (Some (record { user = record { 0 = user }; item = own })))
+  received : (worker : ℕ) (user : ℕ) (own : OwnItem) (prio : ℕ) (rest : List Queued) (manager : Manager) → channel_line c manager ≡ record { user = record { 0 = user }; item = own; prio = record { 0 = prio } } ∷ rest
+      → received_part (with_taken w worker manager (record { user = record { 0 = user }; item = own })) (record { user = record { 0 = user }; item = own }) (row_at w.parts user)
+      ≡ told_world config (after_receive c manager) rs (slice_set hands worker (Some (record { user = record { 0 = user }; item = own })))
   unfolding settle take
-  received worker user (item.Message process thread) prio rest manager = elim (option_cases (row_at c.users user)) [
-    | inl none ↦ rw (part-none c.users rs user none, with_row-none c.users user (λ processes. with_row processes process (with_thread thread taken_thread)) none) refl
+  received worker user (item.Message process thread) prio rest manager is = elim (option_cases (row_at c.users user)) [
+    | inl none ↦ rw (is, part-none c.users rs user none, with_row-none c.users user (λ processes. with_row processes process (with_thread thread taken_thread)) none) refl
     | inr ps ↦
         let there = part-there c.users rs user ps.0 same ps.1 in
-        rw (there.1.1, ps.1, parts-set_processes c.users rs user _ there.0 there.1.0) refl
+        rw (is, there.1.1, ps.1, parts-set_processes c.users rs user _ there.0 there.1.0) refl
   ]
-  received worker user (item.Unblock process thread call) prio rest manager = elim (option_cases (row_at w.parts user)) [
-    | inl none ↦ rw none refl
-    | inr part ↦ rw (part.1, set-row w.parts user part.0 part.1) refl
+  received worker user (item.Unblock process thread call) prio rest manager is = elim (option_cases (row_at w.parts user)) [
+    | inl none ↦ rw (is, none) refl
+    | inr part ↦ rw (is, part.1, set-row w.parts user part.0 part.1) refl
   ]
 
-  took : (worker : ℕ) (manager : Manager) (line : List Queued) (first : Queued) → channel_line c manager ≡ line → slice_get line 0 ≡ Some first
-      → receive_line w worker manager line ≡ record { world = told_world config (after_receive c manager) rs (slice_set hands worker (Some (record { user = first.user; item = first.item }))); outcome = Took (shown_item first.user.0 first.item) }
-  took worker manager [] first of is = cc
-  took worker manager (other ∷ rest) first of is =
+  took : (worker : Worker) (manager : Manager) (line : List Queued) (first : Queued) → is_worker config worker.0 ≡ true → row_at hands worker.0 ≡ None → channel_line c manager ≡ line → slice_get line 0 ≡ Some first
+      → step w (Receive worker manager) ≡ record { world = told_world config (after_receive c manager) rs (slice_set hands worker.0 (Some (record { user = first.user; item = first.item }))); outcome = Took (shown_item first.user.0 first.item) }
+  unfolding step
+  took worker manager [] first valid free of is = cc
+  took worker manager (other ∷ rest) first valid free of is =
       let its : other ≡ first = cc in
-      rw (of, ← its) (ap (λ world. record { world = world; outcome = Took (shown_item other.user.0 other.item) }) (received worker other.user.0 other.item other.prio.0 rest manager))
+      rw (← its)
+      (ap (λ item. after_item w item (after_taking w worker.0 manager)) (item_taken w worker.0 manager other rest valid free of)
+      ∙ ap (λ world. record { world = world; outcome = Took (shown_item other.user.0 other.item) }) (received worker.0 other.user.0 other.item other.prio.0 rest manager of))
 
   pub receive-took : (worker : Worker) (manager : Manager) (first : Queued) → is_worker config worker.0 ≡ true → is_some (row_at hands worker.0) ≡ false → slice_get (channel_line c manager) 0 ≡ Some first
       → step w (Receive worker manager) ≡ record { world = told_world config (after_receive c manager) rs (slice_set hands worker.0 (Some (record { user = first.user; item = first.item }))); outcome = Took (shown_item first.user.0 first.item) }
-  unfolding step
-  receive-took worker manager first valid hand is = rw (valid, none_of (row_at hands worker.0) hand) (took worker.0 manager (channel_line c manager) first refl is)
+  receive-took worker manager first valid hand is = took worker manager (channel_line c manager) first valid (none_of (row_at hands worker.0) hand) refl is

@@ -9,7 +9,6 @@ use Rattle.qx_machine.specs.Machine.{World, is_worker, named_thread}
 use Rattle.qx_machine.specs.Parts.{Part}
 use Rattle.qx_machine.specs.Rows.{row_at}
 use Rattle.qx_chan.specs.Calls.{taken_of}
-use Rattle.qx_chan.specs.Serving.{part_wants_memory}
 use Rattle.qx_steps.specs.declared.work.Work.{Work}
 use Rattle.qx_steps.specs.declared.work.Work.TheVariants as work
 use Rattle.qx_steps.specs.declared.work.WorkRef.{WorkRef}
@@ -52,22 +51,6 @@ IsStale (Some held) given = held ≢ given
 abbrev pub IsReadFor : Option (List ℕ) → Option Work → Type 0
 IsReadFor (Some bytes) (Some held) = held ≡ work.Message bytes
 IsReadFor _ _ = ⊤
-
--- doing the message of a thread, which was received, may want memory
-abbrev pub thread_wants_memory : List (Option Part) → Thread → ℕ → Bool
-thread_wants_memory parts thread moment = part_wants_memory thread moment (row_at parts thread.proc.user.0)
-
-abbrev pub item_wants_memory : List (Option Part) → ℕ → OwnItem → ℕ → Bool
-item_wants_memory parts user (item.Message process thread) moment = thread_wants_memory parts (named_thread user process thread) moment
-item_wants_memory parts user (item.Unblock process thread call) moment = false
-
-abbrev pub hand_wants_memory : World → Option Held → ℕ → Bool
-hand_wants_memory w None moment = false
-hand_wants_memory w (Some held) moment = item_wants_memory w.parts held.user.0 held.item moment
-
--- doing at a moment what a worker holds may want memory: a message that is answered an error wants none, nor does a pulse
-abbrev pub holds_wanting : World → ℕ → ℕ → Bool
-holds_wanting w worker moment = hand_wants_memory w (row_at w.hands worker) moment
 
 -- the bytes of the message that is to be done
 abbrev pub bytes_of_work : Work → Option (List ℕ)

@@ -1,17 +1,18 @@
 //! The rows of all users, the managers' lines and what each worker holds, with one call for each step.
 
-ghost use Rattle.std.specs.Prelude.{◌≡◌, ℕ, ◌∷◌, ◌↔◌, ◌≢◌, [], None, Some, Err, IfOk, IfSome, IsOk, IsTrue, IsFalse, OnOk, OnErr, IsErrOf, length, is_some, option_map, replicate, slice_set, unwrap_or, if◌then◌else◌};
+ghost use Rattle.std.specs.Prelude.{◌≡◌, ℕ, ◌∷◌, ◌↔◌, ◌≢◌, [], None, Some, Err, IfOk, IfSome, IsOk, IsTrue, IsFalse, OnOk, OnErr, IsErrOf, length, is_some, option_map, replicate, slice_set, unwrap_or};
 ghost use Rattle.std.specs.Option.{option_copied};
 ghost use Rattle.qx_machine.specs.Clients as clients;
 ghost use Rattle.qx_machine.specs.Laws.{is_refusal};
 ghost use Rattle.qx_machine.specs.Machine as machine;
 ghost use Rattle.qx_machine.specs.Calls.{can_send, content_of};
 ghost use Rattle.qx_machine.specs.Rows.{row_at};
+ghost use Rattle.qx_machine.specs.Wants.{item_wants_memory, thread_wants_memory, wants_memory};
 ghost use Rattle.qx_process.specs.Reads.{is_thread_blocked, CanCall, CanGo};
 ghost use Rattle.qx_chan.specs.Users.{IsThreadReady};
 ghost use Rattle.qx_chan.specs.Calls.{taken_of};
 ghost use Rattle.qx_chan.specs.Serving.{IsReadOf};
-ghost use Rattle.qx_steps.specs.Held.{bytes_of_work, hand_wants_memory, held_work, holds_wanting, taken_item, thread_wants_memory, work_now, IsReadFor, IsStale};
+ghost use Rattle.qx_steps.specs.Held.{bytes_of_work, held_work, taken_item, work_now, IsReadFor, IsStale};
 ghost use Rattle.qx_steps.specs.Reads.{is_thread_answered, is_thread_ready, row_among_parts};
 ghost use Rattle.qx_steps.specs.Steps.{after_message, after_mount, after_pulse, mount_in, target_in, CanMount};
 
@@ -294,7 +295,7 @@ impl World {
         ensures outcome { IfOk result (λ outcome. outcome ≡ (machine.step self.old (Step.Perform worker moment)).outcome) }
         ensures world { OnOk result (self.new ≡ (machine.step self.old (Step.Perform worker moment)).world) }
         ensures err { OnErr result (self.new ≡ self.old) }
-        ensures sure { IsFalse (holds_wanting self.old worker.0 moment) → IsOk result }
+        ensures sure { IsFalse (wants_memory self.old (Step.Perform worker moment)) → IsOk result }
     {
         self.perform_item(worker, None, moment)
     }
@@ -311,7 +312,7 @@ impl World {
         ensures world { OnOk result (self.new ≡ (machine.step self.old (Step.Perform worker moment)).world) }
         ensures err { OnErr result (self.new ≡ self.old) }
         ensures stale { IsErrOf result PerformFault.Stale ↔ IsStale (held_work self.old worker.0) work.now }
-        ensures sure { IsFalse (holds_wanting self.old worker.0 moment) → result ≢ Err PerformFault.NoMemory }
+        ensures sure { IsFalse (wants_memory self.old (Step.Perform worker moment)) → result ≢ Err PerformFault.NoMemory }
     {
         if self.is_stale(worker, work) {
             return Err(PerformFault::Stale);
@@ -331,7 +332,7 @@ impl World {
         ensures outcome { IfOk result (λ outcome. outcome ≡ (machine.step self.old (Step.Perform worker moment)).outcome) }
         ensures world { OnOk result (self.new ≡ (machine.step self.old (Step.Perform worker moment)).world) }
         ensures err { OnErr result (self.new ≡ self.old) }
-        ensures sure { IsFalse (holds_wanting self.old worker.0 moment) → IsOk result }
+        ensures sure { IsFalse (wants_memory self.old (Step.Perform worker moment)) → IsOk result }
     {
         if !self.is_worker(worker) {
             return Ok(Outcome::WrongState);
@@ -354,7 +355,7 @@ impl World {
         requires read { IsReadOf (option_copied read) (taken_item self.old.parts held.user.0 held.item) }
         ensures ok { OnOk result (self.new ≡ machine.performed_part (machine.with_empty_hand self.old worker.0) held moment (row_at self.old.parts held.user.0)) }
         ensures err { OnErr result (self.new ≡ self.old) }
-        ensures sure { IsFalse (hand_wants_memory self.old (Some held) moment) → IsOk result }
+        ensures sure { IsFalse (item_wants_memory (row_at self.old.parts held.user.0) held.item moment) → IsOk result }
     {
         match held.item {
             OwnItem::Message { process, thread } => {
@@ -380,7 +381,7 @@ impl World {
         requires read { IsReadOf (option_copied read) (taken_of (row_among_parts self.old.parts thread)) }
         ensures ok { OnOk result (self.new ≡ after_message self.old thread moment) }
         ensures err { OnErr result (self.new ≡ self.old) }
-        ensures sure { IsFalse (thread_wants_memory self.old.parts thread moment) → IsOk result }
+        ensures sure { IsFalse (thread_wants_memory (row_at self.old.parts thread.proc.user.0) thread.proc.num thread.tid moment) → IsOk result }
     {
         let Some(resources) = self.resources.user_mut(thread.proc.user) else {
             return Ok(());
@@ -499,7 +500,7 @@ impl World {
 
     /// The user of the item that a worker would take.
     fn receive_owner(&self, worker: Worker, manager: Manager) -> Option<User>
-        ensures { option_map (λ user. user.0) result ≡ (if machine.is_worker self.now.config worker.0 then machine.receive_owner (machine.line_of self.now manager) (row_at self.now.hands worker.0) else None) }
+        ensures { option_map (λ user. user.0) result ≡ machine.user_of_item (machine.item_to_take self.now worker.0 manager) }
     {
         if !self.is_worker(worker) || self.hand(worker).is_some() {
             return None;
@@ -509,7 +510,7 @@ impl World {
 
     /// The user of the item that a worker would do.
     fn perform_owner(&self, worker: Worker) -> Option<User>
-        ensures { option_map (λ user. user.0) result ≡ (if machine.is_worker self.now.config worker.0 then option_map (λ held. held.user.0) (row_at self.now.hands worker.0) else None) }
+        ensures { option_map (λ user. user.0) result ≡ machine.user_of_item (machine.item_to_do self.now worker.0) }
     {
         if !self.is_worker(worker) {
             return None;

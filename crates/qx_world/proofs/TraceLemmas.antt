@@ -7,19 +7,16 @@ use Rattle.std.proofs.lemmas.List.{map-append, length-map, get_or-map, take_more
 use Rattle.qx_types.specs.Configuration.{Configuration}
 use Rattle.qx_types.specs.Step.{actor_of, user_of}
 use Rattle.qx_types.specs.declared.names.Actor.{Actor}
-use Rattle.qx_types.specs.declared.names.Manager.{Manager}
 use Rattle.qx_types.specs.declared.names.User.{User}
-use Rattle.qx_types.specs.declared.outcome.Outcome.TheVariants.{WrongState}
 use Rattle.qx_types.specs.declared.step.Step.{Step}
-use Rattle.qx_types.specs.declared.step.Step.TheVariants.{Receive, Perform}
 use Rattle.qx_machine.specs.declared.rows.Entry.{Entry}
 use Rattle.qx_machine.specs.declared.rows.Held.{Held}
-use Rattle.qx_machine.specs.declared.rows.Queued.{Queued}
 use Rattle.qx_machine.specs.declared.rows.Seen.{Seen}
-use Rattle.qx_machine.specs.Machine.{World, boot, step, owner, is_worker, line_of, with_taken, same_world, client_step, server_step, step_of, received_part, receive_line, receive_hand, performed_part, perform_hand}
+use Rattle.qx_machine.specs.Machine.{World, boot, step, owner, client_step, performed_part, received_part, server_step, step_of, with_empty_hand, with_taken}
 use Rattle.qx_machine.specs.Rows.{row_at}
 use Rattle.qx_machine.specs.Runs.{run, world_after, entries_from, seen_by, received, is_owner, erase_from}
 use Rattle.qx_machine.specs.Parts.{Part}
+use Rattle.qx_machine.proofs.Workers.{server_leaves}
 use Rattle.qx_world.specs.Trace.{IsRun, owners_from, steps_of}
 
 -- the configuration stays
@@ -28,34 +25,18 @@ client_step-config : (w : World) (user : ℕ) (e : Step) (part : Option Part) �
 client_step-config w user e None = refl
 client_step-config w user e (Some part) = refl
 
-received_part-config : (w : World) (worker : ℕ) (first : Queued) (rest : List Queued) (manager : Manager) (part : Option Part) → (received_part (with_taken w worker first rest manager) first part).config ≡ w.config
-received_part-config w worker first rest manager None = refl
-received_part-config w worker first rest manager (Some part) = refl
-
-receive_line-config : (w : World) (worker : ℕ) (manager : Manager) (line : List Queued) → (receive_line w worker manager line).world.config ≡ w.config
-receive_line-config w worker manager [] = refl
-receive_line-config w worker manager (first ∷ rest) = received_part-config w worker first rest manager (row_at w.parts first.user.0)
-
-receive_hand-config : (w : World) (worker : ℕ) (manager : Manager) (hand : Option Held) → (receive_hand w worker manager hand).world.config ≡ w.config
-receive_hand-config w worker manager None = receive_line-config w worker manager (line_of w manager)
-receive_hand-config w worker manager (Some held) = refl
+received_part-config : (w : World) (taken : Held) (part : Option Part) → (received_part w taken part).config ≡ w.config
+received_part-config w taken None = refl
+received_part-config w taken (Some part) = refl
 
 performed_part-config : (w : World) (held : Held) (moment : ℕ) (part : Option Part) → (performed_part w held moment part).config ≡ w.config
 performed_part-config w held moment None = refl
 performed_part-config w held moment (Some part) = refl
 
-perform_hand-config : (w : World) (worker moment : ℕ) (hand : Option Held) → (perform_hand w worker moment hand).world.config ≡ w.config
-perform_hand-config w worker moment None = refl
-perform_hand-config w worker moment (Some held) = performed_part-config _ held moment (row_at w.parts held.user.0)
-
 server_step-config : (w : World) (e : Step) → (server_step w e).world.config ≡ w.config
-server_step-config w (Receive worker manager) =
-    cond_both (is_worker w.config worker.0) (receive_hand w worker.0 manager (row_at w.hands worker.0)) (same_world w WrongState) (λ after. after.world.config ≡ w.config)
-    (λ _. receive_hand-config w worker.0 manager (row_at w.hands worker.0)) (λ _. refl)
-server_step-config w (Perform worker moment) =
-    cond_both (is_worker w.config worker.0) (perform_hand w worker.0 moment (row_at w.hands worker.0)) (same_world w WrongState) (λ after. after.world.config ≡ w.config)
-    (λ _. perform_hand-config w worker.0 moment (row_at w.hands worker.0)) (λ _. refl)
-server_step-config w _ = refl
+server_step-config w e = server_leaves w e (λ v. v.config ≡ w.config) refl
+    (λ worker manager taken. received_part-config (with_taken w worker manager taken) taken (row_at w.parts taken.user.0))
+    (λ worker moment held. performed_part-config (with_empty_hand w worker) held moment (row_at w.parts held.user.0))
 
 step_of-config : (w : World) (e : Step) (by : Option Actor) → (step_of w e by).world.config ≡ w.config
 step_of-config w e None = server_step-config w e

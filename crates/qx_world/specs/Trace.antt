@@ -1,15 +1,12 @@
 -- The trace of a run: its configuration, its steps, and for how many more it has memory.
-use Rattle.std.specs.Prelude.{◌≡◌, ℕ, ◌+◌, ◌≤◌, not, Bool, false, List, [], ◌∷◌, ◌++◌, Option, option_map, map, if◌then◌else◌}
+use Rattle.std.specs.Prelude.{◌≡◌, ℕ, ◌+◌, ◌≤◌, Bool, List, [], ◌∷◌, ◌++◌, Option, option_map, map, if◌then◌else◌}
 use Rattle.qx_types.specs.Configuration.{Configuration}
 use Rattle.qx_types.specs.declared.names.User.{User}
 use Rattle.qx_types.specs.declared.outcome.Outcome.{Outcome}
 use Rattle.qx_types.specs.declared.step.Step.{Step}
-use Rattle.qx_types.specs.declared.step.Step.TheVariants.{Spawn, Call, Mount, Perform}
 use Rattle.qx_machine.specs.declared.rows.Entry.{Entry}
-use Rattle.qx_machine.specs.Laws.{is_refusal}
 use Rattle.qx_machine.specs.Machine.{World, boot, step, owner}
 use Rattle.qx_machine.specs.Runs.{Run, run}
-use Rattle.qx_steps.specs.Held.{holds_wanting}
 
 -- a configuration and the steps taken from boot; `room` more can be stored without more memory for the trace itself
 pub record Trace : Type 0 where
@@ -34,15 +31,6 @@ outcome_now trace e = (step (run_of trace).world e).outcome
 -- the outcome of the last step
 abbrev pub IsLast : Trace → Outcome → Type 0
 IsLast trace outcome = (earlier : List Step) (e : Step) → trace.steps ≡ earlier ++ e ∷ [] → outcome ≡ (step (run trace.config earlier).world e).outcome
-
--- in this world, a step that may be refused for want of memory: a spawn, a call and a mount that are not refused otherwise, and a
--- perform of an open, a mkdir or a write to the RAM manager that is not answered an error
-abbrev pub wants_memory : World → Step → Bool
-wants_memory w (Spawn user threads prio) = not (is_refusal (step w (Spawn user threads prio)).outcome)
-wants_memory w (Call thread request) = not (is_refusal (step w (Call thread request)).outcome)
-wants_memory w (Mount thread path manager) = not (is_refusal (step w (Mount thread path manager)).outcome)
-wants_memory w (Perform worker moment) = holds_wanting w worker.0 moment
-wants_memory w _ = false
 
 -- the steps that were stored
 abbrev pub steps_of : List Entry → List Step

@@ -8,10 +8,11 @@ ghost use Rattle.qx_machine.specs.declared.rows.Entry.{Entry};
 ghost use Rattle.qx_machine.specs.Machine as machine;
 ghost use Rattle.qx_machine.specs.Runs as runs;
 ghost use Rattle.qx_machine.specs.Runs.{run, received, erase};
+ghost use Rattle.qx_machine.specs.Wants.{wants_memory};
 ghost use Rattle.qx_types.specs.Step.{actor_of};
 ghost use Rattle.qx_steps.specs.declared.work.PerformFault.{PerformFault};
 ghost use Rattle.qx_steps.specs.Held.{held_work, IsStale};
-ghost use Rattle.qx_world.specs.Trace.{IsAfter, IsLast, run_of, outcome_now, wants_memory, owners_from};
+ghost use Rattle.qx_world.specs.Trace.{IsAfter, IsLast, run_of, outcome_now, owners_from};
 
 use qx_machine::{Entry, Seen, laws};
 use qx_steps::{PerformFault, Work, World};

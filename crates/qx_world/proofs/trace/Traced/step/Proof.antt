@@ -35,7 +35,8 @@ use Rattle.qx_types.specs.contracts.outcome.Outcome.{the_row as O}
 use Rattle.qx_types.proofs.outcome.Outcome.TheLaws.{the_row_laws as outcome_laws}
 use Rattle.qx_world.proofs.trace.Unstored.TheLaws.{the_row_laws as unstored_laws}
 use Rattle.qx_world.specs.Lending.{Ends}
-use Rattle.qx_world.specs.Trace.{Trace, IsAfter, IsLast, outcome_now, run_of, wants_memory}
+use Rattle.qx_world.specs.Trace.{Trace, IsAfter, IsLast, outcome_now, run_of}
+use Rattle.qx_machine.specs.Wants.{wants_memory}
 use Rattle.qx_world.specs.contracts.trace.Traced.rest as h
 use Rattle.qx_world.proofs.trace.Traced.rest.Met.{met as rests}
 use Rattle.qx_world.specs.contracts.trace.told as k

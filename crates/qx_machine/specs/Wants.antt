@@ -1,0 +1,60 @@
+-- Which steps may be refused for want of memory.
+use Rattle.std.specs.Prelude.{ℕ, ◌&&◌, not, Bool, true, false, Option, Result, Ok, Err, is_ok}
+use Rattle.qx_types.specs.declared.names.Manager.{Manager}
+use Rattle.qx_types.specs.declared.names.Manager.TheVariants.{Ram, Pipe}
+use Rattle.qx_types.specs.declared.outcome.Outcome.TheVariants.{WrongState}
+use Rattle.qx_types.specs.declared.step.Step.{Step}
+use Rattle.qx_types.specs.declared.step.Step.TheVariants.{Spawn, Call, Mount, Perform}
+use Rattle.qx_wire.specs.declared.message.Meaning.{Meaning}
+use Rattle.qx_wire.specs.declared.message.Meaning.TheVariants.{Known}
+use Rattle.qx_wire.specs.declared.message.Message.{Message}
+use Rattle.qx_wire.specs.declared.message.Message.TheVariants.{Open, Mknod, Write}
+use Rattle.qx_wire.specs.Reading.{meaning}
+use Rattle.qx_machine.specs.declared.rows.OwnItem.{OwnItem}
+use Rattle.qx_machine.specs.declared.rows.OwnItem.TheVariants as item
+use Rattle.qx_machine.specs.Judgements.{◌>>=◌, found, or_false}
+use Rattle.qx_machine.specs.Laws.{is_refusal}
+use Rattle.qx_machine.specs.Machine.{World, item_to_do, step}
+use Rattle.qx_machine.specs.Parts.{Part}
+use Rattle.qx_machine.specs.Performing.{caller_of, deed_of, taken_in}
+use Rattle.qx_machine.specs.Rows.{row_at}
+
+-- what a message asks for may want memory, of a manager whose writes may or may not
+abbrev pub message_wants_memory : Bool → Message → Bool
+message_wants_memory writes (Open flags mode rest) = true
+message_wants_memory writes (Mknod mode rest) = true
+message_wants_memory writes (Write bytes) = writes
+message_wants_memory writes _ = false
+
+-- what bytes with this meaning ask a manager for may want memory: of the writes, those to the RAM manager
+abbrev pub bytes_want_memory : Manager → Meaning → Bool
+bytes_want_memory Ram (Known message) = message_wants_memory true message
+bytes_want_memory Pipe (Known message) = message_wants_memory false message
+bytes_want_memory _ _ = false
+
+-- performing the message of a thread at a moment may want memory, where these are its user's rows: the message was received, what it
+-- asks for may, and it is not answered an error
+abbrev pub thread_wants_memory : Option Part → ℕ → ℕ → ℕ → Bool
+thread_wants_memory rows number thread moment = or_false (do
+  part ← found rows WrongState
+  process ← found (row_at part.processes number) WrongState
+  row ← found (row_at process.threads thread) WrongState
+  sent ← found (taken_in row.state) WrongState
+  Ok (bytes_want_memory sent.target.manager (meaning sent.bytes)
+      && is_ok (deed_of part.resources process (caller_of number thread row sent) sent.target moment (meaning sent.bytes))))
+
+-- an unblock pulse wants none
+abbrev pub item_wants_memory : Option Part → OwnItem → ℕ → Bool
+item_wants_memory rows (item.Message process thread) moment = thread_wants_memory rows process thread moment
+item_wants_memory rows (item.Unblock process thread call) moment = false
+
+-- in this world, a step that may be refused for want of memory: a spawn, a call and a mount that are not refused otherwise, and a
+-- perform of an open, a mkdir or a write to the RAM manager that is not answered an error
+abbrev pub wants_memory : World → Step → Bool
+wants_memory w (Spawn user threads prio) = not (is_refusal (step w (Spawn user threads prio)).outcome)
+wants_memory w (Call thread request) = not (is_refusal (step w (Call thread request)).outcome)
+wants_memory w (Mount thread path manager) = not (is_refusal (step w (Mount thread path manager)).outcome)
+wants_memory w (Perform worker moment) = or_false (do
+  held ← item_to_do w worker.0
+  Ok (item_wants_memory (row_at w.parts held.user.0) held.item moment))
+wants_memory w _ = false
