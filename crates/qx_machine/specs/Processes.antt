@@ -1,9 +1,11 @@
 -- Processes with their threads and connections, and how these change.
-use Rattle.std.specs.Prelude.{ℕ, true, ◌+◌, List, [], ◌∷◌, Option, Some, None, replicate, slice_set}
+use Rattle.std.specs.Prelude.{ℕ, Bool, false, true, ◌+◌, ◌&&◌, List, [], ◌∷◌, Option, Some, None, length, nat_le, replicate, slice_set}
+use Rattle.qx_bytes.specs.declared.message.TheConstants.MessageBytes.{INLINE}
 use Rattle.qx_types.specs.declared.limits.TheConstants.Limits.{FIRST_CONNECTION, THREADS}
 use Rattle.qx_types.specs.declared.names.Manager.{Manager}
 use Rattle.qx_types.specs.declared.names.TheConstants.Manager.{COUNT}
 use Rattle.qx_types.specs.declared.outcome.Answer.{Answer}
+use Rattle.qx_types.specs.declared.outcome.Answer.TheVariants.{Failed, Reply}
 use Rattle.qx_machine.specs.declared.rows.Connection.{Connection}
 use Rattle.qx_machine.specs.declared.rows.Effect.{Effect}
 use Rattle.qx_machine.specs.declared.rows.Effect.TheVariants.{Keeps, Opens, Closes}
@@ -25,7 +27,7 @@ pub record Process : Type 0 where
   pub servers : List (Option ServerConnection)
 
 abbrev pub new_thread : ℕ → ThreadRow
-new_thread prio = record { state = Ready; prio = record { 0 = prio }; calls = 0 }
+new_thread prio = record { state = Ready; prio = record { 0 = prio }; calls = 0; has_room = false }
 
 -- a process with so many threads, all ready, and nothing attached
 abbrev pub new_process : ℕ → ℕ → Process
@@ -82,9 +84,9 @@ abbrev pub after_error : ℕ → Over → Process → Process
 after_error thread (New coid) process = without_connection coid.0 process
 after_error thread over process = after_reply thread over process
 
--- a thread that sent a message
+-- a thread that sent a message: there is room for its reply from then on
 abbrev pub queued_thread : Sent → ThreadRow → ThreadRow
-queued_thread sent row = record row { state = Queued sent; calls = row.calls + 1 }
+queued_thread sent row = record row { state = Queued sent; calls = row.calls + 1; has_room = true }
 
 -- what becomes of a thread's state when its message is received
 abbrev pub taken_state : State → State
@@ -111,9 +113,14 @@ served_state state = state
 abbrev pub served_thread : ThreadRow → ThreadRow
 served_thread row = record row { state = served_state row.state }
 
+-- an answer leaves the thread its room for replies, unless its bytes are more than stand in its value (this profile)
+abbrev pub keeps_room : Answer → Bool
+keeps_room (Reply status bytes) = nat_le (length bytes) INLINE
+keeps_room (Failed error) = true
+
 -- a thread that has its answer
 abbrev pub answered_thread : Answer → ThreadRow → ThreadRow
-answered_thread answer row = record row { state = Answered answer }
+answered_thread answer row = record row { state = Answered answer; has_room = row.has_room && keeps_room answer }
 
 -- a thread that took its answer
 abbrev pub ready_thread : ThreadRow → ThreadRow

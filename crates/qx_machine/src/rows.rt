@@ -60,12 +60,15 @@ pub enum State {
     Answered(Answer),
 }
 
-/// A thread: its state, its priority and how many calls it has made.
+/// A thread: its state, its priority, how many calls it has made, and whether memory for a reply is kept for it.
 #[derive(Debug, Drop)]
 pub struct ThreadRow {
     pub state: State,
     pub prio: Prio,
     pub calls: u64,
+    /// There is memory for the bytes of a reply: from the first call on, until a reply takes it along whose bytes are more
+    /// than stand in its value. While a message is served, and as long as its call waits, the memory is with the call.
+    pub has_room: bool,
 }
 
 /// A connection: its manager, and its open control block once the open has been performed.

@@ -1,4 +1,4 @@
-ghost use Rattle.std.specs.Prelude.{◌≡◌, ◌≤◌, is_some, IfSome, OnSome, OnOk, OnErr, Some, None};
+ghost use Rattle.std.specs.Prelude.{◌≡◌, ◌≤◌, is_some, IfSome, IsOk, IsTrue, OnSome, OnOk, OnErr, Some, None};
 ghost use Rattle.std.specs.Option.{option_copied, option_copied_mut};
 ghost use Rattle.std.specs.Borrow.{sem};
 ghost use Rattle.qx_types.specs.Managers.{manager_number};
@@ -7,7 +7,7 @@ ghost use Rattle.qx_machine.specs.Processes as machine;
 ghost use Rattle.qx_machine.specs.Processes.{answered_thread, with_thread};
 ghost use Rattle.qx_machine.specs.Rows.{row_at, lowest_from};
 ghost use Rattle.qx_machine.specs.Servers.{is_attached};
-ghost use Rattle.qx_process.specs.Reads.{CanCall, CanGo, HasNumber, IsPriority, IsRanked};
+ghost use Rattle.qx_process.specs.Reads.{BringsRoom, CanCall, CanGo, HasNumber, IsPriority, IsRanked, has_own_room};
 
 use crate::connections::{self, Connections};
 use crate::places;
@@ -163,6 +163,7 @@ impl Process {
         requires call { CanCall (row_at self.old.threads thread) }
         requires target { CanGo sent.target }
         ensures ok { OnOk result (self.new ≡ machine.with_queued thread sent self.old) }
+        ensures had_room { IfSome (row_at self.old.threads thread) (λ row. IsTrue (has_own_room row)) → IsOk result }
         ensures err { OnErr result (self.new ≡ self.old) }
     {
         let target = sent.target;
@@ -183,6 +184,7 @@ impl Process {
         bytes: MessageBytes,
         room: Option<Room>,
     )
+        requires room { BringsRoom (Answer.Reply status bytes) room (row_at self.old.threads thread) }
         ensures process { self.new ≡ machine.after_reply thread over (with_thread thread (answered_thread (Answer.Reply status bytes)) self.old) }
     {
         self.answer(thread, Answer::Reply(status, bytes), room);
@@ -192,6 +194,7 @@ impl Process {
     /// A thread gets an error, with the room for its replies where that had gone; what its call attached goes (C Library
     /// Reference: `MsgError`).
     pub fn fail(&mut self, thread: u8, over: Over, error: Errno, room: Option<Room>)
+        requires room { BringsRoom (Answer.Failed error) room (row_at self.old.threads thread) }
         ensures process { self.new ≡ machine.after_error thread over (with_thread thread (answered_thread (Answer.Failed error)) self.old) }
     {
         self.answer(thread, Answer::Failed(error), room);
@@ -204,6 +207,7 @@ impl Process {
     /// A thread gets an answer, with the room for its replies where that comes back with it.
     #[tactic(auto, using(crate::proofs::RowLemmas::thread_absent))]
     fn answer(&mut self, thread: u8, answer: Answer, room: Option<Room>)
+        requires room { BringsRoom answer room (row_at self.old.threads thread) }
         ensures process { self.new ≡ with_thread thread (answered_thread answer) self.old }
     {
         if let Some(cell) = self.thread_mut(thread) {

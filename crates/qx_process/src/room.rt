@@ -1,4 +1,4 @@
-ghost use Rattle.std.specs.Prelude.{◌≡◌, ◌≤◌, ◌<◌, [], length, IsSome, IfOk, None};
+ghost use Rattle.std.specs.Prelude.{◌≡◌, ◌≤◌, [], length, is_some, nat_le, IsSome, IfOk};
 ghost use Rattle.qx_bytes.specs.declared.message.TheConstants.MessageBytes.{INLINE};
 ghost use Rattle.qx_types.specs.declared.limits.TheConstants.Limits.{BODY};
 
@@ -85,7 +85,7 @@ pub fn reply_bytes(room: &mut Option<Room>, reply: &[u8]) -> MessageBytes
     requires fits { length reply.now ≤ BODY }
     ensures bytes { result ≡ reply.now }
     ensures stays { length reply.now ≤ INLINE → room.new ≡ room.old }
-    ensures goes { INLINE < length reply.now → room.new ≡ None }
+    ensures left { is_some room.new ≡ nat_le (length reply.now) INLINE }
 {
     match room {
         Some(room) if reply.len() <= MessageBytes::INLINE => room.inline(reply),

@@ -1,9 +1,9 @@
-ghost use Rattle.std.specs.Prelude.{◌≡◌, ◌<◌, IsSome, MatchOption, OnOk, OnErr, Some, option_map};
+ghost use Rattle.std.specs.Prelude.{◌≡◌, ◌<◌, IsOk, IsSome, IsTrue, MatchOption, OnOk, OnErr, Some, option_map};
 ghost use Rattle.qx_types.specs.declared.limits.TheConstants.Limits.{CALLS};
 ghost use Rattle.qx_machine.specs.Clients.{answer_in};
 ghost use Rattle.qx_machine.specs.Performing.{taken_in};
 ghost use Rattle.qx_machine.specs.Processes.{asked_thread, new_thread, queued_thread, served_thread, taken_thread, answered_thread, ready_thread, ranked_thread};
-ghost use Rattle.qx_process.specs.Reads.{IsPriority, IsRanked, unserved_thread};
+ghost use Rattle.qx_process.specs.Reads.{BringsRoom, IsPriority, IsRanked, has_own_room, unserved_thread};
 
 use crate::room::Room;
 use qx_machine::{Sent, State, ThreadRow};
@@ -12,7 +12,8 @@ use std::alloc::{AllocError, Global};
 use std::marker::Model;
 use std::mem;
 
-/// A thread, with the room for its replies: there until its message is served, and afterwards until an answer takes it along.
+/// A thread, with the room for its replies, which is here exactly if the thread's row has it and its message is not served
+/// and unanswered.
 #[derive(Drop)]
 pub struct ThreadCell {
     row: ThreadRow,
@@ -20,15 +21,19 @@ pub struct ThreadCell {
 }
 
 impl Model for ThreadCell {
-    ghost use Rattle.std.specs.Prelude.{IsTrue, IsSome};
+    ghost use Rattle.std.specs.Prelude.{◌≡◌, IsTrue, is_some};
     ghost use Rattle.qx_machine.specs.declared.rows.ThreadRow.{ThreadRow};
-    ghost use Rattle.qx_process.specs.Reads.{is_unserved, IsRanked};
+    ghost use Rattle.qx_process.specs.Reads.{has_own_room, is_blocked, IsRanked};
 
     ghost Value = { ThreadRow };
 
     ghost view = { λ c. c.row };
 
-    ghost invariant = { λ c. (IsTrue (is_unserved c.row.state) → IsSome c.room) × IsRanked c.row };
+    ghost invariant = { λ c. record {
+      room : is_some c.room ≡ has_own_room c.row;
+      blocked : IsTrue (is_blocked c.row.state) → IsTrue c.row.has_room;
+      ranked : IsRanked c.row;
+    } };
 }
 
 impl ThreadCell {
@@ -41,6 +46,7 @@ impl ThreadCell {
             state: State::Ready,
             prio,
             calls: 0,
+            has_room: false,
         };
         ThreadCell { row, room: None }
     }
@@ -59,6 +65,7 @@ impl ThreadCell {
         requires countable { self.old.calls < CALLS }
         requires priority { IsPriority sent.target.prio.0 }
         ensures ok { OnOk result (self.new ≡ queued_thread sent self.old) }
+        ensures had_room { IsTrue (has_own_room self.old) → IsOk result }
         ensures err { OnErr result (self.new ≡ self.old) }
     {
         if self.room.is_none() {
@@ -66,6 +73,7 @@ impl ThreadCell {
         }
         self.row.state = State::Queued(sent);
         self.row.calls += 1;
+        self.row.has_room = true;
         Ok(())
     }
 
@@ -125,21 +133,25 @@ impl ThreadCell {
         ensures row { self.new ≡ unserved_thread bytes self.old }
     {
         self.row.state = match mem::replace(&mut self.row.state, State::Ready) {
-            State::Waiting(sent) => State::Taken(Sent { bytes, ..sent }),
+            State::Waiting(sent) => {
+                self.room = Some(room);
+                State::Taken(Sent { bytes, ..sent })
+            }
             state => state,
         };
-        self.room = Some(room);
     }
 
     /// The thread gets an answer, and with it the room for its replies, unless the answer took that along or it never went
     /// (C Library Reference: `MsgReply`, `MsgError`).
     pub fn answer(&mut self, answer: Answer, room: Option<Room>)
+        requires room { BringsRoom answer room (Some self.old) }
         ensures row { self.new ≡ answered_thread answer self.old }
     {
-        self.row.state = State::Answered(answer);
-        if room.is_some() {
+        if let State::Waiting(_) = self.row.state {
+            self.row.has_room = room.is_some();
             self.room = room;
         }
+        self.row.state = State::Answered(answer);
     }
 
     /// The thread gets another priority (C Library Reference: `SchedSet`).

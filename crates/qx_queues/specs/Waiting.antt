@@ -1,10 +1,11 @@
 -- What a node of the table stands for and carries.
-use Rattle.std.specs.Prelude.{ℕ, ◌==◌, Bool, false, [], Option, Some, None, unwrap_or}
+use Rattle.std.specs.Prelude.{◌≡◌, ⊤, ℕ, ◌==◌, Bool, false, [], Option, Some, None, is_some, unwrap_or}
 use Rattle.qx_types.specs.declared.names.Thread.{Thread}
 use Rattle.qx_types.specs.declared.outcome.Answer.TheVariants.{Reply}
 use Rattle.qx_machine.specs.declared.rows.Queued.{Queued}
 use Rattle.qx_machine.specs.declared.rows.WaitingCall.{WaitingCall}
 use Rattle.qx_machine.specs.Machine.{rank}
+use Rattle.qx_machine.specs.Processes.{keeps_room}
 use Rattle.qx_queues.specs.Queues.{UsersAnswer, caller}
 use Rattle.qx_queues.specs.declared.waiting.Answered as taken
 use Rattle.qx_queues.specs.declared.waiting.Slot.{Slot}
@@ -74,6 +75,15 @@ thread_carried waiting = thread_of_load waiting.queued.user.0 waiting.load
 -- to which call of which thread an answer goes, and what it is
 abbrev pub addressed_by : taken.Answered → UsersAnswer
 addressed_by taken = record { thread = taken.thread; call = taken.call; answer = taken.answer }
+
+-- an answer comes with the room for its thread's replies, unless it takes that along
+abbrev pub ComesWithRoom : taken.Answered → Type 0
+ComesWithRoom taken = is_some taken.room ≡ keeps_room taken.answer
+
+-- so does the answer that is kept in a node, if one is
+abbrev pub KeepsRoom : Slot → Type 0
+KeepsRoom (slot.Answered taken) = ComesWithRoom taken
+KeepsRoom _ = ⊤
 
 -- what is kept in a node, seen without the rooms for replies
 abbrev pub load_of : Slot → Load

@@ -13,7 +13,7 @@ ghost use Rattle.qx_machine.specs.declared.rows.OwnItem.TheVariants as item;
 ghost use Rattle.qx_queues.specs.Queues.{HasNoListedCall, HasThreadNodes, IsGone, IsMessageReceived, pulse_call, queues_line, has_server_node, has_thread_nodes, message_of, no_queues, stands, unblock_call, unblock_of, with_queues_line, with_process_nodes, with_server_node, with_thread_nodes, without_server_node};
 ghost use Rattle.qx_queues.specs.Kept.{PutIn, TakenOut, entries, entry_of_node, node_owner, waiting_of_node};
 ghost use Rattle.qx_queues.specs.Nodes.{Unblock};
-ghost use Rattle.qx_queues.specs.Waiting.{addressed_by, idle, load_of, rank_of};
+ghost use Rattle.qx_queues.specs.Waiting.{ComesWithRoom, KeepsRoom, addressed_by, idle, load_of, rank_of};
 
 use crate::nodes::{Nodes, ThreadNodes};
 use crate::waiting::{Answered, Slot, Waiting};
@@ -177,9 +177,11 @@ impl Queues {
         self.nodes.set_asked(thread, None);
     }
 
-    /// Takes out the first of those who were answered, with the answer and the room for the thread's replies.
+    /// Takes out the first of those who were answered, with the answer, and with the room for the thread's replies, unless the
+    /// answer took that along.
     pub fn take_answered(&mut self) -> Option<Answered>
         ensures first { option_map addressed_by result ≡ slice_get self.old.answered 0 }
+        ensures room { IfSome result ComesWithRoom }
         ensures rest { self.new ≡ record self.old { answered = drop 1 self.old.answered } }
         ensures gone { IfSome result (λ taken. HasNoListedCall self.new taken.thread) }
     {
@@ -378,6 +380,7 @@ pub(crate) fn take_slot(table: &mut Table<Waiting>, list: usize, node: usize) ->
     requires in_list { IsIn table.old list node }
     requires there { ContainsNode table.old node }
     ensures carried { load_of result ≡ (waiting_of_node table.old node).load }
+    ensures room { KeepsRoom result }
     ensures taken { table.new ≡ with_value (with_nodes table.old list (without node (nodes_of table.old list))) node (idle (entry_of_node table.old node)) }
     ensures free { IsFree table.new node }
 {

@@ -5,7 +5,7 @@ ghost use Rattle.std.specs.Result.{ForOk};
 ghost use Rattle.qx_types.specs.declared.limits.TheConstants.Limits.{PRIORITY, TRANSFER};
 ghost use Rattle.qx_queues.specs.Kept.{HasLoad};
 ghost use Rattle.qx_queues.specs.Queues.{answer_to};
-ghost use Rattle.qx_queues.specs.Waiting.{Answered as Given, Waits, addressed_by, call_carried, carrying, idle, load_of, waits_in};
+ghost use Rattle.qx_queues.specs.Waiting.{Answered as Given, ComesWithRoom, KeepsRoom, Waits, addressed_by, call_carried, carrying, idle, load_of, waits_in};
 ghost use Rattle.qx_queues.specs.Waits.{handed, users_call};
 
 use crate::calls::PipeCall;
@@ -30,6 +30,7 @@ impl Answered {
     pub(crate) fn new(user: User, call: PipeCall, given: Result<(u64, &[u8]), Errno>) -> Self
         requires short { ForOk given (λ reply. length reply.1.now ≤ TRANSFER) }
         ensures answered { addressed_by result ≡ answer_to (users_call user.0 call) (handed given.entry) }
+        ensures room { ComesWithRoom result }
     {
         let thread = call.thread(user);
         let number = call.number();
@@ -70,7 +71,9 @@ impl Slot {
     /// The answer that was given.
     pub(crate) fn into_answered(self) -> Answered
         requires answered { HasLoad true (load_of self) }
+        requires room { KeepsRoom self }
         ensures answer { load_of self ≡ Given (addressed_by result) }
+        ensures room { ComesWithRoom result }
     {
         match self {
             Slot::Answered(answered) => answered,
@@ -79,7 +82,8 @@ impl Slot {
     }
 }
 
-/// An item as it stands in a line, with a priority from 1 to the greatest, and what its node carries.
+/// An item as it stands in a line, with a priority from 1 to the greatest, and what its node carries; an answer there comes
+/// with the room for its thread's replies, unless it takes that along.
 #[derive(Drop)]
 pub struct Waiting {
     queued: Queued,
@@ -95,7 +99,7 @@ impl Model for Waiting {
 
     ghost view = { λ w. record { queued = w.queued; load = words.load_of w.slot } };
 
-    ghost invariant = { λ w. (1 ≤ w.queued.prio.0) × (w.queued.prio.0 ≤ PRIORITY) };
+    ghost invariant = { λ w. (1 ≤ w.queued.prio.0) × (w.queued.prio.0 ≤ PRIORITY) × words.KeepsRoom w.slot };
 }
 
 impl Waiting {
@@ -120,7 +124,9 @@ impl Waiting {
 
     /// The node carries something else from now on; gives what it carried.
     pub(crate) fn replace(&mut self, slot: Slot) -> Slot
+        requires room { KeepsRoom slot }
         ensures before { load_of result ≡ self.old.load }
+        ensures room { KeepsRoom result }
         ensures after { self.new ≡ carrying self.old.queued (load_of slot) }
     {
         mem::replace(&mut self.slot, slot)

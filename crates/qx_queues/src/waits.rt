@@ -13,7 +13,7 @@ ghost use Rattle.qx_machine.specs.Pipes.{staying};
 ghost use Rattle.qx_queues.specs.Kept.{HasLoad, entry_of_node, waiting_of_node};
 ghost use Rattle.qx_queues.specs.Nodes.{Message, node_of, nodes_of_thread};
 ghost use Rattle.qx_queues.specs.Queues.{HasList, IsMessageReceived, answer_to, caller, has_call, waiting_in_list, with_more_answers, with_waiting, without_list};
-ghost use Rattle.qx_queues.specs.Waiting.{call_carried, carrying, load_of};
+ghost use Rattle.qx_queues.specs.Waiting.{KeepsRoom, call_carried, carrying, load_of};
 ghost use Rattle.qx_queues.specs.Waits.{handed, is_users_call, leaves, users_call, without_first};
 
 use crate::calls::PipeCall;
@@ -178,6 +178,7 @@ fn message_node(nodes: &Nodes, thread: Thread) -> usize
 fn put_slot(table: &mut Table<Waiting>, list: usize, node: usize, slot: Slot)
     requires list { ContainsList table.old list }
     requires free { IsFree table.old node }
+    requires room { KeepsRoom slot }
     ensures put { table.new ≡ with_value (with_nodes table.old list (nodes_of table.old list ++ node ∷ [])) node (carrying (entry_of_node table.old node) (load_of slot)) }
 {
     table.value_mut(node).replace(slot);

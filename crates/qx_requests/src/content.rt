@@ -1,6 +1,7 @@
 //! What a call sends, and its bytes.
 
-ghost use Rattle.std.specs.Prelude.{◌≡◌, [], IsTrue, IfOk};
+ghost use Rattle.std.specs.Prelude.{◌≡◌, ◌≤◌, [], length, IsOk, IsTrue, IfOk};
+ghost use Rattle.qx_bytes.specs.declared.message.TheConstants.MessageBytes.{INLINE};
 ghost use Rattle.qx_machine.specs.Calls as calls;
 ghost use Rattle.qx_machine.specs.Calls.{bytes_of, can_send, content_of, request_in_ranges};
 
@@ -15,6 +16,7 @@ use std::alloc::Global;
 pub fn encoded(alloc: Global, request: &Request, rest: &Path<'_>) -> Result<MessageBytes, NoMemory>
     requires sendable { IsTrue (can_send (content_of request.now rest.now)) }
     ensures bytes { IfOk result (λ bytes. bytes ≡ bytes_of (content_of request.now rest.now)) }
+    ensures few { rest.now ≡ [] → length (bytes_of (content_of request.now rest.now)) ≤ INLINE → IsOk result }
 {
     if rest.is_empty() {
         return spelled(alloc, &content_of(request, root()));
@@ -27,6 +29,7 @@ pub fn encoded(alloc: Global, request: &Request, rest: &Path<'_>) -> Result<Mess
 fn spelled(alloc: Global, content: &Content<'_>) -> Result<MessageBytes, NoMemory>
     requires sendable { IsTrue (can_send content.now) }
     ensures bytes { IfOk result (λ bytes. bytes ≡ bytes_of content.now) }
+    ensures few { length (bytes_of content.now) ≤ INLINE → IsOk result }
 {
     match content {
         Content::Spelled(message) => encode(alloc, message),

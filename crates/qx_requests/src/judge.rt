@@ -11,7 +11,7 @@ ghost use Rattle.qx_machine.specs.Judgements.{or_refused};
 ghost use Rattle.qx_machine.specs.Parts.{thread_of};
 ghost use Rattle.qx_machine.specs.Rows.{row_at};
 ghost use Rattle.qx_process.specs.Reads.{CanCall, CanGo};
-ghost use Rattle.qx_requests.specs.Targets.{IsConnection};
+ghost use Rattle.qx_requests.specs.Targets.{HasRest, IsConnection};
 
 use crate::content::is_in_ranges;
 use qx_machine::{Addressed, Connection, Over, State, Target, ThreadRow};
@@ -36,6 +36,7 @@ pub fn target_by<'a>(
     ensures countable { IfOk result (λ _. CanCall (thread_of thread.tid (row_at processes.now thread.proc.num))) }
     ensures goes { IfOk result (λ addressed. CanGo addressed.target) }
     ensures sendable { IfOk result (λ addressed. IsTrue (can_send (content_of request.now addressed.rest))) }
+    ensures rest { IfOk result (λ addressed. HasRest addressed.target.over addressed.rest) }
     ensures target { result ≡ clients.target_by config.now thread.proc.user.0 mounts.now processes.now thread request.now }
 {
     let Some(process) = processes.process(thread.proc.num) else {

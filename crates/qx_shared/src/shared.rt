@@ -8,7 +8,7 @@ ghost use Rattle.qx_machine.specs.Lines.{into};
 ghost use Rattle.qx_machine.specs.Machine as machine;
 ghost use Rattle.qx_machine.specs.declared.rows.OwnItem.TheVariants as item;
 ghost use Rattle.qx_queues.specs.Queues.{IsGone, message_of, stands, unblock_call, unblock_of};
-ghost use Rattle.qx_queues.specs.Waiting.{addressed_by};
+ghost use Rattle.qx_queues.specs.Waiting.{ComesWithRoom, addressed_by};
 ghost use Rattle.qx_shared.specs.Shared.{HasNoCall, HasThread, has_disconnect_node, has_thread, nothing_shared, shared_line, with_shared_process, with_shared_server, with_shared_line, without_shared_server};
 
 use crate::row::UserPipes;
@@ -106,9 +106,11 @@ impl Shared {
         self.queues.reply(manager, thread, call);
     }
 
-    /// Takes out the first of those who were answered, with the answer and the room for the thread's replies.
+    /// Takes out the first of those who were answered, with the answer, and with the room for the thread's replies, unless the
+    /// answer took that along.
     pub fn take_answered(&mut self) -> Option<Answered>
         ensures first { option_map addressed_by result ≡ slice_get self.old.answered 0 }
+        ensures room { IfSome result ComesWithRoom }
         ensures rest { self.new ≡ record self.old { answered = drop 1 self.old.answered } }
         ensures gone { IfSome result (λ taken. HasNoCall self.new taken.thread) }
     {

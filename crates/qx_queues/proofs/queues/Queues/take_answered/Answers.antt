@@ -17,7 +17,7 @@ pub take_slot-requires-clause-there : goal.take_slot-requires-clause-there
 take_slot-requires-clause-there c = c.know.ensures.there c.self.inside.answered c.in_ok-node.node (contains_slice_first _ _ (sym c.first.ensures ∙ c.in_ok-node.was))
 
 pub into_answered-requires : goal.into_answered-requires
-into_answered-requires c = record { answered = rw c.take_slot.ensures.carried (carries-answer c.self.inside.table c.self.inside.lines.items _ c.self.invariant.1 c.in_ok-node.node (contains_slice_first _ _ (sym c.first.ensures ∙ c.in_ok-node.was))).load }
+into_answered-requires c = record { answered = rw c.take_slot.ensures.carried (carries-answer c.self.inside.table c.self.inside.lines.items _ c.self.invariant.1 c.in_ok-node.node (contains_slice_first _ _ (sym c.first.ensures ∙ c.in_ok-node.was))).load; room = c.take_slot.ensures.room }
 
 pub invariant_of-self : goal.invariant_of-self
 invariant_of-self c =
