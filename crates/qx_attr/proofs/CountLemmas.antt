@@ -207,12 +207,12 @@ has_inode attrs blocks n block are is none =
     let no : 0 ≡ count_by (is_open (λ flags. true) block.inode) blocks = ap (count_in (λ attr. attr.blocks)) (sym none) ∙ are.blocks_are block.inode in
     absurd (omega (arith, freed, own, no))
 
-pub few_blocks : (blocks : List (Option Ocb)) (n most : ℕ) (block : Ocb) → n ≤ most → length blocks ≤ most + 1 → length (put_row blocks n block) ≤ most + 1
-few_blocks blocks n most block small few = by_size (ltb n (length blocks)) refl
+pub few_rows : {A : Type 0} (rows : List (Option A)) (n most : ℕ) (row : A) → n ≤ most → length rows ≤ most + 1 → length (put_row rows n row) ≤ most + 1
+few_rows rows n most row small few = by_size (ltb n (length rows)) refl
   where
-    by_size : (test : Bool) → ltb n (length blocks) ≡ test → length (if test then slice_set blocks n (Some block) else blocks ++ Some block ∷ []) ≤ most + 1
-    by_size true inside = let same = length-set blocks n (Some block) in omega (arith, same, few)
-    by_size false beyond = let past = ltb-false n (length blocks) beyond in let more = length-append blocks (Some block ∷ []) in omega (arith, past, more, small)
+    by_size : (test : Bool) → ltb n (length rows) ≡ test → length (if test then slice_set rows n (Some row) else rows ++ Some row ∷ []) ≤ most + 1
+    by_size true inside = let same = length-set rows n (Some row) in omega (arith, same, few)
+    by_size false beyond = let past = ltb-false n (length rows) beyond in let more = length-append rows (Some row ∷ []) in omega (arith, past, more, small)
 
 -- another count beside an attribute is not seen
 pub same_attributes : (attrs : List (Option Attr)) (n : ℕ) (attr now : Attr) → row_at attrs n ≡ Some attr → now.attribute ≡ attr.attribute → map attribute_of (slice_set attrs n (Some now)) ≡ map attribute_of attrs

@@ -1,5 +1,6 @@
 -- Tables of rows that are seen through a function of their places.
-use Rattle.std.proofs.Common.{◌≡◌, ◌≢◌, ◌⊎◌, ℕ, zero, suc, ◌+◌, Bool, true, false, List, [], ◌∷◌, ◌++◌, length, refl, sym, ap, ◌∙◌, inl, inr, arith, Option, Some, None, IsSome, map, nat_lt, slice_set}
+use Rattle.std.proofs.Common.{◌≤◌, ◌≡◌, ◌≢◌, ◌⊎◌, ℕ, zero, suc, ◌+◌, Bool, true, false, List, [], ◌∷◌, ◌++◌, length, refl, sym, ap, ◌∙◌, inl, inr, arith, Option, Some, None, IsSome, map, nat_lt, slice_set, length-append}
+use Rattle.std.proofs.Math.ListN.{length-set}
 use Rattle.std.specs.Prelude.{if◌then◌else◌}
 use Rattle.qx_machine.specs.Rows.{row_at, lowest_from, put_row, taken_places}
 
@@ -83,3 +84,13 @@ none_before f [] n some e = refl
 none_before f (None ∷ rows) zero some e = refl
 none_before f (Some row ∷ rows) zero some e = absurd (some row e)
 none_before f (row ∷ rows) (suc n) some e = none_before f rows n some e
+
+-- ---- how many places there are
+
+-- a table gets no shorter
+pub longer_put : {A : Type 0} (rows : List (Option A)) (n : ℕ) (row : A) → length rows ≤ length (put_row rows n row)
+longer_put rows n row = by_test (nat_lt n (length rows))
+  where
+    by_test : (test : Bool) → length rows ≤ length (if test then slice_set rows n (Some row) else rows ++ Some row ∷ [])
+    by_test true = let same = length-set rows n (Some row) in omega (arith, same)
+    by_test false = let more = length-append rows (Some row ∷ []) in omega (arith, more)

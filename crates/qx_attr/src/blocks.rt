@@ -2,6 +2,7 @@ ghost use Rattle.std.specs.Prelude.{◌≡◌, ◌+◌, ◌-◌, ◌<◌, ◌≤
 ghost use Rattle.std.specs.Option.{option_copied};
 ghost use Rattle.qx_machine.specs.Rows.{lowest_from, put_row, row_at, with_row};
 
+use crate::growth;
 use qx_machine::Ocb;
 use qx_process::places;
 use slab::Slab;
@@ -19,7 +20,7 @@ pub struct Blocks {
 }
 
 impl Model for Blocks {
-    ghost use Rattle.std.specs.Prelude.{◌≡◌, ◌+◌, ◌≤◌, count_by, is_some, vec_len, vec_capacity};
+    ghost use Rattle.std.specs.Prelude.{◌≡◌, ◌+◌, ◌*◌, ◌≤◌, count_by, is_some, length, vec_len, vec_capacity};
     ghost use Rattle.slab.specs.Slab.{HasRoomFor, slab_len};
     ghost use Rattle.qx_attr.specs.Blocks.{IsKeyed, NumberedRows, rows_of};
 
@@ -31,6 +32,7 @@ impl Model for Blocks {
       keyed : IsKeyed b.values b.keys.items;
       held : slab_len b.values ≡ count_by is_some b.keys.items;
       numbers : vec_len b.keys + b.room ≤ vec_capacity b.keys;
+      no_more : vec_capacity b.keys ≤ 2 * length b.keys.items + 2;
       slots : HasRoomFor b.values b.room;
     } };
 }
@@ -63,13 +65,14 @@ impl Blocks {
         places::lowest_free(self.keys.as_slice(), 1)
     }
 
-    /// Makes room for `count` more.
+    /// Makes room for `count` more, at most 2.
     pub fn reserve(&mut self, count: usize) -> Result<(), AllocError>
+        requires few { count ≤ 2 }
         ensures ok { OnOk result (self.new ≡ record self.old { room = max self.old.room count }) }
         ensures err { OnErr result (self.new ≡ self.old) }
         ensures had_room { count ≤ self.old.room → IsOk result }
     {
-        self.keys.reserve(count)?;
+        growth::reserve(&mut self.keys, count)?;
         self.values.reserve(count)?;
         self.room = self.room.max(count);
         Ok(())

@@ -1,4 +1,4 @@
-ghost use Rattle.std.specs.Prelude.{◌≡◌, ◌+◌, ◌-◌, ◌<◌, ◌≤◌, Bool, None, Some, IfOk, IfSome, OnOk, OnErr, IsOk, IsSome, max, option_map, slice_set};
+ghost use Rattle.std.specs.Prelude.{◌≡◌, ◌+◌, ◌-◌, ◌<◌, ◌≤◌, Bool, None, Some, IfOk, IfSome, OnOk, OnErr, IsOk, IsSome, length, max, option_map, slice_set};
 ghost use Rattle.std.specs.Option.{option_copied};
 ghost use Rattle.qx_attr.specs.Counts.{with_number};
 ghost use Rattle.qx_attr.specs.Flags.{block_for};
@@ -6,10 +6,11 @@ ghost use Rattle.qx_machine.specs.Attributes.{stat_bytes};
 ghost use Rattle.qx_machine.specs.Inodes as machine;
 ghost use Rattle.qx_machine.specs.Waiting.{sides_of};
 ghost use Rattle.qx_machine.specs.Rows.{lowest_from, put_row, row_at};
-ghost use Rattle.qx_types.specs.declared.limits.TheConstants.Limits.{BLOCKS};
+ghost use Rattle.qx_types.specs.declared.limits.TheConstants.Limits.{BLOCKS, INODES};
 
 use crate::attr::Attr;
 use crate::blocks::Blocks;
+use crate::growth;
 use crate::status::{Status, stat_bytes};
 use bitflags::Flags;
 use qx_machine::{Attribute, Ocb, Sides};
@@ -29,9 +30,9 @@ pub struct Inodes {
 }
 
 impl Model for Inodes {
-    ghost use Rattle.std.specs.Prelude.{◌+◌, ◌≤◌, length, map, vec_len, vec_capacity};
+    ghost use Rattle.std.specs.Prelude.{◌+◌, ◌*◌, ◌≤◌, length, map, vec_len, vec_capacity};
     ghost use Rattle.qx_attr.specs.Counts.{AreCounted, Reserved, attribute_of};
-    ghost use Rattle.qx_types.specs.declared.limits.TheConstants.Limits.{BLOCKS};
+    ghost use Rattle.qx_types.specs.declared.limits.TheConstants.Limits.{BLOCKS, INODES};
 
     ghost Value = { Reserved };
 
@@ -43,7 +44,9 @@ impl Model for Inodes {
     ghost invariant = { λ i. record {
       counted : AreCounted i.attrs.items i.blocks.rows;
       few : length i.blocks.rows ≤ BLOCKS + 1;
+      few_inodes : length i.attrs.items ≤ INODES + 1;
       numbers : vec_len i.attrs + i.blocks.room ≤ vec_capacity i.attrs;
+      no_more : vec_capacity i.attrs ≤ 2 * length i.attrs.items + 2;
     } };
 }
 
@@ -66,6 +69,13 @@ impl Inodes {
         ensures writers { IfSome result (λ attr. attr.now.writers ≡ machine.writers_of self.now.inodes inode) }
     {
         places::row(self.attrs.as_slice(), inode as usize)
+    }
+
+    /// Tells that inodes are numbered up to 1,024.
+    pub fn numbered(&self)
+        ensures few { length self.now.inodes.attributes ≤ INODES + 1 }
+    {
+        let _count = self.attrs.len();
     }
 
     /// For which sides an inode has open control blocks; none where there is no inode.
@@ -101,13 +111,14 @@ impl Inodes {
         }
     }
 
-    /// Makes room for `count` more inodes and as many more open control blocks.
+    /// Makes room for `count` more inodes and as many more open control blocks: at most 2, which is what an open makes.
     pub fn reserve(&mut self, count: usize) -> Result<(), AllocError>
+        requires few { count ≤ 2 }
         ensures ok { OnOk result (self.new ≡ record self.old { room = max self.old.room count }) }
         ensures err { OnErr result (self.new ≡ self.old) }
         ensures had_room { count ≤ self.old.room → IsOk result }
     {
-        self.attrs.reserve(count)?;
+        growth::reserve(&mut self.attrs, count)?;
         self.blocks.reserve(count)
     }
 
@@ -269,6 +280,7 @@ impl Inodes {
     /// Puts an inode under a free number, for which there is room.
     fn put_inode(&mut self, number: u32, attribute: Attribute)
         requires room { 0 < self.old.room }
+        requires few { number ≤ INODES }
         requires free { row_at self.old.inodes.attributes number ≡ None }
         ensures { self.new ≡ record { inodes = record self.old.inodes { attributes = put_row self.old.inodes.attributes number attribute }; room = self.old.room - 1 } }
     {

@@ -11,6 +11,7 @@
 pub mod access;
 pub mod attr;
 mod blocks;
+pub mod growth;
 pub mod inodes;
 mod reply;
 mod status;

@@ -17,11 +17,15 @@ pub struct Reply {
 }
 
 impl Model for Reply {
-    ghost use Rattle.std.specs.Prelude.{List, ℕ};
+    ghost use Rattle.std.specs.Prelude.{◌≡◌, List, ℕ};
+    ghost use Rattle.qx_attr.specs.declared.reply.TheConstants.{PLACES};
+    ghost use Rattle.qx_types.specs.declared.limits.TheConstants.Limits.{BODY};
 
     ghost Value = { List ℕ };
 
     ghost view = { λ r. r.bytes.value.items };
+
+    ghost invariant = { λ r. PLACES ≡ BODY };
 }
 
 impl Reply {

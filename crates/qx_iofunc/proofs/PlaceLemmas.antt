@@ -1,14 +1,21 @@
 -- Tables of which one row changes.
 use Rattle.std.proofs.Common.{◌≡◌, ◌≢◌, ℕ, zero, suc, ◌<◌, ◌≤◌, Bool, true, false, List, [], ◌∷◌, ◌++◌, length, refl, sym, ap, ◌∙◌, inl, inr, arith, subst, Option, Some, None, nat_lt, option_map, slice_set, length-append}
-use Rattle.std.specs.Prelude.{if◌then◌else◌}
+use Rattle.std.specs.Prelude.{IsSome, if◌then◌else◌}
 use Rattle.std.proofs.Math.ListN.{length-set}
 use Rattle.std.proofs.lemmas.Bool.{cases_eq, ltb-false, ltb-true}
+use Rattle.qx_attr.proofs.TableLemmas.{no_value}
 use Rattle.qx_machine.proofs.Places.{row_at-set_other, set-row_at}
 use Rattle.qx_machine.specs.Rows.{lowest_from, put_row, row_at, taken_places, with_row}
 
 -- at one place, and at all others
 pub by_place : (P : ℕ → Type 0) (n : ℕ) → P n → ((m : ℕ) → m ≢ n → P m) → (m : ℕ) → P m
 by_place P n here others m = elim (cases_eq m n) [ inl same ↦ subst P (sym same) here | inr apart ↦ others m apart ]
+
+-- where a row is there, the table is long enough
+pub row-within : {A : Type 0} (rows : List (Option A)) (n : ℕ) → IsSome (row_at rows n) → n < length rows
+row-within {A} [] n some = absurd (no_value (row_at {A = A} [] n) refl some)
+row-within (row ∷ rows) zero some = omega arith
+row-within (row ∷ rows) (suc n) some = let rest = row-within rows n some in omega (arith, rest)
 
 -- two tables that have the same rows, but perhaps at one place
 pub record Differ {A : Type 0} (places now : List (Option A)) (n : ℕ) : Type 0 where

@@ -1,4 +1,4 @@
-ghost use Rattle.std.specs.Prelude.{◌≡◌, ◌+◌, ◌<◌, ◌≤◌, ℕ, List, Ok, Some, IfOk, IsSome, OnOk, OnErr, length, max};
+ghost use Rattle.std.specs.Prelude.{◌≡◌, ◌+◌, ◌-◌, ◌<◌, ◌≤◌, ℕ, List, Ok, Some, IfOk, IsSome, OnOk, OnErr, length, max};
 ghost use Rattle.qx_files.specs.Files.{pasted};
 ghost use Rattle.qx_iofunc.specs.Sizes.{sized};
 ghost use Rattle.qx_iofunc.specs.Store.{boot_store, with_mount_root, with_stored};
@@ -92,6 +92,7 @@ impl Store {
         requires next { inode_number self.old.stored.inodes ≡ Ok root }
         ensures ok { OnOk result (self.new.stored ≡ with_mount_root root self.old.stored) }
         ensures err { OnErr result (self.new.stored ≡ self.old.stored) }
+        ensures room { OnOk result (self.new.room ≡ self.old.room - 1) }
         ensures spare { self.new.room ≤ max self.old.room 1 }
     {
         self.tables.inodes.reserve(1)?;

@@ -62,6 +62,7 @@ impl Tables {
         ensures ok { OnOk result (self.new ≡ record { stored = with_made (spot_of self.old.stored.names at.entry) new.inode new.parent kind mode moment self.old.stored; room = self.old.room - 1 }) }
         ensures err { OnErr result (self.new ≡ self.old) }
     {
+        self.inodes.numbered();
         self.names.insert(at.parent, at.name, new.inode)?;
         made(
             &mut self.inodes,

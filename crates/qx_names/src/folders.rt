@@ -1,8 +1,9 @@
-ghost use Rattle.std.specs.Prelude.{◌≡◌, ◌+◌, ◌≤◌, None, Some, OnOk, OnErr, length, max, slice_get};
+ghost use Rattle.std.specs.Prelude.{◌≡◌, ◌+◌, ◌*◌, ◌≤◌, None, Some, OnOk, OnErr, length, max, slice_get, vec_capacity};
 ghost use Rattle.std.specs.Option.{option_copied};
 ghost use Rattle.qx_names.specs.Folders.{Changes, entry_at};
 
 use crate::folder::Folder;
+use qx_attr::growth;
 use std::alloc::{AllocError, Global};
 
 /// The entries of a directory, if it has ever had any.
@@ -30,6 +31,7 @@ pub fn put(
     ensures err { OnErr result (entry_at folders.new.items ≡ entry_at folders.old.items) }
     ensures len { OnOk result (length folders.new.items ≡ max (length folders.old.items) (directory + 1)) }
     ensures few { length folders.new.items ≤ max (length folders.old.items) (directory + 1) }
+    ensures no_more { vec_capacity folders.old ≤ 2 * length folders.old.items → vec_capacity folders.new ≤ 2 * length folders.new.items }
 {
     grow(folders, directory as usize + 1)?;
     let alloc = *folders.allocator();
@@ -41,11 +43,12 @@ fn grow(folders: &mut Vec<Folder>, count: usize) -> Result<(), AllocError>
     ensures len { OnOk result (length folders.new.items ≡ max (length folders.old.items) count) }
     ensures err { OnErr result (length folders.new.items ≡ length folders.old.items) }
     ensures same { entry_at folders.new.items ≡ entry_at folders.old.items }
+    ensures no_more { vec_capacity folders.old ≤ 2 * length folders.old.items → vec_capacity folders.new ≤ 2 * length folders.new.items }
 {
     let alloc = *folders.allocator();
     let len = folders.len();
     if count > len {
-        folders.reserve(count - len)?;
+        growth::reserve(folders, count - len)?;
         for _ in len..count {
             folders.push_reserved(Folder::new(alloc));
         }
@@ -56,6 +59,8 @@ fn grow(folders: &mut Vec<Folder>, count: usize) -> Result<(), AllocError>
 /// Takes an entry out of a directory.
 pub fn take(folders: &mut Vec<Folder>, directory: u32, name: &[u8])
     ensures taken { Changes (entry_at folders.old.items) (entry_at folders.new.items) directory name.now None }
+    ensures len { length folders.new.items ≡ length folders.old.items }
+    ensures capacity { vec_capacity folders.new ≡ vec_capacity folders.old }
 {
     if (directory as usize) < folders.len() {
         folders[directory as usize].remove(name);

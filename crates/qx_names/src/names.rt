@@ -9,6 +9,7 @@ ghost use Rattle.qx_names.specs.Paths.{HasPath, HasNoPath, path_of};
 ghost use Rattle.qx_names.specs.Folders.{entry_at};
 ghost use Rattle.qx_names.specs.Shows.{Shows, is_root, shown_once};
 ghost use Rattle.qx_names.specs.Spots.{spot_found};
+ghost use Rattle.qx_types.specs.declared.limits.TheConstants.Limits.{INODES};
 
 use crate::folder::Folder;
 use crate::folders;
@@ -32,11 +33,12 @@ pub struct Names {
 
 impl Model for Names {
     ghost use Rattle.std.specs.List.{IsDistinct};
-    ghost use Rattle.std.specs.Prelude.{nat_eq};
+    ghost use Rattle.std.specs.Prelude.{◌+◌, ◌*◌, ◌≤◌, length, nat_eq, vec_capacity};
     ghost use Rattle.qx_machine.specs.Names.{Names as Contents};
     ghost use Rattle.qx_names.specs.Folders.{entry_at};
     ghost use Rattle.qx_names.specs.Paths.{names_code};
     ghost use Rattle.qx_names.specs.Shows.{is_root, shown_names};
+    ghost use Rattle.qx_types.specs.declared.limits.TheConstants.Limits.{INODES};
 
     ghost Value = { Contents };
 
@@ -44,7 +46,11 @@ impl Model for Names {
 
     ghost view = { λ n. shown_names (is_root n.roots.items) (entry_at n.folders.items) n.kept };
 
-    ghost invariant = { λ n. IsDistinct nat_eq n.roots.items };
+    ghost invariant = { λ n. record {
+      distinct : IsDistinct nat_eq n.roots.items;
+      few : length n.folders.items ≤ INODES + 1;
+      no_more : vec_capacity n.folders ≤ 2 * length n.folders.items;
+    } };
 }
 
 impl Names {
@@ -79,6 +85,7 @@ impl Names {
     /// Names an inode, to which no path led, in a directory that has no such name (C Library Reference: `open`, `mkdir`).
     /// Where memory is short, nothing changes.
     pub fn insert(&mut self, directory: u32, name: &[u8], inode: u32) -> Result<(), AllocError>
+        requires few { directory ≤ INODES }
         requires directory { HasPath self.old directory }
         requires free { map.get self.old (machine.under (path_of self.old directory) name.now) ≡ None }
         requires new { HasNoPath self.old inode }

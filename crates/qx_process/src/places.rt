@@ -60,6 +60,7 @@ pub fn put_reserved<T: Drop>(places: &mut Vec<Option<T>>, number: usize, row: T)
 /// A table with no row.
 pub fn empty<T>(alloc: Global) -> Result<Vec<Option<T>>, AllocError>
     ensures none { IfOk result (λ places. places.items ≡ None ∷ []) }
+    ensures capacity { IfOk result (λ places. vec_capacity places ≡ 1) }
 {
     let mut places = Vec::with_capacity(alloc, 1)?;
     places.push_reserved(None);

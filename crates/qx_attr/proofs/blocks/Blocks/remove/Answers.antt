@@ -1,4 +1,5 @@
 use Rattle.std.proofs.Common.{◌≡◌, arith, is_some, None, refl, Some, sym}
+use Rattle.std.proofs.Math.ListN.{length-set}
 use Rattle.qx_machine.specs.Rows.{row_at}
 use Rattle.qx_attr.specs.Blocks.{rows_of}
 use Rattle.qx_attr.proofs.BlockLemmas.{keyed-without, rows-without, nothing-freed, nothing-there}
@@ -19,10 +20,12 @@ returns-in_default c =
 pub invariant_of-self : goal.invariant_of-self
 invariant_of-self c =
     let is : row_at c.self.inside.keys.items c.args.number ≡ Some c.in-Some.key = cc in
+    let same = length-set c.self.inside.keys.items c.args.number None in
     record {
       keyed = keyed-without c.self.inside.values c.remove.new.self c.self.inside.keys.items c.args.number c.in-Some.key c.self.invariant.keyed is c.remove.ensures.updates;
       held = omega (arith, count-free is_some refl c.self.inside.keys.items c.args.number c.in-Some.key is);
       numbers = c.self.invariant.numbers;
+      no_more = omega (arith, same);
       slots = omega arith;
     }
 

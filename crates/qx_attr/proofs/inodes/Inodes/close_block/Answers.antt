@@ -26,10 +26,13 @@ invariant_of-self c =
     let there : row_at attrs c.in-Some.block.inode ≡ Some c.in-Some-copied.attr = cc in
     let long = length-set rows c.args.number None in
     let few = c.self.invariant.few in
+    let same = length-set attrs c.in-Some.block.inode (Some (uncounted c.in-Some.block.flags c.in-Some-copied.attr)) in
     rw (c.remove.ensures.row, c.uncounted.ensures) (record {
       counted = counted_close attrs rows c.args.number c.in-Some.block c.in-Some-copied.attr there c.self.invariant.counted is;
       few = omega (arith, long, few);
+      few_inodes = omega (arith, same);
       numbers = c.self.invariant.numbers;
+      no_more = omega (arith, same);
     })
 
 pub returns : goal.returns

@@ -1,8 +1,9 @@
 use Rattle.std.proofs.Common.{◌≡◌, ◌-◌, None, Some, ap, arith, refl, ◌∙◌}
+use Rattle.std.proofs.Math.ListN.{length-set}
 use Rattle.qx_types.specs.declared.limits.TheConstants.Limits.{BLOCKS}
 use Rattle.qx_machine.specs.Rows.{put_row, row_at}
 use Rattle.qx_attr.specs.Counts.{Reserved, counted}
-use Rattle.qx_attr.proofs.CountLemmas.{counted_open, few_blocks, same_attributes}
+use Rattle.qx_attr.proofs.CountLemmas.{counted_open, few_rows, same_attributes}
 use Rattle.qx_attr.proofs.inodes.Inodes.put_block.Goals as goal
 
 pub invariant_of-self : goal.invariant_of-self
@@ -11,10 +12,13 @@ invariant_of-self c =
     let rows = c.self.inside.blocks.rows in
     let there : row_at attrs c.args.block.inode ≡ Some c.in-Some.attr = cc in
     let free : row_at rows c.args.number ≡ None = ap (λ (all : Reserved). row_at all.inodes.blocks c.args.number) c.self.view_is ∙ c.requires.free in
+    let long = length-set attrs c.args.block.inode (Some (counted c.args.block.flags c.in-Some.attr)) in
     rw (c.put.ensures.row, c.counted.ensures) (record {
       counted = counted_open attrs rows c.args.number c.args.block c.in-Some.attr there c.self.invariant.counted free;
-      few = few_blocks rows c.args.number BLOCKS c.args.block c.requires.few c.self.invariant.few;
+      few = few_rows rows c.args.number BLOCKS c.args.block c.requires.few c.self.invariant.few;
+      few_inodes = omega (arith, long);
       numbers = omega arith;
+      no_more = omega (arith, long);
     })
 
 pub returns : goal.returns

@@ -22,5 +22,7 @@ invariant_of-self c =
     rw (c.set.ensures.row, is) (record {
       counted = counted_moved c.self.inside.attrs.items rows c.args.number c.args.offset c.in-Some.block is c.self.invariant.counted;
       few = omega (arith, long, few);
+      few_inodes = c.self.invariant.few_inodes;
       numbers = c.self.invariant.numbers;
+      no_more = c.self.invariant.no_more;
     })
