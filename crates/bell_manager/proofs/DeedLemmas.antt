@@ -21,7 +21,8 @@ use Rattle.qx_resmgr.specs.declared.functions.Done.{Done}
 use Rattle.qx_resmgr.specs.declared.functions.Done.TheVariants.{NoReply, Reply}
 use Rattle.qx_resmgr.specs.declared.state.State.{Ghosts}
 use Rattle.null_manager.specs.Null.{Blocks, null_connect, reply_deed}
-use Rattle.bell_manager.specs.Bell.{HasOwnPlace, KeptBells, bell_connect, close_deed, comes_to, bells_state, bells_told, write_deed}
+use Rattle.bell_manager.specs.Bell.{HasOwnPlace, KeptBells, bell_connect, close_deed, comes_to, bells_told, write_deed}
+use Rattle.bell_manager.specs.inner.Bell.{bells_state}
 
 -- how the null manager's tables see its blocks
 abbrev pub null_state : Ghosts Blocks Unit Blocks

@@ -14,7 +14,6 @@ use Rattle.qx_machine.specs.Judgements.{◌>>=◌, need}
 use Rattle.qx_machine.specs.Waiting.{waiting_call}
 use Rattle.qx_machine.specs.Pipes.{PipeAfter, Pipe, nobody_answered, readers_dismissed, with_reader}
 use Rattle.qx_shared.specs.Shared.{HasPipe, IsReceived, Shared, pipe_at, callers_thread, with_pipe_after}
-use Rattle.qx_resmgr.specs.declared.state.State.{Ghosts}
 use Rattle.null_manager.specs.Null as null
 use Rattle.null_manager.specs.Null.{Blocks}
 
@@ -47,10 +46,6 @@ HasOwnPlace k c = HasPipe c k.user k.inode
 
 abbrev pub SamePlace : KeptBells → KeptBells → Type 0
 SamePlace k l = (l.user ≡ k.user) × (l.inode ≡ k.inode)
-
--- how the tables see the two
-abbrev pub bells_state : Ghosts KeptBells Shared Bells
-bells_state = record { told = bells_told; shared = bells_shared; fits = HasOwnPlace; same = SamePlace }
 
 -- the message of an opened connection's caller was received, and no call of it waits
 abbrev pub CanWork : KeptBells → Shared → Opened → Type 0

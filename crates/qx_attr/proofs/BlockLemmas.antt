@@ -8,7 +8,7 @@ use Rattle.slab.proofs.SlabLemmas.{Updates-with_value}
 use Rattle.qx_machine.specs.declared.rows.Ocb.{Ocb}
 use Rattle.qx_machine.specs.Rows.{row_at, lowest_from, put_row, with_row}
 use Rattle.qx_machine.proofs.Places.{at-map, row_at-set_other, set-row_at}
-use Rattle.qx_attr.specs.Blocks.{IsKeyed, rows_of, value_at}
+use Rattle.qx_attr.specs.inner.Blocks.{IsKeyed, rows_of, value_at}
 use Rattle.qx_attr.proofs.TableLemmas.{append-rows, length-rows, lowest_map, no_value, same_but, same_map}
 
 pub row-of : (values : Slab Ocb) (keys : List (Option ℕ)) (n : ℕ) → row_at (rows_of values keys) n ≡ value_at values (row_at keys n)

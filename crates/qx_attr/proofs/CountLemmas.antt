@@ -14,7 +14,7 @@ use Rattle.qx_machine.specs.Inodes.{is_open, moved_to, reads, writes}
 use Rattle.qx_machine.specs.Rows.{row_at, put_row}
 use Rattle.qx_machine.proofs.Places.{row_at-set_other}
 use Rattle.qx_attr.specs.declared.attr.Attr.{Attr}
-use Rattle.qx_attr.specs.Counts.{AreCounted, IsCounted, attribute_of, count_in, counted, one, uncounted}
+use Rattle.qx_attr.specs.inner.Counts.{AreCounted, IsCounted, attribute_of, count_in, counted, one, uncounted}
 use Rattle.qx_attr.proofs.TableLemmas.{row-put}
 
 -- ---- an inode comes

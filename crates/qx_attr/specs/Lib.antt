@@ -1,3 +1,3 @@
-pub mod Blocks
 pub mod Counts
 pub mod Flags
+pub mod inner

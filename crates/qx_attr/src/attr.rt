@@ -1,5 +1,5 @@
 ghost use Rattle.std.specs.Prelude.{◌≡◌, ◌+◌, ◌<◌, ◌^◌};
-ghost use Rattle.qx_attr.specs.Counts as counts;
+ghost use Rattle.qx_attr.specs.inner.Counts as counts;
 ghost use Rattle.qx_machine.specs.Inodes as inodes;
 
 use bitflags::Flags;

@@ -22,7 +22,7 @@ pub struct Blocks {
 impl Model for Blocks {
     ghost use Rattle.std.specs.Prelude.{◌≡◌, ◌+◌, ◌*◌, ◌≤◌, count_by, is_some, length, vec_len, vec_capacity};
     ghost use Rattle.slab.specs.Slab.{HasRoomFor, slab_len};
-    ghost use Rattle.qx_attr.specs.Blocks.{IsKeyed, NumberedRows, rows_of};
+    ghost use Rattle.qx_attr.specs.inner.Blocks.{IsKeyed, NumberedRows, rows_of};
 
     ghost Value = { NumberedRows };
 

@@ -31,7 +31,8 @@ pub struct Inodes {
 
 impl Model for Inodes {
     ghost use Rattle.std.specs.Prelude.{◌+◌, ◌*◌, ◌≤◌, length, map, vec_len, vec_capacity};
-    ghost use Rattle.qx_attr.specs.Counts.{AreCounted, Reserved, attribute_of};
+    ghost use Rattle.qx_attr.specs.inner.Counts.{AreCounted, attribute_of};
+    ghost use Rattle.qx_attr.specs.Counts.{Reserved};
     ghost use Rattle.qx_types.specs.declared.limits.TheConstants.Limits.{BLOCKS, INODES};
 
     ghost Value = { Reserved };

@@ -6,7 +6,8 @@ use Rattle.qx_types.specs.Configuration.{Configuration, IsConfiguration}
 use Rattle.qx_types.specs.declared.names.Thread.{Thread}
 use Rattle.qx_types.specs.declared.request.Request.{Request}
 use Rattle.qx_types.specs.declared.request.Request.TheVariants.{OpenPath, StatPath, Unlink, Mkdir, Read, Write, Close, Dup, Seek, Fstat, List as ListNames, Chmod, Notify, Raw}
-use Rattle.qx_calls.specs.Calls.{CanSayCall, call_in_line, call_over_of, call_said, chmod_line, close_line, dup_line, fstat_line, lines_at_path, lines_over, list_line, mkdir_line, name_given, notify_line, open_line, raw_line, read_line, seek_line, stat_line, unlink_line, write_line}
+use Rattle.qx_calls.specs.inner.Calls.{CanSayCall}
+use Rattle.qx_calls.specs.Calls.{call_in_line, call_over_of, call_said, chmod_line, close_line, dup_line, fstat_line, lines_at_path, lines_over, list_line, mkdir_line, name_given, notify_line, open_line, raw_line, read_line, seek_line, stat_line, unlink_line, write_line}
 use Rattle.qx_calls.specs.Forms.{CanBeSaid, CanBeWords, at_most, words_for}
 use Rattle.qx_words.specs.Kinds.{AHexByte, APath, SomeBytes, CanName, is_word}
 use Rattle.qx_calls.proofs.ReadForms.{Makes, line_again, one_of_within}

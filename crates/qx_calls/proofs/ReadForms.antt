@@ -3,7 +3,8 @@ use Rattle.std.proofs.Common.{◌≡◌, ℕ, Bool, true, false, cond, List, [],
 use Rattle.std.specs.List.{list_all}
 use Rattle.std.specs.Str.{bytes_eq}
 use Rattle.qx_types.specs.Configuration.{Configuration, IsConfiguration}
-use Rattle.qx_calls.specs.Forms.{CanBeSaid, CanBeWords, Form, Line, Maker, Saying, Values, at_most, end, line_text, made_of, read, read_one_of, read_words, words_for, words_said, ◌then◌}
+use Rattle.qx_calls.specs.Forms.{CanBeSaid, CanBeWords, Form, Line, Maker, Saying, Values, at_most, end, line_text, read, read_one_of, read_words, words_for, words_said, ◌then◌}
+use Rattle.qx_calls.specs.inner.Forms.{made_of}
 use Rattle.qx_words.specs.Kinds.{is_word, value_of, value_text}
 use Rattle.qx_words.specs.Words.{words_of}
 use Rattle.qx_words.proofs.PlainWords.{and_true, both_true, words_again}

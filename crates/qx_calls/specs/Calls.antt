@@ -5,8 +5,8 @@ use Rattle.qx_types.specs.declared.names.Coid.{Coid}
 use Rattle.qx_types.specs.declared.names.Thread.{Thread}
 use Rattle.qx_types.specs.declared.request.Request.{Request}
 use Rattle.qx_types.specs.declared.request.Request.TheVariants.{OpenPath, StatPath, Unlink, Mkdir, Read, Write, Close, Dup, Seek, Fstat, List as ListNames, Chmod, Notify, Raw}
-use Rattle.qx_calls.specs.Forms.{◌then◌, at_most, end, Form, Line, Maker, Saying, CanBeSaid, by, line_text, made_into, read_one_of}
-use Rattle.qx_words.specs.Kinds.{AThread, AByte, ATwoByteNumber, AFourByteNumber, AnOffset, APath, SomeFlags, AMode, SomeBytes, AHexByte, AWhence, AnAction, SomeConditions, CanNameThread}
+use Rattle.qx_calls.specs.Forms.{◌then◌, at_most, end, Form, Line, Maker, Saying, by, line_text, made_into, read_one_of}
+use Rattle.qx_words.specs.Kinds.{AThread, AByte, ATwoByteNumber, AFourByteNumber, AnOffset, APath, SomeFlags, AMode, SomeBytes, AHexByte, AWhence, AnAction, SomeConditions}
 
 -- a line of a thread, and of the words that a request is made of
 abbrev pub call_line : List ℕ → (form : Form) → Maker form Request → Line (Thread × Request)
@@ -108,7 +108,3 @@ call_said thread (Raw coid bytes) = by raw_line (thread, (coid.0, (bytes, tt)))
 -- the call as its line
 unfoldable pub call_text : Configuration → Thread → Request → List ℕ
 call_text config thread request = line_text config (call_said thread request)
-
--- a call of one of the users with these names, of numbers and words that a line can have
-abbrev pub CanSayCall : List (List ℕ) → Thread × Request → Type 0
-CanSayCall users call = CanNameThread users call.0 × CanBeSaid users (call_said call.0 call.1)

@@ -24,11 +24,6 @@ Maker end A = A
 Maker (kind then form) A = Value kind → Maker form A
 Maker (at_most kind) A = Option (Value kind) → A
 
-abbrev pub made_of : {A : Type 0} (form : Form) → Maker form A → Values form → A
-made_of end made values = made
-made_of (kind then form) made values = made_of form (made values.0) values.1
-made_of (at_most kind) made values = made values
-
 abbrev pub read_words : {A : Type 0} (form : Form) → Maker form A → List (List ℕ) → List (List ℕ) → Option A
 read_words end made users [] = Some made
 read_words end made users (word ∷ words) = None

@@ -18,7 +18,7 @@ use Rattle.qx_machine.specs.declared.rows.Over.TheVariants.{New, Existing, Side}
 use Rattle.qx_machine.specs.Processes.{Process, with_over, without_connection, after_effect, after_error, after_reply, with_block, with_side}
 use Rattle.qx_machine.specs.Rows.{put_row, with_row}
 use Rattle.qx_machine.specs.Servers.{connects, is_numbered, sides_with}
-use Rattle.qx_queues.specs.Queues.{is_same_server}
+use Rattle.qx_queues.specs.inner.Queues.{is_same_server}
 use Rattle.qx_chan.specs.Kept.{attached_at, attaches}
 
 -- each manager has a line

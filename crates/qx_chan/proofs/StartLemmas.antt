@@ -22,7 +22,8 @@ use Rattle.qx_machine.specs.Processes.{Process, new_process, new_thread}
 use Rattle.qx_machine.specs.Rows.{row_at, lowest_from, put_row, with_row}
 use Rattle.qx_machine.proofs.Places.{lowest_from_free}
 use Rattle.qx_procs.specs.Calls.{spawned}
-use Rattle.qx_queues.specs.Queues.{is_thread_of, stands, unblock_call, thread_cmp, server_cmp}
+use Rattle.qx_queues.specs.inner.Queues.{is_thread_of}
+use Rattle.qx_queues.specs.Queues.{stands, unblock_call, thread_cmp, server_cmp}
 use Rattle.qx_shared.specs.Shared.{Shared, has_thread, nothing_shared, waiting_in, with_shared_process, users_waiting, waiting_calls}
 use Rattle.qx_machine.specs.declared.rows.WaitingCall.{WaitingCall}
 use Rattle.qx_machine.specs.Waiting.{no_pipes}

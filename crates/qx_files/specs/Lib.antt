@@ -1,3 +1,3 @@
 pub mod Files
 pub mod Laws
-pub mod Lends
+pub mod inner

@@ -29,7 +29,7 @@ use Rattle.qx_machine.specs.declared.rows.ThreadRow.{ThreadRow}
 use Rattle.qx_machine.specs.Parts.{Part, thread_at, thread_of, with_process}
 use Rattle.qx_machine.specs.Performing.{with_answer, with_answers}
 use Rattle.qx_machine.specs.Processes.{Process, answered_thread, new_process, new_thread, with_thread}
-use Rattle.qx_attr.specs.Counts.{one}
+use Rattle.qx_attr.specs.inner.Counts.{one}
 use Rattle.qx_attr.proofs.TableLemmas.{row-put}
 use Rattle.qx_machine.specs.declared.rows.Kind.TheVariants as kind
 use Rattle.qx_machine.specs.declared.rows.State.TheVariants as state

@@ -9,7 +9,7 @@ use Rattle.qx_machine.specs.Names.{Key, Names, key_cmp, root_key, under, is_ther
 use Rattle.std.specs.FinMap.Entries.{below_all, find, is_sorted}
 use Rattle.std.specs.List.{AllByRecursion, flat_map}
 use Rattle.std.proofs.lemmas.Bool.{eq-eqb}
-use Rattle.qx_names.specs.Shows.{key_total, key-IsAntisymmetric}
+use Rattle.qx_names.specs.inner.Shows.{key_total, key-IsAntisymmetric}
 use Rattle.qx_names.proofs.MapLemmas.{inserted, inserted_apart, is_equal, removed, removed_apart, same_or_not}
 use Rattle.qx_machine.proofs.Directories.{first, is_less, second, there_is}
 

@@ -49,7 +49,7 @@ use Rattle.qx_machine.specs.Users.{boot_part, client, serve, take}
 use Rattle.qx_machine.proofs.Places.{lowest_from_free}
 use Rattle.qx_invariants.specs.Holds.{WaitsOnce}
 use Rattle.qx_invariants.specs.Waits.{answers_to, is_of, count_waiting, count_waiting_in, waits, count_state_waiting}
-use Rattle.qx_attr.specs.Counts.{one}
+use Rattle.qx_attr.specs.inner.Counts.{one}
 use Rattle.qx_invariants.proofs.Balances.{Balanced, balanced-keeps, ChangesThread, after_answers, after_spawn, is_its, thread_changed, thread_other, thread_same, waits_few}
 use Rattle.qx_invariants.proofs.Deeds.{CameWith, Kept, cancel-gives}
 use Rattle.qx_invariants.proofs.Gives.{Gives, found-row, gives_by, gives_done, gives_error, gives_on, gives-value, need-true}

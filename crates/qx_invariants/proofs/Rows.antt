@@ -21,7 +21,7 @@ use Rattle.qx_machine.specs.Resources.{Resources, resized, with_empty, without_c
 use Rattle.qx_machine.specs.Rows.{lowest_from, put_row, row_at, with_row}
 use Rattle.qx_machine.specs.Waiting.{is_written, offered}
 use Rattle.qx_machine.proofs.Places.{lowest_from_free, row_at-set_other, set-row_at}
-use Rattle.qx_attr.specs.Counts.{one}
+use Rattle.qx_attr.specs.inner.Counts.{one}
 use Rattle.qx_attr.proofs.CountLemmas.{count-free, count-put, count-same, counts_other, counts_own}
 use Rattle.qx_iofunc.proofs.PlaceLemmas.{lowest_within, put_at, put_differ}
 

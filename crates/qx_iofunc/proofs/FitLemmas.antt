@@ -6,8 +6,9 @@ use Rattle.std.specs.Ordering.{eq_by_cmp}
 use Rattle.std.proofs.lemmas.Bool.{eqb-true}
 use Rattle.std.proofs.lemmas.Bool.Decides.{nat_tests}
 use Rattle.qx_attr.proofs.CountLemmas.{count-free, count-put, count-same, counts_other, row-set_same}
-use Rattle.qx_attr.specs.Counts.{one}
-use Rattle.qx_iofunc.specs.Fits.{NamesFit, NamesFitBut, IsLinked}
+use Rattle.qx_attr.specs.inner.Counts.{one}
+use Rattle.qx_iofunc.specs.Fits.{NamesFit, IsLinked}
+use Rattle.qx_iofunc.specs.inner.Fits.{NamesFitBut}
 use Rattle.qx_iofunc.proofs.PlaceLemmas.{Differ, by_place, put_at, put_differ, row-freed, same_differ, set_differ}
 use Rattle.qx_machine.specs.declared.rows.Attribute.{Attribute}
 use Rattle.qx_machine.specs.declared.rows.Ocb.{Ocb}
@@ -15,7 +16,7 @@ use Rattle.qx_machine.specs.Inodes.{Inodes, blocks_of, close_block, free_inode, 
 use Rattle.qx_machine.specs.Names.{Key, Names, key_cmp}
 use Rattle.qx_machine.specs.Rows.{put_row, row_at, with_row}
 use Rattle.qx_names.specs.Paths.{HasNoPath}
-use Rattle.qx_names.specs.Shows.{key_total}
+use Rattle.qx_names.specs.inner.Shows.{key_total}
 use Rattle.qx_process.proofs.RowLemmas.{with_row-none}
 
 -- ---- whether an inode is unused

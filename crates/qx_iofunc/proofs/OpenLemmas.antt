@@ -5,8 +5,10 @@ use Rattle.std.specs.Prelude.{nat_le, is_some, if◌then◌else◌}
 use Rattle.qx_attr.specs.Counts.{with_number}
 use Rattle.qx_iofunc.proofs.FitLemmas.{block_fits}
 use Rattle.qx_iofunc.specs.Fits.{Fits}
-use Rattle.qx_iofunc.specs.Makes.{may_open, may_make, may_make_directory}
-use Rattle.qx_iofunc.specs.Store.{Stored, with_stored, with_made}
+use Rattle.qx_iofunc.specs.inner.Makes.{may_open, may_make_directory}
+use Rattle.qx_iofunc.specs.Makes.{may_make}
+use Rattle.qx_iofunc.specs.Store.{Stored, with_stored}
+use Rattle.qx_iofunc.specs.inner.Store.{with_made}
 use Rattle.qx_iofunc.proofs.StoreLemmas.{emptied_in, emptied_is}
 use Rattle.qx_machine.proofs.Places.{lowest_from_free}
 use Rattle.qx_machine.specs.declared.rows.Attribute.{Attribute}

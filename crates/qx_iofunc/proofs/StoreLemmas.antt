@@ -10,8 +10,10 @@ use Rattle.qx_attr.proofs.TableLemmas.{row-put}
 use Rattle.qx_attr.specs.Counts.{with_number}
 use Rattle.qx_iofunc.proofs.FitLemmas as of_names
 use Rattle.qx_iofunc.proofs.PlaceLemmas.{Differ, by_place, lowest_within, put_at, put_differ, row-freed, same_differ, set_at, set_differ, with_row-at}
-use Rattle.qx_iofunc.specs.Fits.{AreSized, Fits, IsLinked, NamesFit, NamesFitBut, file_size, is_file}
-use Rattle.qx_iofunc.specs.Store.{Stored, block_gone, boot_store, files_with, files_without, unused_gone, with_made, with_mount_root, with_resized, with_truncated, with_stored}
+use Rattle.qx_iofunc.specs.Fits.{AreSized, Fits, IsLinked, NamesFit, file_size, is_file}
+use Rattle.qx_iofunc.specs.inner.Fits.{NamesFitBut}
+use Rattle.qx_iofunc.specs.Store.{Stored, block_gone, boot_store, files_without, unused_gone, with_mount_root, with_stored}
+use Rattle.qx_iofunc.specs.inner.Store.{files_with, with_made, with_resized, with_truncated}
 use Rattle.qx_machine.proofs.Places.{lowest_from_free}
 use Rattle.qx_machine.specs.declared.rows.Attribute.{Attribute}
 use Rattle.qx_machine.specs.declared.rows.Kind.{Kind}

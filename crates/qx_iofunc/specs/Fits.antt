@@ -1,5 +1,5 @@
 -- How names, inodes and the bytes of files stand together.
-use Rattle.std.specs.Prelude.{ℕ, ◌≡◌, ◌≢◌, ◌<◌, Bool, true, false, Option, Some, None, length, option_map, if◌then◌else◌}
+use Rattle.std.specs.Prelude.{ℕ, ◌≡◌, ◌<◌, Bool, true, false, Option, Some, None, length, option_map, if◌then◌else◌}
 use Rattle.std.specs.FinMap.{get}
 use Rattle.qx_types.specs.declared.limits.TheConstants.Limits.{INODES}
 use Rattle.qx_machine.specs.declared.rows.Attribute.{Attribute}
@@ -23,12 +23,6 @@ pub record NamesFit (inodes : Inodes) (names : Names) : Type 0 where
   -- each inode that is there is linked or open
   pub used : (inode : ℕ) → is_unused inodes inode (row_at inodes.attributes inode) ≡ false
   -- inodes are numbered from 1
-  pub places : 0 < length inodes.attributes
-
--- the same, but that one inode may be neither linked nor open
-pub record NamesFitBut (inodes : Inodes) (names : Names) (inode : ℕ) : Type 0 where
-  pub linked : (key : Key) (other : ℕ) → get names key ≡ Some other → IsLinked (row_at inodes.attributes other)
-  pub used : (other : ℕ) → other ≢ inode → is_unused inodes other (row_at inodes.attributes other) ≡ false
   pub places : 0 < length inodes.attributes
 
 -- ---- sizes

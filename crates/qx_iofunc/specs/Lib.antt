@@ -12,3 +12,4 @@ pub mod Makes
 pub mod Sizes
 -- what contracts see of a store
 pub mod Store
+pub mod inner

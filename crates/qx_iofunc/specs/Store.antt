@@ -1,16 +1,14 @@
 -- What contracts see of a user's store.
-use Rattle.std.specs.Prelude.{ℕ, [], ◌∷◌, Some, None, is_some, slice_set, if◌then◌else◌}
-use Rattle.std.specs.FinMap.{empty, insert}
-use Rattle.qx_machine.specs.declared.rows.Attribute.{Attribute}
+use Rattle.std.specs.Prelude.{ℕ, [], ◌∷◌, Some, None, slice_set, if◌then◌else◌}
+use Rattle.std.specs.FinMap.{empty}
 use Rattle.qx_machine.specs.declared.rows.Kind.{Kind}
 use Rattle.qx_machine.specs.declared.rows.Kind.TheVariants.{File}
 use Rattle.qx_machine.specs.Attributes.{root_attribute, top_inode}
-use Rattle.qx_machine.specs.Defaults.{with_entries_changed}
 use Rattle.qx_machine.specs.Files.{Files, no_files}
-use Rattle.qx_machine.specs.Inodes.{Inodes, close_block, free_inode, is_unused, new_attribute, with_attribute}
-use Rattle.qx_machine.specs.Names.{Names, Spot, with_root}
-use Rattle.qx_machine.specs.Resources.{Resources, resized}
-use Rattle.qx_machine.specs.Rows.{put_row, row_at, with_row}
+use Rattle.qx_machine.specs.Inodes.{Inodes, close_block, free_inode, is_unused}
+use Rattle.qx_machine.specs.Names.{Names, with_root}
+use Rattle.qx_machine.specs.Resources.{Resources}
+use Rattle.qx_machine.specs.Rows.{put_row, row_at}
 
 -- a user's inodes and open control blocks, the names in all mounts, and the bytes of files
 pub record Stored : Type 0 where
@@ -47,27 +45,6 @@ with_mount_root root s = record s {
 }
 
 -- ---- what comes, and other sizes
-
--- a file with no bytes comes, where an inode of that kind is made
-abbrev pub files_with : Kind → ℕ → Files → Files
-files_with File inode files = slice_set files inode (Some [])
-files_with _ inode files = files
-
--- an inode of this kind and mode is made under this number, with a name in a directory, whose attribute was this
-abbrev pub with_made : Spot → ℕ → Attribute → Kind → ℕ → ℕ → Stored → Stored
-with_made at inode parent kind mode moment s = record s {
-  inodes = with_attribute (record s.inodes { attributes = put_row s.inodes.attributes inode (new_attribute kind mode s.user moment) }) at.parent (with_entries_changed moment parent);
-  names = insert s.names at.key inode;
-  files = files_with kind inode s.files;
-}
-
--- an inode has another size, and the times of that
-abbrev pub with_resized : ℕ → ℕ → ℕ → Stored → Stored
-with_resized inode size moment s = record s { inodes = record s.inodes { attributes = with_row s.inodes.attributes inode (resized size moment) } }
-
--- a file is made empty
-abbrev pub with_truncated : ℕ → ℕ → Stored → Stored
-with_truncated inode moment s = if is_some (row_at s.files inode) then record (with_resized inode 0 moment s) { files = slice_set s.files inode (Some []) } else s
 
 -- ---- what goes
 

@@ -2,7 +2,8 @@
 
 ghost use Rattle.std.specs.Prelude.{◌≡◌, ◌<◌, ◌-◌, Ok, IsOk, IsSome};
 ghost use Rattle.qx_attr.specs.Counts.{with_number};
-ghost use Rattle.qx_iofunc.specs.Makes.{may_make, may_make_directory, may_open};
+ghost use Rattle.qx_iofunc.specs.Makes.{may_make};
+ghost use Rattle.qx_iofunc.specs.inner.Makes.{may_make_directory, may_open};
 ghost use Rattle.qx_machine.specs.Inodes as of_inodes;
 ghost use Rattle.qx_machine.specs.Attributes as attributes;
 ghost use Rattle.qx_machine.specs.Defaults as machine;

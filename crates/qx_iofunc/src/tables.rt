@@ -1,6 +1,7 @@
 ghost use Rattle.std.specs.Prelude.{◌≡◌, ◌-◌, ◌<◌, None, Ok, IfOk, IsOk, IsSome, OnOk, OnErr};
 ghost use Rattle.std.specs.FinMap.{get};
-ghost use Rattle.qx_iofunc.specs.Store.{unused_gone, with_made, with_resized, with_truncated};
+ghost use Rattle.qx_iofunc.specs.Store.{unused_gone};
+ghost use Rattle.qx_iofunc.specs.inner.Store.{with_made, with_resized, with_truncated};
 ghost use Rattle.qx_machine.specs.Inodes.{inode_number, is_unused};
 ghost use Rattle.qx_machine.specs.Names.{under};
 ghost use Rattle.qx_machine.specs.Rows.{row_at};

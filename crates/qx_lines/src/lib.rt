@@ -7,7 +7,8 @@
 
 ghost use Rattle.std.specs.Prelude.{◌≡◌, ℕ, IfOk, OnErr, IfSome, IfNone, IsFalse, None, [], drop, slice_get, ◌↔◌};
 ghost use Rattle.std.specs.FinMap as map;
-ghost use Rattle.qx_lists.specs.Table.{IsFree, placed, without};
+ghost use Rattle.qx_lists.specs.Table.{IsFree, without};
+ghost use Rattle.qx_lists.specs.inner.Table.{placed};
 ghost use Rattle.qx_machine.specs.Lines.{into};
 ghost use Rattle.qx_lines.specs.Line.{IsInLine, IsLineOf, IsOwn, SameElsewhere, item_count, nodes_in, rank_at, with_line};
 

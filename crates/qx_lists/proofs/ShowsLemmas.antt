@@ -9,7 +9,8 @@ use Rattle.qx_lists.specs.Paths.{IsPath}
 use Rattle.qx_lists.specs.Rings.{links_at, joined}
 use Rattle.qx_lists.specs.Shows.{Lists, nodes_at, ways, node_values, Shows, shown_once, shown_lists}
 use Rattle.std.specs.Ordering.{nat_cmp}
-use Rattle.qx_lists.specs.Table.{Table, ContainsList, ContainsNode, IsFree, IsPlace, placed, IsIn, nodes_of, with_nodes, without, put_before, next_after}
+use Rattle.qx_lists.specs.Table.{Table, ContainsList, ContainsNode, IsFree, IsPlace, IsIn, nodes_of, with_nodes, without, put_before, next_after}
+use Rattle.qx_lists.specs.inner.Table.{placed}
 use Rattle.qx_lists.specs.declared.rings.Links.{Links}
 use Rattle.qx_lists.specs.declared.rings.Node.{Node}
 use Rattle.qx_lists.specs.declared.rings.Rings.{Rings}

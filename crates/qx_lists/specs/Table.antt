@@ -1,5 +1,5 @@
 -- What a contract sees of a `Table`: lists of nodes, and each node's value.
-use Rattle.std.specs.Prelude.{ℕ, ◌==◌, List, [], ◌∷◌, ◌++◌, filter, not, if◌then◌else◌, Option, Some, None, slice_get, unwrap_or, refl, Contains, IsTrue}
+use Rattle.std.specs.Prelude.{ℕ, ◌==◌, List, [], ◌∷◌, filter, not, if◌then◌else◌, Option, Some, None, slice_get, unwrap_or, refl, Contains, IsTrue}
 use Rattle.std.specs.FinMap as map
 use Rattle.std.specs.Ordering.{nat_cmp}
 use Rattle.std.specs.Coded.{Coded, code_by, coded×, coded_ℕ, coded_list}
@@ -24,11 +24,6 @@ table_code {T} code =
 abbrev pub put_before : ℕ → ℕ → List ℕ → List ℕ
 put_before node at [] = []
 put_before node at (first ∷ rest) = if first == at then node ∷ first ∷ rest else first ∷ put_before node at rest
-
--- the list with the node before a place, where None is its end
-abbrev pub placed : ℕ → Option ℕ → List ℕ → List ℕ
-placed node None nodes = nodes ++ node ∷ []
-placed node (Some at) nodes = put_before node at nodes
 
 -- the list without the node
 abbrev pub without : ℕ → List ℕ → List ℕ

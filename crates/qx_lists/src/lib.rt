@@ -18,7 +18,8 @@ ghost use Rattle.std.specs.FinMap as map;
 ghost use Rattle.std.specs.Borrow.{sem};
 ghost use Rattle.slab.specs.Slab.{HasRoomFor};
 ghost use Rattle.qx_lists.specs.Shows.{Lists, Shows, shown_once};
-ghost use Rattle.qx_lists.specs.Table.{ContainsList, ContainsNode, IsFree, IsIn, IsPlace, nodes_of, with_nodes, without, put_before, placed, next_after};
+ghost use Rattle.qx_lists.specs.Table.{ContainsList, ContainsNode, IsFree, IsIn, IsPlace, nodes_of, with_nodes, without, put_before, next_after};
+ghost use Rattle.qx_lists.specs.inner.Table.{placed};
 
 mod rings;
 

@@ -34,7 +34,7 @@ pub(crate) struct Rings<T> {
 }
 
 impl<T> Rings<T> {
-    ghost use Rattle.qx_lists.specs.RingLends.{lends_ring_value};
+    ghost use Rattle.qx_lists.specs.inner.RingLends.{lends_ring_value};
 
     /// The links of a place of the list's ring.
     pub(crate) fn links(&self, list: usize, place: Option<usize>) -> Links

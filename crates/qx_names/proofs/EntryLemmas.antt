@@ -13,9 +13,9 @@ use Rattle.std.proofs.lemmas.Bool.{eq-eqb}
 use Rattle.qx_machine.specs.Listings.{HasAtMostOnePath}
 use Rattle.qx_machine.specs.Names.{Key, Names, is_there, key_cmp, names_in, under}
 use Rattle.qx_machine.proofs.Directories.{name_cmp, names-pairs, pairs_in, sorted_pairs, there_is}
-use Rattle.qx_names.specs.Folders.{Folder}
+use Rattle.qx_names.specs.inner.Folders.{Folder}
 use Rattle.qx_names.specs.Paths.{HasNoPath, path_of}
-use Rattle.qx_names.specs.Shows.{Shows, key_total, key-IsAntisymmetric}
+use Rattle.qx_names.specs.inner.Shows.{Shows, key_total, key-IsAntisymmetric}
 use Rattle.qx_names.proofs.FolderLemmas.{names_same}
 use Rattle.qx_names.proofs.MapLemmas.{untied}
 use Rattle.qx_names.proofs.PathLemmas.{is_named}

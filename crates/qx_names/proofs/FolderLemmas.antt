@@ -14,7 +14,7 @@ use Rattle.std.specs.declared.cmp.Ordering.{Ordering}
 use Rattle.std.specs.declared.cmp.Ordering.TheVariants.{Less}
 use Rattle.std.proofs.Common.{◌≡◌, Bool, true, false, ◌&&◌, T, cond, ap, refl, sym, ◌∙◌, subst}
 use mathlib.Core.Logic.{◌⊎◌, inl, inr}
-use Rattle.qx_names.specs.Folders.{Changes, Folder, entry_at, entry_in, folder_of}
+use Rattle.qx_names.specs.inner.Folders.{Changes, Folder, entry_at, entry_in, folder_of}
 use Rattle.std.proofs.Common.{arith}
 use Rattle.std.proofs.lemmas.Option.{slice_get_past}
 use Rattle.qx_names.proofs.MapLemmas.{inserted, inserted_apart, is_equal, removed, removed_apart, same_or_not, untied}

@@ -9,9 +9,9 @@ use Rattle.std.specs.declared.alloc.AllocError.{AllocError}
 use Rattle.std.proofs.Common.{◌≡◌, Bool, true, false, ap, refl, sym, subst, ◌∙◌, arith}
 use Rattle.std.proofs.lemmas.Map.Keys.{IsDistinct-push}
 use Rattle.qx_machine.specs.Names.{Key, Names, names_in, root_key, under, with_root}
-use Rattle.qx_names.specs.Folders.{Changes, Folder, entry_at, entry_in}
+use Rattle.qx_names.specs.inner.Folders.{Changes, Folder, entry_at, entry_in}
 use Rattle.qx_names.specs.Paths.{HasPath, HasNoPath, path_of}
-use Rattle.qx_names.specs.Shows.{Shows, is_root, shown_names}
+use Rattle.qx_names.specs.inner.Shows.{Shows, is_root, shown_names}
 use Rattle.qx_names.proofs.EntryLemmas.{empty_alone, names_are_keys}
 use Rattle.qx_names.proofs.ShowsLemmas.{Shows-empty, Shows-insert, Shows-push, Shows-remove, names_shown, root_shown, unnamed_now}
 

@@ -11,7 +11,7 @@ use Rattle.std.proofs.lemmas.Bool.{eq-eqb, eqb-true}
 use Rattle.qx_machine.specs.Names.{Key, Names, root_key}
 use Rattle.qx_machine.proofs.Directories.{first, second}
 use Rattle.qx_names.specs.Paths.{HasPath, key_in, path_of}
-use Rattle.qx_names.specs.Shows.{Shows, key_total, key-IsAntisymmetric}
+use Rattle.qx_names.specs.inner.Shows.{Shows, key_total, key-IsAntisymmetric}
 use Rattle.qx_names.proofs.MapLemmas.{is_equal}
 
 pub not_less : (r : Ordering) → r ≡ Equal → T (is_lt r) → ⊥

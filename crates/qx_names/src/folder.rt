@@ -16,7 +16,7 @@ pub struct Folder {
 }
 
 impl Model for Folder {
-    ghost use Rattle.qx_names.specs.Folders.{Folder, folder_code, folder_of};
+    ghost use Rattle.qx_names.specs.inner.Folders.{Folder, folder_code, folder_of};
 
     ghost Value = { Folder };
 

@@ -1,6 +1,6 @@
 ghost use Rattle.std.specs.Prelude.{◌≡◌, ◌+◌, ◌*◌, ◌≤◌, None, Some, OnOk, OnErr, length, max, slice_get, vec_capacity};
 ghost use Rattle.std.specs.Option.{option_copied};
-ghost use Rattle.qx_names.specs.Folders.{Changes, entry_at};
+ghost use Rattle.qx_names.specs.inner.Folders.{Changes, entry_at};
 
 use crate::folder::Folder;
 use qx_attr::growth;

@@ -6,8 +6,9 @@ ghost use Rattle.std.specs.Ordering.{nat_cmp};
 ghost use Rattle.qx_machine.specs.Listings.{HasSizedNames, listed_by, listed_next};
 ghost use Rattle.qx_machine.specs.Names as machine;
 ghost use Rattle.qx_names.specs.Paths.{HasPath, HasNoPath, path_of};
-ghost use Rattle.qx_names.specs.Folders.{entry_at};
-ghost use Rattle.qx_names.specs.Shows.{Shows, is_root, shown_once};
+ghost use Rattle.qx_names.specs.inner.Folders.{entry_at};
+ghost use Rattle.qx_names.specs.inner.Shows.{Shows, is_root};
+ghost use Rattle.qx_names.specs.Shows.{shown_once};
 ghost use Rattle.qx_names.specs.Spots.{spot_found};
 ghost use Rattle.qx_types.specs.declared.limits.TheConstants.Limits.{INODES};
 
@@ -35,9 +36,9 @@ impl Model for Names {
     ghost use Rattle.std.specs.List.{IsDistinct};
     ghost use Rattle.std.specs.Prelude.{◌+◌, ◌*◌, ◌≤◌, length, nat_eq, vec_capacity};
     ghost use Rattle.qx_machine.specs.Names.{Names as Contents};
-    ghost use Rattle.qx_names.specs.Folders.{entry_at};
+    ghost use Rattle.qx_names.specs.inner.Folders.{entry_at};
     ghost use Rattle.qx_names.specs.Paths.{names_code};
-    ghost use Rattle.qx_names.specs.Shows.{is_root, shown_names};
+    ghost use Rattle.qx_names.specs.inner.Shows.{is_root, shown_names};
     ghost use Rattle.qx_types.specs.declared.limits.TheConstants.Limits.{INODES};
 
     ghost Value = { Contents };

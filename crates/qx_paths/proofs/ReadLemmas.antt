@@ -11,7 +11,8 @@ use Rattle.qx_types.specs.declared.errno.Errno.TheVariants.{EINVAL, ENAMETOOLONG
 use Rattle.qx_types.specs.declared.limits.TheConstants.Limits.{PATH}
 use Rattle.qx_wire.specs.Rests.{is_component, is_rest, components_of, joined}
 use Rattle.qx_wire.proofs.RestLemmas.{components_joined, components_some}
-use Rattle.qx_paths.specs.Paths.{begins_with_slash, first_fault, is_named, IsShortPath, path_components, read_path, unless}
+use Rattle.qx_paths.specs.Paths.{begins_with_slash, first_fault, is_named, path_components, read_path, unless}
+use Rattle.qx_paths.specs.inner.Paths.{IsShortPath}
 use Rattle.qx_paths.proofs.PathLemmas.{both_true, faultless, skip_slash}
 
 abbrev slash : ℕ → Bool

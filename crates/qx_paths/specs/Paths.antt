@@ -1,6 +1,6 @@
 -- What the bytes of a path are as components.
-use Rattle.std.specs.Prelude.{ℕ, Bool, false, ◌==◌, ◌≡◌, ◌≤◌, true, nat_lt, List, [], ◌∷◌, length, Option, None, Some, Result, Ok, Err, if◌then◌else◌, filter}
-use Rattle.std.specs.List.{list_all, slice_split}
+use Rattle.std.specs.Prelude.{ℕ, Bool, false, ◌==◌, true, nat_lt, List, [], ◌∷◌, length, Option, None, Some, Result, Ok, Err, if◌then◌else◌, filter}
+use Rattle.std.specs.List.{slice_split}
 use Rattle.qx_types.specs.declared.errno.Errno.{Errno}
 use Rattle.qx_types.specs.declared.errno.Errno.TheVariants.{EINVAL, ENAMETOOLONG}
 use Rattle.qx_types.specs.declared.limits.TheConstants.Limits.{COMPONENT, PATH}
@@ -14,11 +14,6 @@ is_named (byte ∷ bytes) = true
 -- that empty names are left out is this profile)
 unfoldable pub path_components : List ℕ → List (List ℕ)
 path_components bytes = filter is_named (slice_split (λ byte. byte == 47) bytes)
-
--- the first component, and what a walk has before it behind that
-abbrev pub walked : Option (List ℕ × List ℕ) → List (List ℕ)
-walked None = []
-walked (Some parted) = parted.0 ∷ path_components parted.1
 
 abbrev pub begins_with_slash : List ℕ → Bool
 begins_with_slash [] = false
@@ -52,8 +47,3 @@ read_path bytes =
     if nat_lt PATH (length bytes) then Err ENAMETOOLONG
     else if begins_with_slash bytes then unless (first_fault (path_components bytes)) (path_components bytes)
     else Err EINVAL
-
--- bytes within the length of a path that have good components
-pub record IsShortPath (bytes : List ℕ) : Type 0 where
-  pub short : length bytes ≤ PATH
-  pub good : list_all is_component (path_components bytes) ≡ true

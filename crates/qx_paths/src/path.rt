@@ -2,7 +2,8 @@ ghost use Rattle.std.specs.Prelude.{◌≡◌, ◌<◌, ◌≤◌, ◌==◌, [],
 ghost use Rattle.std.specs.Option.{option_map};
 ghost use Rattle.qx_wire.specs.Rests.{components_of, is_rest, joined};
 ghost use Rattle.qx_paths.specs.Prefixes.{behind, is_under};
-ghost use Rattle.qx_paths.specs.Paths.{begins_with_slash, component_fault, first_fault, path_components, read_path, walked};
+ghost use Rattle.qx_paths.specs.Paths.{begins_with_slash, component_fault, first_fault, path_components, read_path};
+ghost use Rattle.qx_paths.specs.inner.Paths.{walked};
 
 use qx_types::{Bytes, Errno, Limits, NoMemory};
 use qx_wire::rest::is_component;
@@ -20,7 +21,8 @@ impl<'a> Model for Path<'a> {
     ghost use Rattle.std.specs.Prelude.{◌≡◌, ◌≤◌, List, ℕ, true, length};
     ghost use Rattle.std.specs.List.{list_all};
     ghost use Rattle.qx_types.specs.declared.limits.TheConstants.Limits.{PATH};
-    ghost use Rattle.qx_paths.specs.Paths.{IsShortPath, path_components};
+    ghost use Rattle.qx_paths.specs.inner.Paths.{IsShortPath};
+    ghost use Rattle.qx_paths.specs.Paths.{path_components};
 
     ghost Value = { List (List ℕ) };
 

@@ -6,7 +6,8 @@ use Rattle.std.proofs.lemmas.List.{take-append-drop}
 use Rattle.qx_types.specs.declared.outcome.Answer.TheVariants.{Reply}
 use Rattle.qx_types.specs.declared.limits.TheConstants.Limits.{PIPE}
 use Rattle.qx_machine.specs.Pipes.{PipeAfter, Pipe, first_answered, nobody_answered, pipe_of, portion, served, settle}
-use Rattle.qx_pipe.specs.Laws.{Conserves, IsSettled, brought, handed_out, retold, retold_after}
+use Rattle.qx_pipe.specs.Laws.{Conserves, IsSettled, brought, handed_out}
+use Rattle.qx_pipe.specs.inner.Laws.{retold, retold_after}
 
 module _ {W : Type 0} (wanted : W → ℕ) (offered : W → List ℕ) where
   conserves-nobody : (p : Pipe W) → Conserves offered p (nobody_answered p)

@@ -10,7 +10,7 @@ use Rattle.qx_machine.specs.declared.rows.WaitingCall.{WaitingCall}
 use Rattle.qx_machine.specs.Waiting.{offered, wanted}
 use Rattle.qx_machine.specs.Pipes.{PipeAfter, Pipe, and_then, clean_read, clean_write, nobody_answered, pipe_of, settle}
 use Rattle.qx_shared.specs.Shared.{HasPipe, Shared, passed_to, pipe_at, taken_from, went_in, with_pipe_after}
-use Rattle.qx_pipe.specs.Turns.{Turning, settling, waiting_count}
+use Rattle.qx_pipe.specs.inner.Turns.{Turning, settling, waiting_count}
 use Rattle.qx_pipe.proofs.CallLemmas.{not_zero}
 use Rattle.qx_pipe.proofs.AfterLemmas.{steps}
 

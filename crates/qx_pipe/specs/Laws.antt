@@ -56,11 +56,3 @@ module _ {W : Type 0} where
   -- no reader waits beside bytes, and no first writer whose bytes fit
   abbrev pub IsSettled : (W → List ℕ) → Pipe W → Type 0
   IsSettled offered p = ((p.bytes ≡ []) ⊎ (p.readers ≡ [])) × NoneFits offered p.bytes p.writers
-
--- the same pipe, its waiting messages told in another way
-module _ {W V : Type 0} (tell : W → V) where
-  abbrev pub retold : Pipe W → Pipe V
-  retold p = record { bytes = p.bytes; readers = map tell p.readers; writers = map tell p.writers }
-
-  abbrev pub retold_after : PipeAfter W → PipeAfter V
-  retold_after after = record { pipe = retold after.pipe; answers = map (λ a. (tell a.0, a.1)) after.answers }

@@ -1,2 +1,2 @@
 pub mod Laws
-pub mod Turns
+pub mod inner

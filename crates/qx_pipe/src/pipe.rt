@@ -5,7 +5,7 @@ ghost use Rattle.std.specs.Prelude.{◌≡◌, ◌==◌, ◌<◌, IfNone, IfSome
 ghost use Rattle.qx_machine.specs.Waiting.{is_call, is_gone, offered, wanted};
 ghost use Rattle.qx_machine.specs.Pipes as machine;
 ghost use Rattle.qx_machine.specs.Pipes.{clean_read, clean_write, dismissed, nobody_answered, readers_ended, without_bytes, writers_ended};
-ghost use Rattle.qx_pipe.specs.Turns.{Turning, settling, unless_served, waiting_count};
+ghost use Rattle.qx_pipe.specs.inner.Turns.{Turning, settling, unless_served, waiting_count};
 ghost use Rattle.qx_queues.specs.Waits.{leaves};
 ghost use Rattle.qx_shared.specs.Shared.{HasPipe, IsCallReceived, pipe_at, went_in, with_pipe_after};
 ghost use Rattle.qx_types.specs.declared.outcome.Answer.TheVariants.{Failed};

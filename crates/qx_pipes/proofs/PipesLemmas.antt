@@ -36,7 +36,8 @@ use Rattle.qx_machine.specs.Pipes.{PipeAfter, Pipe, nobody_answered, pipe_of, re
 use Rattle.qx_machine.specs.Resources.{Resources, without_content}
 use Rattle.qx_machine.specs.Rows.{row_at, with_row}
 use Rattle.qx_machine.specs.Waiting.{is_gone, is_over, no_pipes, offered, sides_of, wanted, Pipes}
-use Rattle.qx_pipes.specs.Pipes.{Follows, Stands, seen}
+use Rattle.qx_pipes.specs.Pipes.{Follows, seen}
+use Rattle.qx_pipes.specs.inner.Pipes.{Stands}
 use Rattle.qx_process.proofs.RowLemmas.{row_at-get_or}
 use Rattle.qx_shared.proofs.AfterLemmas.{pipe_at-after, then-after}
 use Rattle.qx_shared.specs.Shared.{HasPipe, Shared, pipe_at, pipes_of, went_in, with_pipe_after, with_pipes, with_row_at}

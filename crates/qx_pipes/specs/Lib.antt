@@ -1,1 +1,2 @@
 pub mod Pipes
+pub mod inner

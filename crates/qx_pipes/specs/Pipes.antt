@@ -1,14 +1,12 @@
 -- What the steps of a message to the pipe manager leave of a store and of what all users share.
-use Rattle.std.specs.Prelude.{ℕ, ◌≡◌, [], Option, Result, Ok, Err, length}
+use Rattle.std.specs.Prelude.{ℕ, ◌≡◌, [], Result, Ok, Err}
 use Rattle.qx_types.specs.declared.errno.Errno.{Errno}
 use Rattle.qx_types.specs.declared.names.Coid.{Coid}
 use Rattle.qx_iofunc.specs.Store.{Stored, with_stored}
 use Rattle.qx_machine.specs.declared.rows.Effect.TheVariants.{Opens}
-use Rattle.qx_machine.specs.declared.rows.WaitingCall.{WaitingCall}
 use Rattle.qx_machine.specs.Functions.{Deed, reply_alone}
-use Rattle.qx_machine.specs.Pipes.{Pipe}
 use Rattle.qx_machine.specs.Resources.{Resources}
-use Rattle.qx_shared.specs.Shared.{HasPipe, Shared, pipes_of, shared_after, state_after, with_row_at}
+use Rattle.qx_shared.specs.Shared.{Shared, pipes_of, shared_after, state_after}
 
 -- what the managers keep for a user, with this of the user's in a store, and the pipes that the user has of what all share
 abbrev pub seen : Resources → Stored → Shared → Resources
@@ -29,9 +27,3 @@ module _ {E : Type 0} where
 abbrev pub open_of_block : Coid → Resources → Result ℕ Errno → Result (Deed Resources) Errno
 open_of_block coid r (Ok number) = Ok (reply_alone coid.0 [] (Opens coid number) r)
 open_of_block coid r (Err error) = Err error
-
--- a pipe stands under the number of an inode, and nothing else is different
-pub record Stands (old new : Shared) (user inode : ℕ) : Type 0 where
-  pub there : HasPipe new user inode
-  pub users : length new.pipes ≡ length old.pipes
-  pub others : (row : Option (Pipe WaitingCall)) → with_row_at new user inode row ≡ with_row_at old user inode row

@@ -12,8 +12,9 @@ use Rattle.qx_lists.specs.Table.{Table, ContainsList, IsIn, nodes_of}
 use Rattle.qx_lists.proofs.MapLemmas.{get-insert_other, get-insert_same, same_map}
 use Rattle.qx_lines.specs.declared.Line.{Line}
 use Rattle.qx_lines.specs.Line.{IsOwn}
-use Rattle.qx_queues.specs.Kept.{answered_calls, call_at, given_at, is_line, is_pipes, list_of_line, users_call_carried, waiting_of_node, waiting_lists}
-use Rattle.qx_queues.specs.Waiting.{Waiting, given_of}
+use Rattle.qx_queues.specs.inner.Kept.{answered_calls, call_at, given_at, is_line, is_pipes, list_of_line, users_call_carried, waiting_of_node, waiting_lists}
+use Rattle.qx_queues.specs.Waiting.{Waiting}
+use Rattle.qx_queues.specs.inner.Waiting.{given_of}
 use Rattle.qx_queues.proofs.EntryLemmas.{map-agree, or_false, or_true}
 use Rattle.qx_queues.proofs.TableLemmas.{none_some}
 

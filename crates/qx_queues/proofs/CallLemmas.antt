@@ -12,9 +12,10 @@ use Rattle.qx_lists.proofs.ListLemmas.{absent_without, contains_without}
 use Rattle.qx_lines.specs.declared.Line.{Line}
 use Rattle.qx_lines.proofs.LineFacts.{IsLineOf-same}
 use Rattle.qx_machine.specs.Machine.{rank}
-use Rattle.qx_queues.specs.Kept.{Carries, AreListsOfTable, KnowsPulses, Moved, answered_calls, call_at, entries, entry_of_node, given_at, is_line, is_pipes, node_owner, users_call_carried, waiting_of_node, waiting_lists}
+use Rattle.qx_queues.specs.inner.Kept.{Carries, AreListsOfTable, KnowsPulses, Moved, answered_calls, call_at, entries, entry_of_node, given_at, is_line, is_pipes, node_owner, users_call_carried, waiting_of_node, waiting_lists}
 use Rattle.qx_queues.specs.Queues.{Queues, UsersAnswer, with_waiting, without_list}
-use Rattle.qx_queues.specs.Waiting.{Load, Nothing, Waiting, carrying, given_of, idle, rank_of}
+use Rattle.qx_queues.specs.Waiting.{Load, Nothing, Waiting, carrying, idle, rank_of}
+use Rattle.qx_queues.specs.inner.Waiting.{given_of}
 use Rattle.qx_queues.specs.declared.nodes.UserNodes.{UserNodes}
 use Rattle.qx_queues.specs.Nodes.{Owner, servers_of, threads_of}
 use Rattle.qx_queues.proofs.BesideLemmas.{get-waiting_lists, is_line-numbered, line_numbered, pipes_apart, same_mapped, same_waiting}

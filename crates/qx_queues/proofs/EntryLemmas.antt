@@ -16,7 +16,7 @@ use Rattle.qx_machine.specs.declared.rows.OwnItem.TheVariants as item
 use Rattle.qx_machine.specs.declared.rows.Queued.{Queued}
 use Rattle.qx_machine.specs.Lines.{into, line_at, with_line}
 use Rattle.qx_queues.specs.Queues.{pulse_call, first_field, is_same_thread, as_message, sender_of, own_field}
-use Rattle.qx_queues.specs.Kept.{nobodys, owner_in, node_owner}
+use Rattle.qx_queues.specs.inner.Kept.{nobodys, owner_in, node_owner}
 use Rattle.qx_queues.specs.Waiting.{Waiting}
 use Rattle.qx_queues.specs.Nodes.{Disconnect, Message, Owner, Unblock}
 

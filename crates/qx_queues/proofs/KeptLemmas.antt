@@ -20,8 +20,10 @@ use Rattle.qx_machine.specs.declared.rows.Queued.{Queued}
 use Rattle.qx_machine.specs.Machine.{line_without, rank}
 use Rattle.qx_machine.specs.Lines.{into, line_at, with_line}
 use Rattle.qx_queues.specs.Queues.{IsGone, UsersAnswer, UsersCall, caller, has_call, has_answer_among, pulse_call, first_field, is_same_thread, as_message, no_other, sender, stands, own_field, unblock_call}
-use Rattle.qx_queues.specs.Kept.{Carries, HasLoad, AreListsOfTable, PutIn, TakenOut, answered_calls, call_at, given_at, waiting_lists, entries, entry_of_node, is_line, list_of_line, named, owner_in, node_owner, users_call_carried, waiting_of_node}
-use Rattle.qx_queues.specs.Waiting.{Answered, Load, Nothing, Waiting, Waits, thread_of_load, thread_carried, carried, given_in, given_of, no_call, rank_of}
+use Rattle.qx_queues.specs.inner.Kept.{Carries, AreListsOfTable, PutIn, TakenOut, answered_calls, call_at, given_at, waiting_lists, entries, entry_of_node, is_line, list_of_line, named, owner_in, node_owner, users_call_carried, waiting_of_node}
+use Rattle.qx_queues.specs.Kept.{HasLoad}
+use Rattle.qx_queues.specs.Waiting.{Answered, Load, Nothing, Waiting, Waits, carried, no_call, rank_of}
+use Rattle.qx_queues.specs.inner.Waiting.{thread_of_load, thread_carried, given_in, given_of}
 use Rattle.qx_queues.specs.Nodes.{Disconnect, Message, Owner, Unblock}
 use Rattle.qx_queues.proofs.BesideLemmas.{SameCalls, is_line-more, is_line-numbered, is_line-set, line_numbered, nodes_waiting, same_calls}
 use Rattle.qx_queues.proofs.EntryLemmas.{Reads, differs_from, is_same_thread-self, or_true, owned_thread, reads-call, reads-message, some_of, field-entry, field-find, field-part}

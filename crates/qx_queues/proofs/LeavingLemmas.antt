@@ -10,7 +10,7 @@ use Rattle.qx_types.specs.declared.outcome.Answer.{Answer}
 use Rattle.qx_machine.specs.Waiting.{is_written}
 use Rattle.qx_machine.specs.Pipes.{staying}
 use Rattle.qx_queues.specs.Queues.{HasList, Queues, UsersCall, answer_to, waiting_in_list, with_more_answers, with_waiting}
-use Rattle.qx_queues.specs.Waits.{without_first}
+use Rattle.qx_queues.specs.inner.Waits.{without_first}
 use Rattle.qx_queues.proofs.EntryLemmas.{or_false}
 use Rattle.qx_queues.proofs.WalkLemmas.{all-stay, leaves-first}
 

@@ -14,7 +14,7 @@ use Rattle.qx_machine.specs.declared.rows.Queued.{Queued}
 use Rattle.qx_machine.specs.Lines.{into}
 use Rattle.qx_machine.specs.Machine.{is_same_item, line_without}
 use Rattle.qx_queues.specs.Queues.{pulse_call, first_field, is_same_thread, as_message, message_of, no_other, sender, sender_of, stands, own_field, unblock_call, unblock_of}
-use Rattle.qx_queues.specs.Kept.{owner_in, node_owner}
+use Rattle.qx_queues.specs.inner.Kept.{owner_in, node_owner}
 use Rattle.qx_queues.specs.Nodes.{Message, Owner, Unblock}
 use Rattle.qx_queues.proofs.EntryLemmas.{owned_thread, differs_from, is_same_thread-differs, is_same_thread-same, is_same_thread-self, or_none}
 

@@ -17,7 +17,8 @@ use Rattle.qx_machine.specs.declared.rows.Queued.{Queued}
 use Rattle.qx_queues.specs.declared.nodes.ProcessNodes.{ProcessNodes}
 use Rattle.qx_queues.specs.declared.nodes.ThreadNodes.{ThreadNodes}
 use Rattle.qx_queues.specs.declared.nodes.UserNodes.{UserNodes}
-use Rattle.qx_queues.specs.Queues.{Queues, UsersAnswer, UsersCall, has_thread_nodes, is_same_thread, is_thread_of, server_cmp, thread_cmp, with_process_nodes, with_server_node, with_thread_nodes, without_server_node}
+use Rattle.qx_queues.specs.Queues.{Queues, UsersAnswer, UsersCall, has_thread_nodes, is_same_thread, server_cmp, thread_cmp, with_process_nodes, with_server_node, with_thread_nodes, without_server_node}
+use Rattle.qx_queues.specs.inner.Queues.{is_thread_of}
 use Rattle.qx_queues.specs.Nodes.{Asked, Disconnect, Message, Owner, Unblock, asked_in, disconnect_at, if_there, keys_in, no_nodes, no_process, no_process_nodes, node_of, nodes_of_thread, told_by_number, process_at, process_nodes_in, servers_of, threads_of, with_disconnect_at, with_nodes_at}
 use Rattle.qx_queues.proofs.EntryLemmas.{or_false}
 use Rattle.qx_queues.proofs.NodesLemmas.{default_of, disconnect_at-none, disconnect_at-other, disconnect_at-with_nodes, length-with_nodes, none_of, nodes_at-none, nodes_at-other, nodes_at-with_disconnect, same_or_not, started-thread}

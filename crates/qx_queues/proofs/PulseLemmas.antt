@@ -8,7 +8,7 @@ use Rattle.qx_machine.specs.declared.rows.Queued.{Queued}
 use Rattle.qx_machine.specs.Lines.{into, line_at, with_line}
 use Rattle.qx_machine.specs.Machine.{line_without}
 use Rattle.qx_queues.specs.Queues.{pulse_call, message_of, sender, unblock_call, unblock_of}
-use Rattle.qx_queues.specs.Kept.{KnowsPulses, is_line_at}
+use Rattle.qx_queues.specs.inner.Kept.{KnowsPulses, is_line_at}
 use Rattle.qx_queues.proofs.EntryLemmas.{is_same_thread-differs, is_same_thread-self, line_at-other, line_at-same, with_line-same}
 use Rattle.qx_queues.proofs.LineLemmas.{call-asked, call-received, call-received_other, call-replied_other, replied-none, call-sent, call-withdrawn}
 use Rattle.qx_queues.proofs.NodesLemmas.{default_of, none_of, same_or_not}

@@ -10,7 +10,8 @@ use Rattle.std.proofs.lemmas.Bool.Decides.{nat_tests}
 use Rattle.std.proofs.lemmas.Cmp.{nat_cmp_total, on_total, then_total}
 use Rattle.qx_types.specs.declared.names.Proc.{Proc}
 use Rattle.qx_types.specs.declared.names.Thread.{Thread}
-use Rattle.qx_queues.specs.Queues.{is_same_server, is_same_thread, proc_cmp, server_cmp, thread_cmp}
+use Rattle.qx_queues.specs.inner.Queues.{is_same_server}
+use Rattle.qx_queues.specs.Queues.{is_same_thread, proc_cmp, server_cmp, thread_cmp}
 use Rattle.qx_queues.proofs.EntryLemmas.{is_same_thread-same}
 
 module _ {K : Type 0} {R : K → K → Ordering} (total : IsTotalOrder R) (exact : set.IsAntisymmetric R) where

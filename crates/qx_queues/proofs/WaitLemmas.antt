@@ -13,11 +13,13 @@ use Rattle.qx_machine.specs.declared.rows.OwnItem.{OwnItem}
 use Rattle.qx_machine.specs.declared.rows.OwnItem.TheVariants as item
 use Rattle.qx_machine.specs.declared.rows.Queued.{Queued}
 use Rattle.qx_machine.specs.declared.rows.WaitingCall.{WaitingCall}
-use Rattle.qx_queues.specs.Kept.{Carries, HasLoad, AreListsOfTable, answered_calls, call_at, entries, given_at, is_pipes, owner_in, node_owner, users_call_carried as call_with, waiting_of_node, waiting_lists}
+use Rattle.qx_queues.specs.inner.Kept.{Carries, AreListsOfTable, answered_calls, call_at, entries, given_at, is_pipes, owner_in, node_owner, users_call_carried as call_with, waiting_of_node, waiting_lists}
+use Rattle.qx_queues.specs.Kept.{HasLoad}
 use Rattle.qx_queues.specs.Nodes.{Message, Owner, node_of}
 use Rattle.qx_queues.specs.declared.nodes.UserNodes.{UserNodes}
 use Rattle.qx_queues.specs.Queues.{IsMessageReceived, UsersAnswer, UsersCall, as_message, caller, has_call, has_answer_among, is_same_thread, sender_of, stands}
-use Rattle.qx_queues.specs.Waiting.{Answered, Load, Nothing, Waiting, Waits, carried, carrying, no_call, nobody, waits_in}
+use Rattle.qx_queues.specs.Waiting.{Answered, Load, Nothing, Waiting, Waits, carried, carrying, no_call, waits_in}
+use Rattle.qx_queues.specs.inner.Waiting.{nobody}
 use Rattle.qx_queues.specs.Waits.{is_users_call, users_call}
 use Rattle.qx_queues.proofs.BesideLemmas.{get-waiting_lists, nodes_waiting, pipes_apart}
 use Rattle.qx_queues.proofs.CallLemmas.{differs_of, equal_itself, value_of}

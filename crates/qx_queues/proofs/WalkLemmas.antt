@@ -9,7 +9,7 @@ use Rattle.qx_lists.specs.Table.{without}
 use Rattle.qx_lists.proofs.ListLemmas.{contains_first, contains_later}
 use Rattle.qx_lists.proofs.WalkLemmas.{without-absent}
 use Rattle.qx_machine.specs.Pipes.{staying}
-use Rattle.qx_queues.specs.Waits.{without_first}
+use Rattle.qx_queues.specs.inner.Waits.{without_first}
 
 -- none of the first nodes leaves
 abbrev pub Stays : (ℕ → Bool) → List ℕ → ℕ → Type 0

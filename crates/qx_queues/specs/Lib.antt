@@ -4,3 +4,4 @@ pub mod Queues
 pub mod Kept
 pub mod Waits
 pub mod Nodes
+pub mod inner

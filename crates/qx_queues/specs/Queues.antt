@@ -1,5 +1,5 @@
 -- What contracts see of the managers' lines, and what its calls make of it.
-use Rattle.std.specs.Prelude.{◌≡◌, ℕ, zero, suc, ◌+◌, ◌-◌, ◌==◌, ◌&&◌, if◌then◌else◌, nat_le, refl, IsTrue, Bool, false, List, [], ◌∷◌, ◌++◌, Option, Some, None, is_some, replicate, unwrap_or}
+use Rattle.std.specs.Prelude.{◌≡◌, ℕ, zero, suc, ◌+◌, ◌-◌, ◌==◌, ◌&&◌, if◌then◌else◌, refl, IsTrue, Bool, false, List, [], ◌∷◌, ◌++◌, Option, Some, None, is_some, replicate, unwrap_or}
 use Rattle.std.specs.Coded.{Coded, code_by, coded×, coded_ℕ, coded_list}
 use Rattle.std.specs.FinMap as maps
 use Rattle.std.specs.FinSet as set
@@ -106,14 +106,6 @@ sender entry = sender_of entry.user.0 entry.item
 
 abbrev pub is_same_thread : Thread → Thread → Bool
 is_same_thread one other = (one.proc.user.0 == other.proc.user.0) && (one.proc.num == other.proc.num) && (one.tid == other.tid)
-
--- one of the first threads of a process
-abbrev pub is_thread_of : Proc → ℕ → Thread → Bool
-is_thread_of proc threads other = (proc.user.0 == other.proc.user.0) && (proc.num == other.proc.num) && nat_le 1 other.tid && nat_le other.tid threads
-
--- the same process at the same manager
-abbrev pub is_same_server : Proc → ℕ → Proc → ℕ → Bool
-is_same_server proc number other at = (proc.user.0 == other.user.0) && (proc.num == other.num) && (number == at)
 
 -- a field of an item, where the item is of the thread
 abbrev pub own_field : {A : Type 0} → (OwnItem → Option A) → Thread → Queued → Option A

@@ -1,6 +1,6 @@
 -- Calls that wait in lists, and their answers.
 use Rattle.std.specs.Borrow.{Bor}
-use Rattle.std.specs.Prelude.{ℕ, ◌==◌, ◌&&◌, if◌then◌else◌, Bool, true, List, [], ◌∷◌, Result, Ok, Err}
+use Rattle.std.specs.Prelude.{ℕ, ◌==◌, ◌&&◌, Bool, true, List, Result, Ok, Err}
 use Rattle.qx_types.specs.declared.names.Thread.{Thread}
 use Rattle.qx_types.specs.declared.errno.Errno.{Errno}
 use Rattle.qx_types.specs.declared.outcome.Answer.{Answer}
@@ -30,8 +30,3 @@ users_call user call = record { user = user; call = call }
 -- that call of a thread
 abbrev pub is_users_call : Thread → ℕ → UsersCall → Bool
 is_users_call thread number own = is_same_thread (caller own) thread && (own.call.call == number)
-
--- the list without the first that passes a test
-abbrev pub without_first : {A : Type 0} → (A → Bool) → List A → List A
-without_first test [] = []
-without_first test (first ∷ rest) = if test first then rest else first ∷ without_first test rest

@@ -11,9 +11,10 @@ ghost use Rattle.qx_machine.specs.Lines.{into};
 ghost use Rattle.qx_machine.specs.Machine as machine;
 ghost use Rattle.qx_machine.specs.declared.rows.OwnItem.TheVariants as item;
 ghost use Rattle.qx_queues.specs.Queues.{HasNoListedCall, HasThreadNodes, IsGone, IsMessageReceived, pulse_call, queues_line, has_server_node, has_thread_nodes, message_of, no_queues, stands, unblock_call, unblock_of, with_queues_line, with_process_nodes, with_server_node, with_thread_nodes, without_server_node};
-ghost use Rattle.qx_queues.specs.Kept.{PutIn, TakenOut, entries, entry_of_node, node_owner, waiting_of_node};
+ghost use Rattle.qx_queues.specs.inner.Kept.{PutIn, TakenOut, entries, entry_of_node, node_owner, waiting_of_node};
 ghost use Rattle.qx_queues.specs.Nodes.{Unblock};
-ghost use Rattle.qx_queues.specs.Waiting.{ComesWithRoom, KeepsRoom, addressed_by, idle, load_of, rank_of};
+ghost use Rattle.qx_queues.specs.Waiting.{ComesWithRoom, addressed_by, idle, rank_of};
+ghost use Rattle.qx_queues.specs.inner.Waiting.{KeepsRoom, load_of};
 
 use crate::nodes::{Nodes, ThreadNodes};
 use crate::waiting::{Answered, Slot, Waiting};
@@ -38,7 +39,7 @@ impl Model for Queues {
     ghost use Rattle.std.specs.Prelude.{◌≡◌, length, map};
     ghost use Rattle.qx_types.specs.declared.names.TheConstants.Manager.{COUNT};
     ghost use Rattle.qx_queues.specs.Queues as words;
-    ghost use Rattle.qx_queues.specs.Kept.{KnowsPulses, AreListsOfTable, answered_calls, entries, waiting_lists};
+    ghost use Rattle.qx_queues.specs.inner.Kept.{KnowsPulses, AreListsOfTable, answered_calls, entries, waiting_lists};
     ghost use Rattle.qx_queues.specs.Nodes.{pulse_line_at, node_of, servers_of, threads_of};
 
     ghost Value = { words.Queues };

@@ -5,7 +5,8 @@ ghost use Rattle.std.specs.Result.{ForOk};
 ghost use Rattle.qx_types.specs.declared.limits.TheConstants.Limits.{PRIORITY, TRANSFER};
 ghost use Rattle.qx_queues.specs.Kept.{HasLoad};
 ghost use Rattle.qx_queues.specs.Queues.{answer_to};
-ghost use Rattle.qx_queues.specs.Waiting.{Answered as Given, ComesWithRoom, KeepsRoom, Waits, addressed_by, call_carried, carrying, idle, load_of, waits_in};
+ghost use Rattle.qx_queues.specs.Waiting.{Answered as Given, ComesWithRoom, Waits, addressed_by, call_carried, carrying, idle, waits_in};
+ghost use Rattle.qx_queues.specs.inner.Waiting.{KeepsRoom, load_of};
 ghost use Rattle.qx_queues.specs.Waits.{handed, users_call};
 
 use crate::calls::PipeCall;
@@ -94,12 +95,13 @@ impl Model for Waiting {
     ghost use Rattle.std.specs.Prelude.{◌≤◌};
     ghost use Rattle.qx_types.specs.declared.limits.TheConstants.Limits.{PRIORITY};
     ghost use Rattle.qx_queues.specs.Waiting as words;
+    ghost use Rattle.qx_queues.specs.inner.Waiting as inner_words;
 
     ghost Value = { words.Waiting };
 
-    ghost view = { λ w. record { queued = w.queued; load = words.load_of w.slot } };
+    ghost view = { λ w. record { queued = w.queued; load = inner_words.load_of w.slot } };
 
-    ghost invariant = { λ w. (1 ≤ w.queued.prio.0) × (w.queued.prio.0 ≤ PRIORITY) × words.KeepsRoom w.slot };
+    ghost invariant = { λ w. (1 ≤ w.queued.prio.0) × (w.queued.prio.0 ≤ PRIORITY) × inner_words.KeepsRoom w.slot };
 }
 
 impl Waiting {

@@ -10,11 +10,14 @@ ghost use Rattle.qx_types.specs.declared.names.Thread.{Thread as TheThread};
 ghost use Rattle.qx_lists.specs.Table.{ContainsList, IsFree, IsIn, nodes_of, with_nodes, with_value};
 ghost use Rattle.qx_machine.specs.Waiting.{is_written as is_written_by};
 ghost use Rattle.qx_machine.specs.Pipes.{staying};
-ghost use Rattle.qx_queues.specs.Kept.{HasLoad, entry_of_node, waiting_of_node};
+ghost use Rattle.qx_queues.specs.Kept.{HasLoad};
+ghost use Rattle.qx_queues.specs.inner.Kept.{entry_of_node, waiting_of_node};
 ghost use Rattle.qx_queues.specs.Nodes.{Message, node_of, nodes_of_thread};
 ghost use Rattle.qx_queues.specs.Queues.{HasList, IsMessageReceived, answer_to, caller, has_call, waiting_in_list, with_more_answers, with_waiting, without_list};
-ghost use Rattle.qx_queues.specs.Waiting.{KeepsRoom, call_carried, carrying, load_of};
-ghost use Rattle.qx_queues.specs.Waits.{handed, is_users_call, leaves, users_call, without_first};
+ghost use Rattle.qx_queues.specs.inner.Waiting.{KeepsRoom, load_of};
+ghost use Rattle.qx_queues.specs.Waiting.{call_carried, carrying};
+ghost use Rattle.qx_queues.specs.Waits.{handed, is_users_call, leaves, users_call};
+ghost use Rattle.qx_queues.specs.inner.Waits.{without_first};
 
 use crate::calls::PipeCall;
 use crate::leaving::Leaving;

@@ -15,7 +15,7 @@ use Rattle.qx_machine.specs.Inodes.{Inodes}
 use Rattle.qx_machine.specs.RamManager.{moved, with_bytes, write_file}
 use Rattle.qx_machine.specs.Resources.{Resources}
 use Rattle.qx_machine.specs.Rows.{row_at}
-use Rattle.qx_ram.specs.Given.{write_fault}
+use Rattle.qx_ram.specs.inner.Given.{write_fault}
 
 -- the sum of the sizes after a write
 pub total_after : (files : Files) (inode offset : ℕ) (bytes new : List ℕ) → row_at files inode ≡ Some bytes → total_size (slice_set files inode (Some (put bytes offset new))) ≡ total_size files - length bytes + max (length bytes) (offset + length new)

@@ -1,28 +1,11 @@
 -- What a write is judged by, and where a seek moves to.
-use Rattle.std.specs.Prelude.{ℕ, ℤ, ◌+◌, ◌-◌, ◌<◌, Result, Ok, Err, Option, Some, None, max, nat_le, if◌then◌else◌}
+use Rattle.std.specs.Prelude.{◌<◌, Result, Ok, Err}
 use Rattle.qx_types.specs.declared.errno.Errno.{Errno}
-use Rattle.qx_types.specs.declared.errno.Errno.TheVariants.{EFBIG, EINVAL, ENOSPC}
-use Rattle.qx_types.specs.declared.limits.TheConstants.Limits.{FILE, FILES, OFFSET}
-use Rattle.qx_machine.specs.Files.{moved_by, total_size}
+use Rattle.qx_machine.specs.Files.{total_size}
 use Rattle.qx_machine.specs.Functions.{Deed}
-use Rattle.qx_machine.specs.Judgements.{◌>>=◌, found, need}
 use Rattle.qx_machine.specs.Resources.{Resources}
 
 -- there are more bytes than there were
 abbrev pub Grows : Resources → Result (Deed Resources) Errno → Type 0
 Grows r (Ok deed) = total_size r.files < total_size deed.state.files
 Grows r (Err error) = ⊥
-
--- why so many bytes can't be written at an offset of a file of that size, by the sum of the sizes before
-abbrev pub write_fault : ℕ → ℕ → ℕ → ℕ → Option Errno
-write_fault total size offset count =
-    if nat_le (offset + count) FILE then
-    (if nat_le (total - size + max size (offset + count)) FILES then None else Some ENOSPC)
-    else Some EFBIG
-
--- a further offset
-abbrev pub moved_offset : ℕ → ℤ → Result ℕ Errno
-moved_offset base by = do
-  offset ← found (moved_by base by) EINVAL
-  small ← need (nat_le offset OFFSET) EINVAL
-  Ok offset

@@ -1,2 +1,3 @@
 -- what a write is judged by
 pub mod Given
+pub mod inner

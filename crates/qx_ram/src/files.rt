@@ -4,7 +4,8 @@ ghost use Rattle.qx_iofunc.specs.Store.{with_stored};
 ghost use Rattle.qx_machine.specs.Files.{total_size, write_offset};
 ghost use Rattle.qx_machine.specs.RamManager as machine;
 ghost use Rattle.qx_machine.specs.Resources.{Resources};
-ghost use Rattle.qx_ram.specs.Given.{Grows, moved_offset, write_fault};
+ghost use Rattle.qx_ram.specs.Given.{Grows};
+ghost use Rattle.qx_ram.specs.inner.Given.{moved_offset, write_fault};
 ghost use Rattle.qx_types.specs.declared.limits.TheConstants.Limits.{TRANSFER};
 
 use bitflags::Flags;

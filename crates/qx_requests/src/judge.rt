@@ -11,7 +11,8 @@ ghost use Rattle.qx_machine.specs.Judgements.{or_refused};
 ghost use Rattle.qx_machine.specs.Parts.{thread_of};
 ghost use Rattle.qx_machine.specs.Rows.{row_at};
 ghost use Rattle.qx_process.specs.Reads.{CanCall, CanGo};
-ghost use Rattle.qx_requests.specs.Targets.{HasRest, IsConnection};
+ghost use Rattle.qx_requests.specs.Targets.{HasRest};
+ghost use Rattle.qx_requests.specs.inner.Targets.{IsConnection};
 
 use crate::content::is_in_ranges;
 use qx_machine::{Addressed, Connection, Over, State, Target, ThreadRow};

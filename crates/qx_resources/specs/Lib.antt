@@ -3,3 +3,4 @@ pub mod Lends
 pub mod Mounts
 pub mod Ranges
 pub mod State
+pub mod inner

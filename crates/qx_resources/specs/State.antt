@@ -2,15 +2,13 @@
 use Rattle.std.specs.Prelude.{ℕ, ◌≡◌, ◌<◌, List, length}
 use Rattle.qx_types.specs.declared.outcome.Answer.{Answer}
 use Rattle.qx_paths.specs.Prefixes.{MountPoint}
-use Rattle.qx_machine.specs.declared.rows.Opened.{Opened}
 use Rattle.qx_machine.specs.declared.rows.WaitingCall.{WaitingCall}
 use Rattle.qx_machine.specs.Files.{Files}
 use Rattle.qx_machine.specs.Inodes.{Inodes}
 use Rattle.qx_machine.specs.Names.{Names}
 use Rattle.qx_machine.specs.Resources.{Resources}
-use Rattle.qx_shared.specs.Shared.{callers_thread}
 use Rattle.qx_resmgr.specs.declared.state.State.{Ghosts}
-use Rattle.qx_shared.specs.Shared.{IsReceived, Shared, pipes_of, with_pipes}
+use Rattle.qx_shared.specs.Shared.{Shared, pipes_of, with_pipes}
 
 -- the machine's resources, but the pipes
 pub record Kept : Type 0 where
@@ -27,10 +25,6 @@ told k c = record { user = k.user; mounts = k.mounts; inodes = k.inodes; names =
 -- the user is one of those who share
 abbrev pub HasUser : Kept → Shared → Type 0
 HasUser k c = k.user < length c.pipes
-
--- the message of an opened connection's caller was received, and no call of it waits
-abbrev pub IsCallerReceived : Kept → Shared → Opened → Type 0
-IsCallerReceived k c opened = IsReceived c (callers_thread k.user opened.caller)
 
 -- what all share, where a user's resources are these and these answers were given
 abbrev pub shared : Kept → Shared → Resources → List (WaitingCall × Answer) → Shared

@@ -78,7 +78,7 @@ impl Connect<Resources, Shared, Told> for Pipe {
 }
 
 impl Io<Resources, Shared, Told> for Pipe {
-    ghost use Rattle.qx_resources.specs.State.{IsCallerReceived};
+    ghost use Rattle.qx_resources.specs.inner.State.{IsCallerReceived};
 
     ghost io = { pipe_io };
 

@@ -6,7 +6,8 @@ use Rattle.std.specs.Str.{bytes_eq}
 use Rattle.qx_types.specs.declared.step.Step.{Step}
 use Rattle.qx_script.specs.declared.command.Command.{Command}
 use Rattle.qx_script.specs.declared.command.Command.TheVariants.{Take, Serve, Do, Show, Trace}
-use Rattle.qx_calls.specs.Calls.{CanSayCall, call_in_line}
+use Rattle.qx_calls.specs.inner.Calls.{CanSayCall}
+use Rattle.qx_calls.specs.Calls.{call_in_line}
 use Rattle.qx_calls.proofs.ReadCalls.{call_within}
 use Rattle.qx_words.specs.Kinds.{is_word}
 use Rattle.qx_script.specs.Lines.{CanSay, call_step, command_lines, command_of, do_of, step_lines, step_in_line}

@@ -3,3 +3,4 @@ pub mod Options
 pub mod Run
 pub mod Watched
 pub mod Written
+pub mod inner

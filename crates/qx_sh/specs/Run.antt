@@ -1,13 +1,12 @@
 -- How a run ends, told by what its reader and its writer tell.
-use Rattle.std.specs.Prelude.{◌≡◌, ◌<◌, ◌≤◌, ◌⊎◌, ℕ, true, List, Option, Result, Err, IfSome, MatchResult, length}
-use Rattle.std.specs.Global.{Vec}
+use Rattle.std.specs.Prelude.{◌≡◌, ◌<◌, ◌≤◌, ◌⊎◌, ℕ, true, List, Option, IfSome, length}
 use Rattle.std.specs.Io.KnownBytes.{Appends}
 use Rattle.qx_types.specs.Configuration.{Configuration}
 use Rattle.qx_script.specs.declared.command.Command.{Command}
 use Rattle.qx_sh.specs.declared.ending.End.{End}
 use Rattle.qx_sh.specs.declared.ending.End.TheVariants.{Done, Input, Output, Words, Line, Memory}
 use Rattle.qx_play.specs.Play.{shown}
-use Rattle.qx_script.specs.Script.{Script, script, Bad, Good}
+use Rattle.qx_script.specs.Script.{script, Bad, Good}
 use Rattle.qx_sh.specs.Watched.{NoReadFailed, NoWriteFailed, Told}
 use Rattle.qx_sh.specs.Written.{AppendsFront}
 
@@ -71,17 +70,3 @@ EndsAs limit told Output = WritesFront limit told
 EndsAs limit told Words = ⊥
 EndsAs limit told (Line line) = RefusedAt line limit told
 EndsAs limit told Memory = WritesNothing told
-
--- a good script prints its text, or ends for want of memory; a bad one ends at its line
-abbrev pub PlaysAs : Script → Result (Vec ℕ) End → Type 0
-PlaysAs (Good config commands) played = MatchResult played (λ text. text.items ≡ shown config commands) (λ end. end ≡ Memory)
-PlaysAs (Bad line) played = played ≡ Err (Line line)
-
--- how a script ends that prints nothing
-abbrev pub EndsUnprinted : List ℕ → End → Type 0
-EndsUnprinted bytes Done = ⊥
-EndsUnprinted bytes Input = ⊥
-EndsUnprinted bytes Output = ⊥
-EndsUnprinted bytes Words = ⊥
-EndsUnprinted bytes (Line line) = script bytes ≡ Bad line
-EndsUnprinted bytes Memory = Unit {0}

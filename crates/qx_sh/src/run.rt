@@ -1,7 +1,8 @@
 ghost use Rattle.std.specs.Prelude.{◌≡◌, ◌≢◌, true, MatchResult, OnErr, OnOk};
 ghost use Rattle.std.specs.Io.KnownBytes.{Appends};
 ghost use Rattle.qx_script.specs.Script.{said};
-ghost use Rattle.qx_sh.specs.Run.{EndsAs, EndsUnprinted, PlaysAs, Prints};
+ghost use Rattle.qx_sh.specs.Run.{EndsAs, Prints};
+ghost use Rattle.qx_sh.specs.inner.Run.{EndsUnprinted, PlaysAs};
 ghost use Rattle.qx_sh.specs.Watched.{has_failed, held, is_flushed, told_by};
 ghost use Rattle.qx_sh.specs.Written.{AppendsFront};
 

@@ -14,8 +14,9 @@ use Rattle.qx_queues.proofs.TableLemmas.{none_some}
 use Rattle.qx_queues.specs.Queues as queues
 use Rattle.qx_queues.specs.Queues.{Queues, UsersCall, caller, has_call, is_same_thread, waiting_in_list}
 use Rattle.qx_queues.specs.Waits.{is_users_call, users_call}
-use Rattle.qx_shared.specs.Own.{AreAllPipes, AreUsers, calls_of, shown_pipe, shown_shared}
-use Rattle.qx_shared.specs.Row.{Place, PipeRow, Rows, list_of_place, list_on, place, row_of}
+use Rattle.qx_shared.specs.inner.Own.{AreAllPipes, AreUsers, calls_of, shown_pipe, shown_shared}
+use Rattle.qx_shared.specs.inner.Row.{Place, Rows, list_of_place, list_on, place, row_of}
+use Rattle.qx_shared.specs.Row.{PipeRow}
 use Rattle.qx_shared.specs.Shared.{HasNoCall, IsReceived, Shared, calls_at, pipes_of, waiting_calls, waiting_on}
 use Rattle.qx_shared.specs.Shared as shared
 use Rattle.qx_shared.specs.declared.side.Side.{Side}

@@ -17,8 +17,9 @@ use Rattle.qx_machine.specs.Pipes.{PipeAfter, Pipe, all_answered, nobody_answere
 use Rattle.qx_machine.specs.Rows.{row_at}
 use Rattle.qx_queues.specs.Queues.{Queues, UsersCall, answer_to, waiting_in_list, with_more_answers, with_waiting}
 use Rattle.qx_queues.specs.Waits.{users_call}
-use Rattle.qx_shared.specs.Own.{AreAllPipes, AreUsers, calls_of, shown_pipe, pipes_in, shown_shared}
-use Rattle.qx_shared.specs.Row.{Place, PipeRow, Rows, list_of_place, list_on, place, row_of, row_with_bytes, with_row_of}
+use Rattle.qx_shared.specs.inner.Own.{AreAllPipes, AreUsers, calls_of, shown_pipe, pipes_in, shown_shared}
+use Rattle.qx_shared.specs.inner.Row.{Place, Rows, list_of_place, list_on, place, row_of, row_with_bytes, with_row_of}
+use Rattle.qx_shared.specs.Row.{PipeRow}
 use Rattle.qx_shared.specs.Shared.{HasPipe, dismissed_on, pipe_at, pipes_of, users_given, waiting_on, went_in, with_pipe_after, with_waiting_on}
 use Rattle.qx_shared.specs.declared.side.Side.{Side}
 use Rattle.qx_shared.specs.declared.side.Side.TheVariants.{Reading, Writing}

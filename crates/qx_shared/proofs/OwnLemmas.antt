@@ -15,8 +15,9 @@ use Rattle.qx_process.proofs.RowLemmas.{row_at-get_or}
 use Rattle.qx_queues.specs.Queues as queues
 use Rattle.qx_queues.specs.Queues.{Queues, no_queues}
 use Rattle.qx_queues.proofs.TableLemmas.{absent_is, none_some}
-use Rattle.qx_shared.specs.Own.{AreAllPipes, shown_pipe, pipes_in, shown_shared}
-use Rattle.qx_shared.specs.Row.{HasRow, Place, PipeRow, Rows, list_of_place, list_on, row_of, with_row_of}
+use Rattle.qx_shared.specs.inner.Own.{AreAllPipes, shown_pipe, pipes_in, shown_shared}
+use Rattle.qx_shared.specs.inner.Row.{HasRow, Place, Rows, list_of_place, list_on, row_of, with_row_of}
+use Rattle.qx_shared.specs.Row.{PipeRow}
 use Rattle.qx_shared.specs.Shared.{HasPipe, nothing_shared, pipe_at, pipes_of, with_shared_process, with_shared_thread}
 use Rattle.qx_shared.proofs.RowLemmas.{row_at-mapped, rows-agree}
 

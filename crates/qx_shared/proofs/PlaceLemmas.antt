@@ -11,8 +11,9 @@ use Rattle.qx_machine.specs.Rows.{row_at}
 use Rattle.qx_queues.specs.Queues.{HasList, Queues, UsersCall, waiting_in_list, with_waiting, without_list}
 use Rattle.qx_queues.specs.Waits.{users_call}
 use Rattle.qx_queues.proofs.TableLemmas.{absent_is, none_some}
-use Rattle.qx_shared.specs.Own.{AreAllPipes, AreUsers, calls_of, shown_pipe, pipes_in, shown_shared}
-use Rattle.qx_shared.specs.Row.{Place, PipeRow, Rows, list_of_place, list_on, place, row_of, with_row_of}
+use Rattle.qx_shared.specs.inner.Own.{AreAllPipes, AreUsers, calls_of, shown_pipe, pipes_in, shown_shared}
+use Rattle.qx_shared.specs.inner.Row.{Place, Rows, list_of_place, list_on, place, row_of, with_row_of}
+use Rattle.qx_shared.specs.Row.{PipeRow}
 use Rattle.qx_shared.specs.Shared.{pipes_of, with_row_at}
 use Rattle.qx_shared.specs.declared.side.Side.{Side}
 use Rattle.qx_shared.specs.declared.side.Side.TheVariants.{Reading, Writing}

@@ -5,7 +5,8 @@ use Rattle.std.specs.FinSet as set
 use Rattle.qx_types.specs.declared.names.Proc.{Proc}
 use Rattle.qx_types.specs.declared.names.Thread.{Thread}
 use Rattle.qx_queues.specs.Queues as queues
-use Rattle.qx_queues.specs.Queues.{Queues, is_thread_of}
+use Rattle.qx_queues.specs.Queues.{Queues}
+use Rattle.qx_queues.specs.inner.Queues.{is_thread_of}
 use Rattle.qx_queues.proofs.PresenceLemmas as inner
 use Rattle.qx_shared.specs.Shared.{Shared, has_thread, with_shared_process}
 

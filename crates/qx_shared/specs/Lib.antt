@@ -1,4 +1,3 @@
 pub mod Shared
 pub mod Row
-pub mod Own
-pub mod Lends
+pub mod inner

@@ -8,7 +8,7 @@ ghost use Rattle.qx_machine.specs.Waiting.{holds, is_call, is_written};
 ghost use Rattle.qx_machine.specs.Pipes.{nobody_answered, pipe_of, removed};
 ghost use Rattle.qx_machine.specs.Rows.{row_at};
 ghost use Rattle.qx_queues.specs.Waits.{handed, leaves};
-ghost use Rattle.qx_shared.specs.Row.{HasRow, list_of_place, place, row_of};
+ghost use Rattle.qx_shared.specs.inner.Row.{HasRow, list_of_place, place, row_of};
 ghost use Rattle.qx_shared.specs.Shared.{HasPipe, IsCallReceived, dismissed_on, passed_to, pipe_at, pipes_of, taken_from, waiting_on, went_in, with_pipe_after, with_answer_to, with_row_at, with_waiting_on};
 ghost use Rattle.qx_types.specs.declared.limits.TheConstants.Limits.{INODES, PIPE, TRANSFER};
 

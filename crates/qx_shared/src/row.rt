@@ -4,8 +4,9 @@ ghost use Rattle.std.specs.Prelude.{◌≡◌, ◌≤◌, ◌+◌, ◌++◌, [],
 ghost use Rattle.std.specs.Borrow.{sem};
 ghost use Rattle.std.specs.Option.{option_copied, option_copied_mut};
 ghost use Rattle.qx_machine.specs.Rows.{row_at};
-ghost use Rattle.qx_shared.specs.Lends.{lends_row};
-ghost use Rattle.qx_shared.specs.Row.{PipeRow, list_on, row_with_bytes};
+ghost use Rattle.qx_shared.specs.inner.Lends.{lends_row};
+ghost use Rattle.qx_shared.specs.Row.{PipeRow};
+ghost use Rattle.qx_shared.specs.inner.Row.{list_on, row_with_bytes};
 ghost use Rattle.qx_types.specs.declared.limits.TheConstants.Limits.{INODES, PIPE};
 
 use crate::side::Side;

@@ -27,7 +27,7 @@ pub struct Shared {
 }
 
 impl Model for Shared {
-    ghost use Rattle.qx_shared.specs.Own.{AreAllPipes, shown_shared};
+    ghost use Rattle.qx_shared.specs.inner.Own.{AreAllPipes, shown_shared};
     ghost use Rattle.qx_shared.specs.Shared as words;
 
     ghost Value = { words.Shared };

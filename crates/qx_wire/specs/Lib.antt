@@ -2,3 +2,4 @@ pub mod Laws
 pub mod Reading
 pub mod Rests
 pub mod Table
+pub mod inner

@@ -1,5 +1,5 @@
 -- What a path has behind its mount: components.
-use Rattle.std.specs.Prelude.{ℕ, Bool, ◌&&◌, ◌||◌, not, ◌==◌, nat_le, List, [], ◌∷◌, length, Option, None, Some, codes}
+use Rattle.std.specs.Prelude.{ℕ, Bool, ◌&&◌, ◌||◌, not, ◌==◌, nat_le, List, [], ◌∷◌, length, codes}
 use Rattle.std.specs.List.{list_all, join_with_byte, slice_split}
 use Rattle.std.specs.Str.{bytes_eq}
 use Rattle.qx_types.specs.declared.limits.TheConstants.Limits.{COMPONENT, PATH}
@@ -28,8 +28,3 @@ is_rest components = nat_le (length (joined components)) PATH && list_all is_com
 unfoldable pub components_of : List ℕ → List (List ℕ)
 components_of [] = []
 components_of (byte ∷ bytes) = slice_split (λ b. b == 47) (byte ∷ bytes)
-
--- the same of the bytes that a walk has left, if it has any
-abbrev pub components_left : Option (List ℕ) → List (List ℕ)
-components_left None = []
-components_left (Some bytes) = slice_split (λ b. b == 47) bytes

@@ -1,7 +1,8 @@
 ghost use Rattle.std.specs.Prelude.{◌≡◌, ◌==◌, ◌∷◌, Some, position};
 ghost use Rattle.std.specs.List.{list_all};
 ghost use Rattle.std.specs.Option.{option_map};
-ghost use Rattle.qx_wire.specs.Rests.{components_left, components_of, is_component, is_dots, is_name_byte, is_rest, joined};
+ghost use Rattle.qx_wire.specs.inner.Rests.{components_left};
+ghost use Rattle.qx_wire.specs.Rests.{components_of, is_component, is_dots, is_name_byte, is_rest, joined};
 
 use qx_types::Limits;
 use std::marker::Model;
@@ -32,7 +33,7 @@ pub struct Components<'a> {
 impl<'a> Model for Components<'a> {
     ghost use Rattle.std.specs.Prelude.{List, ℕ};
     ghost use Rattle.std.specs.Option.{option_map};
-    ghost use Rattle.qx_wire.specs.Rests.{components_left};
+    ghost use Rattle.qx_wire.specs.inner.Rests.{components_left};
 
     ghost Value = { List (List ℕ) };
 

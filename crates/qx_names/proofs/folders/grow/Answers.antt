@@ -1,5 +1,5 @@
 use Rattle.std.proofs.Common.{[], ◌∷◌, ◌++◌, ap, arith, ◌∙◌}
-use Rattle.qx_names.specs.Folders.{Folder, entry_at}
+use Rattle.qx_names.specs.inner.Folders.{Folder, entry_at}
 use Rattle.qx_names.proofs.FolderLemmas.{entry_at-push}
 use Rattle.qx_names.proofs.folders.grow.Goals as goal
 

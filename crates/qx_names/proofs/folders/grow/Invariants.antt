@@ -1,5 +1,5 @@
 use Rattle.std.proofs.Common.{◌≡◌, ◌≤◌, ◌*◌, vec_capacity, vec_len}
-use Rattle.qx_names.specs.Folders.{entry_at}
+use Rattle.qx_names.specs.inner.Folders.{entry_at}
 use Rattle.qx_names.proofs.folders.grow.Given as goal
 
 abbrev pub invariant-loop : goal.invariant-loop

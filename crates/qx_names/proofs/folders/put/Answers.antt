@@ -2,7 +2,7 @@ use Rattle.std.proofs.Common.{◌<◌, ◌≡◌, length, ap, arith, subst, sym,
 use Rattle.std.proofs.lemmas.Option.{slice_get-get_or}
 use Rattle.std.specs.FinMap as map
 use Rattle.std.specs.Prelude.{slice_set}
-use Rattle.qx_names.specs.Folders.{Changes, Folder, entry_at}
+use Rattle.qx_names.specs.inner.Folders.{Changes, Folder, entry_at}
 use Rattle.qx_names.proofs.FolderLemmas.{row_insert}
 use Rattle.qx_names.proofs.folders.put.Goals as goal
 

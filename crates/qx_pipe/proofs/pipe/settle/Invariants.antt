@@ -1,5 +1,5 @@
 use Rattle.qx_shared.specs.Shared.{pipe_at}
-use Rattle.qx_pipe.specs.Turns.{Turning, waiting_count}
+use Rattle.qx_pipe.specs.inner.Turns.{Turning, waiting_count}
 use Rattle.qx_pipe.proofs.pipe.settle.Given as goal
 
 abbrev pub invariant-turns : goal.invariant-turns

@@ -2,7 +2,7 @@ use Rattle.std.proofs.Common.{Some, sym, ◌∙◌, ap, option_map, unwrap_or}
 use Rattle.std.proofs.lemmas.Option.{slice_get-map}
 use Rattle.qx_lines.specs.Line.{nodes_in}
 use Rattle.qx_lists.proofs.WalkLemmas.{contains-index}
-use Rattle.qx_queues.specs.Kept.{entry_of_node, nobodys}
+use Rattle.qx_queues.specs.inner.Kept.{entry_of_node, nobodys}
 use Rattle.qx_queues.proofs.queues.first_of.Goals as goal
 
 pub value-requires : goal.value-requires

@@ -1,7 +1,7 @@
 use Rattle.std.proofs.Common.{◌≡◌, ℕ, ◌+◌, false, Some, slice_get, unwrap_or, add-one, arith, sym, ap, ◌∙◌}
 use Rattle.qx_lists.specs.Table.{nodes_of}
 use Rattle.qx_lists.proofs.WalkLemmas.{contains-index, next_after-index, nodes_from-smaller, past_the_end}
-use Rattle.qx_queues.specs.Kept.{nobodys, waiting_of_node}
+use Rattle.qx_queues.specs.inner.Kept.{nobodys, waiting_of_node}
 use Rattle.qx_queues.specs.Waiting.{call_carried}
 use Rattle.qx_queues.specs.Waits.{leaves}
 use Rattle.qx_queues.proofs.WalkLemmas.{first-leaves, none-leaves, stays-more}

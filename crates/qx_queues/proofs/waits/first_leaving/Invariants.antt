@@ -1,7 +1,7 @@
 use Rattle.std.proofs.Common.{◌≡◌, ℕ, length, slice_get}
 use Rattle.qx_lists.specs.Table.{nodes_of}
 use Rattle.qx_lists.proofs.WalkLemmas.{nodes_from}
-use Rattle.qx_queues.specs.Kept.{waiting_of_node}
+use Rattle.qx_queues.specs.inner.Kept.{waiting_of_node}
 use Rattle.qx_queues.specs.Waiting.{call_carried}
 use Rattle.qx_queues.specs.Waits.{leaves}
 use Rattle.qx_queues.proofs.WalkLemmas.{Stays}

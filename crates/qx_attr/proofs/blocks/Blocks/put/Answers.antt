@@ -1,6 +1,6 @@
 use Rattle.std.proofs.Common.{ap, arith, is_some, refl, ◌-◌, ◌∙◌}
 use Rattle.qx_machine.specs.Rows.{row_at}
-use Rattle.qx_attr.specs.Blocks.{NumberedRows}
+use Rattle.qx_attr.specs.inner.Blocks.{NumberedRows}
 use Rattle.qx_attr.proofs.BlockLemmas.{keyed-put, nothing-held, rows-put}
 use Rattle.qx_attr.proofs.CountLemmas.{count-put}
 use Rattle.qx_attr.proofs.TableLemmas.{longer_put}

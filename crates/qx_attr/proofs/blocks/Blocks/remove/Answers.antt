@@ -1,7 +1,7 @@
 use Rattle.std.proofs.Common.{◌≡◌, arith, is_some, None, refl, Some, sym}
 use Rattle.std.proofs.Math.ListN.{length-set}
 use Rattle.qx_machine.specs.Rows.{row_at}
-use Rattle.qx_attr.specs.Blocks.{rows_of}
+use Rattle.qx_attr.specs.inner.Blocks.{rows_of}
 use Rattle.qx_attr.proofs.BlockLemmas.{keyed-without, rows-without, nothing-freed, nothing-there}
 use Rattle.qx_attr.proofs.CountLemmas.{count-free}
 use Rattle.qx_attr.proofs.blocks.Blocks.remove.Goals as goal

@@ -1,7 +1,7 @@
 use Rattle.std.proofs.Common.{◌≡◌, None, Some, arith, map, refl, slice_set, sym}
 use Rattle.std.proofs.Math.ListN.{length-set}
 use Rattle.qx_machine.specs.Rows.{row_at}
-use Rattle.qx_attr.specs.Counts.{attribute_of, uncounted}
+use Rattle.qx_attr.specs.inner.Counts.{attribute_of, uncounted}
 use Rattle.qx_attr.proofs.BlockLemmas.{nothing-freed}
 use Rattle.qx_attr.proofs.CountLemmas.{counted_close, has_inode, same_attributes}
 use Rattle.qx_attr.proofs.inodes.Inodes.close_block.Goals as goal

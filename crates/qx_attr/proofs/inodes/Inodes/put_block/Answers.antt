@@ -2,7 +2,8 @@ use Rattle.std.proofs.Common.{◌≡◌, ◌-◌, None, Some, ap, arith, refl, �
 use Rattle.std.proofs.Math.ListN.{length-set}
 use Rattle.qx_types.specs.declared.limits.TheConstants.Limits.{BLOCKS}
 use Rattle.qx_machine.specs.Rows.{put_row, row_at}
-use Rattle.qx_attr.specs.Counts.{Reserved, counted}
+use Rattle.qx_attr.specs.Counts.{Reserved}
+use Rattle.qx_attr.specs.inner.Counts.{counted}
 use Rattle.qx_attr.proofs.CountLemmas.{counted_open, few_rows, same_attributes}
 use Rattle.qx_attr.proofs.inodes.Inodes.put_block.Goals as goal
 

@@ -1,7 +1,8 @@
 use Rattle.std.proofs.Common.{◌≡◌, ◌-◌, None, ap, arith, refl, ◌∙◌}
 use Rattle.qx_types.specs.declared.limits.TheConstants.Limits.{INODES}
 use Rattle.qx_machine.specs.Rows.{row_at}
-use Rattle.qx_attr.specs.Counts.{Reserved, attribute_of, unopened}
+use Rattle.qx_attr.specs.Counts.{Reserved}
+use Rattle.qx_attr.specs.inner.Counts.{attribute_of, unopened}
 use Rattle.qx_attr.proofs.CountLemmas.{counted_inode, few_rows}
 use Rattle.qx_attr.proofs.TableLemmas.{longer_put, none_before, rows_put}
 use Rattle.qx_attr.proofs.inodes.Inodes.put_inode.Goals as goal

@@ -2,7 +2,7 @@ use Rattle.std.proofs.Common.{◌≡◌, Some, arith, refl}
 use Rattle.std.proofs.Math.ListN.{length-set}
 use Rattle.std.proofs.lemmas.List.{map-set}
 use Rattle.qx_machine.specs.Rows.{row_at}
-use Rattle.qx_attr.specs.Counts.{attribute_of}
+use Rattle.qx_attr.specs.inner.Counts.{attribute_of}
 use Rattle.qx_attr.specs.declared.attr.Attr.{Attr}
 use Rattle.qx_attr.proofs.CountLemmas.{counted_same}
 use Rattle.qx_attr.proofs.inodes.Inodes.set_attribute.Goals as goal

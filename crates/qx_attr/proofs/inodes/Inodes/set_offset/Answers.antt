@@ -2,7 +2,7 @@ use Rattle.std.proofs.Common.{◌≡◌, None, Some, arith, map, sym}
 use Rattle.std.proofs.Math.ListN.{length-set}
 use Rattle.qx_machine.specs.Inodes.{moved_to}
 use Rattle.qx_machine.specs.Rows.{row_at}
-use Rattle.qx_attr.specs.Counts.{attribute_of}
+use Rattle.qx_attr.specs.inner.Counts.{attribute_of}
 use Rattle.qx_attr.proofs.BlockLemmas.{nothing-changed}
 use Rattle.qx_attr.proofs.CountLemmas.{counted_moved}
 use Rattle.qx_attr.proofs.inodes.Inodes.set_offset.Goals as goal

@@ -2,7 +2,8 @@ use Rattle.std.proofs.Common.{None, ap, arith, ◌∙◌}
 use Rattle.std.proofs.Math.ListN.{length-set}
 use Rattle.std.proofs.lemmas.List.{map-set}
 use Rattle.qx_machine.specs.Inodes.{blocks_of}
-use Rattle.qx_attr.specs.Counts.{Reserved, attribute_of}
+use Rattle.qx_attr.specs.Counts.{Reserved}
+use Rattle.qx_attr.specs.inner.Counts.{attribute_of}
 use Rattle.qx_attr.proofs.CountLemmas.{counted_free}
 use Rattle.qx_attr.proofs.inodes.Inodes.take_inode.Goals as goal
 

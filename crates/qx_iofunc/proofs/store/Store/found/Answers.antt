@@ -2,7 +2,7 @@ use Rattle.std.proofs.Common.{◌≡◌, ◌∙◌, Ok, Err, ap, subst, sym}
 use Rattle.std.proofs.lemmas.Result.{err_from_is_err_and}
 use Rattle.qx_iofunc.proofs.OpenLemmas.{done, existing_allowed, existing_judged}
 use Rattle.qx_iofunc.specs.declared.store.Store.TheInside.{Inside}
-use Rattle.qx_iofunc.specs.Makes.{may_open}
+use Rattle.qx_iofunc.specs.inner.Makes.{may_open}
 use Rattle.qx_iofunc.specs.Store.{Store, with_stored}
 use Rattle.qx_iofunc.proofs.store.Store.found.Goals as goal
 

@@ -5,7 +5,8 @@ use Rattle.qx_attr.specs.Counts.{Reserved, with_number}
 use Rattle.qx_iofunc.proofs.StoreLemmas.{StoreFits, emptied_fits, emptied_in, emptied_number, emptied_there}
 use Rattle.qx_iofunc.proofs.OpenLemmas.{all_allowed, done, existing_done, may_open_is, opened_fits}
 use Rattle.qx_iofunc.specs.declared.store.Store.TheInside.{Inside}
-use Rattle.qx_iofunc.specs.Store.{Store, Stored, with_truncated, with_stored}
+use Rattle.qx_iofunc.specs.Store.{Store, Stored, with_stored}
+use Rattle.qx_iofunc.specs.inner.Store.{with_truncated}
 use Rattle.qx_iofunc.specs.Given as given
 use Rattle.qx_machine.specs.Defaults.{open_existing}
 use Rattle.qx_machine.specs.Inodes.{block_number, open_block}

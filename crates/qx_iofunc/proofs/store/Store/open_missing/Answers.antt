@@ -6,7 +6,8 @@ use Rattle.qx_iofunc.proofs.StoreLemmas.{StoreFits, made_fits, made_there, numbe
 use Rattle.qx_iofunc.specs.declared.store.Store.TheInside.{Inside}
 use Rattle.qx_iofunc.specs.Given as given
 use Rattle.qx_iofunc.specs.Makes.{may_make}
-use Rattle.qx_iofunc.specs.Store.{Store, Stored, with_made, with_stored}
+use Rattle.qx_iofunc.specs.Store.{Store, Stored, with_stored}
+use Rattle.qx_iofunc.specs.inner.Store.{with_made}
 use Rattle.qx_machine.specs.Defaults.{open_missing}
 use Rattle.qx_machine.specs.Inodes.{open_block}
 use Rattle.qx_machine.specs.Rows.{row_at}

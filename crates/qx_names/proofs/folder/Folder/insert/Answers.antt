@@ -1,6 +1,6 @@
 use Rattle.std.proofs.Common.{ap, ◌∙◌}
 use Rattle.std.specs.FinMap as map
-use Rattle.qx_names.specs.Folders.{folder_of}
+use Rattle.qx_names.specs.inner.Folders.{folder_of}
 use Rattle.qx_names.proofs.FolderLemmas.{folder_insert}
 use Rattle.qx_names.proofs.folder.Folder.insert.Goals as goal
 

@@ -1,7 +1,7 @@
 use Rattle.std.proofs.Common.{[], ◌∷◌, ◌++◌, ap, subst, sym, ◌∙◌}
 use Rattle.std.proofs.lemmas.Result.{err_from_is_err_and}
-use Rattle.qx_names.specs.Folders.{entry_at}
-use Rattle.qx_names.specs.Shows.{Shows, is_root}
+use Rattle.qx_names.specs.inner.Folders.{entry_at}
+use Rattle.qx_names.specs.inner.Shows.{Shows, is_root}
 use Rattle.qx_names.proofs.NamesLemmas.{root_shows, rooted_once, shows_now}
 use Rattle.qx_names.proofs.ShowsLemmas.{names_are}
 use Rattle.qx_names.proofs.names.Names.add_root.Goals as goal

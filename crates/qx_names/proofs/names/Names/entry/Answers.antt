@@ -1,7 +1,7 @@
 use Rattle.std.proofs.Common.{◌≡◌, ℕ, Bool, List, Option, None, Some, IfSome, sym, ◌∙◌, ap}
 use Rattle.qx_machine.specs.Names as machine
 use Rattle.qx_names.specs.Paths.{HasPath, path_of}
-use Rattle.qx_names.specs.Shows.{Shows}
+use Rattle.qx_names.specs.inner.Shows.{Shows}
 use Rattle.std.specs.FinMap as map
 use Rattle.qx_names.proofs.PathLemmas.{is_named, path_is}
 use Rattle.qx_names.proofs.ShowsLemmas.{entry_under, names_shown}

@@ -1,5 +1,5 @@
 use Rattle.std.proofs.Common.{Some, None, ap, sym, if◌then◌else◌, ◌∙◌}
-use Rattle.qx_names.specs.Shows.{is_root}
+use Rattle.qx_names.specs.inner.Shows.{is_root}
 use Rattle.qx_names.proofs.ShowsLemmas.{root_shown, names_shown}
 use Rattle.qx_names.proofs.names.Names.is_root.Goals as goal
 

@@ -1,5 +1,5 @@
 use Rattle.std.proofs.Common.{◌≡◌, ◌-◌, None, map, option_map, refl, ap, arith, ◌∙◌}
-use Rattle.qx_queues.specs.Kept.{entries}
+use Rattle.qx_queues.specs.inner.Kept.{entries}
 use Rattle.qx_queues.specs.Nodes.{Message, Unblock, nodes_of_thread}
 use Rattle.qx_queues.proofs.KeptLemmas.{Kept-made, calls-made, entries-made, shown-kept}
 use Rattle.qx_queues.proofs.NodesLemmas.{asked_at-added, half, half-first, half-second, length-with_nodes}

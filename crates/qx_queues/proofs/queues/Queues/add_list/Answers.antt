@@ -2,7 +2,7 @@ use Rattle.std.proofs.Common.{◌≡◌, ℕ, Some, [], arith, refl}
 use Rattle.std.specs.FinMap as maps
 use Rattle.qx_lists.proofs.MapLemmas.{get-insert_other, get-insert_same}
 use Rattle.qx_lists.specs.Table.{Table}
-use Rattle.qx_queues.specs.Kept.{Moved}
+use Rattle.qx_queues.specs.inner.Kept.{Moved}
 use Rattle.qx_queues.specs.Waiting.{Waiting}
 use Rattle.qx_queues.proofs.BesideLemmas.{waiting-absent}
 use Rattle.qx_queues.proofs.CallLemmas.{Kept-moved, list-new, pulses-moved, value-moved}

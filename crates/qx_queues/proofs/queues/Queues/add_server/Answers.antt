@@ -1,6 +1,6 @@
 use Rattle.std.proofs.Common.{◌≡◌, ◌≢◌, ◌-◌, is_some, false, true, sym, max, ap, arith, refl, rules, ◌∙◌}
 use Rattle.qx_lines.specs.declared.Line.{Line}
-use Rattle.qx_queues.specs.Kept.{AreListsOfTable, entries}
+use Rattle.qx_queues.specs.inner.Kept.{AreListsOfTable, entries}
 use Rattle.qx_queues.specs.Nodes.{Disconnect, asked_in, disconnect_at, no_process, node_of, process_at}
 use Rattle.qx_types.specs.Managers.{manager_number}
 use Rattle.qx_queues.proofs.BesideLemmas.{same_calls-room}

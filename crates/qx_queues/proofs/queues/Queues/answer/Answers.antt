@@ -1,8 +1,9 @@
 use Rattle.std.proofs.Common.{◌∙◌, [], ◌∷◌, ◌++◌, ◌==◌, ap, sym}
-use Rattle.qx_queues.specs.Kept.{Carries, answered_calls, entry_of_node}
+use Rattle.qx_queues.specs.inner.Kept.{Carries, answered_calls, entry_of_node}
 use Rattle.qx_queues.specs.Nodes.{Message, node_of}
 use Rattle.qx_queues.specs.Queues.{caller}
-use Rattle.qx_queues.specs.Waiting.{Answered, addressed_by, carrying, given_of}
+use Rattle.qx_queues.specs.Waiting.{Answered, addressed_by, carrying}
+use Rattle.qx_queues.specs.inner.Waiting.{given_of}
 use Rattle.qx_queues.specs.Waits.{users_call}
 use Rattle.qx_queues.proofs.CallLemmas.{Kept-in, Moved-in, equal_itself, more-in, pulses-moved, value-answered}
 use Rattle.qx_queues.proofs.PresenceLemmas.{threads-nodes}

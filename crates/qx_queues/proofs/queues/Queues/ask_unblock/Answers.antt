@@ -6,7 +6,7 @@ use Rattle.qx_lists.specs.Table.{IsFree}
 use Rattle.qx_machine.specs.Lines.{into, line_at, with_line}
 use Rattle.qx_machine.specs.Machine.{rank}
 use Rattle.qx_queues.specs.Queues.{pulse_call, unblock_call, unblock_of}
-use Rattle.qx_queues.specs.Kept.{AreListsOfTable, entries}
+use Rattle.qx_queues.specs.inner.Kept.{AreListsOfTable, entries}
 use Rattle.qx_queues.specs.Nodes.{Unblock, node_of}
 use Rattle.qx_queues.proofs.EntryLemmas.{reads-call}
 use Rattle.qx_queues.proofs.KeptLemmas.{IsFree-own, Kept-owners, Kept-put, calls-put, no_call-unblock, shown-put}

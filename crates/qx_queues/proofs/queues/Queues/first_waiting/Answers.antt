@@ -2,7 +2,7 @@ use Rattle.std.proofs.Common.{◌≡◌, ◌∙◌, None, Some, ap, refl, unwrap
 use Rattle.std.proofs.lemmas.Option.{slice_get-map}
 use Rattle.qx_lists.proofs.ListLemmas.{contains_slice_first}
 use Rattle.qx_lists.specs.Table.{nodes_of}
-use Rattle.qx_queues.specs.Kept.{call_at, nobodys, waiting_of_node}
+use Rattle.qx_queues.specs.inner.Kept.{call_at, nobodys, waiting_of_node}
 use Rattle.qx_queues.specs.Waiting.{call_carried}
 use Rattle.qx_queues.proofs.BesideLemmas.{list_shown}
 use Rattle.qx_queues.proofs.WaitLemmas.{carries-call, waiting-are}

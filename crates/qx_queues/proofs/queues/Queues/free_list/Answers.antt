@@ -2,7 +2,7 @@ use Rattle.std.proofs.Common.{◌≡◌, ◌∙◌, ℕ, None, Some, [], arith, 
 use Rattle.std.specs.FinMap as maps
 use Rattle.qx_lists.proofs.MapLemmas.{get-insert_same, get-remove_other, get-remove_same}
 use Rattle.qx_lists.specs.Table.{Table}
-use Rattle.qx_queues.specs.Kept.{Moved}
+use Rattle.qx_queues.specs.inner.Kept.{Moved}
 use Rattle.qx_queues.specs.Queues.{waiting_in_list, without_list}
 use Rattle.qx_queues.specs.Waiting.{Waiting}
 use Rattle.qx_queues.proofs.BesideLemmas.{list_shown, pipes_apart, waiting-empty}

@@ -1,7 +1,7 @@
 use Rattle.std.proofs.Common.{◌∙◌, ap, is_some, map, sym}
 use Rattle.qx_lists.proofs.RingLemmas.{is_some-option_map}
 use Rattle.qx_lists.specs.Table.{nodes_of}
-use Rattle.qx_queues.specs.Kept.{call_at}
+use Rattle.qx_queues.specs.inner.Kept.{call_at}
 use Rattle.qx_queues.specs.Queues.{UsersCall}
 use Rattle.qx_queues.specs.Waits.{leaves}
 use Rattle.qx_queues.proofs.BesideLemmas.{list_shown}

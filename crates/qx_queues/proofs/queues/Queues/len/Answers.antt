@@ -3,7 +3,7 @@ use Rattle.std.proofs.lemmas.List.{length-map}
 use Rattle.std.proofs.lemmas.Option.{slice_get_read}
 use Rattle.qx_types.specs.declared.names.TheConstants.Manager.{COUNT}
 use Rattle.qx_lines.specs.Line.{nodes_in}
-use Rattle.qx_queues.specs.Kept.{entry_of_node}
+use Rattle.qx_queues.specs.inner.Kept.{entry_of_node}
 use Rattle.qx_queues.proofs.KeptLemmas.{line_at-shown}
 use Rattle.qx_queues.proofs.queues.Queues.len.Goals as goal
 

@@ -2,7 +2,7 @@ use Rattle.std.proofs.Common.{◌≡◌, ◌+◌, [], length, length-append, rep
 use Rattle.std.proofs.lemmas.List.{length-replicate}
 use Rattle.std.specs.FinMap as maps
 use Rattle.qx_types.specs.declared.names.TheConstants.Manager.{COUNT}
-use Rattle.qx_queues.specs.Kept.{AreListsOfTable}
+use Rattle.qx_queues.specs.inner.Kept.{AreListsOfTable}
 use Rattle.qx_queues.specs.Nodes.{asked_in, no_nodes, no_process_nodes, node_of}
 use Rattle.qx_queues.proofs.BesideLemmas.{first_list, no_pipes-line, waiting-none}
 use Rattle.qx_queues.proofs.KeptLemmas.{Kept-line, Kept-none, answered-none, shown-none}

@@ -1,5 +1,5 @@
 use Rattle.std.proofs.Common.{◌≡◌, length}
-use Rattle.qx_queues.specs.Kept.{AreListsOfTable}
+use Rattle.qx_queues.specs.inner.Kept.{AreListsOfTable}
 use Rattle.qx_queues.proofs.BesideLemmas.{NoPipes}
 use Rattle.qx_queues.specs.Nodes.{no_nodes, node_of}
 use Rattle.qx_queues.proofs.queues.Queues.new.Given as goal

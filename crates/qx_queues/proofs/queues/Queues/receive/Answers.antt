@@ -6,7 +6,7 @@ use Rattle.qx_types.specs.declared.names.Thread.{Thread}
 use Rattle.qx_lists.proofs.ListLemmas.{contains_rest}
 use Rattle.qx_machine.specs.Lines.{line_at, with_line}
 use Rattle.qx_queues.specs.Queues.{IsGone, pulse_call, as_message, sender, sender_of, unblock_call}
-use Rattle.qx_queues.specs.Kept.{entries, entry_of_node, owner_in}
+use Rattle.qx_queues.specs.inner.Kept.{entries, entry_of_node, owner_in}
 use Rattle.qx_queues.specs.Nodes.{Unblock, node_of}
 use Rattle.qx_queues.proofs.EntryLemmas.{map-drop}
 use Rattle.qx_queues.proofs.KeptLemmas.{Kept-owners, Kept-taken, calls-taken, first-owned, gone-if, line_at-shown, shown-taken}

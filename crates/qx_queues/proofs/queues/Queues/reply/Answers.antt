@@ -10,7 +10,7 @@ use Rattle.qx_machine.specs.declared.rows.OwnItem.TheVariants as item
 use Rattle.qx_machine.specs.Lines.{line_at, with_line}
 use Rattle.qx_machine.specs.Machine.{line_without}
 use Rattle.qx_queues.specs.Queues.{pulse_call, unblock_call}
-use Rattle.qx_queues.specs.Kept.{entries, entry_of_node, is_line_at}
+use Rattle.qx_queues.specs.inner.Kept.{entries, entry_of_node, is_line_at}
 use Rattle.qx_queues.specs.Nodes.{Unblock, pulse_line_at, asked_in, node_of}
 use Rattle.qx_queues.proofs.EntryLemmas.{reads-call, with_line-same}
 use Rattle.qx_queues.proofs.KeptLemmas.{Kept-owners, Kept-taken, calls-taken, gone-own, in_line-own, line_at-shown, other-stays, other-field, pulse-leaves, shown-taken}

@@ -1,5 +1,5 @@
 use Rattle.std.proofs.Common.{ap, refl}
-use Rattle.qx_queues.specs.Kept.{entries}
+use Rattle.qx_queues.specs.inner.Kept.{entries}
 use Rattle.qx_queues.proofs.BesideLemmas.{same_calls-room}
 use Rattle.qx_queues.proofs.KeptLemmas.{Kept-room, shown-kept}
 use Rattle.qx_queues.proofs.PresenceLemmas.{same_queues}

@@ -6,7 +6,7 @@ use Rattle.qx_lists.specs.Table.{IsFree}
 use Rattle.qx_machine.specs.Lines.{into, with_line}
 use Rattle.qx_machine.specs.Machine.{rank}
 use Rattle.qx_queues.specs.Queues.{as_message, message_of}
-use Rattle.qx_queues.specs.Kept.{entries}
+use Rattle.qx_queues.specs.inner.Kept.{entries}
 use Rattle.qx_queues.specs.Nodes.{Message, node_of}
 use Rattle.qx_queues.proofs.EntryLemmas.{reads-message}
 use Rattle.qx_queues.proofs.KeptLemmas.{IsFree-own, Kept-put, calls-put, no_call-message, shown-put}

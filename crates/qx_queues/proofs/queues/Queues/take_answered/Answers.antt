@@ -2,9 +2,10 @@ use Rattle.std.proofs.Common.{◌≡◌, Some, ap, map, slice_get, refl, sym, �
 use Rattle.std.proofs.lemmas.Option.{slice_get-map}
 use Rattle.qx_lists.proofs.ListLemmas.{contains_slice_first, without-first}
 use Rattle.qx_lists.specs.Table.{nodes_of}
-use Rattle.qx_queues.specs.Kept.{given_at}
+use Rattle.qx_queues.specs.inner.Kept.{given_at}
 use Rattle.qx_queues.specs.Nodes.{Message, node_of}
-use Rattle.qx_queues.specs.Waiting.{addressed_by, given_in, given_of}
+use Rattle.qx_queues.specs.Waiting.{addressed_by}
+use Rattle.qx_queues.specs.inner.Waiting.{given_in, given_of}
 use Rattle.qx_queues.proofs.CallLemmas.{Kept-out, Moved-out, left-out, pulses-moved, value-answered}
 use Rattle.qx_queues.proofs.EntryLemmas.{map-drop}
 use Rattle.qx_queues.proofs.WaitLemmas.{carries-answer, given-owns, received-answered, received-waits}

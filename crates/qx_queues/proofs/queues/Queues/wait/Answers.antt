@@ -1,6 +1,6 @@
 use Rattle.std.proofs.Common.{◌∙◌, [], ◌∷◌, ◌++◌, ◌==◌, ap, map, refl, sym}
 use Rattle.qx_lists.specs.Table.{nodes_of}
-use Rattle.qx_queues.specs.Kept.{Carries, call_at, entry_of_node, users_call_carried as call_with}
+use Rattle.qx_queues.specs.inner.Kept.{Carries, call_at, entry_of_node, users_call_carried as call_with}
 use Rattle.qx_queues.specs.Nodes.{Message, node_of}
 use Rattle.qx_queues.specs.Queues.{caller}
 use Rattle.qx_queues.specs.Waiting.{Waits, carrying}

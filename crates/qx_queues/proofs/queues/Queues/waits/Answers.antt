@@ -1,5 +1,5 @@
 use Rattle.std.proofs.Common.{◌≡◌, ◌∙◌, ap, option_map, unwrap_or, sym}
-use Rattle.qx_queues.specs.Kept.{nobodys}
+use Rattle.qx_queues.specs.inner.Kept.{nobodys}
 use Rattle.qx_queues.specs.Nodes.{Message, node_of}
 use Rattle.qx_queues.specs.Waiting.{waits_in}
 use Rattle.qx_queues.proofs.TableLemmas.{none_some, some_same}

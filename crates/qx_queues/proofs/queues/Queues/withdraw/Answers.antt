@@ -10,7 +10,7 @@ use Rattle.qx_machine.specs.declared.rows.OwnItem.TheVariants as item
 use Rattle.qx_machine.specs.Lines.{with_line}
 use Rattle.qx_machine.specs.Machine.{line_without}
 use Rattle.qx_queues.specs.Queues.{as_message, stands}
-use Rattle.qx_queues.specs.Kept.{entries, entry_of_node}
+use Rattle.qx_queues.specs.inner.Kept.{entries, entry_of_node}
 use Rattle.qx_queues.specs.Nodes.{Message, node_of}
 use Rattle.qx_queues.proofs.EntryLemmas.{reads-message}
 use Rattle.qx_queues.proofs.KeptLemmas.{Kept-taken, calls-taken, gone-own, in_line-own, line_at-shown, message-leaves, shown-taken, stands-owned}

@@ -1,6 +1,6 @@
 use Rattle.std.proofs.Common.{ap, ◌∙◌}
 use Rattle.qx_shared.proofs.OwnLemmas.{all-same, process-pipes, process-told, process-users}
-use Rattle.qx_shared.specs.Own.{shown_shared}
+use Rattle.qx_shared.specs.inner.Own.{shown_shared}
 use Rattle.qx_shared.proofs.shared.Shared.add_process.Goals as goal
 
 pub invariant_of-self : goal.invariant_of-self

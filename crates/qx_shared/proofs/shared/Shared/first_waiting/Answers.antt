@@ -1,6 +1,6 @@
 use Rattle.std.proofs.Common.{◌∙◌, Some, ap, option_map, sym}
 use Rattle.qx_shared.proofs.ChangeLemmas.{first-there, nobody-waits}
-use Rattle.qx_shared.specs.Row.{list_on}
+use Rattle.qx_shared.specs.inner.Row.{list_on}
 use Rattle.qx_shared.proofs.shared.Shared.first_waiting.Goals as goal
 
 pub returns-in_err-row : goal.returns-in_err-row

@@ -3,7 +3,7 @@ use Rattle.qx_types.specs.declared.outcome.Answer.TheVariants.{Reply}
 use Rattle.qx_shared.proofs.CallLemmas.{received}
 use Rattle.qx_shared.proofs.ChangeLemmas.{put-bytes, refilled, stand, taken-of}
 use Rattle.qx_shared.proofs.OwnLemmas.{has_row, row_of-within}
-use Rattle.qx_shared.specs.Own.{shown_shared}
+use Rattle.qx_shared.specs.inner.Own.{shown_shared}
 use Rattle.qx_shared.specs.Shared.{pipe_at}
 use Rattle.qx_shared.proofs.shared.Shared.hand_bytes.Goals as goal
 

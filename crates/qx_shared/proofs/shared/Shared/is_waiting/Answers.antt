@@ -1,7 +1,7 @@
 use Rattle.std.proofs.Common.{◌∙◌, ◌||◌, ap, ap₂, option_map, sym}
 use Rattle.qx_machine.specs.Waiting.{is_call}
 use Rattle.qx_shared.proofs.CallLemmas.{holds-none, holds-once, holds-told}
-use Rattle.qx_shared.specs.Row.{list_on, place}
+use Rattle.qx_shared.specs.inner.Row.{list_on, place}
 use Rattle.qx_shared.specs.declared.side.Side.TheVariants.{Reading, Writing}
 use Rattle.qx_shared.proofs.shared.Shared.is_waiting.Goals as goal
 

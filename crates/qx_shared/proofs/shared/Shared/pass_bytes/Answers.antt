@@ -2,8 +2,8 @@ use Rattle.std.proofs.Common.{◌∙◌, drop, take}
 use Rattle.qx_types.specs.declared.outcome.Answer.TheVariants.{Reply}
 use Rattle.qx_shared.proofs.ChangeLemmas.{first-written, first_answered, put-bytes, stand, taken-of, waiting-some}
 use Rattle.qx_shared.proofs.OwnLemmas.{has_row}
-use Rattle.qx_shared.specs.Own.{shown_shared}
-use Rattle.qx_shared.specs.Row.{place}
+use Rattle.qx_shared.specs.inner.Own.{shown_shared}
+use Rattle.qx_shared.specs.inner.Row.{place}
 use Rattle.qx_shared.specs.Shared.{pipe_at}
 use Rattle.qx_shared.specs.declared.side.Side.TheVariants.{Reading}
 use Rattle.qx_shared.proofs.shared.Shared.pass_bytes.Goals as goal

@@ -1,6 +1,6 @@
 use Rattle.qx_shared.proofs.OwnLemmas.{has_row}
 use Rattle.qx_shared.proofs.PlaceLemmas.{other-there, removed}
-use Rattle.qx_shared.specs.Row.{place}
+use Rattle.qx_shared.specs.inner.Row.{place}
 use Rattle.qx_shared.specs.declared.side.Side.TheVariants.{Reading}
 use Rattle.qx_shared.proofs.shared.Shared.remove_pipe.Goals as goal
 

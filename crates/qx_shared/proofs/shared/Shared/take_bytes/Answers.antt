@@ -2,8 +2,8 @@ use Rattle.std.proofs.Common.{◌∙◌, [], ◌++◌, length, sym}
 use Rattle.qx_types.specs.declared.outcome.Answer.TheVariants.{Reply}
 use Rattle.qx_shared.proofs.ChangeLemmas.{first-bytes, first-some, first-taken, first-there, first-written, first_answered, fits, put-bytes}
 use Rattle.qx_shared.proofs.OwnLemmas.{has_row}
-use Rattle.qx_shared.specs.Own.{shown_shared}
-use Rattle.qx_shared.specs.Row.{place}
+use Rattle.qx_shared.specs.inner.Own.{shown_shared}
+use Rattle.qx_shared.specs.inner.Row.{place}
 use Rattle.qx_shared.specs.Shared.{pipe_at}
 use Rattle.qx_shared.specs.declared.side.Side.TheVariants.{Writing}
 use Rattle.qx_shared.proofs.shared.Shared.take_bytes.Goals as goal

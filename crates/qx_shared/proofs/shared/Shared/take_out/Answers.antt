@@ -1,7 +1,7 @@
 use Rattle.qx_queues.specs.Waits.{leaves}
 use Rattle.qx_shared.proofs.ChangeLemmas.{left, taken-out}
 use Rattle.qx_shared.proofs.OwnLemmas.{has_row}
-use Rattle.qx_shared.specs.Row.{place}
+use Rattle.qx_shared.specs.inner.Row.{place}
 use Rattle.qx_shared.specs.declared.side.Side.TheVariants.{Reading, Writing}
 use Rattle.qx_shared.proofs.shared.Shared.take_out.Goals as goal
 

@@ -6,7 +6,8 @@ use Rattle.qx_machine.specs.Waiting.{Pipes}
 use Rattle.qx_machine.specs.Pipes.{Pipe}
 use Rattle.qx_queues.specs.Queues.{HasList, Queues, waiting_in_list}
 use Rattle.qx_queues.specs.Waits.{users_call}
-use Rattle.qx_shared.specs.Row.{Place, PipeRow, Rows, list_of_place}
+use Rattle.qx_shared.specs.inner.Row.{Place, Rows, list_of_place}
+use Rattle.qx_shared.specs.Row.{PipeRow}
 use Rattle.qx_shared.specs.Shared.{Shared}
 
 -- the calls that wait in the list of a number

@@ -1,0 +1,2 @@
+pub mod RingLends
+pub mod Table

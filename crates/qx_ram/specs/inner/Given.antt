@@ -1,0 +1,21 @@
+-- What only the proofs need of Given.
+use Rattle.std.specs.Prelude.{ℕ, ℤ, ◌+◌, ◌-◌, Result, Ok, Option, Some, None, max, nat_le, if◌then◌else◌}
+use Rattle.qx_types.specs.declared.errno.Errno.{Errno}
+use Rattle.qx_types.specs.declared.errno.Errno.TheVariants.{EFBIG, EINVAL, ENOSPC}
+use Rattle.qx_types.specs.declared.limits.TheConstants.Limits.{FILE, FILES, OFFSET}
+use Rattle.qx_machine.specs.Files.{moved_by}
+use Rattle.qx_machine.specs.Judgements.{◌>>=◌, found, need}
+
+-- why so many bytes can't be written at an offset of a file of that size, by the sum of the sizes before
+abbrev pub write_fault : ℕ → ℕ → ℕ → ℕ → Option Errno
+write_fault total size offset count =
+    if nat_le (offset + count) FILE then
+    (if nat_le (total - size + max size (offset + count)) FILES then None else Some ENOSPC)
+    else Some EFBIG
+
+-- a further offset
+abbrev pub moved_offset : ℕ → ℤ → Result ℕ Errno
+moved_offset base by = do
+  offset ← found (moved_by base by) EINVAL
+  small ← need (nat_le offset OFFSET) EINVAL
+  Ok offset

@@ -1,0 +1,3 @@
+pub mod Lends
+pub mod Own
+pub mod Row
