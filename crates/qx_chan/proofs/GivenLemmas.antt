@@ -114,6 +114,13 @@ users-first users (first ∷ rest) to is =
     let same : to ≡ first = cc in
     ap (λ (t : UsersAnswer). given_users (with_thread_row users t.thread (answered_thread t.answer)) rest) same
 
+-- the thread to which the first goes waits for it
+pub first-awaited : (users : Users) (answered : List UsersAnswer) (to : UsersAnswer) → Some to ≡ slice_get answered 0 → AllByRecursion (IsAwaited users) answered → IsAwaited users to
+first-awaited users [] to is waiting = let clash : None ≡ Some to = sym is in absurd (cc)
+first-awaited users (first ∷ rest) to is waiting =
+    let same : to ≡ first = cc in
+    subst (IsAwaited users) (sym same) waiting.0
+
 pub lines-first : (lines : List (List Queued)) (answered : List UsersAnswer) (to : UsersAnswer) → Some to ≡ slice_get answered 0
     → given_lines (with_line lines (manager_number Pipe) (line_without to.thread.proc.user.0 (item.Unblock to.thread.proc.num to.thread.tid to.call))) (drop 1 answered) ≡ given_lines lines answered
 lines-first lines [] to is = let clash : None ≡ Some to = sym is in absurd (cc)
@@ -137,7 +144,7 @@ module _ (users : Users) (queues : Shared) where
   by_first [] kept waiting to is none gone = let clash : None ≡ Some to = sym is in absurd (cc)
   by_first (first ∷ rest) kept waiting to is none gone =
       let same : to ≡ first = cc in
-      let own : IsAwaited users to = subst (IsAwaited users) (sym same) waiting.0 in
+      let own : IsAwaited users to = first-awaited users (first ∷ rest) to is waiting in
       record {
         kept = Kept-given users (record queues { answered = [] }) to own kept none.waiting gone;
         answered = waits-others (λ given. given.thread) (λ given. given.call) users (with_thread_row users to.thread (answered_thread to.answer)) to.thread (one users (record queues { answered = [] }) to own kept none.waiting).others rest none.answered waiting.1;

@@ -20,6 +20,8 @@ mod MeaningLemmas
 pub mod ProcessLemmas
 -- a message is received
 mod ReceiveLemmas
+-- where the room for a thread's reply is
+mod RoomLemmas
 -- rows of a table
 pub mod RowReads
 -- a message goes out

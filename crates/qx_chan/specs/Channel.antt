@@ -1,5 +1,5 @@
 -- What contracts see of a channel, and what its calls make of it.
-use Rattle.std.specs.Prelude.{ℕ, ◌+◌, [], List, Option, Some, None, drop, replicate, slice_get}
+use Rattle.std.specs.Prelude.{⊤, ℕ, ◌+◌, [], List, Option, Some, None, drop, replicate, slice_get}
 use Rattle.qx_types.specs.Managers.{manager_number}
 use Rattle.qx_types.specs.declared.errno.Errno.{Errno}
 use Rattle.qx_types.specs.declared.errno.Errno.TheVariants.{EINTR}
@@ -10,6 +10,7 @@ use Rattle.qx_types.specs.declared.outcome.Answer.{Answer}
 use Rattle.qx_types.specs.declared.outcome.Answer.TheVariants.{Reply, Failed}
 use Rattle.qx_machine.specs.declared.rows.Effect.{Effect}
 use Rattle.qx_machine.specs.declared.rows.Over.{Over}
+use Rattle.qx_machine.specs.declared.rows.Over.TheVariants.{Existing}
 use Rattle.qx_machine.specs.declared.rows.OwnItem.{OwnItem}
 use Rattle.qx_machine.specs.declared.rows.OwnItem.TheVariants as item
 use Rattle.qx_machine.specs.declared.rows.Queued.{Queued}
@@ -44,6 +45,11 @@ empty_channel users = record { users = no_processes users; lines = replicate COU
 -- a manager's line
 abbrev pub channel_line : Channel → Manager → List Queued
 channel_line c manager = line_at c.lines (manager_number manager)
+
+-- a message goes over a connection that is there
+abbrev pub IsExisting : Over → Type 0
+IsExisting (Existing coid) = ⊤
+IsExisting _ = ⊥
 
 -- one process and one line change
 abbrev pub with_process_and_line : Channel → Thread → (Process → Process) → Manager → (List Queued → List Queued) → Channel

@@ -8,12 +8,13 @@ use crate::users::Users;
 use qx_shared::Shared;
 use qx_types::Manager;
 
-/// Gives each thread whose call waited and was answered its answer, with the room for its replies; an unblock pulse of the
-/// call is in the pipe manager's line no more (C Library Reference: `MsgReply`).
+/// Gives each thread whose call waited and was answered its answer, with the room for its replies, unless the answer took
+/// that along; an unblock pulse of the call is in the pipe manager's line no more (C Library Reference: `MsgReply`).
 pub fn give_answers(users: &mut Users, queues: &mut Shared)
+    requires answering { Answering users.old queues.old }
     ensures users { users.new ≡ given_users users.old queues.old.answered }
     ensures queues { queues.new ≡ record queues.old { lines = given_lines queues.old.lines queues.old.answered; answered = [] } }
-    ensures kept { Answering users.old queues.old → StandTogether users.new queues.new }
+    ensures kept { StandTogether users.new queues.new }
 {
     while let Some(taken) = queues.take_answered() {
         users.answer(taken.thread, taken.answer, taken.room);

@@ -1,13 +1,13 @@
 //! The processes of all users, and the managers' lines in which their messages wait. Each call is that of message passing:
 //! what stands beside a thread's message, the room for its reply, and its place in a line change together.
 
-ghost use Rattle.std.specs.Prelude.{◌≡◌, ◌<◌, Ok, length, slice_get, IfOk, IfSome, IsErr, IsOk, OnOk, OnErr};
+ghost use Rattle.std.specs.Prelude.{◌≡◌, ◌<◌, Ok, length, slice_get, IfOk, IfSome, IsErr, IsOk, IsTrue, OnOk, OnErr};
 ghost use Rattle.std.specs.Option.{option_copied};
 ghost use Rattle.qx_machine.specs.Rows.{row_at};
 ghost use Rattle.qx_process.specs.Reads.{CanCall, CanGo, IsPriority, IsRanked};
 ghost use Rattle.qx_procs.specs.Calls.{spawn_outcome};
 ghost use Rattle.qx_chan.specs.Calls.{answer_of, queued_call, taken_call, unasked_call};
-ghost use Rattle.qx_chan.specs.Channel.{after_asking, after_ranking, after_receive, after_send, after_spawn, after_taking, after_withdrawing, channel_line, empty_channel};
+ghost use Rattle.qx_chan.specs.Channel.{IsExisting, after_asking, after_ranking, after_receive, after_send, after_spawn, after_taking, after_withdrawing, channel_line, empty_channel};
 ghost use Rattle.qx_chan.specs.Users.{IsThreadReady, prio_outcome_in, process_of, spawn_number_in, thread_row};
 
 use crate::call::{self, Call};
@@ -131,12 +131,14 @@ impl Channel {
     }
 
     /// A thread's message goes into its manager's line with its priority, and the thread is blocked, with room for the
-    /// reply; what the message goes over is attached (C Library Reference: `MsgSend`).
+    /// reply; what the message goes over is attached (C Library Reference: `MsgSend`). Over a connection that is there, a
+    /// thread that has its room wants no memory.
     pub fn send(&mut self, alloc: Global, thread: Thread, sent: Sent) -> Result<(), AllocError>
         requires ready { IsThreadReady (thread_row self.old.users thread) }
         requires countable { CanCall (thread_row self.old.users thread) }
         requires target { CanGo sent.target }
         ensures ok { OnOk result (self.new ≡ after_send self.old thread sent) }
+        ensures had_room { IsExisting sent.target.over → IfSome (thread_row self.old.users thread) (λ row. IsTrue row.has_room) → IsOk result }
         ensures err { OnErr result (self.new ≡ self.old) }
     {
         let target = sent.target;

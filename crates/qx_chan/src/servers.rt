@@ -1,6 +1,6 @@
 //! The disconnect nodes of server connections, which come and go with what a process has attached.
 
-ghost use Rattle.std.specs.Prelude.{◌≡◌, ◌≤◌, slice_get, IsTrue, OnOk, OnErr};
+ghost use Rattle.std.specs.Prelude.{◌≡◌, ◌≤◌, slice_get, IsFalse, IsOk, IsTrue, OnOk, OnErr};
 ghost use Rattle.qx_types.specs.Managers.{manager_number, managers};
 ghost use Rattle.qx_shared.specs.Shared.{HasThread};
 ghost use Rattle.qx_chan.specs.Kept.{attached_at, attaches, servers_settled, settled_number, with_attached, with_room};
@@ -15,6 +15,7 @@ use std::alloc::AllocError;
 /// Makes room for the disconnect node of what a message goes over.
 pub fn reserve(queues: &mut Shared, over: Over) -> Result<(), AllocError>
     ensures ok { OnOk result (queues.new ≡ with_room over queues.old) }
+    ensures sure { IsFalse (attaches over) → IsOk result }
     ensures err { OnErr result (queues.new ≡ queues.old) }
 {
     if let Over::Existing(_) = over {

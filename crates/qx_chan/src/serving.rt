@@ -1,6 +1,6 @@
 //! Messages and unblock pulses, as a worker performs them.
 
-ghost use Rattle.std.specs.Prelude.{◌≡◌, ◌≤◌, List, ℕ, Some, length, IfOk, IfSome, IsFalse, IsOk, IsSome, None, OnErr, OnOk};
+ghost use Rattle.std.specs.Prelude.{◌≡◌, ◌≤◌, List, ℕ, Some, length, IfOk, IfSome, IsFalse, IsOk, IsSome, IsTrue, None, OnErr, OnOk};
 ghost use Rattle.std.specs.Option.{option_copied};
 ghost use Rattle.qx_types.specs.Managers.{manager_number};
 ghost use Rattle.qx_types.specs.declared.limits.TheConstants.Limits.{BODY};
@@ -11,6 +11,7 @@ ghost use Rattle.qx_machine.specs.Processes as machine;
 ghost use Rattle.qx_machine.specs.Processes.{served_thread};
 ghost use Rattle.qx_machine.specs.Wants.{bytes_want_memory, thread_wants_memory};
 ghost use Rattle.qx_machine.specs.declared.rows.OwnItem.TheVariants as item;
+ghost use Rattle.qx_process.specs.Reads.{is_waiting};
 ghost use Rattle.qx_queues.specs.Queues.{unblock_call};
 ghost use Rattle.qx_shared.specs.Shared.{IsReceived, shared_line};
 ghost use Rattle.qx_resmgr.specs.Deeds.{Did, IsReplied};
@@ -161,6 +162,7 @@ fn answer(
 )
     requires fits { length reply.now ≤ BODY }
     requires room { IsReplied given → IsSome room }
+    requires served { IfSome (thread_row users.old thread) (λ row. IsTrue (is_waiting row.state)) }
     ensures users { users.new ≡ answered_users users.old thread call.target.over reply.now given }
     ensures queues { queues.new ≡ answered_queues queues.old users.new thread call given }
     ensures gone { IsReplied given → unblock_call (shared_line queues.old (manager_number call.target.manager)) thread ≡ Some call.number → unblock_call (line_without thread.proc.user.0 (item.Unblock thread.proc.num thread.tid call.number) (shared_line queues.old (manager_number call.target.manager))) thread ≡ None }

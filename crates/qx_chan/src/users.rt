@@ -1,12 +1,13 @@
 //! The processes of all users, from 1: a place for each number.
 
-ghost use Rattle.std.specs.Prelude.{◌≡◌, IfOk, IfSome, IsSome, OnOk, OnErr, Some};
+ghost use Rattle.std.specs.Prelude.{◌≡◌, IfOk, IfSome, IsOk, IsSome, IsTrue, OnOk, OnErr, Some};
 ghost use Rattle.std.specs.Option.{option_copied, option_copied_mut};
 ghost use Rattle.std.specs.Borrow.{sem};
+ghost use Rattle.qx_types.specs.declared.outcome.Answer.TheVariants.{Failed, Reply};
 ghost use Rattle.qx_machine.specs.Clients.{spawn_number};
 ghost use Rattle.qx_machine.specs.Processes.{after_effect, answered_thread, asked_thread, served_thread, taken_thread, with_queued};
 ghost use Rattle.qx_machine.specs.Rows.{row_at, with_row};
-ghost use Rattle.qx_process.specs.Reads.{unserved_thread, CanCall, CanGo, IsRanked};
+ghost use Rattle.qx_process.specs.Reads.{unserved_thread, BringsRoom, CanCall, CanGo, IsRanked, has_own_room};
 ghost use Rattle.qx_procs.specs.Calls.{spawned};
 ghost use Rattle.qx_chan.specs.Calls.{taken_bytes};
 ghost use Rattle.qx_chan.specs.Channel.{failed, process_replied};
@@ -114,6 +115,7 @@ impl Users {
         requires call { CanCall (thread_row self.old thread) }
         requires target { CanGo sent.target }
         ensures ok { OnOk result (self.new ≡ with_process_of self.old thread.proc (with_queued thread.tid sent)) }
+        ensures had_room { IfSome (thread_row self.old thread) (λ row. IsTrue (has_own_room row)) → IsOk result }
         ensures err { OnErr result (self.new ≡ self.old) }
     {
         if let Some(process) = self.process_mut(thread.proc) {
@@ -167,6 +169,7 @@ impl Users {
     /// A thread whose call waited gets the answer, with the room for its replies, unless the answer took that along.
     #[tactic(auto, using(crate::proofs::ProcessLemmas::lends))]
     pub fn answer(&mut self, thread: Thread, answer: Answer, room: Option<Room>)
+        requires room { BringsRoom answer room (thread_row self.old thread) }
         ensures answered { self.new ≡ with_thread_row self.old thread (answered_thread answer) }
     {
         if let Some(cell) = self.thread_mut(thread) {
@@ -186,6 +189,7 @@ impl Users {
         bytes: MessageBytes,
         room: Option<Room>,
     )
+        requires room { BringsRoom (Reply status bytes) room (thread_row self.old thread) }
         ensures replied { self.new ≡ with_process_of self.old thread.proc (process_replied thread.tid effect status bytes over) }
     {
         if let Some(process) = self.process_mut(thread.proc) {
@@ -197,6 +201,7 @@ impl Users {
     /// A thread gets an error, which gives back what its call attached, with the room for its replies where that had gone.
     #[tactic(auto, using(crate::proofs::ProcessLemmas::lends))]
     pub fn fail(&mut self, thread: Thread, over: Over, error: Errno, room: Option<Room>)
+        requires room { BringsRoom (Failed error) room (thread_row self.old thread) }
         ensures failed { self.new ≡ with_process_of self.old thread.proc (failed thread.tid error over) }
     {
         if let Some(process) = self.process_mut(thread.proc) {

@@ -9,7 +9,7 @@ abbrev pub invariant-loop-taken : goal.invariant-loop-taken
 invariant-loop-taken l = record {
   users : given_users l.users l.queues.answered ≡ given_users l.initial.users l.initial.queues.answered;
   queues : ◌≡◌ {A = Shared} (record l.queues { lines = given_lines l.queues.lines l.queues.answered; answered = [] }) (record l.initial.queues { lines = given_lines l.initial.queues.lines l.initial.queues.answered; answered = [] });
-  kept : Answering l.initial.users l.initial.queues → Answering l.users l.queues;
+  kept : Answering l.users l.queues;
 }
 
 abbrev pub decreases-loop-taken : goal.decreases-loop-taken

@@ -8,11 +8,10 @@ cancel-requires-clause-fits c =
     let there : row_at c.self.inside.users c.args.resources.now.user ≡ Some c.in-Some.field-0.now = ap (row_at c.self.inside.users) c.requires.user ∙ sym c.in-Some.ensures.row in
     user-fits c.self.inside.users c.self.inside.queues c.args.resources.now c.in-Some.field-0.now there c.self.invariant
 
-pub invariant_of-self : goal.invariant_of-self
-invariant_of-self c =
+pub give_answers-requires : goal.give_answers-requires
+give_answers-requires c =
     let there : row_at c.self.inside.users c.args.resources.now.user ≡ Some c.in-Some.field-0.now = ap (row_at c.self.inside.users) c.requires.user ∙ sym c.in-Some.ensures.row in
-    c.give_answers.ensures.kept
-    (pulsed c.self.inside.users c.self.inside.queues c.args.resources.now c.cancel.new.self c.cancel.new.all c.in-Some.field-0.now there c.self.invariant c.args.thread.proc.num c.args.thread.tid c.args.call c.args.moment _ refl c.cancel.ensures.state c.cancel.ensures.shared).0
+    record { answering = (pulsed c.self.inside.users c.self.inside.queues c.args.resources.now c.cancel.new.self c.cancel.new.all c.in-Some.field-0.now there c.self.invariant c.args.thread.proc.num c.args.thread.tid c.args.call c.args.moment _ refl c.cancel.ensures.state c.cancel.ensures.shared).0 }
 
 pub returns : goal.returns
 returns c =

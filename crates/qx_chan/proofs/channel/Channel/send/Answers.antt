@@ -1,6 +1,16 @@
+use Rattle.std.proofs.lemmas.Bool.{false≢true}
 use Rattle.qx_chan.specs.Users.{IsThreadReady, thread_row}
+use Rattle.qx_chan.proofs.RoomLemmas.{existing-attaches, ready-room}
 use Rattle.qx_chan.proofs.SendLemmas.{Kept-sent, Kept-with_room, calls-nowhere, has-sender}
 use Rattle.qx_chan.proofs.channel.Channel.send.Goals as goal
+
+pub returns-in_err-reserve-clause-had_room : goal.returns-in_err-reserve-clause-had_room
+returns-in_err-reserve-clause-had_room c = λ existing room. absurd (false≢true (c.in_err-reserve.ensures.sure (existing-attaches c.args.sent.target.over existing)))
+
+pub returns-in_err-send-clause-had_room : goal.returns-in_err-send-clause-had_room
+returns-in_err-send-clause-had_room c = λ existing room.
+    let ready : IsThreadReady (thread_row c.self.inside.users c.args.thread) = rw (← c.self.view_is) at c.requires.ready in
+    absurd (false≢true (c.in_err-send.ensures.had_room (ready-room (thread_row c.self.inside.users c.args.thread) ready (rw (← c.self.view_is) at room))))
 
 pub send-requires-2-clause-no_call : goal.send-requires-2-clause-no_call
 send-requires-2-clause-no_call c =

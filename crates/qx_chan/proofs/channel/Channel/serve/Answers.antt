@@ -6,6 +6,7 @@ use Rattle.qx_chan.proofs.MeaningLemmas.{unwanted}
 use Rattle.qx_chan.proofs.MessageLemmas.{Serves-untaken, received, received-alone, received-wants, sends}
 use Rattle.qx_chan.proofs.OutcomeLemmas.{outcome}
 use Rattle.qx_chan.proofs.PulseLemmas.{user-fits}
+use Rattle.qx_chan.proofs.RoomLemmas.{served-waits}
 use Rattle.qx_machine.specs.Rows.{row_at}
 use Rattle.qx_chan.proofs.channel.Channel.serve.Goals as goal
 
@@ -30,15 +31,20 @@ returns-in_err-given-clause-sure c = λ no.
     absurd (unwanted _ _ (λ unwilling. false≢true (c.in_err-given.ensures.sure its.process its.sent.bytes of unwilling)) (c.in_err-given.ensures.wanted its.process its.sent.bytes of)
     (rw (← c.self.view_is, received-wants c.self.inside.users c.self.inside.queues c.args.resources.now c.args.thread c.in-Some.call its c.requires.user c.args.moment) at no))
 
-pub invariant_of-self-2 : goal.invariant_of-self-2
-invariant_of-self-2 c =
+pub answer-requires-clause-served : goal.answer-requires-clause-served
+answer-requires-clause-served c =
+    rw c.in_ok-given.ensures.served (served-waits c.self.inside.users c.args.thread c.in-Some.call (rw (← c.self.view_is) at c.in-Some.ensures.call))
+
+pub give_answers-requires : goal.give_answers-requires
+give_answers-requires c =
     let taken : Some c.in-Some.call ≡ taken_call (thread_row c.self.inside.users c.args.thread) = rw (← c.self.view_is) at c.in-Some.ensures.call in
     let its = received c.self.inside.users c.args.thread c.in-Some.call taken in
-    c.give_answers.ensures.kept
-    (rw (c.answer.ensures.queues, c.answer.ensures.users, c.in_ok-given.ensures.served, c.as_slice.ensures.bytes)
-    (outcome c.self.inside.users c.self.inside.queues c.args.thread c.in-Some.call taken c.self.invariant c.args.resources.now c.perform.new.resources c.perform.new.queues c.requires.user
-    c.args.moment c.perform.new.reply c.in_ok-given.given _ refl
-    (c.in_ok-given.ensures.did its.process its.sent.bytes (sends c.self.inside.users c.args.thread c.in-Some.call its)) c.answer.ensures.gone).0)
+    record {
+      answering = rw (c.answer.ensures.queues, c.answer.ensures.users, c.in_ok-given.ensures.served, c.as_slice.ensures.bytes)
+          (outcome c.self.inside.users c.self.inside.queues c.args.thread c.in-Some.call taken c.self.invariant c.args.resources.now c.perform.new.resources c.perform.new.queues c.requires.user
+          c.args.moment c.perform.new.reply c.in_ok-given.given _ refl
+          (c.in_ok-given.ensures.did its.process its.sent.bytes (sends c.self.inside.users c.args.thread c.in-Some.call its)) c.answer.ensures.gone).0;
+    }
 
 pub returns-clause-ok : goal.returns-clause-ok
 returns-clause-ok c =

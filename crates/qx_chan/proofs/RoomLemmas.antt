@@ -1,0 +1,78 @@
+-- Where the room for a thread's reply is, and which answers bring it.
+use Rattle.std.proofs.Common.{◌≡◌, List, ℕ, Bool, true, false, ◌&&◌, Option, Some, None, subst, refl, sym, ◌∙◌, ap}
+use Rattle.std.proofs.lemmas.Bool.{false≢true}
+use Rattle.std.specs.Prelude.{IfSome, IsFalse, IsTrue, is_some, option_map}
+use Rattle.qx_types.specs.declared.errno.Errno.{Errno}
+use Rattle.qx_types.specs.declared.names.Thread.{Thread}
+use Rattle.qx_types.specs.declared.outcome.Answer.{Answer}
+use Rattle.qx_types.specs.declared.outcome.Answer.TheVariants.{Failed}
+use Rattle.qx_machine.specs.declared.rows.Over.{Over}
+use Rattle.qx_machine.specs.declared.rows.Over.TheVariants.{Existing, New, Side}
+use Rattle.qx_machine.specs.declared.rows.State.{State}
+use Rattle.qx_machine.specs.declared.rows.State.TheVariants as state
+use Rattle.qx_machine.specs.declared.rows.ThreadRow.{ThreadRow}
+use Rattle.qx_machine.specs.Performing.{taken_in}
+use Rattle.qx_machine.specs.Processes.{keeps_room, served_state, served_thread, with_thread}
+use Rattle.qx_process.specs.Reads.{BringsRoom, BringsRoomIn, has_own_room, is_waiting}
+use Rattle.qx_chan.specs.Calls.{queued_call, queued_in, taken_call}
+use Rattle.qx_chan.specs.Channel.{IsExisting}
+use Rattle.qx_chan.specs.Kept.{attaches, is_waiting_for, waits_for}
+use Rattle.qx_chan.specs.Users.{IsThreadReady, Users, thread_row, with_thread_row}
+use Rattle.qx_chan.specs.declared.call.Call.{Call}
+use Rattle.qx_chan.proofs.CallLemmas.{queued_is, taken_is, waits}
+use Rattle.qx_chan.proofs.ThreadLemmas.{one_thread}
+
+abbrev Waits : Option ThreadRow → Type 0
+Waits place = IfSome place (λ row. IsTrue (is_waiting row.state))
+
+-- a ready thread has its room with it
+pub ready-room : (place : Option ThreadRow) → IsThreadReady place → IfSome place (λ row. IsTrue row.has_room) → IfSome place (λ row. IsTrue (has_own_room row))
+ready-room None ready room = absurd ready
+ready-room (Some row) ready room = rw ready (by_room row.has_room room)
+  where
+    by_room : (b : Bool) → IsTrue b → IsTrue (b && true)
+    by_room true is = is
+    by_room false is = is
+
+-- an error to a thread whose message stands in a line brings none
+pub queued-brings : (error : Errno) (place : Option ThreadRow) (call : Call) → Some call ≡ queued_call place → BringsRoom (Failed error) None place
+queued-brings error place call is =
+    let it = waits queued_in place call is in
+    rw (it.there, queued_is it.row.state it.sent it.is) (refl, refl)
+
+-- an answer to a thread whose message was served brings what it does not take along
+pub waiting-brings : (answer : Answer) (room : Option (List ℕ)) (place : Option ThreadRow) → Waits place → is_some room ≡ keeps_room answer → BringsRoom answer room place
+waiting-brings answer room None waiting is = tt
+waiting-brings answer room (Some row) waiting is = by_state row.state waiting
+  where
+    by_state : (s : State) → IsTrue (is_waiting s) → BringsRoomIn answer room s
+    by_state state.Ready waiting = absurd (false≢true waiting)
+    by_state (state.Queued sent) waiting = absurd (false≢true waiting)
+    by_state (state.Taken sent) waiting = absurd (false≢true waiting)
+    by_state (state.Waiting sent) waiting = is
+    by_state (state.Answered given) waiting = absurd (false≢true waiting)
+
+-- a thread that waits for the answer to a call
+pub awaited-waits : (call : ℕ) (place : Option ThreadRow) → waits_for call place ≡ true → Waits place
+awaited-waits call None is = tt
+awaited-waits call (Some row) is = by_state row.state is
+  where
+    by_state : (s : State) → is_waiting_for call row.calls s ≡ true → IsTrue (is_waiting s)
+    by_state state.Ready is = absurd (false≢true is)
+    by_state (state.Queued sent) is = absurd (false≢true is)
+    by_state (state.Taken sent) is = absurd (false≢true is)
+    by_state (state.Waiting sent) is = refl
+    by_state (state.Answered given) is = absurd (false≢true is)
+
+-- a thread whose received message is served
+pub served-waits : (users : Users) (thread : Thread) (call : Call) → Some call ≡ taken_call (thread_row users thread) → Waits (thread_row (with_thread_row users thread served_thread) thread)
+served-waits users thread call is =
+    let it = waits taken_in (thread_row users thread) call is in
+    let own = (one_thread users thread (with_thread thread.tid served_thread) served_thread (λ x. refl)).own in
+    subst Waits (sym (own ∙ ap (option_map served_thread) it.there)) (subst (λ s. IsTrue (is_waiting (served_state s))) (sym (taken_is it.row.state it.sent it.is)) refl)
+
+-- what goes over a connection that is there attaches nothing
+pub existing-attaches : (over : Over) → IsExisting over → IsFalse (attaches over)
+existing-attaches (Existing coid) existing = refl
+existing-attaches (New coid) existing = absurd existing
+existing-attaches Side existing = absurd existing
