@@ -3,7 +3,7 @@ use Rattle.std.proofs.Common.{◌≡◌, ℕ, Bool, true, false, cond, List, [],
 use Rattle.std.specs.List.{list_all}
 use Rattle.std.specs.Str.{bytes_eq}
 use Rattle.qx_types.specs.Configuration.{Configuration, IsConfiguration}
-use Rattle.qx_calls.specs.Forms.{CanBeSaid, CanBeWords, Form, Line, Maker, Saying, Values, at_most, end, line_text, read, read_one_of, read_words, words_for, words_said, ◌then◌}
+use Rattle.qx_calls.specs.Forms.{CanBeSaid, CanBeWords, Form, Line, Maker, Saying, Values, at_most, end, line_text, read_form, read_one_of, read_words, words_for, words_said, ◌then◌}
 use Rattle.qx_calls.specs.inner.Forms.{made_of}
 use Rattle.qx_words.specs.Kinds.{is_word, value_of, value_text}
 use Rattle.qx_words.specs.Words.{words_of}
@@ -48,11 +48,11 @@ words_within (at_most kind) made users (word ∷ other ∷ words) a all is = cc
 -- lines
 
 pub line_again : {A : Type 0} (line : Line A) (config : Configuration) (values : Values line.form) → IsConfiguration config.users config.workers
-    → CanBeWords line.form config.users values → read line config.users (words_for line.form config values) ≡ Some (made_of line.form line.made values)
+    → CanBeWords line.form config.users values → read_form line config.users (words_for line.form config values) ≡ Some (made_of line.form line.made values)
 line_again line config values valid can = form_again line.form line.made config values valid can
 
 pub line_within : {A : Type 0} (line : Line A) (users words : List (List ℕ)) (a : A) → list_all is_word words ≡ true
-    → read line users words ≡ Some a → (values : Values line.form) × CanBeWords line.form users values × (made_of line.form line.made values ≡ a)
+    → read_form line users words ≡ Some a → (values : Values line.form) × CanBeWords line.form users values × (made_of line.form line.made values ≡ a)
 line_within line users words a all is = words_within line.form line.made users words a all is
 
 pub are_words : (config : Configuration) (saying : Saying) → IsConfiguration config.users config.workers → is_word saying.name ≡ true → CanBeSaid config.users saying
@@ -77,6 +77,6 @@ pub one_of_within : {A : Type 0} (P : A → Type 0) (lines : List (Line A)) (els
     → list_all is_word words ≡ true → Makes users P lines → (else_read ≡ Some a → P a) → read_one_of lines else_read users name words ≡ Some a → P a
 one_of_within P [] else_read users name words a all makes others is = others is
 one_of_within P (line ∷ lines) else_read users name words a all makes others is =
-    by_name (bytes_eq name line.name) (read line users words) (read_one_of lines else_read users name words) a (P a)
+    by_name (bytes_eq name line.name) (read_form line users words) (read_one_of lines else_read users name words) a (P a)
     (λ found. let values = line_within line users words a all found in subst P values.2 (makes.0 values.0 values.1))
     (one_of_within P lines else_read users name words a all makes.1 others) is

@@ -58,14 +58,14 @@ pub record Line (A : Type 0) : Type 0 where
   pub made : Maker form A
 
 -- what the words after the first make, where the users have these names
-abbrev pub read : {A : Type 0} → Line A → List (List ℕ) → List (List ℕ) → Option A
-read line users words = read_words line.form line.made users words
+abbrev pub read_form : {A : Type 0} → Line A → List (List ℕ) → List (List ℕ) → Option A
+read_form line users words = read_words line.form line.made users words
 
 -- by the first word, which is that of one of the lines or stands for something else
 abbrev pub read_one_of : {A : Type 0} → List (Line A) → Option A → List (List ℕ) → List ℕ → List (List ℕ) → Option A
 read_one_of [] else_read users name words = else_read
 read_one_of (line ∷ lines) else_read users name words =
-    if bytes_eq name line.name then read line users words else read_one_of lines else_read users name words
+    if bytes_eq name line.name then read_form line users words else read_one_of lines else_read users name words
 
 -- what is said by a line
 pub record Saying : Type 0 where

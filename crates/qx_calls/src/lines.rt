@@ -2,7 +2,7 @@
 
 ghost use Rattle.std.specs.Prelude.{◌≡◌, ◌∷◌, [], IfOk, map};
 ghost use Rattle.qx_calls.specs.Calls.{call_in_line, call_over_of, chmod_line, close_line, connection_numbered, dup_line, fill_line, fstat_line, list_line, mkdir_line, notify_line, open_line, raw_line, read_line, seek_line, stat_line, unlink_line, write_line};
-ghost use Rattle.qx_calls.specs.Forms.{◌then◌, end, read, read_words};
+ghost use Rattle.qx_calls.specs.Forms.{◌then◌, end, read_form, read_words};
 ghost use Rattle.qx_words.specs.Kinds.{AThread, AByte, APath, SomeBytes};
 
 use qx_types::{Bytes, Coid, NoMemory, Request, Thread};
@@ -75,7 +75,7 @@ fn at_path(
 
 /// `open THREAD PATH FLAGS MODE`
 fn open(alloc: Global, users: &Users, words: &[&[u8]]) -> Result<Option<Call>, NoMemory>
-    ensures call { IfOk result (λ call. call ≡ read open_line users.now (map (λ word. word.now) words.now)) }
+    ensures call { IfOk result (λ call. call ≡ read_form open_line users.now (map (λ word. word.now) words.now)) }
 {
     let [thread_word, path, flags_word, mode_word] = words else {
         return Ok(None);
@@ -95,7 +95,7 @@ fn open(alloc: Global, users: &Users, words: &[&[u8]]) -> Result<Option<Call>, N
 
 /// `stat THREAD PATH`
 fn stat(alloc: Global, users: &Users, words: &[&[u8]]) -> Result<Option<Call>, NoMemory>
-    ensures call { IfOk result (λ call. call ≡ read stat_line users.now (map (λ word. word.now) words.now)) }
+    ensures call { IfOk result (λ call. call ≡ read_form stat_line users.now (map (λ word. word.now) words.now)) }
 {
     let Some((thread, path)) = at_path(alloc, users, words)? else {
         return Ok(None);
@@ -105,7 +105,7 @@ fn stat(alloc: Global, users: &Users, words: &[&[u8]]) -> Result<Option<Call>, N
 
 /// `unlink THREAD PATH`
 fn unlink(alloc: Global, users: &Users, words: &[&[u8]]) -> Result<Option<Call>, NoMemory>
-    ensures call { IfOk result (λ call. call ≡ read unlink_line users.now (map (λ word. word.now) words.now)) }
+    ensures call { IfOk result (λ call. call ≡ read_form unlink_line users.now (map (λ word. word.now) words.now)) }
 {
     let Some((thread, path)) = at_path(alloc, users, words)? else {
         return Ok(None);
@@ -115,7 +115,7 @@ fn unlink(alloc: Global, users: &Users, words: &[&[u8]]) -> Result<Option<Call>,
 
 /// `mkdir THREAD PATH MODE`
 fn mkdir(alloc: Global, users: &Users, words: &[&[u8]]) -> Result<Option<Call>, NoMemory>
-    ensures call { IfOk result (λ call. call ≡ read mkdir_line users.now (map (λ word. word.now) words.now)) }
+    ensures call { IfOk result (λ call. call ≡ read_form mkdir_line users.now (map (λ word. word.now) words.now)) }
 {
     let [thread_word, path, mode_word] = words else {
         return Ok(None);
@@ -132,7 +132,7 @@ fn mkdir(alloc: Global, users: &Users, words: &[&[u8]]) -> Result<Option<Call>, 
 
 /// `read THREAD CONNECTION COUNT`
 fn read(users: &Users, words: &[&[u8]]) -> Option<Call>
-    ensures call { result ≡ read read_line users.now (map (λ word. word.now) words.now) }
+    ensures call { result ≡ read_form read_line users.now (map (λ word. word.now) words.now) }
 {
     let [thread_word, coid_word, count_word] = words else {
         return None;
@@ -144,7 +144,7 @@ fn read(users: &Users, words: &[&[u8]]) -> Option<Call>
 
 /// `write THREAD CONNECTION BYTES`
 fn write(alloc: Global, users: &Users, words: &[&[u8]]) -> Result<Option<Call>, NoMemory>
-    ensures call { IfOk result (λ call. call ≡ read write_line users.now (map (λ word. word.now) words.now)) }
+    ensures call { IfOk result (λ call. call ≡ read_form write_line users.now (map (λ word. word.now) words.now)) }
 {
     let Some((thread, coid, bytes)) = over_with_bytes(alloc, users, words)? else {
         return Ok(None);
@@ -154,7 +154,7 @@ fn write(alloc: Global, users: &Users, words: &[&[u8]]) -> Result<Option<Call>, 
 
 /// `fill THREAD CONNECTION COUNT BYTE`: a write of so many times that byte.
 fn fill(alloc: Global, users: &Users, words: &[&[u8]]) -> Result<Option<Call>, NoMemory>
-    ensures call { IfOk result (λ call. call ≡ read fill_line users.now (map (λ word. word.now) words.now)) }
+    ensures call { IfOk result (λ call. call ≡ read_form fill_line users.now (map (λ word. word.now) words.now)) }
 {
     let [thread_word, coid_word, count_word, byte_word] = words else {
         return Ok(None);
@@ -174,7 +174,7 @@ fn fill(alloc: Global, users: &Users, words: &[&[u8]]) -> Result<Option<Call>, N
 
 /// `close THREAD CONNECTION`
 fn close(users: &Users, words: &[&[u8]]) -> Option<Call>
-    ensures call { result ≡ read close_line users.now (map (λ word. word.now) words.now) }
+    ensures call { result ≡ read_form close_line users.now (map (λ word. word.now) words.now) }
 {
     let (thread, coid) = over_alone(users, words)?;
     Some((thread, Request::Close { coid }))
@@ -182,7 +182,7 @@ fn close(users: &Users, words: &[&[u8]]) -> Option<Call>
 
 /// `dup THREAD CONNECTION`
 fn dup(users: &Users, words: &[&[u8]]) -> Option<Call>
-    ensures call { result ≡ read dup_line users.now (map (λ word. word.now) words.now) }
+    ensures call { result ≡ read_form dup_line users.now (map (λ word. word.now) words.now) }
 {
     let (thread, coid) = over_alone(users, words)?;
     Some((thread, Request::Dup { coid }))
@@ -190,7 +190,7 @@ fn dup(users: &Users, words: &[&[u8]]) -> Option<Call>
 
 /// `seek THREAD CONNECTION set|cur|end OFFSET`
 fn seek(users: &Users, words: &[&[u8]]) -> Option<Call>
-    ensures call { result ≡ read seek_line users.now (map (λ word. word.now) words.now) }
+    ensures call { result ≡ read_form seek_line users.now (map (λ word. word.now) words.now) }
 {
     let [thread_word, coid_word, whence_word, by_word] = words else {
         return None;
@@ -203,7 +203,7 @@ fn seek(users: &Users, words: &[&[u8]]) -> Option<Call>
 
 /// `fstat THREAD CONNECTION`
 fn fstat(users: &Users, words: &[&[u8]]) -> Option<Call>
-    ensures call { result ≡ read fstat_line users.now (map (λ word. word.now) words.now) }
+    ensures call { result ≡ read_form fstat_line users.now (map (λ word. word.now) words.now) }
 {
     let (thread, coid) = over_alone(users, words)?;
     Some((thread, Request::Fstat { coid }))
@@ -211,7 +211,7 @@ fn fstat(users: &Users, words: &[&[u8]]) -> Option<Call>
 
 /// `list THREAD CONNECTION`, and a name or none: the names behind that one, or the first ones.
 fn list(alloc: Global, users: &Users, words: &[&[u8]]) -> Result<Option<Call>, NoMemory>
-    ensures call { IfOk result (λ call. call ≡ read list_line users.now (map (λ word. word.now) words.now)) }
+    ensures call { IfOk result (λ call. call ≡ read_form list_line users.now (map (λ word. word.now) words.now)) }
 {
     let (thread_word, coid_word, after) = match words {
         [thread_word, coid_word] => (*thread_word, *coid_word, b"".as_slice()),
@@ -227,7 +227,7 @@ fn list(alloc: Global, users: &Users, words: &[&[u8]]) -> Result<Option<Call>, N
 
 /// `chmod THREAD CONNECTION MODE`
 fn chmod(users: &Users, words: &[&[u8]]) -> Option<Call>
-    ensures call { result ≡ read chmod_line users.now (map (λ word. word.now) words.now) }
+    ensures call { result ≡ read_form chmod_line users.now (map (λ word. word.now) words.now) }
 {
     let [thread_word, coid_word, mode_word] = words else {
         return None;
@@ -239,7 +239,7 @@ fn chmod(users: &Users, words: &[&[u8]]) -> Option<Call>
 
 /// `notify THREAD CONNECTION poll|pollarm|tranarm CONDITIONS CODE VALUE`
 fn notify(users: &Users, words: &[&[u8]]) -> Option<Call>
-    ensures call { result ≡ read notify_line users.now (map (λ word. word.now) words.now) }
+    ensures call { result ≡ read_form notify_line users.now (map (λ word. word.now) words.now) }
 {
     let [
         thread_word,
@@ -271,7 +271,7 @@ fn notify(users: &Users, words: &[&[u8]]) -> Option<Call>
 
 /// `raw THREAD CONNECTION BYTES`
 fn raw(alloc: Global, users: &Users, words: &[&[u8]]) -> Result<Option<Call>, NoMemory>
-    ensures call { IfOk result (λ call. call ≡ read raw_line users.now (map (λ word. word.now) words.now)) }
+    ensures call { IfOk result (λ call. call ≡ read_form raw_line users.now (map (λ word. word.now) words.now)) }
 {
     let Some((thread, coid, bytes)) = over_with_bytes(alloc, users, words)? else {
         return Ok(None);

@@ -24,7 +24,8 @@ use Rattle.qx_shared.specs.Shared.{Shared, with_shared_line}
 use Rattle.qx_queues.proofs.LineLemmas.{call-replied_other, call-withdrawn, replied-none, stands-replied, stands-withdrawn_other}
 use Rattle.qx_chan.specs.Calls.{queued_call, taken_call}
 use Rattle.qx_chan.specs.Channel.{failed, process_replied}
-use Rattle.qx_chan.specs.Kept.{StandTogether, asked_call, attached_at, servers_settled, stands_at, waits_for}
+use Rattle.qx_chan.specs.Kept.{StandTogether, asked_call, servers_settled, stands_at, waits_for}
+use Rattle.qx_chan.specs.Nodes.{attached_at}
 use Rattle.qx_chan.specs.Users.{Users, process_of, thread_row, with_process_of, with_thread_row}
 use Rattle.qx_chan.specs.declared.call.Call.{Call}
 use Rattle.qx_chan.proofs.AttachedLemmas.{fewer-done, fewer-given_back, fewer-let_go, threads-done, threads-given_back, threads-let_go}

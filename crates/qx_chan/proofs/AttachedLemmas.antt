@@ -19,7 +19,7 @@ use Rattle.qx_machine.specs.Processes.{Process, with_over, without_connection, a
 use Rattle.qx_machine.specs.Rows.{put_row, with_row}
 use Rattle.qx_machine.specs.Servers.{connects, is_numbered, sides_with}
 use Rattle.qx_queues.specs.inner.Queues.{is_same_server}
-use Rattle.qx_chan.specs.Kept.{attached_at, attaches}
+use Rattle.qx_chan.specs.Nodes.{attached_at, attaches}
 
 -- each manager has a line
 pub number-below : (manager : Manager) → manager_number manager < COUNT

@@ -22,6 +22,8 @@ pub mod ProcessLemmas
 mod ReceiveLemmas
 -- where the room for a thread's reply is
 mod RoomLemmas
+-- the room for nodes
+mod NodesLemmas
 -- rows of a table
 pub mod RowReads
 -- a message goes out

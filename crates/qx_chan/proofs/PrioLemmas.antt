@@ -60,11 +60,11 @@ module _ (users : Users) (queues : Shared) (thread : Thread) (row after : Thread
   Kept-answer (Some given) is same = readies given is same
 
 -- the channel's value then
-pub after_answer : (users : Users) (lines : List (List Item)) (pipes : List Pipes) (thread : Thread) (row after : ThreadRow) (result : Option Answer) → Some row ≡ thread_row users thread → result ≡ answer_in row.state → MatchOption result (after ≡ row) (λ _. after ≡ ready_thread row)
-    → ◌≡◌ {A = Channel} (record { users = with_thread_row users thread (λ _. after); lines = lines; pipes = pipes }) (after_taking (record { users = users; lines = lines; pipes = pipes }) thread)
-after_answer users lines pipes thread row after None there is same =
+pub after_answer : (users : Users) (lines : List (List Item)) (pipes : List Pipes) (room : ℕ) (thread : Thread) (row after : ThreadRow) (result : Option Answer) → Some row ≡ thread_row users thread → result ≡ answer_in row.state → MatchOption result (after ≡ row) (λ _. after ≡ ready_thread row)
+    → ◌≡◌ {A = Channel} (record { users = with_thread_row users thread (λ _. after); lines = lines; pipes = pipes; room = room }) (after_taking (record { users = users; lines = lines; pipes = pipes; room = room }) thread)
+after_answer users lines pipes room thread row after None there is same =
     rw (same, with_thread-same users thread row (sym there), ← there, ← is) refl
-after_answer users lines pipes thread row after (Some given) there is same =
+after_answer users lines pipes room thread row after (Some given) there is same =
     rw (same, with_thread-put users thread ready_thread row (sym there), ← there, ← is) refl
 
 -- another priority changes one row or none

@@ -17,7 +17,8 @@ use Rattle.qx_machine.specs.Servers.{is_numbered}
 use Rattle.qx_queues.specs.Queues.{caller, has_answer_among, message_of, stands, unblock_call}
 use Rattle.qx_shared.specs.Shared.{HasNoCall, Shared, has_disconnect_node, has_thread, waiting_in, with_shared_server, with_shared_line}
 use Rattle.qx_chan.specs.Users.{IsThreadReady, Users, process_of, thread_row, with_process_of}
-use Rattle.qx_chan.specs.Kept.{StandTogether, asked_call, attached_at, attaches, is_queued_at, stands_at, waits_for, with_attached, with_room}
+use Rattle.qx_chan.specs.Kept.{StandTogether, asked_call, is_queued_at, stands_at, waits_for, with_attached, with_room}
+use Rattle.qx_chan.specs.Nodes.{attached_at, attaches}
 use Rattle.qx_queues.proofs.EntryLemmas.{is_same_thread-differs, is_same_thread-self, or_false, or_true}
 use Rattle.qx_queues.proofs.LineLemmas.{call-sent, stands-sent}
 use Rattle.qx_queues.proofs.SetLemmas.{has-server, is_same_server-differs}
@@ -73,7 +74,7 @@ module _ (c : Shared) (proc : Proc) (manager : Manager) where
   has-with_server-other other at differs =
       has-server c.servers proc (manager_number manager) other at ∙ rw (is_same_server-differs proc other (manager_number manager) at (λ same. absurd (differs same))) (or_false (has_disconnect_node c other at))
 
-  has-with_server-self : (at : ℕ) → has_disconnect_node (with_shared_server c proc (manager_number manager)) proc at ≡ (has_disconnect_node c proc at || is_numbered at manager)
+  pub has-with_server-self : (at : ℕ) → has_disconnect_node (with_shared_server c proc (manager_number manager)) proc at ≡ (has_disconnect_node c proc at || is_numbered at manager)
   has-with_server-self at = has-server c.servers proc (manager_number manager) proc at ∙ ap (λ b. has_disconnect_node c proc at || b) (same_server-self proc (manager_number manager) at)
 
 -- a process whose thread was ready, and whose message goes out

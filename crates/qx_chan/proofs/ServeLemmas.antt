@@ -111,11 +111,11 @@ module _ (users : Users) (user : ℕ) where
 
 -- that of these
 abbrev pub shown : Users → Shared → Channel
-shown users queues = record { users = users; lines = queues.lines; pipes = queues.pipes }
+shown users queues = record { users = users; lines = queues.lines; pipes = queues.pipes; room = queues.room }
 
 -- once answers that are on their way are given
 abbrev pub given_all : Users → Shared → Channel
-given_all users queues = record { users = given_users users queues.answered; lines = given_lines queues.lines queues.answered; pipes = queues.pipes }
+given_all users queues = record { users = given_users users queues.answered; lines = given_lines queues.lines queues.answered; pipes = queues.pipes; room = queues.room }
 
 -- a deed was done to a user's resources, and its answers are on their way
 pub record Left (k : state.Kept) (c : Shared) (l : state.Kept) (d : Shared) (deed : Deed Resources) : Type 0 where
@@ -145,7 +145,7 @@ module _ (users : Users) (queues : Shared) (k : state.Kept) (served : Part → S
   module _ (c : Channel) (l : state.Kept) where
     abbrev DidAll : Served → Type 0
     DidAll s =
-        (c ≡ record { users = with_row users k.user (λ _. s.part.processes); lines = lines_after k.user queues.lines s.changes; pipes = slice_set queues.pipes k.user s.part.resources.pipes })
+        (c ≡ record { users = with_row users k.user (λ _. s.part.processes); lines = lines_after k.user queues.lines s.changes; pipes = slice_set queues.pipes k.user s.part.resources.pipes; room = c.room })
         × (told l (lists c) ≡ s.part.resources)
 
     part-served : (processes : List (Option Process)) → row_at users k.user ≡ Some processes → DidAll (served (part_of processes)) → PartServed (shown users queues) c k l served (part_in (shown users queues) k)
@@ -160,7 +160,7 @@ module _ (users : Users) (queues : Shared) (k : state.Kept) (served : Part → S
       by_row None none = (refl, refl)
       by_row (Some processes) there =
           let users_are : users ≡ with_row users k.user (λ _. processes) = sym (with_row-fixed users k.user (λ _. processes) processes there refl) in
-          subst (DidAll (shown users queues) k) (sym (same processes there)) (λ i. record { users = users_are i; lines = queues.lines; pipes = same_pipes queues k.user i }, refl)
+          subst (DidAll (shown users queues) k) (sym (same processes there)) (λ i. record { users = users_are i; lines = queues.lines; pipes = same_pipes queues k.user i; room = queues.room }, refl)
 
   -- once a deed is done, and the answers are given
   module _ (kept : StandTogether users queues) (l : state.Kept) (d : Shared) (deed : Deed Resources) (left : Left k queues l d deed) (user : ℕ) (of : k.user ≡ user) (processes : List (Option Process)) (there : row_at users user ≡ Some processes) where
@@ -172,7 +172,7 @@ module _ (users : Users) (queues : Shared) (k : state.Kept) (served : Part → S
         → given_lines after.lines (map (users_given user) deed.answers) ≡ lines_after user queues.lines s.changes
         → Serves (shown users queues) (given_all rows after) k l served
     Serves-given s is resources_are rows after answered pipes rows_are lines_are = record {
-      did = part-served (given_all rows after) l processes (ap (row_at users) of ∙ there) (subst (DidAll (given_all rows after) l) (sym is) (λ i. record { users = users_here i; lines = lines_here i; pipes = pipes_here i }, resources_here));
+      did = part-served (given_all rows after) l processes (ap (row_at users) of ∙ there) (subst (DidAll (given_all rows after) l) (sym is) (λ i. record { users = users_here i; lines = lines_here i; pipes = pipes_here i; room = after.room }, resources_here));
       user = left.user;
     }
       where

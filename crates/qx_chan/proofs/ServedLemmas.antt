@@ -26,7 +26,8 @@ use Rattle.qx_shared.specs.Shared.{Shared, users_given, with_shared_line, withou
 use Rattle.qx_chan.specs.Answers.{given_lines, given_users}
 use Rattle.qx_chan.specs.Calls.{taken_call}
 use Rattle.qx_chan.specs.Channel.{failed}
-use Rattle.qx_chan.specs.Kept.{Answering, attached_at, servers_settled, settled_at}
+use Rattle.qx_chan.specs.Kept.{Answering, servers_settled, settled_at}
+use Rattle.qx_chan.specs.Nodes.{attached_at}
 use Rattle.qx_chan.specs.Users.{Users, process_of, thread_row, with_process_of}
 use Rattle.qx_chan.specs.declared.call.Call.{Call}
 use Rattle.qx_chan.proofs.AnswerLemmas.{IsAnswer, Kept-answered, taken-unwaiting}

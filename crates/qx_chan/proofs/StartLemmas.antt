@@ -1,5 +1,6 @@
 -- Rows, lines and nodes stand together still as a process starts, and at boot.
-use Rattle.std.proofs.Common.{eq-eqb, subst, ◌≡◌, ◌≢◌, inl, inr, ℕ, zero, suc, ◌+◌, ◌<◌, ◌≤◌, ◌∷◌, [], get_or, map, ◌&&◌, add-one, nat_le, Bool, true, false, List, Option, Some, None, Ok, Err, replicate, length, is_some, refl, sym, ◌∙◌, ap, arith}
+use Rattle.std.proofs.Common.{eq-eqb, subst, ◌≡◌, ◌≢◌, inl, inr, ℕ, zero, suc, ◌+◌, ◌-◌, ◌*◌, ◌<◌, ◌≤◌, ◌∷◌, [], get_or, map, ◌&&◌, add-one, nat_le, Bool, true, false, List, Option, Some, None, Ok, Err, replicate, length, is_some, refl, sym, ◌∙◌, ap, arith}
+use Rattle.std.specs.Prelude.{max}
 use Rattle.std.specs.FinSet as set
 use Rattle.std.specs.List.{AllByRecursion}
 use Rattle.std.proofs.lemmas.Bool.{cases_Bool, cases_lt}
@@ -32,7 +33,8 @@ use Rattle.qx_shared.proofs.PresenceLemmas.{has-process, lines-process, servers-
 use Rattle.qx_chan.specs.Channel.{Channel, after_spawn}
 use Rattle.qx_chan.specs.Users.{HasPlace, Users, no_processes, process_of_user, process_of, spawn_number_in, thread_row}
 use Rattle.qx_process.proofs.RowLemmas.{row_at-get_or, set-row, with_row-none}
-use Rattle.qx_chan.specs.Kept.{IsWaiting, StandTogether, asked_call, attached_at, stands_at, waits_for}
+use Rattle.qx_chan.specs.Kept.{IsWaiting, StandTogether, asked_call, stands_at, waits_for}
+use Rattle.qx_chan.specs.Nodes.{attached_at, room_started}
 use Rattle.qx_queues.proofs.EntryLemmas.{or_false}
 use Rattle.qx_queues.proofs.NodesLemmas.{same_proc}
 use Rattle.qx_chan.proofs.ProcessLemmas.{process_of-other}
@@ -90,12 +92,15 @@ starts users proc threads prio is = elim (option_cases (row_at users proc.user.0
 
 -- where it is refused
 pub refused_spawn : (c : Channel) (user threads prio : ℕ) (outcome : Outcome) → spawn_number_in threads prio (row_at c.users user) ≡ Err outcome → after_spawn c user threads prio ≡ c
-refused_spawn c user threads prio outcome is = ap (λ users. record c { users = users }) (elim (option_cases (row_at c.users user)) [
-  | inl none ↦ with_row-none c.users user (λ processes. spawned processes threads prio (spawn_number processes threads prio)) none
-  | inr rows ↦
-      let refused : spawn_number rows.0 threads prio ≡ Err outcome = rw rows.1 at is in
-      rw (rows.1, refused) (set-row c.users user rows.0 rows.1)
-])
+refused_spawn c user threads prio outcome is = λ i. record c { users = users i; room = room_started c.room threads (is i) }
+  where
+    users : with_row c.users user (λ processes. spawned processes threads prio (spawn_number processes threads prio)) ≡ c.users
+    users = elim (option_cases (row_at c.users user)) [
+      | inl none ↦ with_row-none c.users user (λ processes. spawned processes threads prio (spawn_number processes threads prio)) none
+      | inr rows ↦
+          let refused : spawn_number rows.0 threads prio ≡ Err outcome = rw rows.1 at is in
+          rw (rows.1, refused) (set-row c.users user rows.0 rows.1)
+    ]
 
 new_is : (threads tid : ℕ) (x : ThreadRow) → is_some (row_at (None ∷ replicate threads (Some x)) tid) ≡ (nat_le 1 tid && nat_le tid threads)
 new_is threads zero x = refl
@@ -109,6 +114,18 @@ new_is threads (suc k) x = elim (cases_lt k threads) [
 pub pipes-process : (c : Shared) (proc : Proc) (threads : ℕ) → (with_shared_process c proc threads).pipes ≡ c.pipes
 pipes-process c proc zero = refl
 pipes-process c proc (suc threads) = pipes-process c proc threads
+
+-- and two nodes for each thread come out of the room
+pub room-process : (c : Shared) (proc : Proc) (threads : ℕ) → (with_shared_process c proc threads).room ≡ c.room - 2 * threads
+room-process c proc zero = omega arith
+room-process c proc (suc threads) = let before = room-process c proc threads in omega (arith, before)
+
+-- what is made for them is used
+pub room-started : (room threads : ℕ) → max room (2 * threads) - 2 * threads ≡ room - 2 * threads
+room-started room threads = omega arith
+
+pub room-spare : (now room threads : ℕ) → now ≡ max room (2 * threads) - 2 * threads → now ≤ max room (2 * threads)
+room-spare now room threads is = omega (arith, is)
 
 answered-process : (c : Shared) (proc : Proc) (threads : ℕ) → (with_shared_process c proc threads).answered ≡ c.answered
 answered-process c proc zero = refl

@@ -4,6 +4,7 @@ use Rattle.qx_types.specs.Managers.{manager_number}
 use Rattle.qx_types.specs.declared.errno.Errno.{Errno}
 use Rattle.qx_types.specs.declared.errno.Errno.TheVariants.{EINTR}
 use Rattle.qx_types.specs.declared.names.Manager.{Manager}
+use Rattle.qx_types.specs.declared.names.Proc.{Proc}
 use Rattle.qx_types.specs.declared.names.TheConstants.Manager.{COUNT}
 use Rattle.qx_types.specs.declared.names.Thread.{Thread}
 use Rattle.qx_types.specs.declared.outcome.Answer.{Answer}
@@ -20,19 +21,22 @@ use Rattle.qx_machine.specs.Lines.{into, line_at, with_line}
 use Rattle.qx_machine.specs.Machine.{line_without, rank}
 use Rattle.qx_machine.specs.Processes.{Process, after_effect, after_error, after_reply, answered_thread, asked_thread, ready_thread, taken_thread, with_queued, with_thread}
 use Rattle.qx_machine.specs.Waiting.{Pipes, no_pipes}
-use Rattle.qx_machine.specs.Rows.{with_row}
+use Rattle.qx_machine.specs.Rows.{row_at, with_row}
 use Rattle.qx_procs.specs.Calls.{after_or, spawned, with_prio}
 use Rattle.qx_queues.specs.Queues.{message_of, sender, unblock_of}
 use Rattle.qx_shared.specs.Shared.{Shared, nothing_shared}
 use Rattle.qx_chan.specs.Calls.{answer_of, queued_call, unasked_call}
 use Rattle.qx_chan.specs.declared.call.Call.{Call}
-use Rattle.qx_chan.specs.Users.{Users, no_processes, thread_row, with_process_of, with_thread_row}
+use Rattle.qx_chan.specs.Nodes.{room_for, room_settled, room_started}
+use Rattle.qx_chan.specs.Users.{Users, no_processes, process_of, spawn_number_in, thread_row, with_process_of, with_thread_row}
 
--- the processes of all users, both numbered from 1, the lines under their managers' numbers, and the pipes of each user
+-- the processes of all users, both numbered from 1, the lines under their managers' numbers, the pipes of each user, and how many more nodes
+-- can be made with no memory
 pub record Channel : Type 0 where
   pub users : Users
   pub lines : List (List Queued)
   pub pipes : List Pipes
+  pub room : ℕ
 
 -- a share with the channel's pipes, and nothing else
 abbrev pub lists : Channel → Shared
@@ -40,7 +44,7 @@ lists c = record (nothing_shared 0) { pipes = c.pipes }
 
 -- users from 1 to this many with no process, empty lines, and no pipe
 abbrev pub empty_channel : ℕ → Channel
-empty_channel users = record { users = no_processes users; lines = replicate COUNT []; pipes = replicate (users + 1) no_pipes }
+empty_channel users = record { users = no_processes users; lines = replicate COUNT []; pipes = replicate (users + 1) no_pipes; room = 0 }
 
 -- a manager's line
 abbrev pub channel_line : Channel → Manager → List Queued
@@ -51,6 +55,10 @@ abbrev pub IsExisting : Over → Type 0
 IsExisting (Existing coid) = ⊤
 IsExisting _ = ⊥
 
+-- the disconnect nodes of a process are those of what it has attached then, where it was as in a channel before
+abbrev pub with_nodes_settled : Channel → Proc → Channel → Channel
+with_nodes_settled before proc c = record c { room = room_settled c.room (process_of before.users proc) (process_of c.users proc) }
+
 -- one process and one line change
 abbrev pub with_process_and_line : Channel → Thread → (Process → Process) → Manager → (List Queued → List Queued) → Channel
 with_process_and_line c thread process manager line = record c {
@@ -60,12 +68,16 @@ with_process_and_line c thread process manager line = record c {
 
 -- once a process is started, if that is not refused
 abbrev pub after_spawn : Channel → ℕ → ℕ → ℕ → Channel
-after_spawn c user threads prio = record c { users = with_row c.users user (λ processes. spawned processes threads prio (spawn_number processes threads prio)) }
+after_spawn c user threads prio = record c {
+  users = with_row c.users user (λ processes. spawned processes threads prio (spawn_number processes threads prio));
+  room = room_started c.room threads (spawn_number_in threads prio (row_at c.users user));
+}
 
--- once a thread's message is sent
+-- once a thread's message is sent, with room for the disconnect node of what it goes over
 abbrev pub after_send : Channel → Thread → Sent → Channel
 after_send c thread sent =
-    with_process_and_line c thread (with_queued thread.tid sent) sent.target.manager (λ line. into rank line (message_of thread sent.target.prio.0))
+    with_nodes_settled c thread.proc
+    (with_process_and_line (record c { room = room_for sent.target.over c.room }) thread (with_queued thread.tid sent) sent.target.manager (λ line. into rank line (message_of thread sent.target.prio.0)))
 
 -- the thread of a message that is received waits for its answer
 abbrev pub users_with_taken : Users → Thread → OwnItem → Users
@@ -103,7 +115,8 @@ after_asking c thread = asked c thread (unasked_call (thread_row c.users thread)
 abbrev pub withdrawn : Channel → Thread → Option Call → Channel
 withdrawn c thread None = c
 withdrawn c thread (Some call) =
-    with_process_and_line c thread (failed thread.tid EINTR call.target.over) call.target.manager (line_without thread.proc.user.0 (item.Message thread.proc.num thread.tid))
+    with_nodes_settled c thread.proc
+    (with_process_and_line c thread (failed thread.tid EINTR call.target.over) call.target.manager (line_without thread.proc.user.0 (item.Message thread.proc.num thread.tid)))
 
 -- once the message of a thread that stands in a line is gone
 abbrev pub after_withdrawing : Channel → Thread → Channel

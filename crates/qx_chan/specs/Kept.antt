@@ -8,16 +8,15 @@ use Rattle.qx_types.specs.declared.names.TheConstants.Manager.{COUNT}
 use Rattle.qx_types.specs.declared.names.Proc.{Proc}
 use Rattle.qx_types.specs.declared.names.Thread.{Thread}
 use Rattle.qx_machine.specs.declared.rows.Over.{Over}
-use Rattle.qx_machine.specs.declared.rows.Over.TheVariants.{Existing}
 use Rattle.qx_machine.specs.declared.rows.State.{State}
 use Rattle.qx_machine.specs.declared.rows.State.TheVariants.{Queued, Taken, Waiting}
 use Rattle.qx_machine.specs.declared.rows.Target.{Target}
 use Rattle.qx_machine.specs.declared.rows.ThreadRow.{ThreadRow}
 use Rattle.qx_machine.specs.Lines.{line_at}
 use Rattle.qx_machine.specs.Processes.{Process}
-use Rattle.qx_machine.specs.Servers.{is_attached}
 use Rattle.qx_queues.specs.Queues.{UsersAnswer, UsersCall, caller, stands, unblock_call}
 use Rattle.qx_shared.specs.Shared.{Shared, has_disconnect_node, has_thread, waiting_in, with_shared_server, without_shared_server}
+use Rattle.qx_chan.specs.Nodes.{attached_at, attaches}
 use Rattle.qx_chan.specs.Users.{Users, process_of, thread_row}
 
 -- the message of a thread in this state stands in the line of that number
@@ -56,11 +55,6 @@ IsWaiting processes own = waits_for own.call.call (thread_row processes (caller 
 abbrev pub IsAwaited : Users → UsersAnswer → Type 0
 IsAwaited processes given = waits_for given.call (thread_row processes given.thread) ≡ true
 
--- something of the process is attached to the manager of that number
-abbrev pub attached_at : ℕ → Option Process → Bool
-attached_at number None = false
-attached_at number (Some process) = is_attached number process.connections process.sides
-
 -- a thread has nodes exactly if it is there, its message stands in a line exactly if its row says so, an unblock pulse only while its
 -- call is asked for, and its call in a pipe only while it waits for the answer; no answer is on its way; and a process has the disconnect
 -- node of its server connection at a manager exactly while something of it is attached there
@@ -78,11 +72,6 @@ pub record StandTogether (processes : Users) (queues : Shared) : Type 0 where
 pub record Answering (processes : Users) (queues : Shared) : Type 0 where
   pub kept : StandTogether processes (record queues { answered = [] })
   pub answered : AllByRecursion (IsAwaited processes) queues.answered
-
--- a call attaches what its message goes over
-abbrev pub attaches : Over → Bool
-attaches (Existing coid) = false
-attaches _ = true
 
 -- a process keeps its disconnect node at a manager if something of it is attached there
 abbrev pub settled_at : Proc → Option Process → Manager → Shared → Shared

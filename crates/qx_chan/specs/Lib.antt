@@ -3,5 +3,6 @@ pub mod Calls
 pub mod Channel
 pub mod Kept
 pub mod Lends
+pub mod Nodes
 pub mod Serving
 pub mod Users

@@ -42,7 +42,7 @@ abbrev pub part_in : Channel → Kept → Option Part
 part_in c k = option_map (λ processes. record { processes = processes; resources = told k (lists c) }) (row_at c.users k.user)
 
 module _ (c d : Channel) (k l : Kept) (served : Part → Served) where
-  -- the user's part and the lines became that, and nothing else is different
+  -- the user's part and the lines became that, and nothing else is different but the room for nodes
   abbrev pub PartServed : Option Part → Type 0
   PartServed None = (d ≡ c) × (l ≡ k)
   PartServed (Some part) =
@@ -50,6 +50,7 @@ module _ (c d : Channel) (k l : Kept) (served : Part → Served) where
         users = with_row c.users k.user (λ _. (served part).part.processes);
         lines = lines_after k.user c.lines (served part).changes;
         pipes = slice_set c.pipes k.user (served part).part.resources.pipes;
+        room = d.room;
       })
       × (told l (lists d) ≡ (served part).part.resources)
 

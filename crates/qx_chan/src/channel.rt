@@ -1,13 +1,14 @@
 //! The processes of all users, and the managers' lines in which their messages wait. Each call is that of message passing:
 //! what stands beside a thread's message, the room for its reply, and its place in a line change together.
 
-ghost use Rattle.std.specs.Prelude.{◌≡◌, ◌<◌, Ok, length, slice_get, IfOk, IfSome, IsErr, IsOk, IsTrue, OnOk, OnErr};
+ghost use Rattle.std.specs.Prelude.{◌≡◌, ◌*◌, ◌<◌, ◌≤◌, Ok, length, max, slice_get, IfOk, IfSome, IsErr, IsOk, IsTrue, OnOk, OnErr};
 ghost use Rattle.std.specs.Option.{option_copied};
 ghost use Rattle.qx_machine.specs.Rows.{row_at};
 ghost use Rattle.qx_process.specs.Reads.{CanCall, CanGo, IsPriority, IsRanked};
 ghost use Rattle.qx_procs.specs.Calls.{spawn_outcome};
 ghost use Rattle.qx_chan.specs.Calls.{answer_of, queued_call, taken_call, unasked_call};
 ghost use Rattle.qx_chan.specs.Channel.{IsExisting, after_asking, after_ranking, after_receive, after_send, after_spawn, after_taking, after_withdrawing, channel_line, empty_channel};
+ghost use Rattle.qx_chan.specs.Nodes.{room_for};
 ghost use Rattle.qx_chan.specs.Users.{IsThreadReady, prio_outcome_in, process_of, spawn_number_in, thread_row};
 
 use crate::call::{self, Call};
@@ -38,7 +39,7 @@ impl Model for Channel {
 
     ghost coded = { Prim.hlevel codes };
 
-    ghost view = { λ c. record { users = c.users; lines = c.queues.lines; pipes = c.queues.pipes } };
+    ghost view = { λ c. record { users = c.users; lines = c.queues.lines; pipes = c.queues.pipes; room = c.queues.room } };
 
     ghost invariant = { λ c. StandTogether c.users c.queues };
 }
@@ -97,7 +98,8 @@ impl Channel {
         ensures outcome { IfOk result (λ outcome. outcome ≡ spawn_outcome (spawn_number_in threads prio.0 (row_at self.old.users user.0))) }
         ensures ok { OnOk result (self.new ≡ after_spawn self.old user.0 threads prio.0) }
         ensures sure { IsErr (spawn_number_in threads prio.0 (row_at self.old.users user.0)) → IsOk result }
-        ensures err { OnErr result (self.new ≡ self.old) }
+        ensures err { OnErr result (self.new ≡ record self.old { room = self.new.room }) }
+        ensures spare { self.new.room ≤ max self.old.room (2 * threads) }
     {
         match self.spawn_number(user, threads, prio) {
             Ok(number) => {
@@ -122,7 +124,8 @@ impl Channel {
     fn start(&mut self, proc: Proc, threads: u8, prio: Prio) -> Result<(), AllocError>
         requires number { spawn_number_in threads prio.0 (row_at self.old.users proc.user.0) ≡ Ok proc.num }
         ensures ok { OnOk result (self.new ≡ after_spawn self.old proc.user.0 threads prio.0) }
-        ensures err { OnErr result (self.new ≡ self.old) }
+        ensures err { OnErr result (self.new ≡ record self.old { room = self.new.room }) }
+        ensures spare { self.new.room ≤ max self.old.room (2 * threads) }
     {
         self.queues.reserve(threads)?;
         self.users.spawn(proc.user, threads, prio)?;
@@ -139,7 +142,8 @@ impl Channel {
         requires target { CanGo sent.target }
         ensures ok { OnOk result (self.new ≡ after_send self.old thread sent) }
         ensures had_room { IsExisting sent.target.over → IfSome (thread_row self.old.users thread) (λ row. IsTrue row.has_room) → IsOk result }
-        ensures err { OnErr result (self.new ≡ self.old) }
+        ensures err { OnErr result (self.new ≡ record self.old { room = self.new.room }) }
+        ensures spare { OnErr result (self.new.room ≤ room_for sent.target.over self.old.room) }
     {
         let target = sent.target;
         servers::reserve(&mut self.queues, target.over)?;

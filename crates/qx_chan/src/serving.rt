@@ -19,8 +19,9 @@ ghost use Rattle.qx_resources.specs.Ranges.{IsInRanges};
 ghost use Rattle.qx_resources.specs.State.{HasUser, state};
 ghost use Rattle.qx_chan.specs.Answers.{answered_queues, answered_users};
 ghost use Rattle.qx_chan.specs.Calls.{taken_call, taken_of};
+ghost use Rattle.qx_chan.specs.Nodes.{room_settled};
 ghost use Rattle.qx_chan.specs.Serving.{IsReadOf, Sends, Serves, caller_of_call, deed_in, part_in};
-ghost use Rattle.qx_chan.specs.Users.{thread_row, with_thread_row};
+ghost use Rattle.qx_chan.specs.Users.{process_of, thread_row, with_thread_row};
 
 use crate::answers::give_answers;
 use crate::call::Call;
@@ -54,6 +55,7 @@ impl Channel {
         requires user { resources.old.user ≡ thread.proc.user.0 }
         requires read { IsReadOf (option_copied read) (taken_of (thread_row self.old.users thread)) }
         ensures ok { OnOk result (Serves self.old self.new resources.old resources.new (λ part. or_kept part (serve_message part thread.proc.num thread.tid moment))) }
+        ensures room { OnOk result (self.new.room ≡ room_settled self.old.room (process_of self.old.users thread.proc) (process_of self.new.users thread.proc)) }
         ensures err { OnErr result ((self.new ≡ self.old) × (resources.new ≡ resources.old)) }
         ensures sure { IsFalse (thread_wants_memory (part_in self.old resources.old) thread.proc.num thread.tid moment) → IsOk result }
     {
@@ -88,6 +90,7 @@ impl Channel {
     pub fn cancel(&mut self, resources: &mut Resources, thread: Thread, call: u64, moment: u64)
         requires user { resources.old.user ≡ thread.proc.user.0 }
         ensures cancelled { Serves self.old self.new resources.old resources.new (λ part. or_kept part (serve_pulse part thread.proc.num thread.tid call moment)) }
+        ensures room { self.new.room ≡ self.old.room }
     {
         let Some(_) = self.users.processes(thread.proc.user) else {
             return;

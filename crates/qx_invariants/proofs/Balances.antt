@@ -16,7 +16,7 @@ use Rattle.qx_machine.specs.Rows.{row_at, put_row, with_row}
 use Rattle.qx_machine.specs.Waiting.{Pipes}
 use Rattle.qx_invariants.specs.Changes.{ResourceChange, Closes, Comes, Fills, MayHappen, Unlinks, with_change, with_named, with_unlinked}
 use Rattle.qx_invariants.specs.Holds.{HasOpenWaiters, size_if}
-use Rattle.qx_invariants.specs.Waits.{answers_to, count_waiting, count_waiting_in, waiting_of, is_of, waits, count_state_waiting}
+use Rattle.qx_invariants.specs.Waits.{count_answers_to, count_waiting, count_waiting_in, count_waiting_of, is_of, waits, count_state_waiting}
 use Rattle.qx_invariants.proofs.Astray.{closed_astray, nobody_over, nobody_unused}
 use Rattle.qx_attr.proofs.CountLemmas.{within_table}
 use Rattle.qx_invariants.proofs.Rows.{content_cases, empty_cases, freed, inode_is_new, unused_cases, with_row-at, with_row-other}
@@ -47,10 +47,10 @@ set_same which (place ∷ pipes) (suc n) row same =
     let rest = set_same which pipes n row same in
     omega (arith, now, was, rest)
 
-set_other : (which : WaitingCall → Bool) (pipes : Pipes) (n : ℕ) (was now : Pipe WaitingCall) → row_at pipes n ≡ Some was → count_waiting which (slice_set pipes n (Some now)) + waiting_of which was ≡ count_waiting which pipes + waiting_of which now
+set_other : (which : WaitingCall → Bool) (pipes : Pipes) (n : ℕ) (was now : Pipe WaitingCall) → row_at pipes n ≡ Some was → count_waiting which (slice_set pipes n (Some now)) + count_waiting_of which was ≡ count_waiting which pipes + count_waiting_of which now
 set_other which pipes n was now is =
     let set = sum_by-set (count_waiting_in which) pipes n (Some now) None (within_table pipes n was is) in
-    let before : count_waiting_in which (get_or pipes n None) ≡ waiting_of which was = ap (count_waiting_in which) (sym (unwrap_or-slice_get pipes n None) ∙ is) in
+    let before : count_waiting_in which (get_or pipes n None) ≡ count_waiting_of which was = ap (count_waiting_in which) (sym (unwrap_or-slice_get pipes n None) ∙ is) in
     omega (arith, set, before)
 
 -- nobody waits in what goes
@@ -63,7 +63,7 @@ unused_same own inode r h which =
 
 -- as many calls wait, with those that were answered, as waited at first and came
 abbrev pub Balance : Resources → Resources → Told → Type 0
-Balance first r told = (which : WaitingCall → Bool) → answers_to which told.answers + count_waiting which r.pipes ≡ count_waiting which first.pipes + count_by which told.came
+Balance first r told = (which : WaitingCall → Bool) → count_answers_to which told.answers + count_waiting which r.pipes ≡ count_waiting which first.pipes + count_by which told.came
 
 -- all that holds, and that
 pub record Balanced (first r : Resources) (told : Told) : Type 0 where
@@ -183,18 +183,18 @@ module _ (process thread : ℕ) where
   zero_stays [] part none = none
   zero_stays ((call, given) ∷ answers) part none = zero_stays answers (with_answer (call, given) part) (elim (one_answer call given part) [ inl its ↦ its.1 | inr other ↦ ap waits other.1 ∙ none ])
 
-  first_count : (call : WaitingCall) (given : Answer) (answers : List (WaitingCall × Answer)) → answers_to (is_of process thread) ((call, given) ∷ answers) ≡ cond (is_of process thread call) 1 0 + answers_to (is_of process thread) answers
+  first_count : (call : WaitingCall) (given : Answer) (answers : List (WaitingCall × Answer)) → count_answers_to (is_of process thread) ((call, given) ∷ answers) ≡ cond (is_of process thread call) 1 0 + count_answers_to (is_of process thread) answers
   first_count call given answers = sum_by-cons (λ (answer : WaitingCall × Answer). cond (is_of process thread answer.0) 1 0) (call, given) answers
 
   -- whose calls are not answered waits as before; whose are, waits no more
   pub after_answers : (answers : List (WaitingCall × Answer)) (part : Part)
-      → ((answers_to (is_of process thread) answers ≡ 0) × (waits (thread_at (with_answers answers part) process thread) ≡ waits (thread_at part process thread))) ⊎ ((0 < answers_to (is_of process thread) answers) × (waits (thread_at (with_answers answers part) process thread) ≡ 0))
+      → ((count_answers_to (is_of process thread) answers ≡ 0) × (waits (thread_at (with_answers answers part) process thread) ≡ waits (thread_at part process thread))) ⊎ ((0 < count_answers_to (is_of process thread) answers) × (waits (thread_at (with_answers answers part) process thread) ≡ 0))
   after_answers [] part = inl (refl, refl)
   after_answers ((call, given) ∷ answers) part = by (one_answer call given part) (after_answers answers (with_answer (call, given) part))
     where
       by : ((is_of process thread call ≡ true) × (waits (thread_at (with_answer (call, given) part) process thread) ≡ 0)) ⊎ ((is_of process thread call ≡ false) × (thread_at (with_answer (call, given) part) process thread ≡ thread_at part process thread))
-          → ((answers_to (is_of process thread) answers ≡ 0) × (waits (thread_at (with_answers answers (with_answer (call, given) part)) process thread) ≡ waits (thread_at (with_answer (call, given) part) process thread))) ⊎ ((0 < answers_to (is_of process thread) answers) × (waits (thread_at (with_answers answers (with_answer (call, given) part)) process thread) ≡ 0))
-          → ((answers_to (is_of process thread) ((call, given) ∷ answers) ≡ 0) × (waits (thread_at (with_answers answers (with_answer (call, given) part)) process thread) ≡ waits (thread_at part process thread))) ⊎ ((0 < answers_to (is_of process thread) ((call, given) ∷ answers)) × (waits (thread_at (with_answers answers (with_answer (call, given) part)) process thread) ≡ 0))
+          → ((count_answers_to (is_of process thread) answers ≡ 0) × (waits (thread_at (with_answers answers (with_answer (call, given) part)) process thread) ≡ waits (thread_at (with_answer (call, given) part) process thread))) ⊎ ((0 < count_answers_to (is_of process thread) answers) × (waits (thread_at (with_answers answers (with_answer (call, given) part)) process thread) ≡ 0))
+          → ((count_answers_to (is_of process thread) ((call, given) ∷ answers) ≡ 0) × (waits (thread_at (with_answers answers (with_answer (call, given) part)) process thread) ≡ waits (thread_at part process thread))) ⊎ ((0 < count_answers_to (is_of process thread) ((call, given) ∷ answers)) × (waits (thread_at (with_answers answers (with_answer (call, given) part)) process thread) ≡ 0))
       by (inl its) later = let its_own : one (is_of process thread call) ≡ 1 = ap one its.0 in inr (omega (arith, its_own, first_count call given answers), zero_stays answers (with_answer (call, given) part) its.1)
       by (inr other) (inl none) = let zeros : one (is_of process thread call) ≡ 0 = ap one other.0 in inl (omega (arith, zeros, none.0, first_count call given answers), none.1 ∙ ap waits other.1)
       by (inr other) (inr some) = let more = some.0 in inr (omega (arith, more, first_count call given answers), some.1)

@@ -15,7 +15,7 @@ use Rattle.qx_machine.specs.Pipes.{PipeAfter, Pipe, cancel, clean, clean_read, c
 use Rattle.qx_files.proofs.PutLemmas.{length-put}
 use Rattle.qx_pipe.specs.Laws.{IsSettled}
 use Rattle.qx_pipe.proofs.CallLemmas as laws
-use Rattle.qx_invariants.specs.Waits.{answers_to, waiting_of}
+use Rattle.qx_invariants.specs.Waits.{count_answers_to, count_waiting_of}
 
 -- ---- who is answered, and who waits
 
@@ -35,24 +35,24 @@ module _ {W : Type 0} (wanted : W → ℕ) (offered : W → List ℕ) (gone : W 
   staying_all [] = refl
   staying_all (who ∷ all) = rw (none who) (ap (λ rest. who ∷ rest) (staying_all all))
 
-  waiting_same : (which : W → Bool) (p : Pipe W) → waiting_of which (removed gone p) ≡ waiting_of which p
+  waiting_same : (which : W → Bool) (p : Pipe W) → count_waiting_of which (removed gone p) ≡ count_waiting_of which p
   waiting_same which p = rw (staying_all p.readers, staying_all p.writers) refl
 
-  pub read_once : (manner : Manner) (who : W) (p : Pipe W) (which : W → Bool) → answers_to which (read wanted offered gone manner who p).answers + waiting_of which (read wanted offered gone manner who p).pipe ≡ waiting_of which p + count_by which (who ∷ [])
+  pub read_once : (manner : Manner) (who : W) (p : Pipe W) (which : W → Bool) → count_answers_to which (read wanted offered gone manner who p).answers + count_waiting_of which (read wanted offered gone manner who p).pipe ≡ count_waiting_of which p + count_by which (who ∷ [])
   read_once manner who p which = omega (arith, laws.read_once wanted offered gone manner who p which, sum_by-append (λ w. cond (which w) 1 0) (staying gone p.readers) (who ∷ []), waiting_same which p)
 
-  pub write_once : (manner : Manner) (who : W) (p : Pipe W) (which : W → Bool) → answers_to which (write wanted offered gone manner who p).answers + waiting_of which (write wanted offered gone manner who p).pipe ≡ waiting_of which p + count_by which (who ∷ [])
+  pub write_once : (manner : Manner) (who : W) (p : Pipe W) (which : W → Bool) → count_answers_to which (write wanted offered gone manner who p).answers + count_waiting_of which (write wanted offered gone manner who p).pipe ≡ count_waiting_of which p + count_by which (who ∷ [])
   write_once manner who p which = omega (arith, laws.write_once wanted offered gone manner who p which, sum_by-append (λ w. cond (which w) 1 0) (staying gone p.writers) (who ∷ []), waiting_same which p)
 
-  pub cancel_once : (is_asked : W → Bool) (p : Pipe W) (which : W → Bool) → answers_to which (cancel wanted offered gone is_asked p).answers + waiting_of which (cancel wanted offered gone is_asked p).pipe ≡ waiting_of which p + 0
+  pub cancel_once : (is_asked : W → Bool) (p : Pipe W) (which : W → Bool) → count_answers_to which (cancel wanted offered gone is_asked p).answers + count_waiting_of which (cancel wanted offered gone is_asked p).pipe ≡ count_waiting_of which p + 0
   cancel_once is_asked p which = omega (arith, laws.cancel_once wanted offered gone is_asked p which, waiting_same which p)
 
   module _ (is_on_it : W → Bool) (sides : Sides) (p : Pipe W) where
-    pub release_once : (which : W → Bool) → answers_to which (release wanted offered gone is_on_it sides p).answers + waiting_of which (release wanted offered gone is_on_it sides p).pipe ≡ waiting_of which p + 0
+    pub release_once : (which : W → Bool) → count_answers_to which (release wanted offered gone is_on_it sides p).answers + count_waiting_of which (release wanted offered gone is_on_it sides p).pipe ≡ count_waiting_of which p + 0
     release_once which = omega (arith, laws.release_once wanted offered gone is_on_it sides p which, waiting_same which p)
 
     -- nobody waits over the block any more
-    pub release_none : waiting_of is_on_it (release wanted offered gone is_on_it sides p).pipe ≡ 0
+    pub release_none : count_waiting_of is_on_it (release wanted offered gone is_on_it sides p).pipe ≡ 0
     release_none =
         let cleaned : Pipe W = (clean wanted offered gone p).pipe in
         let left : Pipe W = (dismissed is_on_it (Failed EBADF) cleaned).pipe in

@@ -16,7 +16,7 @@ use Rattle.qx_machine.specs.Resources.{Resources, resized, with_empty, without_c
 use Rattle.qx_machine.specs.Rows.{put_row, row_at, with_row}
 use Rattle.qx_machine.specs.Waiting.{is_written, offered}
 use Rattle.qx_machine.proofs.Places.{row_at-set_other, row_at-set_cases}
-use Rattle.qx_invariants.specs.Changes.{ResourceChange, Closes, Comes, Fills, IsOwnInode, MayHappen, Mounts, Touches, Unlinks, Writes, with_change, without_link, with_changed, with_unlinked, with_named, IsSettled}
+use Rattle.qx_invariants.specs.Changes.{ResourceChange, Closes, Comes, Fills, IsOwnInode, MayHappen, Mounts, Touches, Unlinks, Writes, with_change, without_link, with_changed, with_unlinked, with_named, IsPipeSettled}
 use Rattle.qx_invariants.specs.Holds.{HasContents, HasRoom, size_if, HasLimits, HasSettledPipes}
 use Rattle.qx_attr.proofs.CountLemmas.{within_table}
 use Rattle.qx_iofunc.proofs.PlaceLemmas.{put_at, row-freed, set_at}
@@ -292,12 +292,12 @@ limits-keep _ r may h = seen_limits r h _ refl refl
 -- ---- settled pipes
 
 -- a new pipe is settled
-new_settled : IsSettled (pipe_of [] [] [])
+new_settled : IsPipeSettled (pipe_of [] [] [])
 unfolding settle
 new_settled = refl
 
 module _ (r : Resources) (h : HasSettledPipes r) where
-  set_settled : (inode : ℕ) (row : Option (Pipe WaitingCall)) → ((pipe : Pipe WaitingCall) → row ≡ Some pipe → IsSettled pipe) → HasSettledPipes (record r { pipes = slice_set r.pipes inode row })
+  set_settled : (inode : ℕ) (row : Option (Pipe WaitingCall)) → ((pipe : Pipe WaitingCall) → row ≡ Some pipe → IsPipeSettled pipe) → HasSettledPipes (record r { pipes = slice_set r.pipes inode row })
   set_settled inode row new = record {
     settled = λ other pipe there. elim (row_at-set_cases r.pipes inode other row pipe there) [ inl was ↦ h.settled other pipe was | inr put ↦ new pipe put ];
   }
@@ -311,8 +311,8 @@ module _ (r : Resources) (h : HasSettledPipes r) where
 pub settled-keep : (change : ResourceChange) (r : Resources) → MayHappen change r → HasSettledPipes r → HasSettledPipes (with_change change r)
 settled-keep (Comes inode directory name kind mode moment) r may h =
     empty_cases HasSettledPipes kind inode (with_named inode (under directory name) (new_attribute kind mode r.user moment) r) (λ is. record { settled = h.settled })
-    (λ is. record { settled = (set_settled r h inode (Some (pipe_of [] [] [])) (λ pipe made. subst IsSettled (same_Some _ _ made) new_settled)).settled }) (λ is. record { settled = h.settled })
-settled-keep (Fills inode moment after came) r may h = record { settled = (set_settled r h inode (Some after.pipe) (λ pipe put. subst IsSettled (same_Some _ _ put) may.settled)).settled }
+    (λ is. record { settled = (set_settled r h inode (Some (pipe_of [] [] [])) (λ pipe made. subst IsPipeSettled (same_Some _ _ made) new_settled)).settled }) (λ is. record { settled = h.settled })
+settled-keep (Fills inode moment after came) r may h = record { settled = (set_settled r h inode (Some after.pipe) (λ pipe put. subst IsPipeSettled (same_Some _ _ put) may.settled)).settled }
 settled-keep (Unlinks own directory name inode mtime ctime) r may h = unused_settled (with_unlinked inode (under directory name) mtime ctime r) (record { settled = h.settled }) own inode
 settled-keep (Closes own number block) r may h = unused_settled (without_block number r) (record { settled = h.settled }) own block.inode
 settled-keep _ r may h = record { settled = h.settled }

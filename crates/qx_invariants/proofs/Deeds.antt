@@ -46,8 +46,8 @@ use Rattle.qx_machine.specs.Resources.{Resources, with_empty}
 use Rattle.qx_machine.specs.Rows.{put_row, row_at}
 use Rattle.qx_machine.specs.Waiting.{Pipes, holds, is_call, is_gone, is_over, manner_of, offered, sides_of, waiting_call, wanted}
 use Rattle.qx_machine.proofs.Places.{row_at-set_other}
-use Rattle.qx_invariants.specs.Changes.{ResourceChange, Closes, Comes, Fills, IsOwnInode, IsSettled, MayHappen, Moves, Opens, Touches, Unlinks, Writes, with_change, touched, without_link, with_named}
-use Rattle.qx_invariants.specs.Waits.{answers_to, is_astray, count_waiting_in, waiting_of}
+use Rattle.qx_invariants.specs.Changes.{ResourceChange, Closes, Comes, Fills, IsOwnInode, IsPipeSettled, MayHappen, Moves, Opens, Touches, Unlinks, Writes, with_change, touched, without_link, with_named}
+use Rattle.qx_invariants.specs.Waits.{count_answers_to, is_astray, count_waiting_in, count_waiting_of}
 use Rattle.qx_invariants.proofs.Gives.{Gives, found-row, gives_by, gives_done, gives_error, gives_on, need-true}
 use Rattle.qx_attr.proofs.CountLemmas.{within_table}
 use Rattle.qx_iofunc.proofs.PlaceLemmas.{put_at, set_at}
@@ -295,7 +295,7 @@ module _ (K : Resources → Told → Type 0) (keeps : (change : ResourceChange) 
 
     -- a call comes to a pipe, and leaves it as each call may
     came-keeps : (over : Opened) (count : ℕ) (bytes : List ℕ) (moment : ℕ) → over.caller ≡ caller → (block : Ocb) → row_at r.inodes.blocks over.number ≡ Some block → (pipe : Pipe WaitingCall) → row_at r.pipes block.inode ≡ Some pipe → (after : PipeAfter WaitingCall)
-        → ((which : WaitingCall → Bool) → answers_to which after.answers + waiting_of which after.pipe ≡ waiting_of which pipe + count_by which (waiting_call over count bytes ∷ [])) → IsSettled after.pipe → (length pipe.bytes ≤ PIPE → length after.pipe.bytes ≤ PIPE) → Kept (deed_of_pipe r block.inode moment after)
+        → ((which : WaitingCall → Bool) → count_answers_to which after.answers + count_waiting_of which after.pipe ≡ count_waiting_of which pipe + count_by which (waiting_call over count bytes ∷ [])) → IsPipeSettled after.pipe → (length pipe.bytes ≤ PIPE → length after.pipe.bytes ≤ PIPE) → Kept (deed_of_pipe r block.inode moment after)
     came-keeps over count bytes moment same block opened pipe here after once settled short = record {
       came = waiting_call over count bytes ∷ [];
       kept = keeps (Fills block.inode moment after (waiting_call over count bytes ∷ [])) r nothing (record { pipe = pipe; there = here; over = own_over over.number block (waiting_call over count bytes) opened refl; once = once; settled = settled; short = short }) h;

@@ -48,7 +48,7 @@ use Rattle.qx_machine.specs.Waiting.{is_call}
 use Rattle.qx_machine.specs.Users.{boot_part, client, serve, take}
 use Rattle.qx_machine.proofs.Places.{lowest_from_free}
 use Rattle.qx_invariants.specs.Holds.{WaitsOnce}
-use Rattle.qx_invariants.specs.Waits.{answers_to, is_of, count_waiting, count_waiting_in, waits, count_state_waiting}
+use Rattle.qx_invariants.specs.Waits.{count_answers_to, is_of, count_waiting, count_waiting_in, waits, count_state_waiting}
 use Rattle.qx_attr.specs.inner.Counts.{one}
 use Rattle.qx_invariants.proofs.Balances.{Balanced, balanced-keeps, ChangesThread, after_answers, after_spawn, is_its, thread_changed, thread_other, thread_same, waits_few}
 use Rattle.qx_invariants.proofs.Deeds.{CameWith, Kept, cancel-gives}
@@ -106,13 +106,13 @@ taken_same _ = refl
 -- ---- what a worker does
 
 -- calls were answered, and as many wait, with those, as threads waited
-answered_once : (part : Part) (r : Resources) (answers : List (WaitingCall × Answer)) → part.resources ≡ r → ((p t : ℕ) → answers_to (is_of p t) answers + count_waiting (is_of p t) r.pipes ≡ waits (thread_at part p t)) → WaitsOnce (with_answers answers part)
+answered_once : (part : Part) (r : Resources) (answers : List (WaitingCall × Answer)) → part.resources ≡ r → ((p t : ℕ) → count_answers_to (is_of p t) answers + count_waiting (is_of p t) r.pipes ≡ waits (thread_at part p t)) → WaitsOnce (with_answers answers part)
 answered_once part r answers is balance = record {
   once = λ p t. ap (λ (s : Resources). count_waiting (is_of p t) s.pipes) (answers-resources answers part ∙ is) ∙ by p t (after_answers p t answers part);
 }
   where
     by : (p t : ℕ)
-        → ((answers_to (is_of p t) answers ≡ 0) × (waits (thread_at (with_answers answers part) p t) ≡ waits (thread_at part p t))) ⊎ ((0 < answers_to (is_of p t) answers) × (waits (thread_at (with_answers answers part) p t) ≡ 0))
+        → ((count_answers_to (is_of p t) answers ≡ 0) × (waits (thread_at (with_answers answers part) p t) ≡ waits (thread_at part p t))) ⊎ ((0 < count_answers_to (is_of p t) answers) × (waits (thread_at (with_answers answers part) p t) ≡ 0))
         → count_waiting (is_of p t) r.pipes ≡ waits (thread_at (with_answers answers part) p t)
     by p t (inl none) = omega (arith, balance p t, none.0, none.1)
     by p t (inr some) = omega (arith, balance p t, some.0, some.1, waits_few (thread_at part p t))

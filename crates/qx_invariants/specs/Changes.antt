@@ -20,7 +20,7 @@ use Rattle.qx_machine.specs.RamManager.{with_bytes}
 use Rattle.qx_machine.specs.Resources.{Resources, with_empty}
 use Rattle.qx_machine.specs.Rows.{put_row, row_at, with_row}
 use Rattle.qx_machine.specs.Waiting.{is_over, offered, wanted}
-use Rattle.qx_invariants.specs.Waits.{answers_to, is_astray, count_waiting_in, waiting_of}
+use Rattle.qx_invariants.specs.Waits.{count_answers_to, is_astray, count_waiting_in, count_waiting_of}
 
 -- one thing that happens
 pub data ResourceChange : Type 0 where
@@ -94,8 +94,8 @@ pub record IsOwnInode (own : Kind) (r : Resources) (inode : ℕ) : Type 0 where
   pub owned : is_own own attribute.kind ≡ true
 
 -- nobody waits in a pipe who could be served: to settle it changes nothing and answers nobody
-abbrev pub IsSettled : Pipe WaitingCall → Type 0
-IsSettled pipe = settle wanted offered pipe ≡ nobody_answered pipe
+abbrev pub IsPipeSettled : Pipe WaitingCall → Type 0
+IsPipeSettled pipe = settle wanted offered pipe ≡ nobody_answered pipe
 
 -- a file is there, and has other bytes
 pub record IsRewritten (r : Resources) (inode : ℕ) (bytes : List ℕ) : Type 0 where
@@ -113,9 +113,9 @@ pub record IsDone (r : Resources) (inode : ℕ) (after : PipeAfter WaitingCall) 
   -- they are over open control blocks of that inode
   pub over : count_by (is_astray r.inodes.blocks inode) came ≡ 0
   -- whoever waited or came was answered once or waits
-  pub once : (which : WaitingCall → Bool) → answers_to which after.answers + waiting_of which after.pipe ≡ waiting_of which pipe + count_by which came
+  pub once : (which : WaitingCall → Bool) → count_answers_to which after.answers + count_waiting_of which after.pipe ≡ count_waiting_of which pipe + count_by which came
   -- nobody waits who could be served
-  pub settled : IsSettled after.pipe
+  pub settled : IsPipeSettled after.pipe
   -- no more bytes stand than may
   pub short : length pipe.bytes ≤ PIPE → length after.pipe.bytes ≤ PIPE
 

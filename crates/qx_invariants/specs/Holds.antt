@@ -20,7 +20,7 @@ use Rattle.qx_machine.specs.Pipes.{Pipe}
 use Rattle.qx_machine.specs.Resources.{Resources}
 use Rattle.qx_machine.specs.Rows.{row_at}
 use Rattle.qx_machine.specs.Runs.{run}
-use Rattle.qx_invariants.specs.Changes.{IsDirectoryAt, IsSettled}
+use Rattle.qx_invariants.specs.Changes.{IsDirectoryAt, IsPipeSettled}
 use Rattle.qx_invariants.specs.Waits.{is_astray, is_of, count_waiting, count_waiting_in, waits}
 
 -- this holds of each user's part in each world that a run reaches
@@ -76,7 +76,7 @@ pub record HasLimits (r : Resources) : Type 0 where
 
 -- nobody waits in any pipe who could be served
 pub record HasSettledPipes (r : Resources) : Type 0 where
-  pub settled : (inode : ℕ) (pipe : Pipe WaitingCall) → row_at r.pipes inode ≡ Some pipe → IsSettled pipe
+  pub settled : (inode : ℕ) (pipe : Pipe WaitingCall) → row_at r.pipes inode ≡ Some pipe → IsPipeSettled pipe
 
 -- each call that waits in a pipe is over an open control block of that pipe
 pub record HasOpenWaiters (r : Resources) : Type 0 where

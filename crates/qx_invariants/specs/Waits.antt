@@ -14,17 +14,17 @@ use Rattle.qx_machine.specs.Waiting.{Pipes}
 
 module _ {W : Type 0} where
   -- how many of those who wait in a pipe are such
-  abbrev pub waiting_of : (W → Bool) → Pipe W → ℕ
-  waiting_of which p = count_by which p.readers + count_by which p.writers
+  abbrev pub count_waiting_of : (W → Bool) → Pipe W → ℕ
+  count_waiting_of which p = count_by which p.readers + count_by which p.writers
 
   -- how many of the answers are to such
-  abbrev pub answers_to : (W → Bool) → List (W × Answer) → ℕ
-  answers_to which answers = count_by (λ answer. which answer.0) answers
+  abbrev pub count_answers_to : (W → Bool) → List (W × Answer) → ℕ
+  count_answers_to which answers = count_by (λ answer. which answer.0) answers
 
 -- the same where a pipe may be
 abbrev pub count_waiting_in : (WaitingCall → Bool) → Option (Pipe WaitingCall) → ℕ
 count_waiting_in which None = 0
-count_waiting_in which (Some pipe) = waiting_of which pipe
+count_waiting_in which (Some pipe) = count_waiting_of which pipe
 
 -- the same in all pipes of a user
 abbrev pub count_waiting : (WaitingCall → Bool) → Pipes → ℕ

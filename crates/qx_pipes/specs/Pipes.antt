@@ -14,9 +14,9 @@ seen r s c = record (with_stored r s) { pipes = pipes_of c s.user }
 
 module _ {E : Type 0} where
   -- that it was done
-  abbrev pub done : Result (Deed Resources) E → Result Unit E
-  done (Ok deed) = Ok tt
-  done (Err error) = Err error
+  abbrev pub done_of : Result (Deed Resources) E → Result Unit E
+  done_of (Ok deed) = Ok tt
+  done_of (Err error) = Err error
 
   -- a store and what all share are as the machine left them
   pub record Follows (s : Stored) (c : Shared) (new : Stored) (left : Shared) (r : Resources) (meant : Result (Deed Resources) E) : Type 0 where

@@ -10,7 +10,7 @@ ghost use Rattle.qx_machine.specs.Resources.{Resources};
 ghost use Rattle.qx_machine.specs.Rows.{with_row};
 ghost use Rattle.qx_machine.specs.Waiting.{holds, is_call};
 ghost use Rattle.qx_machine.specs.declared.rows.Kind.TheVariants as kind;
-ghost use Rattle.qx_pipes.specs.Pipes.{Follows, done, seen};
+ghost use Rattle.qx_pipes.specs.Pipes.{Follows, done_of, seen};
 ghost use Rattle.qx_shared.specs.Shared.{IsReceived, pipe_at, pipes_of, callers_thread, with_row_at};
 ghost use Rattle.qx_types.specs.declared.flags.TheConstants.OFlags.{NONBLOCK};
 ghost use Rattle.qx_types.specs.declared.limits.TheConstants.Limits.{TRANSFER};
@@ -40,7 +40,7 @@ pub fn read(
     requires received { IsReceived shared.old (callers_thread store.old.stored.user opened.caller) }
     requires room { IsSome room.old }
     ensures user { store.new.stored.user ≡ store.old.stored.user }
-    ensures done { (r : Resources) → result ≡ done (machine.read_pipe (seen r store.old.stored shared.old) opened wanted moment) }
+    ensures done { (r : Resources) → result ≡ done_of (machine.read_pipe (seen r store.old.stored shared.old) opened wanted moment) }
     ensures left { (r : Resources) → Follows store.old.stored shared.old store.new.stored shared.new r (machine.read_pipe (seen r store.old.stored shared.old) opened wanted moment) }
     ensures room { MatchResult result (λ done. room.new ≡ None) (λ error. room.new ≡ room.old) }
 {
@@ -76,7 +76,7 @@ pub fn write(
     requires fits { length bytes.now ≤ TRANSFER }
     requires room { IsSome room.old }
     ensures user { store.new.stored.user ≡ store.old.stored.user }
-    ensures done { (r : Resources) → result ≡ done (machine.write_pipe (seen r store.old.stored shared.old) opened bytes.now moment) }
+    ensures done { (r : Resources) → result ≡ done_of (machine.write_pipe (seen r store.old.stored shared.old) opened bytes.now moment) }
     ensures left { (r : Resources) → Follows store.old.stored shared.old store.new.stored shared.new r (machine.write_pipe (seen r store.old.stored shared.old) opened bytes.now moment) }
     ensures room { MatchResult result (λ done. room.new ≡ None) (λ error. room.new ≡ room.old) }
 {
@@ -122,7 +122,7 @@ pub fn close(
 ) -> Result<(), Errno>
     requires user { store.old.stored.user < length shared.old.pipes }
     ensures user { store.new.stored.user ≡ store.old.stored.user }
-    ensures done { (r : Resources) → result ≡ done (defaults.close kind.Pipe (seen r store.old.stored shared.old) opened moment) }
+    ensures done { (r : Resources) → result ≡ done_of (defaults.close kind.Pipe (seen r store.old.stored shared.old) opened moment) }
     ensures left { (r : Resources) → Follows store.old.stored shared.old store.new.stored shared.new r (defaults.close kind.Pipe (seen r store.old.stored shared.old) opened moment) }
 {
     let user = store.user();

@@ -9,7 +9,7 @@ use Rattle.qx_machine.specs.declared.rows.Effect.TheVariants.{Keeps}
 use Rattle.qx_machine.specs.Functions.{Deed, reply_alone}
 use Rattle.qx_machine.specs.Resources.{Resources}
 use Rattle.qx_pipes.proofs.PipesLemmas.{given-same}
-use Rattle.qx_pipes.specs.Pipes.{Follows, done, seen}
+use Rattle.qx_pipes.specs.Pipes.{Follows, done_of, seen}
 use Rattle.qx_resmgr.specs.Deeds.{Did, reply_with}
 use Rattle.qx_resmgr.specs.declared.functions.Done.{Done}
 use Rattle.qx_resmgr.specs.declared.functions.Done.TheVariants.{Reply}
@@ -30,7 +30,7 @@ module _ (mounts : List MountPoint) (old new : Stored) (c d : Shared) (bytes : L
   abbrev DidSo : Result Done Errno → Result (Deed Resources) Errno → Type 0
   DidSo result meant = Did state (kept_with mounts old) c (kept_with mounts new) d bytes result meant
 
-  passed_as : (answer : Done) (given : Result (Unit {0}) Errno) (result : Result Done Errno) (meant : Result (Deed Resources) Errno) → Follows old c new d before meant → given ≡ done meant → new.user ≡ old.user → IfOk meant (λ deed. reply_with bytes answer ≡ deed.reply)
+  passed_as : (answer : Done) (given : Result (Unit {0}) Errno) (result : Result Done Errno) (meant : Result (Deed Resources) Errno) → Follows old c new d before meant → given ≡ done_of meant → new.user ≡ old.user → IfOk meant (λ deed. reply_with bytes answer ≡ deed.reply)
       → bytes ≡ [] → MatchResult given (λ nothing. result ≡ Ok answer) (λ error. result ≡ Err error) → DidSo result meant
   passed_as answer (Ok nothing) result (Ok deed) follows is user replies none gives = rw gives (replies, follows.state, follows.shared, user)
   passed_as answer (Err error) result (Err meant) follows is user replies none gives = let same : error ≡ meant = cc in rw gives (same, ap without_pipes follows.state, follows.shared, none)
@@ -38,7 +38,7 @@ module _ (mounts : List MountPoint) (old new : Stored) (c d : Shared) (bytes : L
   passed_as answer (Err error) result (Ok deed) follows is user replies none gives = absurd (cc)
 
   -- what is done is answered so
-  pub passed : (answer : Done) (given : Result (Unit {0}) Errno) (result : Result Done Errno) (meant : Resources → Result (Deed Resources) Errno) → ((r : Resources) → Follows old c new d r (meant r)) → ((r : Resources) → given ≡ done (meant r)) → new.user ≡ old.user
+  pub passed : (answer : Done) (given : Result (Unit {0}) Errno) (result : Result Done Errno) (meant : Resources → Result (Deed Resources) Errno) → ((r : Resources) → Follows old c new d r (meant r)) → ((r : Resources) → given ≡ done_of (meant r)) → new.user ≡ old.user
       → IfOk (meant before) (λ deed. reply_with bytes answer ≡ deed.reply) → bytes ≡ [] → MatchResult given (λ nothing. result ≡ Ok answer) (λ error. result ≡ Err error) → DidSo result (meant before)
   passed answer given result meant follows is = passed_as answer given result (meant before) (follows before) (is before)
 
@@ -60,8 +60,8 @@ module _ (mounts : List MountPoint) (old new : Store) (c : Shared) (bytes : List
   abbrev DidAlone : Result Done Errno → Result (Deed Resources) Errno → Type 0
   DidAlone result meant = Did state (kept_with mounts old.stored) c (kept_with mounts new.stored) c bytes result meant
 
-  pub answered : (status : ℕ) (effect : Effect) (done : Done) (meant : Resources → Result (Deed Resources) Errno) → done ≡ Reply status effect → ((r : Resources) → Ok (reply_alone status bytes effect (with_stored r new.stored)) ≡ meant r) → new.stored.user ≡ old.stored.user → DidAlone (Ok done) (meant first)
-  answered status effect done meant reply is user =
+  pub answered : (status : ℕ) (effect : Effect) (done_of : Done) (meant : Resources → Result (Deed Resources) Errno) → done_of ≡ Reply status effect → ((r : Resources) → Ok (reply_alone status bytes effect (with_stored r new.stored)) ≡ meant r) → new.stored.user ≡ old.stored.user → DidAlone (Ok done_of) (meant first)
+  answered status effect done_of meant reply is user =
       rw reply (subst (DidAlone (Ok (Reply status effect))) (is first) (refl, ap (λ user. record (with_stored first new.stored) { pipes = pipes_of c user }) user, given-same c old.stored.user, user))
 
   pub refused : (error : Errno) (meant : Resources → Result (Deed Resources) Errno) → ((r : Resources) → Err error ≡ meant r) → new ≡ old → bytes ≡ [] → DidAlone (Err error) (meant first)

@@ -9,7 +9,7 @@ use Rattle.std.proofs.lemmas.Option.{cond_some}
 use Rattle.qx_types.specs.Configuration.{Configuration, IsConfiguration, is_user_name}
 use Rattle.qx_types.specs.declared.limits.TheConstants.Limits.{USERS, WORKERS}
 use Rattle.qx_script.specs.declared.command.Command.{Command}
-use Rattle.qx_calls.specs.Forms.{read}
+use Rattle.qx_calls.specs.Forms.{read_form}
 use Rattle.qx_script.specs.Lines.{command_of, user_line, workers_line}
 use Rattle.qx_words.specs.Kinds.{is_word}
 use Rattle.qx_script.specs.Script.{Bad, Good, Reading, Script, after_line, after_user, after_words, after_workers, is_before_commands, is_new_user, is_skipped, script, script_from, unread, with_command, with_user, with_workers}
@@ -46,20 +46,20 @@ is_not true is = cc
 is_not false is = refl
 
 user_read : (r : Reading) (name : List ℕ) (next : Reading) → Read r → is_user_name name ≡ true → with_user r name ≡ Some next → Read next
-user_read r name next read good is =
+user_read r name next read_form good is =
     let parts = cond_some (is_new_user r name) (record { users = r.users ++ name ∷ []; workers = r.workers; commands = r.commands }) next is in
     let few = both_true (is_before_commands r && not (list_any (λ other. bytes_eq other name) r.users)) (ltb (length r.users) USERS) parts.0 in
     let fresh = both_true (is_before_commands r) (not (list_any (λ other. bytes_eq other name) r.users)) few.0 in
     let below : ltb (length r.users) USERS ≡ true = few.1 in
     let room : length r.users < USERS = grind (arith, nat_tests) in
     subst Read parts.1 (record {
-      users = names.user_added r.users name read.users good (is_not _ fresh.1) room;
-      workers = read.workers;
+      users = names.user_added r.users name read_form.users good (is_not _ fresh.1) room;
+      workers = read_form.workers;
       commands = no_command (CanSayCommand (r.users ++ name ∷ [])) r.commands fresh.0;
     })
 
 workers_read : (r : Reading) (workers : ℕ) (next : Reading) → Read r → with_workers r workers ≡ Some next → Read next
-workers_read r workers next read is =
+workers_read r workers next read_form is =
     let parts = cond_some (is_before_commands r && is_none r.workers && leb 1 workers && leb workers WORKERS) (record { users = r.users; workers = Some workers; commands = r.commands }) next is in
     let most = both_true ((is_before_commands r && is_none r.workers) && leb 1 workers) (leb workers WORKERS) parts.0 in
     let least = both_true (is_before_commands r && is_none r.workers) (leb 1 workers) most.0 in
@@ -67,27 +67,27 @@ workers_read r workers next read is =
     let below : leb workers WORKERS ≡ true = most.1 in
     let some : 1 ≤ workers = grind (arith, nat_tests) in
     let few : workers ≤ WORKERS = grind (arith, nat_tests) in
-    subst Read parts.1 (record { users = read.users; workers = (some, few); commands = read.commands })
+    subst Read parts.1 (record { users = read_form.users; workers = (some, few); commands = read_form.commands })
 
 command_read : (r : Reading) (name : List ℕ) (words : List (List ℕ)) (next : Reading) → Read r → list_all is_word words ≡ true
     → option_map (with_command r) (command_of r.users name words) ≡ Some next → Read next
-command_read r name words next read all is =
+command_read r name words next read_form all is =
     let command = mapped (with_command r) (command_of r.users name words) next is in
     subst Read command.2 (record {
-      users = read.users;
-      workers = read.workers;
-      commands = All-push (CanSayCommand r.users) r.commands command.0 read.commands (command_within r.users name words command.0 all command.1);
+      users = read_form.users;
+      workers = read_form.workers;
+      commands = All-push (CanSayCommand r.users) r.commands command.0 read_form.commands (command_within r.users name words command.0 all command.1);
     })
 
 user_line_read : (r : Reading) (words : List (List ℕ)) (next : Reading) → Read r → list_all is_word words ≡ true → after_user r words ≡ Some next → Read next
 user_line_read r words next before all is =
-    let name = bind_some (read user_line r.users words) (with_user r) next is in
+    let name = bind_some (read_form user_line r.users words) (with_user r) next is in
     let said = line_within user_line r.users words name.0 all name.1 in
     user_read r name.0 next before (subst (λ (n : List ℕ). is_user_name n ≡ true) said.2 said.1.0) name.2
 
 workers_line_read : (r : Reading) (words : List (List ℕ)) (next : Reading) → Read r → after_workers r words ≡ Some next → Read next
 workers_line_read r words next before is =
-    let number = bind_some (read workers_line r.users words) (with_workers r) next is in
+    let number = bind_some (read_form workers_line r.users words) (with_workers r) next is in
     workers_read r number.0 next before number.2
 
 words_read : (r : Reading) (words : List (List ℕ)) (next : Reading) → Read r → list_all is_word words ≡ true → after_words r words ≡ Some next → Read next
@@ -101,9 +101,9 @@ words_read r (name ∷ words) next before all is =
 
 line_read : (r : Reading) (line : List ℕ) (next : Reading) → Read r → list_all is_in_line line ≡ true → after_line r line ≡ Some next → Read next
 unfolding after_line
-line_read r line next read all is =
-    by_name (is_skipped line) (Some r) (after_words r (words_of line)) next (Read next) (λ same. subst Read (of_some r next same) read)
-    (words_read r (words_of line) next read (words_are_words line all)) is
+line_read r line next read_form all is =
+    by_name (is_skipped line) (Some r) (after_words r (words_of line)) next (Read next) (λ same. subst Read (of_some r next same) read_form)
+    (words_read r (words_of line) next read_form (words_are_words line all)) is
 
 -- what a good script says
 pub record Asked (config : Configuration) (commands : List Command) : Type 0 where
@@ -122,25 +122,25 @@ worker_count : (workers : Option ℕ) → IfSome workers (λ n. (1 ≤ n) × (n 
 worker_count None within = (omega arith, omega arith)
 worker_count (Some n) within = within
 
-continued : (read : Option Reading) (number : ℕ) (lines : List (List ℕ)) (good : Script) (P : Type 0) → (Bad number ≡ good → P)
-    → ((next : Reading) → read ≡ Some next → script_from next (number + 1) lines ≡ good → P)
-    → elim read [ None ↦ Bad number | Some next ↦ script_from next (number + 1) lines ] ≡ good → P
+continued : (read_form : Option Reading) (number : ℕ) (lines : List (List ℕ)) (good : Script) (P : Type 0) → (Bad number ≡ good → P)
+    → ((next : Reading) → read_form ≡ Some next → script_from next (number + 1) lines ≡ good → P)
+    → elim read_form [ None ↦ Bad number | Some next ↦ script_from next (number + 1) lines ] ≡ good → P
 continued None number lines good P bad more is = bad is
 continued (Some next) number lines good P bad more is = more next refl is
 
 lines_read : (r : Reading) (number : ℕ) (lines : List (List ℕ)) (config : Configuration) (commands : List Command) → Read r
     → list_all (list_all is_in_line) lines ≡ true → script_from r number lines ≡ Good config commands → Asked config commands
 unfolding config_of commands_of
-lines_read r number [] config commands read all is =
-    let count = worker_count r.workers read.workers in
+lines_read r number [] config commands read_form all is =
+    let count = worker_count r.workers read_form.workers in
     let same = ap config_of is in
     let asked : Asked (record { users = r.users; workers = unwrap_or r.workers 1 }) r.commands =
-    record { configured = names.with_workers r.users (unwrap_or r.workers 1) read.users count.0 count.1; said = read.commands } in
+    record { configured = names.with_workers r.users (unwrap_or r.workers 1) read_form.users count.0 count.1; said = read_form.commands } in
     subst (Asked config) (ap commands_of is) (subst (λ (c : Configuration). Asked c r.commands) same asked)
-lines_read r number (line ∷ lines) config commands read all is =
+lines_read r number (line ∷ lines) config commands read_form all is =
     let parts = both_true (list_all is_in_line line) (list_all (list_all is_in_line) lines) all in
     continued (after_line r line) number lines (Good config commands) (Asked config commands) (λ bad. cc)
-    (λ next after more. lines_read next (number + 1) lines config commands (line_read r line next read parts.0 after) parts.1 more) is
+    (λ next after more. lines_read next (number + 1) lines config commands (line_read r line next read_form parts.0 after) parts.1 more) is
 
 pub script_read : (text : List ℕ) (config : Configuration) (commands : List Command) → script text ≡ Good config commands → Asked config commands
 unfolding script

@@ -7,7 +7,7 @@ use Rattle.qx_types.specs.declared.limits.TheConstants.Limits.{USERS, WORKERS}
 use Rattle.qx_script.specs.declared.command.Command.{Command}
 use Rattle.qx_script.specs.declared.script.Script as code
 use Rattle.qx_script.specs.declared.script.Script.TheVariants as variant
-use Rattle.qx_calls.specs.Forms.{read}
+use Rattle.qx_calls.specs.Forms.{read_form}
 use Rattle.qx_script.specs.Lines.{command_of, user_line, workers_line}
 use Rattle.qx_words.specs.Words.{◌>>=◌, lines_of, words_of}
 
@@ -48,10 +48,10 @@ with_command reading command =
     record { users = reading.users; workers = reading.workers; commands = reading.commands ++ command ∷ [] }
 
 abbrev pub after_user : Reading → List (List ℕ) → Option Reading
-after_user reading words = read user_line reading.users words >>= with_user reading
+after_user reading words = read_form user_line reading.users words >>= with_user reading
 
 abbrev pub after_workers : Reading → List (List ℕ) → Option Reading
-after_workers reading words = read workers_line reading.users words >>= with_workers reading
+after_workers reading words = read_form workers_line reading.users words >>= with_workers reading
 
 -- a line in words, by its first; none where the line is bad
 unfoldable pub after_words : Reading → List (List ℕ) → Option Reading

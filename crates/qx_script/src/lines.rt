@@ -1,6 +1,6 @@
 ghost use Rattle.std.specs.Prelude.{◌≡◌, ℕ, IfOk, IfSome, List, map, option_map, true};
 ghost use Rattle.qx_types.specs.Configuration.{is_user_name};
-ghost use Rattle.qx_calls.specs.Forms.{read};
+ghost use Rattle.qx_calls.specs.Forms.{read_form};
 ghost use Rattle.qx_script.specs.Lines.{command_of, do_of, interrupt_line, mount_line, perform_line, prio_line, line_of_receive, reply_line, serve_line, show_line, spawn_line, step_in_line, trace_line, user_line, workers_line};
 
 use crate::command::Command;
@@ -12,7 +12,7 @@ use std::alloc::Global;
 
 /// `user NAME`
 pub fn user<'a>(words: &[&'a [u8]]) -> Option<&'a [u8]>
-    ensures name { (users : List (List ℕ)) → option_map (λ name. name.now) result ≡ read user_line users (map (λ word. word.now) words.now) }
+    ensures name { (users : List (List ℕ)) → option_map (λ name. name.now) result ≡ read_form user_line users (map (λ word. word.now) words.now) }
     ensures good { IfSome result (λ name. is_user_name name.now ≡ true) }
 {
     let [word] = words else {
@@ -23,7 +23,7 @@ pub fn user<'a>(words: &[&'a [u8]]) -> Option<&'a [u8]>
 
 /// `workers NUMBER`
 pub fn workers(words: &[&[u8]]) -> Option<u8>
-    ensures number { (users : List (List ℕ)) → result ≡ read workers_line users (map (λ word. word.now) words.now) }
+    ensures number { (users : List (List ℕ)) → result ≡ read_form workers_line users (map (λ word. word.now) words.now) }
 {
     let [word] = words else {
         return None;
@@ -33,7 +33,7 @@ pub fn workers(words: &[&[u8]]) -> Option<u8>
 
 /// `spawn USER THREADS PRIORITY`
 fn spawn(users: &Users, words: &[&[u8]]) -> Option<Step>
-    ensures step { result ≡ read spawn_line users.now (map (λ word. word.now) words.now) }
+    ensures step { result ≡ read_form spawn_line users.now (map (λ word. word.now) words.now) }
 {
     let [user, threads, prio] = words else {
         return None;
@@ -50,7 +50,7 @@ fn spawn(users: &Users, words: &[&[u8]]) -> Option<Step>
 
 /// `reply THREAD`
 fn reply(users: &Users, words: &[&[u8]]) -> Option<Step>
-    ensures step { result ≡ read reply_line users.now (map (λ word. word.now) words.now) }
+    ensures step { result ≡ read_form reply_line users.now (map (λ word. word.now) words.now) }
 {
     let [word] = words else {
         return None;
@@ -61,7 +61,7 @@ fn reply(users: &Users, words: &[&[u8]]) -> Option<Step>
 
 /// `prio THREAD PRIORITY`
 fn prio(users: &Users, words: &[&[u8]]) -> Option<Step>
-    ensures step { result ≡ read prio_line users.now (map (λ word. word.now) words.now) }
+    ensures step { result ≡ read_form prio_line users.now (map (λ word. word.now) words.now) }
 {
     let [thread_word, prio] = words else {
         return None;
@@ -73,7 +73,7 @@ fn prio(users: &Users, words: &[&[u8]]) -> Option<Step>
 
 /// `interrupt THREAD`
 fn interrupt(users: &Users, words: &[&[u8]]) -> Option<Step>
-    ensures step { result ≡ read interrupt_line users.now (map (λ word. word.now) words.now) }
+    ensures step { result ≡ read_form interrupt_line users.now (map (λ word. word.now) words.now) }
 {
     let [word] = words else {
         return None;
@@ -84,7 +84,7 @@ fn interrupt(users: &Users, words: &[&[u8]]) -> Option<Step>
 
 /// `mount THREAD PATH ram|pipe`
 fn mount(alloc: Global, users: &Users, words: &[&[u8]]) -> Result<Option<Step>, NoMemory>
-    ensures step { IfOk result (λ step. step ≡ read mount_line users.now (map (λ word. word.now) words.now)) }
+    ensures step { IfOk result (λ step. step ≡ read_form mount_line users.now (map (λ word. word.now) words.now)) }
 {
     let [thread_word, path, manager_word] = words else {
         return Ok(None);
@@ -105,7 +105,7 @@ fn mount(alloc: Global, users: &Users, words: &[&[u8]]) -> Result<Option<Step>, 
 
 /// `receive WORKER ram|pipe`
 fn receive(words: &[&[u8]]) -> Option<Step>
-    ensures step { (users : List (List ℕ)) → result ≡ read line_of_receive users (map (λ word. word.now) words.now) }
+    ensures step { (users : List (List ℕ)) → result ≡ read_form line_of_receive users (map (λ word. word.now) words.now) }
 {
     let [worker, manager_word] = words else {
         return None;
@@ -117,7 +117,7 @@ fn receive(words: &[&[u8]]) -> Option<Step>
 
 /// `perform WORKER MOMENT`
 fn perform(words: &[&[u8]]) -> Option<Step>
-    ensures step { (users : List (List ℕ)) → result ≡ read perform_line users (map (λ word. word.now) words.now) }
+    ensures step { (users : List (List ℕ)) → result ≡ read_form perform_line users (map (λ word. word.now) words.now) }
 {
     let [worker, moment_word] = words else {
         return None;
@@ -161,7 +161,7 @@ fn step(
 
 /// `serve MOMENT`
 fn serve(words: &[&[u8]]) -> Option<Command>
-    ensures command { (users : List (List ℕ)) → result ≡ read serve_line users (map (λ word. word.now) words.now) }
+    ensures command { (users : List (List ℕ)) → result ≡ read_form serve_line users (map (λ word. word.now) words.now) }
 {
     let [word] = words else {
         return None;
@@ -189,7 +189,7 @@ fn do_call(alloc: Global, users: &Users, words: &[&[u8]]) -> Result<Option<Comma
 
 /// `show USER`
 fn show(users: &Users, words: &[&[u8]]) -> Option<Command>
-    ensures command { result ≡ read show_line users.now (map (λ word. word.now) words.now) }
+    ensures command { result ≡ read_form show_line users.now (map (λ word. word.now) words.now) }
 {
     let [word] = words else {
         return None;
@@ -200,7 +200,7 @@ fn show(users: &Users, words: &[&[u8]]) -> Option<Command>
 
 /// `trace`, whoever the users are.
 fn trace(users: &Users, words: &[&[u8]]) -> Option<Command>
-    ensures command { result ≡ read trace_line users.now (map (λ word. word.now) words.now) }
+    ensures command { result ≡ read_form trace_line users.now (map (λ word. word.now) words.now) }
 {
     if !words.is_empty() {
         return None;

@@ -44,6 +44,10 @@ module _ (c : Channel) (ks : List (Option Kept)) (of : AreResourcesOf c ks) wher
   pub still-spawn : (user threads prio : ℕ) → AreResourcesOf (after_spawn c user threads prio) ks
   still-spawn user threads prio = of-users c (after_spawn c user threads prio) ks of (one user (λ processes. spawned processes threads prio (spawn_number processes threads prio)))
 
+  -- memory was refused once there was room for nodes
+  pub still-room : (room : ℕ) → AreResourcesOf (record c { room = room }) ks
+  still-room room = of-users c (record c { room = room }) ks of of.same
+
   pub still-ranking : (thread : Thread) (prio : ℕ) → AreResourcesOf (after_ranking c thread prio) ks
   still-ranking thread prio = of-users c (after_ranking c thread prio) ks of (one thread.proc.user.0 (λ processes. after_or processes (with_prio processes thread.proc.num thread.tid prio)))
 

@@ -1,6 +1,7 @@
 use Rattle.std.proofs.lemmas.Bool.{false≢true}
 use Rattle.qx_chan.specs.Users.{IsThreadReady, thread_row}
 use Rattle.qx_chan.proofs.RoomLemmas.{existing-attaches, ready-room}
+use Rattle.qx_chan.proofs.NodesLemmas.{shown-sent}
 use Rattle.qx_chan.proofs.SendLemmas.{Kept-sent, Kept-with_room, calls-nowhere, has-sender}
 use Rattle.qx_chan.proofs.channel.Channel.send.Goals as goal
 
@@ -27,3 +28,9 @@ invariant_of-self-2 c =
     let ready : IsThreadReady (thread_row c.self.inside.users c.args.thread) = rw (← c.self.view_is) at c.requires.ready in
     rw (c.attach.ensures.attached, c.send-2.ensures.sent, c.in_ok-send.ensures.ok, c.in_ok-reserve.ensures.ok)
     (Kept-sent c.self.inside.users _ c.args.thread c.args.sent ready (Kept-with_room _ _ _ c.self.invariant))
+
+pub returns-clause-ok : goal.returns-clause-ok
+returns-clause-ok c =
+    let ready : IsThreadReady (thread_row c.self.inside.users c.args.thread) = rw (← c.self.view_is) at c.requires.ready in
+    rw (← c.self.view_is, c.attach.ensures.attached, c.send-2.ensures.sent, c.in_ok-send.ensures.ok, c.in_ok-reserve.ensures.ok)
+    (shown-sent c.self.inside.users c.self.inside.queues c.args.thread c.args.sent ready c.self.invariant)

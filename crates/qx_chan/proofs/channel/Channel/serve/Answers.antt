@@ -1,4 +1,4 @@
-use Rattle.std.proofs.Common.{◌≡◌, Some, refl, ◌∙◌, sym, ap}
+use Rattle.std.proofs.Common.{◌≡◌, ◌+◌, Some, refl, ◌∙◌, sym, ap}
 use Rattle.std.proofs.lemmas.Bool.{false≢true}
 use Rattle.qx_chan.specs.Calls.{taken_call}
 use Rattle.qx_chan.specs.Users.{thread_row}
@@ -8,6 +8,8 @@ use Rattle.qx_chan.proofs.OutcomeLemmas.{outcome}
 use Rattle.qx_chan.proofs.PulseLemmas.{user-fits}
 use Rattle.qx_chan.proofs.RoomLemmas.{served-waits}
 use Rattle.qx_machine.specs.Rows.{row_at}
+use Rattle.qx_shared.specs.Shared.{Shared}
+use Rattle.qx_chan.proofs.NodesLemmas.{held, held-answered, held-did, room-told}
 use Rattle.qx_chan.proofs.channel.Channel.serve.Goals as goal
 
 pub returns-in_default-clause-ok : goal.returns-in_default-clause-ok
@@ -54,3 +56,13 @@ returns-clause-ok c =
     (outcome c.self.inside.users c.self.inside.queues c.args.thread c.in-Some.call taken c.self.invariant c.args.resources.now c.perform.new.resources c.perform.new.queues c.requires.user
     c.args.moment c.perform.new.reply c.in_ok-given.given _ refl
     (c.in_ok-given.ensures.did its.process its.sent.bytes (sends c.self.inside.users c.args.thread c.in-Some.call its)) c.answer.ensures.gone).1
+
+pub returns-clause-room : goal.returns-clause-room
+returns-clause-room c =
+    let taken : Some c.in-Some.call ≡ taken_call (thread_row c.self.inside.users c.args.thread) = rw (← c.self.view_is) at c.in-Some.ensures.call in
+    let its = received c.self.inside.users c.args.thread c.in-Some.call taken in
+    let proc = c.args.thread.proc in
+    let same = ap (λ (q : Shared). q.room + held q proc) c.give_answers.ensures.queues ∙ ap (λ (q : Shared). q.room + held q proc) c.answer.ensures.queues
+    ∙ held-answered c.perform.new.queues c.answer.new.users c.args.thread c.in-Some.call c.in_ok-given.given
+    ∙ held-did c.args.resources.now c.perform.new.resources c.self.inside.queues c.perform.new.queues c.perform.new.reply proc c.in_ok-given.given _ (c.in_ok-given.ensures.did its.process its.sent.bytes (sends c.self.inside.users c.args.thread c.in-Some.call its)) in
+    rw (← c.self.view_is) (room-told c.self.inside.users c.give_answers.new.users c.self.inside.queues c.give_answers.new.queues proc c.self.inside.queues.room c.self.invariant (invariant_of-self-2 c) same)

@@ -1,9 +1,13 @@
-use Rattle.std.proofs.Common.{◌≡◌, Ok}
-use Rattle.qx_machine.specs.Rows.{row_at}
+use Rattle.std.proofs.Common.{◌≡◌, ◌-◌, ◌*◌, ◌∙◌, Ok, ap, sym}
+use Rattle.qx_machine.specs.Clients.{spawn_number}
+use Rattle.qx_machine.specs.Rows.{row_at, with_row}
+use Rattle.qx_procs.specs.Calls.{spawned}
 use Rattle.qx_shared.proofs.PresenceLemmas.{lines-process}
+use Rattle.qx_shared.specs.Shared.{Shared}
+use Rattle.qx_chan.specs.Nodes.{room_started}
 use Rattle.qx_chan.specs.Users.{spawn_number_in}
 use Rattle.qx_chan.proofs.SendLemmas.{Kept-room}
-use Rattle.qx_chan.proofs.StartLemmas.{Kept-started, fresh, pipes-process, starts, user_within}
+use Rattle.qx_chan.proofs.StartLemmas.{Kept-started, fresh, pipes-process, room-process, room-spare, room-started, starts, user_within}
 use Rattle.qx_chan.proofs.channel.Channel.start.Goals as goal
 
 pub add_process-requires-clause-fresh : goal.add_process-requires-clause-fresh
@@ -23,4 +27,17 @@ invariant_of-self-2 c =
     (Kept-started c.self.inside.users c.args.proc c.args.threads c.args.prio.0 (starts c.self.inside.users c.args.proc c.args.threads c.args.prio.0 number) c.in_ok-spawn.ensures.places _ (Kept-room _ _ _ c.self.invariant))
 
 pub returns-clause-ok : goal.returns-clause-ok
-returns-clause-ok c = rw (← c.self.view_is, c.in_ok-spawn.ensures.ok, c.add_process.ensures.added, lines-process c.reserve.new.self c.args.proc c.args.threads, pipes-process c.reserve.new.self c.args.proc c.args.threads, c.in_ok-reserve.ensures.ok)
+returns-clause-ok c =
+    let number : spawn_number_in c.args.threads c.args.prio.0 (row_at c.self.inside.users c.args.proc.user.0) ≡ Ok c.args.proc.num = rw (← c.self.view_is) at c.requires.number in
+    let before = c.self.inside.queues in
+    let reserved = c.reserve.new.self in
+    let lines = ap (λ (q : Shared). q.lines) c.add_process.ensures.added ∙ lines-process reserved c.args.proc c.args.threads ∙ ap (λ (q : Shared). q.lines) c.in_ok-reserve.ensures.ok in
+    let pipes = ap (λ (q : Shared). q.pipes) c.add_process.ensures.added ∙ pipes-process reserved c.args.proc c.args.threads ∙ ap (λ (q : Shared). q.pipes) c.in_ok-reserve.ensures.ok in
+    let room = ap (λ (q : Shared). q.room) c.add_process.ensures.added ∙ room-process reserved c.args.proc c.args.threads ∙ ap (λ (q : Shared). q.room - 2 * c.args.threads) c.in_ok-reserve.ensures.ok
+    ∙ room-started before.room c.args.threads ∙ sym (ap (room_started before.room c.args.threads) number) in
+    rw (← c.self.view_is, c.in_ok-spawn.ensures.ok) (λ i. record { users = with_row c.self.inside.users c.args.proc.user.0 (λ processes. spawned processes c.args.threads c.args.prio.0 (spawn_number processes c.args.threads c.args.prio.0)); lines = lines i; pipes = pipes i; room = room i })
+
+pub returns-clause-spare : goal.returns-clause-spare
+returns-clause-spare c =
+    let room = ap (λ (q : Shared). q.room) c.add_process.ensures.added ∙ room-process c.reserve.new.self c.args.proc c.args.threads ∙ ap (λ (q : Shared). q.room - 2 * c.args.threads) c.in_ok-reserve.ensures.ok in
+    rw (← c.self.view_is) (room-spare c.add_process.new.self.room c.self.inside.queues.room c.args.threads room)

@@ -5,4 +5,4 @@ pub invariant_of-self-2 : goal.invariant_of-self-2
 invariant_of-self-2 c = Kept-answer c.self.inside.users c.self.inside.queues c.args.thread c.in-Some.cell.now _ c.in-Some.ensures.row c.self.invariant c.take_answer.result c.take_answer.ensures.answer c.take_answer.ensures.row
 
 pub returns-clause-taken : goal.returns-clause-taken
-returns-clause-taken c = rw (← c.self.view_is) (after_answer c.self.inside.users c.self.inside.queues.lines c.self.inside.queues.pipes c.args.thread c.in-Some.cell.now _ c.take_answer.result c.in-Some.ensures.row c.take_answer.ensures.answer c.take_answer.ensures.row)
+returns-clause-taken c = rw (← c.self.view_is) (after_answer c.self.inside.users c.self.inside.queues.lines c.self.inside.queues.pipes c.self.inside.queues.room c.args.thread c.in-Some.cell.now _ c.take_answer.result c.in-Some.ensures.row c.take_answer.ensures.answer c.take_answer.ensures.row)
