@@ -22,9 +22,11 @@ use Rattle.qx_machine.specs.Rows.{with_row}
 use Rattle.qx_queues.specs.Queues.{stands, unblock_call}
 use Rattle.qx_shared.specs.Shared.{Shared, with_shared_line}
 use Rattle.qx_queues.proofs.LineLemmas.{call-replied_other, call-withdrawn, replied-none, stands-replied, stands-withdrawn_other}
-use Rattle.qx_chan.specs.Calls.{queued_call, taken_call}
-use Rattle.qx_chan.specs.Channel.{failed, process_replied}
-use Rattle.qx_chan.specs.Kept.{StandTogether, asked_call, servers_settled, stands_at, waits_for}
+use Rattle.qx_chan.specs.Calls.{queued_call}
+use Rattle.qx_chan.specs.inner.Calls.{taken_call}
+use Rattle.qx_chan.specs.Channel.{failed}
+use Rattle.qx_chan.specs.inner.Channel.{process_replied}
+use Rattle.qx_chan.specs.inner.Kept.{StandTogether, asked_call, servers_settled, stands_at, waits_for}
 use Rattle.qx_chan.specs.Nodes.{attached_at}
 use Rattle.qx_chan.specs.Users.{Users, process_of, thread_row, with_process_of, with_thread_row}
 use Rattle.qx_chan.specs.declared.call.Call.{Call}

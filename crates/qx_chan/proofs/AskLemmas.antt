@@ -16,7 +16,7 @@ use Rattle.qx_shared.specs.Shared.{Shared, with_shared_line}
 use Rattle.qx_queues.proofs.EntryLemmas.{is_same_thread-differs, is_same_thread-self}
 use Rattle.qx_queues.proofs.LineLemmas.{call-asked, stands-asked}
 use Rattle.qx_chan.specs.Calls.{unasked_call, unasked_in}
-use Rattle.qx_chan.specs.Kept.{StandTogether, asked_call, is_waiting_for, stands_at, waits_for}
+use Rattle.qx_chan.specs.inner.Kept.{StandTogether, asked_call, is_waiting_for, stands_at, waits_for}
 use Rattle.qx_chan.specs.Users.{Users, thread_row, with_thread_row}
 use Rattle.qx_chan.specs.declared.call.Call.{Call}
 use Rattle.qx_chan.proofs.CallLemmas.{unasked_is, waits}

@@ -8,7 +8,7 @@ use Rattle.qx_machine.specs.declared.rows.State.TheVariants.{Answered, Queued, R
 use Rattle.qx_machine.specs.declared.rows.ThreadRow.{ThreadRow}
 use Rattle.qx_machine.specs.Performing.{taken_in}
 use Rattle.qx_chan.specs.Calls.{sent_call, queued_call, queued_in, unasked_in}
-use Rattle.qx_chan.specs.Kept.{stands_at}
+use Rattle.qx_chan.specs.inner.Kept.{stands_at}
 use Rattle.qx_chan.specs.declared.call.Call.{Call}
 use Rattle.qx_chan.proofs.RowReads.{option_cases}
 

@@ -21,8 +21,8 @@ use Rattle.qx_machine.specs.Rows.{row_at, with_row}
 use Rattle.qx_queues.specs.Queues.{UsersAnswer, caller, has_call, unblock_call}
 use Rattle.qx_shared.specs.Shared.{HasNoCall, Shared, users_given, waiting_in, with_shared_line}
 use Rattle.qx_queues.proofs.LineLemmas.{call-replied_other, replied-none, stands-replied}
-use Rattle.qx_chan.specs.Answers.{given_lines, given_users}
-use Rattle.qx_chan.specs.Kept.{Answering, IsAwaited, StandTogether, asked_call, is_asked_at, is_queued_at, is_waiting_for, stands_at, waits_for}
+use Rattle.qx_chan.specs.inner.Answers.{given_lines, given_users}
+use Rattle.qx_chan.specs.inner.Kept.{Answering, IsAwaited, StandTogether, asked_call, is_asked_at, is_queued_at, is_waiting_for, stands_at, waits_for}
 use Rattle.qx_chan.specs.Users.{Users, thread_row, with_thread_row}
 use Rattle.qx_chan.proofs.AnswerLemmas.{and_last, and_middle, answered_row}
 use Rattle.qx_chan.proofs.RowReads.{option_cases, row_at-with_same, with_row-fixed, with_row-twice}

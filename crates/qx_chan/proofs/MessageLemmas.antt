@@ -21,9 +21,10 @@ use Rattle.qx_resmgr.specs.declared.functions.Done.{Done}
 use Rattle.qx_resmgr.specs.declared.functions.Done.TheVariants.{NoReply, Reply}
 use Rattle.qx_resources.specs.State as state
 use Rattle.qx_resources.specs.State.{told}
-use Rattle.qx_chan.specs.Calls.{taken_bytes, taken_call}
-use Rattle.qx_chan.specs.Kept.{StandTogether}
-use Rattle.qx_chan.specs.Serving.{Sends, Serves, caller_of_call, deed_in, part_in}
+use Rattle.qx_chan.specs.inner.Calls.{taken_bytes, taken_call}
+use Rattle.qx_chan.specs.inner.Kept.{StandTogether}
+use Rattle.qx_chan.specs.inner.Serving.{Sends, caller_of_call, deed_in}
+use Rattle.qx_chan.specs.Serving.{Serves, part_in}
 use Rattle.qx_chan.specs.Users.{Users, process_of_user, process_of, thread_row, with_thread_row}
 use Rattle.qx_chan.specs.declared.call.Call.{Call}
 use Rattle.qx_chan.proofs.AnswerLemmas.{taken-stands, taken-unwaiting}

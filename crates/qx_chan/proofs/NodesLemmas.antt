@@ -27,9 +27,9 @@ use Rattle.qx_resmgr.specs.Deeds.{Did}
 use Rattle.qx_resmgr.specs.declared.functions.Done.{Done}
 use Rattle.qx_resmgr.specs.declared.functions.Done.TheVariants.{NoReply, Reply}
 use Rattle.qx_resources.specs.State as state
-use Rattle.qx_chan.specs.Answers.{answered_queues}
+use Rattle.qx_chan.specs.inner.Answers.{answered_queues}
 use Rattle.qx_chan.specs.Channel.{after_send}
-use Rattle.qx_chan.specs.Kept.{StandTogether, servers_settled, settled_at, with_attached, with_room}
+use Rattle.qx_chan.specs.inner.Kept.{StandTogether, servers_settled, settled_at, with_attached, with_room}
 use Rattle.qx_chan.specs.Nodes.{attached_at, attaches, disconnect_nodes, room_for, room_settled}
 use Rattle.qx_chan.specs.Users.{IsThreadReady, Users, process_of, thread_row, with_process_of}
 use Rattle.qx_chan.specs.declared.call.Call.{Call}

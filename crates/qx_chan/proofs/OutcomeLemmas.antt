@@ -33,11 +33,13 @@ use Rattle.qx_resmgr.specs.declared.functions.Done.{Done}
 use Rattle.qx_resmgr.specs.declared.functions.Done.TheVariants as done
 use Rattle.qx_resources.specs.State as state
 use Rattle.qx_resources.specs.State.{told}
-use Rattle.qx_chan.specs.Answers.{answered_queues, answered_users, given_lines, given_users, without_pulse}
-use Rattle.qx_chan.specs.Calls.{taken_call}
-use Rattle.qx_chan.specs.Channel.{failed, process_replied}
-use Rattle.qx_chan.specs.Kept.{Answering, StandTogether, asked_call, is_asked_at, is_queued_at, is_waiting_for, stands_at, waits_for}
-use Rattle.qx_chan.specs.Serving.{Serves, caller_of_call, deed_in}
+use Rattle.qx_chan.specs.inner.Answers.{answered_queues, answered_users, given_lines, given_users, without_pulse}
+use Rattle.qx_chan.specs.inner.Calls.{taken_call}
+use Rattle.qx_chan.specs.Channel.{failed}
+use Rattle.qx_chan.specs.inner.Channel.{process_replied}
+use Rattle.qx_chan.specs.inner.Kept.{Answering, StandTogether, asked_call, is_asked_at, is_queued_at, is_waiting_for, stands_at, waits_for}
+use Rattle.qx_chan.specs.Serving.{Serves}
+use Rattle.qx_chan.specs.inner.Serving.{caller_of_call, deed_in}
 use Rattle.qx_chan.specs.Users.{Users, process_of_user, process_of, thread_row, with_process_of, with_thread_row}
 use Rattle.qx_chan.specs.declared.call.Call.{Call}
 use Rattle.qx_chan.proofs.AnswerLemmas.{IsAnswer, fail_served, fails, replies, reply_served}

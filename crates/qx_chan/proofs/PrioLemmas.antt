@@ -16,7 +16,7 @@ use Rattle.qx_machine.specs.Waiting.{Pipes}
 use Rattle.qx_shared.specs.Shared.{Shared}
 use Rattle.qx_machine.specs.declared.rows.Queued.{Queued as Item}
 use Rattle.qx_chan.specs.Channel.{Channel, after_taking}
-use Rattle.qx_chan.specs.Kept.{StandTogether, asked_call, is_asked_at, is_queued_at, is_waiting_for, stands_at, waits_for}
+use Rattle.qx_chan.specs.inner.Kept.{StandTogether, asked_call, is_asked_at, is_queued_at, is_waiting_for, stands_at, waits_for}
 use Rattle.qx_chan.specs.Users.{Users, thread_row, with_thread_row}
 use Rattle.qx_chan.proofs.ProcessLemmas.{with_thread-put, with_thread-same}
 use Rattle.qx_chan.proofs.RowReads.{option_cases}

@@ -15,8 +15,8 @@ use Rattle.qx_machine.proofs.Waiters.{InDeed, cancel-gives}
 use Rattle.qx_shared.specs.Shared.{Shared, shared_after, state_after, users_given}
 use Rattle.qx_resources.specs.State as state
 use Rattle.qx_resources.specs.State.{HasUser, told}
-use Rattle.qx_chan.specs.Answers.{given_lines}
-use Rattle.qx_chan.specs.Kept.{Answering, StandTogether}
+use Rattle.qx_chan.specs.inner.Answers.{given_lines}
+use Rattle.qx_chan.specs.inner.Kept.{Answering, StandTogether}
 use Rattle.qx_chan.specs.Serving.{Serves}
 use Rattle.qx_chan.specs.Users.{Users}
 use Rattle.qx_chan.proofs.GivenLemmas.{lines-machine, resources-machine, users-machine}

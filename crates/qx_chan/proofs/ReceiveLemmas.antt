@@ -17,7 +17,7 @@ use Rattle.qx_queues.specs.Queues.{IsGone, sender, sender_of, stands, unblock_ca
 use Rattle.qx_shared.specs.Shared.{Shared, with_shared_line}
 use Rattle.qx_chan.specs.Channel.{users_with_taken}
 use Rattle.qx_chan.specs.Users.{Users, thread_row, with_thread_row}
-use Rattle.qx_chan.specs.Kept.{StandTogether, asked_call, is_asked_at, is_queued_at, is_waiting_for, stands_at, waits_for}
+use Rattle.qx_chan.specs.inner.Kept.{StandTogether, asked_call, is_asked_at, is_queued_at, is_waiting_for, stands_at, waits_for}
 use Rattle.qx_queues.proofs.EntryLemmas.{is_same_thread-self}
 use Rattle.qx_queues.proofs.LineLemmas.{call-received, call-received_other, stands-received, stands-received_other}
 use Rattle.qx_chan.proofs.AttachedLemmas.{eqb-differs}

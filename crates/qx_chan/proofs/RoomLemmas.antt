@@ -14,9 +14,11 @@ use Rattle.qx_machine.specs.declared.rows.ThreadRow.{ThreadRow}
 use Rattle.qx_machine.specs.Performing.{taken_in}
 use Rattle.qx_machine.specs.Processes.{keeps_room, served_state, served_thread, with_thread}
 use Rattle.qx_process.specs.Reads.{BringsRoom, BringsRoomIn, has_own_room, is_waiting}
-use Rattle.qx_chan.specs.Calls.{queued_call, queued_in, taken_call}
+use Rattle.qx_chan.specs.Calls.{queued_call, queued_in}
+use Rattle.qx_chan.specs.inner.Calls.{taken_call}
 use Rattle.qx_chan.specs.Channel.{IsExisting}
-use Rattle.qx_chan.specs.Kept.{attaches, is_waiting_for, waits_for}
+use Rattle.qx_chan.specs.Kept.{attaches}
+use Rattle.qx_chan.specs.inner.Kept.{is_waiting_for, waits_for}
 use Rattle.qx_chan.specs.Users.{IsThreadReady, Users, thread_row, with_thread_row}
 use Rattle.qx_chan.specs.declared.call.Call.{Call}
 use Rattle.qx_chan.proofs.CallLemmas.{queued_is, taken_is, waits}

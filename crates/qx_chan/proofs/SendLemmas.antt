@@ -17,7 +17,7 @@ use Rattle.qx_machine.specs.Servers.{is_numbered}
 use Rattle.qx_queues.specs.Queues.{caller, has_answer_among, message_of, stands, unblock_call}
 use Rattle.qx_shared.specs.Shared.{HasNoCall, Shared, has_disconnect_node, has_thread, waiting_in, with_shared_server, with_shared_line}
 use Rattle.qx_chan.specs.Users.{IsThreadReady, Users, process_of, thread_row, with_process_of}
-use Rattle.qx_chan.specs.Kept.{StandTogether, asked_call, is_queued_at, stands_at, waits_for, with_attached, with_room}
+use Rattle.qx_chan.specs.inner.Kept.{StandTogether, asked_call, is_queued_at, stands_at, waits_for, with_attached, with_room}
 use Rattle.qx_chan.specs.Nodes.{attached_at, attaches}
 use Rattle.qx_queues.proofs.EntryLemmas.{is_same_thread-differs, is_same_thread-self, or_false, or_true}
 use Rattle.qx_queues.proofs.LineLemmas.{call-sent, stands-sent}

@@ -23,10 +23,11 @@ use Rattle.qx_queues.specs.Waits.{users_call}
 use Rattle.qx_shared.specs.Shared.{Shared, calls_at, has_disconnect_node, has_thread, nothing_shared, pipes_of, users_given, waiting_calls, waiting_in, with_pipes}
 use Rattle.qx_resources.specs.State as state
 use Rattle.qx_resources.specs.State.{told}
-use Rattle.qx_chan.specs.Answers.{given_lines, given_users}
+use Rattle.qx_chan.specs.inner.Answers.{given_lines, given_users}
 use Rattle.qx_chan.specs.Channel.{Channel, lists}
-use Rattle.qx_chan.specs.Kept.{Answering, IsAwaited, IsWaiting, StandTogether}
-use Rattle.qx_chan.specs.Serving.{PartServed, Serves, part_in}
+use Rattle.qx_chan.specs.inner.Kept.{Answering, IsAwaited, IsWaiting, StandTogether}
+use Rattle.qx_chan.specs.inner.Serving.{PartServed}
+use Rattle.qx_chan.specs.Serving.{Serves, part_in}
 use Rattle.qx_chan.specs.Users.{Users}
 use Rattle.qx_chan.proofs.RowReads.{with_row-fixed}
 

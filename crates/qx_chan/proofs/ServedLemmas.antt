@@ -23,10 +23,10 @@ use Rattle.qx_machine.specs.Processes.{Process, answered_thread}
 use Rattle.qx_machine.specs.Rows.{row_at, with_row}
 use Rattle.qx_queues.specs.Queues.{unblock_call}
 use Rattle.qx_shared.specs.Shared.{Shared, users_given, with_shared_line, without_shared_server}
-use Rattle.qx_chan.specs.Answers.{given_lines, given_users}
-use Rattle.qx_chan.specs.Calls.{taken_call}
+use Rattle.qx_chan.specs.inner.Answers.{given_lines, given_users}
+use Rattle.qx_chan.specs.inner.Calls.{taken_call}
 use Rattle.qx_chan.specs.Channel.{failed}
-use Rattle.qx_chan.specs.Kept.{Answering, servers_settled, settled_at}
+use Rattle.qx_chan.specs.inner.Kept.{Answering, servers_settled, settled_at}
 use Rattle.qx_chan.specs.Nodes.{attached_at}
 use Rattle.qx_chan.specs.Users.{Users, process_of, thread_row, with_process_of}
 use Rattle.qx_chan.specs.declared.call.Call.{Call}

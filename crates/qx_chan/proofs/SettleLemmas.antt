@@ -14,7 +14,7 @@ use Rattle.qx_machine.specs.Servers.{is_numbered}
 use Rattle.qx_queues.specs.Queues.{stands, unblock_call}
 use Rattle.qx_shared.specs.Shared.{Shared, has_disconnect_node, has_thread, waiting_in, without_shared_server, users_waiting}
 use Rattle.qx_chan.specs.Users.{Users, process_of, thread_row}
-use Rattle.qx_chan.specs.Kept.{IsWaiting, StandTogether, asked_call, servers_settled, settled_at, settled_number, stands_at}
+use Rattle.qx_chan.specs.inner.Kept.{IsWaiting, StandTogether, asked_call, servers_settled, settled_at, settled_number, stands_at}
 use Rattle.qx_chan.specs.Nodes.{attached_at}
 use Rattle.qx_queues.proofs.EntryLemmas.{or_true}
 use Rattle.qx_queues.proofs.NodesLemmas.{same_proc}

@@ -31,9 +31,10 @@ use Rattle.qx_machine.specs.Waiting.{no_pipes}
 use Rattle.qx_types.specs.declared.limits.TheConstants.Limits.{INODES}
 use Rattle.qx_shared.proofs.PresenceLemmas.{has-process, lines-process, servers-process}
 use Rattle.qx_chan.specs.Channel.{Channel, after_spawn}
-use Rattle.qx_chan.specs.Users.{HasPlace, Users, no_processes, process_of_user, process_of, spawn_number_in, thread_row}
+use Rattle.qx_chan.specs.inner.Users.{HasPlace}
+use Rattle.qx_chan.specs.Users.{Users, no_processes, process_of_user, process_of, spawn_number_in, thread_row}
 use Rattle.qx_process.proofs.RowLemmas.{row_at-get_or, set-row, with_row-none}
-use Rattle.qx_chan.specs.Kept.{IsWaiting, StandTogether, asked_call, stands_at, waits_for}
+use Rattle.qx_chan.specs.inner.Kept.{IsWaiting, StandTogether, asked_call, stands_at, waits_for}
 use Rattle.qx_chan.specs.Nodes.{attached_at, room_started}
 use Rattle.qx_queues.proofs.EntryLemmas.{or_false}
 use Rattle.qx_queues.proofs.NodesLemmas.{same_proc}

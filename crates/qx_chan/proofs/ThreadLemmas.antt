@@ -17,7 +17,7 @@ use Rattle.qx_machine.specs.Rows.{with_row}
 use Rattle.qx_queues.specs.Queues.{stands, unblock_call}
 use Rattle.qx_shared.specs.Shared.{Shared, has_disconnect_node, has_thread, waiting_in, users_waiting}
 use Rattle.qx_chan.specs.Users.{Users, process_of, thread_row, with_process_of, with_thread_row}
-use Rattle.qx_chan.specs.Kept.{IsWaiting, StandTogether, asked_call, stands_at, waits_for}
+use Rattle.qx_chan.specs.inner.Kept.{IsWaiting, StandTogether, asked_call, stands_at, waits_for}
 use Rattle.qx_chan.specs.Nodes.{attached_at}
 use Rattle.qx_queues.proofs.EntryLemmas.{line_at-other, line_at-same}
 use Rattle.qx_queues.proofs.NodesLemmas.{same_or_not, same_proc}

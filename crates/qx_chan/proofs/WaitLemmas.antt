@@ -6,7 +6,7 @@ use Rattle.qx_machine.specs.declared.rows.ThreadRow.{ThreadRow}
 use Rattle.qx_queues.specs.Queues.{UsersCall, caller, is_same_thread}
 use Rattle.qx_queues.proofs.EntryLemmas.{is_same_thread-differs, is_same_thread-self}
 use Rattle.qx_queues.proofs.NodesLemmas.{same_or_not}
-use Rattle.qx_chan.specs.Kept.{IsWaiting, waits_for}
+use Rattle.qx_chan.specs.inner.Kept.{IsWaiting, waits_for}
 use Rattle.qx_chan.specs.Users.{Users, thread_row}
 
 -- where each thread that waits for a call does so still

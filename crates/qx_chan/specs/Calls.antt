@@ -1,5 +1,5 @@
 -- The call that a thread waits for, by its row.
-use Rattle.std.specs.Prelude.{ℕ, List, Option, Some, None, option_map, if◌then◌else◌}
+use Rattle.std.specs.Prelude.{Option, Some, None, option_map, if◌then◌else◌}
 use Rattle.qx_types.specs.declared.outcome.Answer.{Answer}
 use Rattle.qx_machine.specs.declared.rows.Sent.{Sent}
 use Rattle.qx_machine.specs.declared.rows.State.{State}
@@ -31,18 +31,9 @@ sent_call message (Some row) = call_by message row
 abbrev pub queued_call : Option ThreadRow → Option Call
 queued_call row = sent_call queued_in row
 
--- of one whose message was received and is not served
-abbrev pub taken_call : Option ThreadRow → Option Call
-taken_call row = sent_call taken_in row
-
 -- of one whose message was received, is not answered and is not asked to unblock it
 abbrev pub unasked_call : Option ThreadRow → Option Call
 unasked_call row = sent_call unasked_in row
-
--- the bytes of a thread's message that was received and is not served
-abbrev pub taken_bytes : Option ThreadRow → Option (List ℕ)
-taken_bytes None = None
-taken_bytes (Some row) = option_map (λ sent. sent.bytes) (taken_in row.state)
 
 -- a thread's message that was received and is not served
 abbrev pub taken_of : Option ThreadRow → Option Sent

@@ -8,8 +8,7 @@ use Rattle.qx_types.specs.declared.names.Proc.{Proc}
 use Rattle.qx_types.specs.declared.names.TheConstants.Manager.{COUNT}
 use Rattle.qx_types.specs.declared.names.Thread.{Thread}
 use Rattle.qx_types.specs.declared.outcome.Answer.{Answer}
-use Rattle.qx_types.specs.declared.outcome.Answer.TheVariants.{Reply, Failed}
-use Rattle.qx_machine.specs.declared.rows.Effect.{Effect}
+use Rattle.qx_types.specs.declared.outcome.Answer.TheVariants.{Failed}
 use Rattle.qx_machine.specs.declared.rows.Over.{Over}
 use Rattle.qx_machine.specs.declared.rows.Over.TheVariants.{Existing}
 use Rattle.qx_machine.specs.declared.rows.OwnItem.{OwnItem}
@@ -19,7 +18,7 @@ use Rattle.qx_machine.specs.declared.rows.Sent.{Sent}
 use Rattle.qx_machine.specs.Clients.{spawn_number}
 use Rattle.qx_machine.specs.Lines.{into, line_at, with_line}
 use Rattle.qx_machine.specs.Machine.{line_without, rank}
-use Rattle.qx_machine.specs.Processes.{Process, after_effect, after_error, after_reply, answered_thread, asked_thread, ready_thread, taken_thread, with_queued, with_thread}
+use Rattle.qx_machine.specs.Processes.{Process, after_error, answered_thread, asked_thread, ready_thread, taken_thread, with_queued, with_thread}
 use Rattle.qx_machine.specs.Waiting.{Pipes, no_pipes}
 use Rattle.qx_machine.specs.Rows.{row_at, with_row}
 use Rattle.qx_procs.specs.Calls.{after_or, spawned, with_prio}
@@ -94,10 +93,6 @@ after_receive c manager = record c {
   users = with_first_taken c.users (slice_get (channel_line c manager) 0);
   lines = with_line c.lines (manager_number manager) (drop 1);
 }
-
--- a thread of a process gets a reply
-abbrev pub process_replied : ℕ → Effect → ℕ → List ℕ → Over → Process → Process
-process_replied thread effect status bytes over process = after_reply thread over (with_thread thread (answered_thread (Reply status bytes)) (after_effect effect process))
 
 -- a thread of a process gets an error
 abbrev pub failed : ℕ → Errno → Over → Process → Process

@@ -1,8 +1,6 @@
-pub mod Answers
 pub mod Calls
 pub mod Channel
-pub mod Kept
-pub mod Lends
 pub mod Nodes
 pub mod Serving
 pub mod Users
+pub mod inner

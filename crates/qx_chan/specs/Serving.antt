@@ -1,60 +1,16 @@
 -- What serving a message or an unblock pulse makes of a channel and of its user's resources.
-use Rattle.std.specs.Prelude.{◌≡◌, ⊤, ℕ, List, Option, Some, None, Result, option_map, slice_set}
-use Rattle.qx_types.specs.declared.errno.Errno.{Errno}
-use Rattle.qx_types.specs.declared.names.Thread.{Thread}
-use Rattle.qx_wire.specs.Reading.{meaning}
-use Rattle.qx_machine.specs.declared.rows.Caller.{Caller}
+use Rattle.std.specs.Prelude.{◌≡◌, ⊤, ℕ, List, Option, Some, option_map}
 use Rattle.qx_machine.specs.declared.rows.Sent.{Sent}
-use Rattle.qx_machine.specs.Functions.{Deed}
-use Rattle.qx_machine.specs.Machine.{lines_after}
 use Rattle.qx_machine.specs.Parts.{Part}
-use Rattle.qx_machine.specs.Resources.{Resources}
-use Rattle.qx_machine.specs.Performing.{Served, deed_of}
-use Rattle.qx_machine.specs.Processes.{Process}
-use Rattle.qx_machine.specs.Rows.{row_at, with_row}
-use Rattle.qx_shared.specs.Shared.{Shared}
+use Rattle.qx_machine.specs.Rows.{row_at}
 use Rattle.qx_resources.specs.State.{told, Kept}
-use Rattle.qx_chan.specs.Calls.{taken_bytes}
 use Rattle.qx_chan.specs.Channel.{Channel, lists}
-use Rattle.qx_chan.specs.Users.{Users, process_of, thread_row}
-use Rattle.qx_chan.specs.declared.call.Call.{Call}
 
 -- bytes that were read before are those of the message
 abbrev pub IsReadOf : Option (List ℕ) → Option Sent → Type 0
 IsReadOf (Some bytes) (Some sent) = bytes ≡ sent.bytes
 IsReadOf _ _ = ⊤
 
--- the process of a thread, and the bytes of its message, which was received and is not served
-pub record Sends (users : Users) (thread : Thread) (process : Process) (bytes : List ℕ) : Type 0 where
-  pub there : process_of users thread.proc ≡ Some process
-  pub bytes_are : taken_bytes (thread_row users thread) ≡ Some bytes
-
--- whose call it is
-abbrev pub caller_of_call : Thread → Call → Caller
-caller_of_call thread call = record { process = thread.proc.num; thread = thread.tid; call = call.number; is_asked = call.is_asked }
-
--- what these bytes of a process come to
-abbrev pub deed_in : Kept → Shared → Process → Thread → Call → ℕ → List ℕ → Result (Deed Resources) Errno
-deed_in resources queues process thread call moment bytes = deed_of (told resources queues) process (caller_of_call thread call) call.target moment (meaning bytes)
-
 -- a user's part of the machine, where the user has processes
 abbrev pub part_in : Channel → Kept → Option Part
 part_in c k = option_map (λ processes. record { processes = processes; resources = told k (lists c) }) (row_at c.users k.user)
-
-module _ (c d : Channel) (k l : Kept) (served : Part → Served) where
-  -- the user's part and the lines became that, and nothing else is different but the room for nodes
-  abbrev pub PartServed : Option Part → Type 0
-  PartServed None = (d ≡ c) × (l ≡ k)
-  PartServed (Some part) =
-      (d ≡ record {
-        users = with_row c.users k.user (λ _. (served part).part.processes);
-        lines = lines_after k.user c.lines (served part).changes;
-        pipes = slice_set c.pipes k.user (served part).part.resources.pipes;
-        room = d.room;
-      })
-      × (told l (lists d) ≡ (served part).part.resources)
-
-  -- that is done for a user whose processes are there
-  pub record Serves : Type 0 where
-    pub did : PartServed (part_in c k)
-    pub user : l.user ≡ k.user

@@ -1,5 +1,5 @@
 -- The processes of all users, and one process or thread among them.
-use Rattle.std.specs.Prelude.{◌≡◌, ℕ, ◌<◌, ⊤, [], ◌∷◌, List, Option, Some, None, Result, Err, length, replicate}
+use Rattle.std.specs.Prelude.{◌≡◌, ℕ, [], ◌∷◌, List, Option, Some, None, Result, Err, replicate}
 use Rattle.qx_types.specs.declared.names.Proc.{Proc}
 use Rattle.qx_types.specs.declared.names.Thread.{Thread}
 use Rattle.qx_types.specs.declared.outcome.Outcome.{Outcome}
@@ -49,11 +49,6 @@ spawn_number_in threads prio (Some processes) = spawn_number processes threads p
 abbrev pub prio_outcome_in : ℕ → ℕ → ℕ → Option (List (Option Process)) → Outcome
 prio_outcome_in process thread prio None = WrongState
 prio_outcome_in process thread prio (Some processes) = done_or (with_prio processes process thread prio)
-
--- the table of a user's processes has a place for each number below the next one
-abbrev pub HasPlace : Option (List (Option Process)) → Type 0
-HasPlace None = ⊤
-HasPlace (Some processes) = 0 < length processes
 
 -- the thread is there, and waits for nothing
 abbrev pub IsThreadReady : Option ThreadRow → Type 0

@@ -1,8 +1,8 @@
 //! The answers to calls that waited, on their way to the threads.
 
 ghost use Rattle.std.specs.Prelude.{◌≡◌, []};
-ghost use Rattle.qx_chan.specs.Answers.{given_lines, given_users};
-ghost use Rattle.qx_chan.specs.Kept.{Answering, StandTogether};
+ghost use Rattle.qx_chan.specs.inner.Answers.{given_lines, given_users};
+ghost use Rattle.qx_chan.specs.inner.Kept.{Answering, StandTogether};
 
 use crate::users::Users;
 use qx_shared::Shared;

@@ -6,7 +6,8 @@ ghost use Rattle.std.specs.Option.{option_copied};
 ghost use Rattle.qx_machine.specs.Rows.{row_at};
 ghost use Rattle.qx_process.specs.Reads.{CanCall, CanGo, IsPriority, IsRanked};
 ghost use Rattle.qx_procs.specs.Calls.{spawn_outcome};
-ghost use Rattle.qx_chan.specs.Calls.{answer_of, queued_call, taken_call, unasked_call};
+ghost use Rattle.qx_chan.specs.Calls.{answer_of, queued_call, unasked_call};
+ghost use Rattle.qx_chan.specs.inner.Calls.{taken_call};
 ghost use Rattle.qx_chan.specs.Channel.{IsExisting, after_asking, after_ranking, after_receive, after_send, after_spawn, after_taking, after_withdrawing, channel_line, empty_channel};
 ghost use Rattle.qx_chan.specs.Nodes.{room_for};
 ghost use Rattle.qx_chan.specs.Users.{IsThreadReady, prio_outcome_in, process_of, spawn_number_in, thread_row};
@@ -33,7 +34,7 @@ pub struct Channel {
 impl Model for Channel {
     ghost use Rattle.std.specs.Coded.{codes};
     ghost use Rattle.qx_chan.specs.Channel as words;
-    ghost use Rattle.qx_chan.specs.Kept.{StandTogether};
+    ghost use Rattle.qx_chan.specs.inner.Kept.{StandTogether};
 
     ghost Value = { words.Channel };
 

@@ -3,7 +3,7 @@
 ghost use Rattle.std.specs.Prelude.{◌≡◌, ◌≤◌, slice_get, IsFalse, IsOk, IsTrue, OnOk, OnErr};
 ghost use Rattle.qx_types.specs.Managers.{manager_number, managers};
 ghost use Rattle.qx_shared.specs.Shared.{HasThread};
-ghost use Rattle.qx_chan.specs.Kept.{servers_settled, settled_number, with_attached, with_room};
+ghost use Rattle.qx_chan.specs.inner.Kept.{servers_settled, settled_number, with_attached, with_room};
 ghost use Rattle.qx_chan.specs.Nodes.{attached_at, attaches};
 ghost use Rattle.qx_chan.specs.Users.{process_of};
 

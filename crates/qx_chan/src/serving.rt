@@ -17,10 +17,12 @@ ghost use Rattle.qx_shared.specs.Shared.{IsReceived, shared_line};
 ghost use Rattle.qx_resmgr.specs.Deeds.{Did, IsReplied};
 ghost use Rattle.qx_resources.specs.Ranges.{IsInRanges};
 ghost use Rattle.qx_resources.specs.State.{HasUser, state};
-ghost use Rattle.qx_chan.specs.Answers.{answered_queues, answered_users};
-ghost use Rattle.qx_chan.specs.Calls.{taken_call, taken_of};
+ghost use Rattle.qx_chan.specs.inner.Answers.{answered_queues, answered_users};
+ghost use Rattle.qx_chan.specs.inner.Calls.{taken_call};
+ghost use Rattle.qx_chan.specs.Calls.{taken_of};
 ghost use Rattle.qx_chan.specs.Nodes.{room_settled};
-ghost use Rattle.qx_chan.specs.Serving.{IsReadOf, Sends, Serves, caller_of_call, deed_in, part_in};
+ghost use Rattle.qx_chan.specs.Serving.{IsReadOf, Serves, part_in};
+ghost use Rattle.qx_chan.specs.inner.Serving.{Sends, caller_of_call, deed_in};
 ghost use Rattle.qx_chan.specs.Users.{process_of, thread_row, with_thread_row};
 
 use crate::answers::give_answers;

@@ -9,9 +9,11 @@ ghost use Rattle.qx_machine.specs.Processes.{after_effect, answered_thread, aske
 ghost use Rattle.qx_machine.specs.Rows.{row_at, with_row};
 ghost use Rattle.qx_process.specs.Reads.{unserved_thread, BringsRoom, CanCall, CanGo, IsRanked, has_own_room};
 ghost use Rattle.qx_procs.specs.Calls.{spawned};
-ghost use Rattle.qx_chan.specs.Calls.{taken_bytes};
-ghost use Rattle.qx_chan.specs.Channel.{failed, process_replied};
-ghost use Rattle.qx_chan.specs.Users.{HasPlace, no_processes, process_of, thread_row, with_process_of, with_thread_row};
+ghost use Rattle.qx_chan.specs.inner.Calls.{taken_bytes};
+ghost use Rattle.qx_chan.specs.Channel.{failed};
+ghost use Rattle.qx_chan.specs.inner.Channel.{process_replied};
+ghost use Rattle.qx_chan.specs.inner.Users.{HasPlace};
+ghost use Rattle.qx_chan.specs.Users.{no_processes, process_of, thread_row, with_process_of, with_thread_row};
 
 use qx_machine::{Effect, Over, Sent, ThreadRow};
 use qx_process::{Process, Room, ThreadCell, places};
@@ -36,7 +38,7 @@ impl Model for Users {
 }
 
 impl Users {
-    ghost use Rattle.qx_chan.specs.Lends.{lends_process_of, lends_processes, lends_thread_row};
+    ghost use Rattle.qx_chan.specs.inner.Lends.{lends_process_of, lends_processes, lends_thread_row};
 
     /// Users from 1 to this many, with no process.
     pub fn new(alloc: Global, users: usize) -> Result<Self, AllocError>

@@ -1,6 +1,6 @@
 use Rattle.std.proofs.Common.{◌≡◌, take}
 use Rattle.qx_types.specs.Managers.{managers}
-use Rattle.qx_chan.specs.Kept.{servers_settled}
+use Rattle.qx_chan.specs.inner.Kept.{servers_settled}
 use Rattle.qx_chan.specs.Users.{process_of}
 use Rattle.qx_chan.proofs.servers.settle.Given as goal
 

@@ -1,6 +1,6 @@
 use Rattle.std.proofs.Common.{◌≡◌, ◌+◌, Some, refl, ◌∙◌, sym, ap}
 use Rattle.std.proofs.lemmas.Bool.{false≢true}
-use Rattle.qx_chan.specs.Calls.{taken_call}
+use Rattle.qx_chan.specs.inner.Calls.{taken_call}
 use Rattle.qx_chan.specs.Users.{thread_row}
 use Rattle.qx_chan.proofs.MeaningLemmas.{unwanted}
 use Rattle.qx_chan.proofs.MessageLemmas.{Serves-untaken, received, received-alone, received-wants, sends}

@@ -14,8 +14,9 @@ use Rattle.qx_queues.specs.Queues.{UsersAnswer}
 use Rattle.qx_shared.specs.Shared.{Shared, with_shared_line}
 use Rattle.qx_resmgr.specs.declared.functions.Done.{Done}
 use Rattle.qx_resmgr.specs.declared.functions.Done.TheVariants.{Reply, NoReply}
-use Rattle.qx_chan.specs.Channel.{failed, process_replied}
-use Rattle.qx_chan.specs.Kept.{servers_settled}
+use Rattle.qx_chan.specs.Channel.{failed}
+use Rattle.qx_chan.specs.inner.Channel.{process_replied}
+use Rattle.qx_chan.specs.inner.Kept.{servers_settled}
 use Rattle.qx_chan.specs.Users.{Users, process_of, with_process_of, with_thread_row}
 use Rattle.qx_chan.specs.declared.call.Call.{Call}
 
