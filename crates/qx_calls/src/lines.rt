@@ -317,7 +317,7 @@ fn call_over(
 }
 
 /// Who calls and for what, by the first word of the call's line.
-#[tactic(auto, unfolding(crate::specs::Calls::call_of))]
+#[tactic(auto, unfolding(crate::specs::Calls::call_in_line))]
 pub fn call(
     alloc: Global,
     users: &Users,

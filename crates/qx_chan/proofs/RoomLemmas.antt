@@ -17,7 +17,7 @@ use Rattle.qx_process.specs.Reads.{BringsRoom, BringsRoomIn, has_own_room, is_wa
 use Rattle.qx_chan.specs.Calls.{queued_call, queued_in}
 use Rattle.qx_chan.specs.inner.Calls.{taken_call}
 use Rattle.qx_chan.specs.Channel.{IsExisting}
-use Rattle.qx_chan.specs.Kept.{attaches}
+use Rattle.qx_chan.specs.Nodes.{attaches}
 use Rattle.qx_chan.specs.inner.Kept.{is_waiting_for, waits_for}
 use Rattle.qx_chan.specs.Users.{IsThreadReady, Users, thread_row, with_thread_row}
 use Rattle.qx_chan.specs.declared.call.Call.{Call}

@@ -10,7 +10,7 @@ use Rattle.std.proofs.Math.Bool.{or-true}
 use Rattle.qx_machine.specs.Names.{Key, Names, key_cmp, root_key, under, with_root}
 use Rattle.qx_names.specs.Paths.{HasNoPath}
 use Rattle.qx_names.specs.inner.Shows.{Shows, is_root, key_total, key-IsAntisymmetric, name_looked_up, reached, shown_names}
-use Rattle.qx_names.specs.Shows.{shown_once}
+use Rattle.qx_names.specs.inner.Shows.{shown_once}
 use Rattle.qx_names.specs.inner.Folders.{Changes}
 use Rattle.qx_names.proofs.MapLemmas.{inserted, inserted_apart, removed, removed_apart, same_or_not}
 

@@ -8,7 +8,7 @@ ghost use Rattle.qx_machine.specs.Names as machine;
 ghost use Rattle.qx_names.specs.Paths.{HasPath, HasNoPath, path_of};
 ghost use Rattle.qx_names.specs.inner.Folders.{entry_at};
 ghost use Rattle.qx_names.specs.inner.Shows.{Shows, is_root};
-ghost use Rattle.qx_names.specs.Shows.{shown_once};
+ghost use Rattle.qx_names.specs.inner.Shows.{shown_once};
 ghost use Rattle.qx_names.specs.Spots.{spot_found};
 ghost use Rattle.qx_types.specs.declared.limits.TheConstants.Limits.{INODES};
 

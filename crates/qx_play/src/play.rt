@@ -93,7 +93,7 @@ fn is_sent(outcome: &Outcome) -> bool
 }
 
 /// Takes a thread's answer, if it has one.
-#[tactic(auto, unfolding(crate::specs::Play::replied))]
+#[tactic(auto, unfolding(crate::specs::Play::with_reply_taken))]
 fn take_reply(traced: &mut Traced, thread: Thread) -> Result<(), NoMemory>
     ensures config { traced.new.config ≡ traced.old.config }
     ensures steps { OnOk result (traced.new.steps ≡ with_reply_taken traced.old.config thread traced.old.steps) }
@@ -105,7 +105,7 @@ fn take_reply(traced: &mut Traced, thread: Thread) -> Result<(), NoMemory>
 }
 
 /// The first worker does what it holds, and then all that waits.
-#[tactic(auto, unfolding(crate::specs::Play::served))]
+#[tactic(auto, unfolding(crate::specs::Play::with_lines_served))]
 fn serve(traced: &mut Traced, moment: u64) -> Result<(), NoMemory>
     ensures config { traced.new.config ≡ traced.old.config }
     ensures steps { OnOk result (traced.new.steps ≡ with_lines_served traced.old.config moment traced.old.steps) }

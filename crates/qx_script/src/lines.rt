@@ -128,7 +128,7 @@ fn perform(words: &[&[u8]]) -> Option<Step>
 }
 
 /// A step, by its first word.
-#[tactic(auto, unfolding(crate::specs::Lines::step_of))]
+#[tactic(auto, unfolding(crate::specs::Lines::step_in_line))]
 fn step(
     alloc: Global,
     users: &Users,

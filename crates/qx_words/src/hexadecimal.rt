@@ -8,7 +8,7 @@ use qx_types::{Bytes, NoMemory};
 use std::alloc::Global;
 
 /// Bytes as pairs of hexadecimal digits, or `-` for none.
-#[tactic(auto, unfolding(crate::specs::Words::bytes_of))]
+#[tactic(auto, unfolding(crate::specs::Words::bytes_in_word))]
 pub fn bytes(alloc: Global, word: &[u8]) -> Result<Option<Bytes>, NoMemory>
     ensures bytes { IfOk result (λ bytes. bytes ≡ bytes_in_word word.now) }
 {

@@ -77,7 +77,7 @@ impl Users {
     }
 
     /// The user of that name.
-    #[tactic(auto, unfolding(crate::specs::Words::user_of))]
+    #[tactic(auto, unfolding(crate::specs::Words::user_in_word))]
     pub fn find(&self, word: &[u8]) -> Option<User>
         ensures found { result ≡ user_in_word self.now word.now }
     {

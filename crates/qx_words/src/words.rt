@@ -175,7 +175,7 @@ fn around_dot(word: &[u8]) -> Option<(&[u8], &[u8])>
 }
 
 /// A thread, as `ann.1.2`.
-#[tactic(auto, unfolding(crate::specs::Words::thread_of))]
+#[tactic(auto, unfolding(crate::specs::Words::thread_in_word))]
 pub fn thread(users: &Users, word: &[u8]) -> Option<Thread>
     ensures thread { result ≡ thread_in_word users.now word.now }
 {
