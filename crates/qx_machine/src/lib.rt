@@ -6,7 +6,7 @@ pub mod laws;
 pub mod rows;
 
 pub use rows::{
-    Access, Addressed, Attribute, Caller, Connection, Content, Effect, Entry, Held, Kind, Manner,
-    NewOpen, Ocb, Opened, Over, OwnItem, Queued, Seen, Sent, ServerConnection, Sides, State,
-    Target, ThreadRow, WaitingCall, Wish,
+    Access, Addressed, Attribute, Caller, Conditions, Connection, Content, Effect, Entry, Event,
+    Held, Kind, Manner, NewOpen, Ocb, Opened, Over, OwnItem, Pulse, Queued, Seen, Sent,
+    ServerConnection, Sides, State, Target, ThreadRow, WaitingCall, Wish,
 };
