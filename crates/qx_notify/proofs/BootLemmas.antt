@@ -1,7 +1,6 @@
 -- Lists, as they are made.
-use Rattle.std.proofs.Common.{◌≡◌, ◌≢◌, ◌⊎◌, ◌+◌, ◌<◌, ◌≤◌, inl, inr, ℕ, zero, suc, List, [], ◌∷◌, ◌++◌, Option, Some, None, is_some, length, length-append, map, get_or, replicate, slice_get, unwrap_or, refl, sym, ◌∙◌, ap, ap₂, arith}
+use Rattle.std.proofs.Common.{◌≡◌, ◌⊎◌, ◌+◌, ◌<◌, inl, inr, ℕ, zero, suc, List, [], ◌∷◌, ◌++◌, Option, Some, None, is_some, length, length-append, map, get_or, replicate, slice_get, unwrap_or, refl, sym, ◌∙◌, ap, ap₂, arith}
 use Rattle.std.specs.FinMap as maps
-use Rattle.std.proofs.lemmas.Bool.Decides.{eqb_tells}
 use Rattle.std.proofs.Math.Seq.{get_or-append_seam}
 use Rattle.std.proofs.lemmas.List.{get_or_append_left}
 use Rattle.std.proofs.lemmas.Bool.{cases_lt}
@@ -11,8 +10,8 @@ use Rattle.qx_lists.specs.Table.{Table, nodes_of}
 use Rattle.qx_lists.proofs.MapLemmas.{get-insert_same, get-insert_other}
 use Rattle.qx_machine.specs.declared.rows.Event.{Event}
 use Rattle.qx_machine.specs.Events.{event_count, no_events}
-use Rattle.qx_notify.specs.Events.{no_events as nobodys}
-use Rattle.qx_notify.specs.Kept.{AreLimited, AreNew, IsList, Kept, Lists, event_at, events_in, given, lists_at, lists_of, no_lists, pulses_in, told}
+use Rattle.qx_notify.specs.Events.{AreLimited, no_events as nobodys}
+use Rattle.qx_notify.specs.Kept.{AreNew, IsList, Kept, Lists, event_at, events_in, given, lists_at, lists_of, no_lists, pulses_in, told}
 
 pub slice_get-push : {A : Type 0} (xs : List A) (y : A) (k : ℕ) (x : A) → slice_get (xs ++ y ∷ []) k ≡ Some x → (slice_get xs k ≡ Some x) ⊎ ((k ≡ length xs) × (x ≡ y))
 slice_get-push [] y zero x is = let same : y ≡ x = cc in inr (refl, sym same)

@@ -1,6 +1,6 @@
 -- A user's events stay within the limits, as events come and go.
-use Rattle.std.proofs.Common.{◌==◌, ◌≡◌, ◌+◌, ◌<◌, ◌≤◌, inl, inr, ℕ, Bool, true, false, not, List, [], ◌∷◌, ◌++◌, drop, length, get_or, length-append, map, set, slice_get, refl, sym, ◌∙◌, ap, arith}
-use Rattle.std.specs.Prelude.{filter, sum_by, ◌&&◌}
+use Rattle.std.proofs.Common.{◌≡◌, ◌+◌, ◌<◌, ◌≤◌, inl, inr, ℕ, Bool, not, List, [], ◌∷◌, ◌++◌, length, get_or, length-append, refl, ◌∙◌, arith}
+use Rattle.std.specs.Prelude.{filter, sum_by}
 use Rattle.std.specs.List.{AllByRecursion}
 use Rattle.std.proofs.lemmas.Bool.{cases_Bool}
 use Rattle.std.proofs.lemmas.Bool.Decides.{eqb_tells}
@@ -12,9 +12,9 @@ use Rattle.qx_types.specs.declared.limits.TheConstants.Limits.{EVENTS, PROCESSES
 use Rattle.qx_machine.specs.declared.rows.Conditions.{Conditions}
 use Rattle.qx_machine.specs.declared.rows.Event.{Event}
 use Rattle.qx_machine.specs.declared.rows.Pulse.{Pulse}
-use Rattle.qx_machine.specs.Events.{Events, armed_anew, disarmed, event_count, is_due, is_on, no_events, pulse_of, triggered, with_pulse, with_pulses}
+use Rattle.qx_machine.specs.Events.{Events, armed_anew, disarmed, event_count, is_due, is_on, pulse_of, triggered, with_pulse, with_pulses}
 use Rattle.qx_machine.specs.Lines.{line_at, with_line}
-use Rattle.qx_notify.specs.Kept.{AreLimited}
+use Rattle.qx_notify.specs.Events.{AreLimited}
 
 -- ---- fewer events
 

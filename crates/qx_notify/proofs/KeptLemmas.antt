@@ -1,11 +1,12 @@
 -- The events of all users, as the lists of one user change.
-use Rattle.std.proofs.Common.{◌≡◌, ◌≢◌, ◌+◌, ◌-◌, ◌<◌, ◌≤◌, inl, inr, ℕ, suc, nat_eq, not, List, [], ◌∷◌, Contains, Option, Some, None, is_some, length, map, get_or, set, slice_get, unwrap_or, refl, sym, ◌∙◌, ap, ap₂, arith}
+use Rattle.std.proofs.Common.{◌≡◌, ◌≢◌, ◌+◌, ◌-◌, ◌<◌, ◌≤◌, inl, inr, ℕ, suc, nat_eq, not, List, [], Contains, Some, None, length, map, get_or, set, slice_get, unwrap_or, refl, sym, ◌∙◌, ap, arith}
 use Rattle.std.specs.FinMap as maps
 use Rattle.std.specs.List.{IsDistinct}
 use Rattle.std.specs.Prelude.{filter}
 use Rattle.std.proofs.lemmas.Bool.Decides.{eqb_tells}
-use Rattle.std.proofs.lemmas.List.{get_or_default, get_or-map, get_or-set_same, get_or-set_other, length-map, map-set, set-get_or}
+use Rattle.std.proofs.lemmas.List.{get_or-map, length-map, set-get_or}
 use Rattle.std.proofs.lemmas.Option.{get_or_from_slice_get, slice_get-get_or, slice_get_within}
+use Rattle.qx_types.specs.declared.limits.TheConstants.Limits.{PROCESSES}
 use Rattle.qx_lists.specs.Table.{ContainsList, Table, nodes_of, with_nodes, with_value, without}
 use Rattle.qx_lists.proofs.ListLemmas.{absent_without}
 use Rattle.qx_lists.proofs.MapLemmas.{get-insert_same, get-insert_other, get-remove_other}
@@ -13,8 +14,8 @@ use Rattle.qx_lists.proofs.TableFacts.{kept_there}
 use Rattle.qx_machine.specs.declared.rows.Event.{Event}
 use Rattle.qx_machine.specs.declared.rows.Pulse.{Pulse}
 use Rattle.qx_machine.specs.Events.{Events, disarmed, event_count, is_on, no_events}
-use Rattle.qx_notify.specs.Events.{AllEvents, events_of, with_events}
-use Rattle.qx_notify.specs.Kept.{AreLimited, IsList, Kept, Lists, armed_in, event_at, events_in, given, lists_at, lists_of, no_event, no_lists, pulses_in, told}
+use Rattle.qx_notify.specs.Events.{AreLimited, AllEvents, events_of, with_events}
+use Rattle.qx_notify.specs.Kept.{AreApart, IsList, Kept, Lists, Touched, armed_in, event_at, events_in, given, lists_at, lists_of, no_event, no_lists, pulses_in, taken, told, unlinked}
 use Rattle.qx_notify.proofs.EventLemmas.{limited-disarmed}
 use Rattle.qx_notify.proofs.NodeLemmas.{Found, found, map-agree, map-each, map-one, none-found}
 
@@ -97,13 +98,6 @@ module _ (t : Table Event) (all : List Lists) (counts : List ℕ) (kept : Kept t
 
 -- ---- what one call makes of the lists
 
--- one list has other nodes, and one node, which stands in no other list, may have another value
-pub record Touched (t new : Table Event) (list node : ℕ) : Type 0 where
-  pub there : (other : ℕ) → ContainsList t other → ContainsList new other
-  pub nodes : (other : ℕ) → other ≢ list → nodes_of new other ≡ nodes_of t other
-  pub values : (other : ℕ) → other ≢ node → maps.get new.values other ≡ maps.get t.values other
-  pub alone : (other : ℕ) → other ≢ list → Contains (nodes_of t other) node → ⊥
-
 pub touched-same : (t new : Table Event) (list node : ℕ) → Touched t new list node → (other : ℕ) → other ≢ list → Same t new other
 touched-same t new list node touched other differs = record {
   nodes = touched.nodes other differs;
@@ -137,25 +131,29 @@ touched-then t mid new list node first next = record {
 }
 
 module _ (t : Table Event) (all : List Lists) (counts : List ℕ) (kept : Kept t all counts) (user : ℕ) (within : user < length all) where
+  pub count-at : (d : ℕ) → get_or counts user d ≡ event_count (events_in t (lists_at all user))
+  count-at d = ap (λ c. get_or c user d) kept.counted ∙ get_or-map (λ lists. event_count (events_in t lists)) all user no_lists d within
+
+  pub count-of : (count : ℕ) → count ≡ get_or counts user count → count ≡ event_count (events_in t (lists_at all user))
+  count-of count is = is ∙ count-at count
+
+module _ (t : Table Event) (all : List Lists) (apart : AreApart all) (user : ℕ) (within : user < length all) where
   abbrev own : Lists
   own = lists_at all user
 
   abbrev events : Events
   events = events_in t own
 
-  pub count-of : (count : ℕ) → count ≡ get_or counts user count → count ≡ event_count events
-  count-of count is = is ∙ ap (λ c. get_or c user count) kept.counted ∙ get_or-map (λ lists. event_count (events_in t lists)) all user no_lists count within
-
   -- a list of the user was touched
   module _ (new : Table Event) (number list node : ℕ) (is : IsList all user number list) (touched : Touched t new list node) where
     pub touched-changed : Changed t new all user
     touched-changed = record {
       there = touched.there;
-      others = λ other also at differs is_at. touched-same t new list node touched at (λ same. differs (kept.apart other also user number list (rw same at is_at) is).0);
+      others = λ other also at differs is_at. touched-same t new list node touched at (λ same. differs (apart other also user number list (rw same at is_at) is).0);
     }
 
     own-same : (also other : ℕ) → also ≢ number → slice_get (lists_of own) also ≡ Some other → Same t new other
-    own-same also other differs is_at = let at : IsList all user also other = record { within = within; is = is_at } in touched-same t new list node touched other (λ same. differs (kept.apart user also user number list (rw same at at) is).1)
+    own-same also other differs is_at = let at : IsList all user also other = record { within = within; is = is_at } in touched-same t new list node touched other (λ same. differs (apart user also user number list (rw same at at) is).1)
 
   -- the armed events are others
   pub armed-events : (new : Table Event) (list node : ℕ) → list ≡ own.armed → Touched t new list node → (armed : List Event) → armed_in new list ≡ armed → events_in new own ≡ record events { armed = armed }
@@ -175,11 +173,8 @@ module _ (t : Table Event) (all : List Lists) (counts : List ℕ) (kept : Kept t
 
 -- ---- a block's event goes
 
-abbrev pub taken : Table Event → ℕ → ℕ → Table Event
-taken t list node = record (with_nodes t list (without node (nodes_of t list))) { values = maps.remove t.values node; room = t.room + 1 }
-
-pub taken-is : (t mid new : Table Event) (list node : ℕ) → mid ≡ with_nodes t list (without node (nodes_of t list)) → new ≡ record mid { values = maps.remove mid.values node; room = mid.room + 1 } → new ≡ taken t list node
-taken-is t mid new list node unlinked freed = freed ∙ ap (λ (x : Table Event). record x { values = maps.remove x.values node; room = x.room + 1 }) unlinked
+pub nodes-unlinked : (t : Table Event) (list node : ℕ) → nodes_of (unlinked t list node) list ≡ without node (nodes_of t list)
+nodes-unlinked t list node = ap (λ o. unwrap_or o []) (get-insert_same t.lists list (without node (nodes_of t list)))
 
 module _ (t : Table Event) (list node : ℕ) (alone : (other : ℕ) → other ≢ list → Contains (nodes_of t other) node → ⊥) where
   pub touched-taken : Touched t (taken t list node) list node
@@ -190,11 +185,8 @@ module _ (t : Table Event) (list node : ℕ) (alone : (other : ℕ) → other �
     alone = alone;
   }
 
-  pub nodes-taken : nodes_of (taken t list node) list ≡ without node (nodes_of t list)
-  nodes-taken = ap (λ o. unwrap_or o []) (get-insert_same t.lists list (without node (nodes_of t list)))
-
   pub left-taken : {B : Type 0} (f : Event → B) → map (λ n. f (event_at (taken t list node) n)) (nodes_of (taken t list node) list) ≡ map (λ n. f (event_at t n)) (without node (nodes_of t list))
-  left-taken f = ap (map (λ n. f (event_at (taken t list node) n))) nodes-taken ∙ map-agree (λ n. f (event_at (taken t list node) n)) (λ n. f (event_at t n)) (without node (nodes_of t list)) (λ n at. ap (λ o. f (unwrap_or o no_event)) (get-remove_other t.values node n (λ same. absent_without node (nodes_of t list) (rw same at at))))
+  left-taken f = ap (map (λ n. f (event_at (taken t list node) n))) (nodes-unlinked t list node) ∙ map-agree (λ n. f (event_at (taken t list node) n)) (λ n. f (event_at t n)) (without node (nodes_of t list)) (λ n at. ap (λ o. f (unwrap_or o no_event)) (get-remove_other t.values node n (λ same. absent_without node (nodes_of t list) (rw same at at))))
 
 pub alone-from : (t : Table Event) → ((one two node : ℕ) → Contains (nodes_of t one) node → Contains (nodes_of t two) node → one ≡ two) → (list node : ℕ) → Contains (nodes_of t list) node → (other : ℕ) → other ≢ list → Contains (nodes_of t other) node → ⊥
 alone-from t apart list node here other differs there = differs (apart other list node there here)
@@ -219,9 +211,9 @@ module _ (t : Table Event) (all : List Lists) (counts : List ℕ) (kept : Kept t
       let alone = alone-from t apart list node one.there in
       let touched = touched-taken t list node alone in
       let at : IsList all user 0 list = record { within = within; is = ap Some (sym is) } in
-      let changed = touched-changed t all counts kept user within new 0 list node at touched in
+      let changed = touched-changed t all kept.apart user within new 0 list node at touched in
       let armed : armed_in new list ≡ (disarmed block before).armed = left-taken t list node alone (λ event. event) ∙ one.rest ∙ ap (λ l. filter (λ event. not (is_on block event)) (armed_in t l)) is in
-      let own_is : events_in new (lists_at all user) ≡ disarmed block before = armed-events t all counts kept user within new list node is touched _ armed in
+      let own_is : events_in new (lists_at all user) ≡ disarmed block before = armed-events t all kept.apart user within new list node is touched _ armed in
       let counted = count-of t all counts kept user within count count_is in
       let less : length (disarmed block before).armed + 1 ≡ length before.armed = ap (λ l. length (filter (λ event. not (is_on block event)) (armed_in t l)) + 1) (sym is) ∙ one.fewer ∙ ap (λ l. length (armed_in t l)) is in
       let fewer : event_count (disarmed block before) + 1 ≡ event_count before = omega (arith, less) in
@@ -241,6 +233,10 @@ module _ (t : Table Event) (all : List Lists) (counts : List ℕ) (kept : Kept t
 -- more room
 pub kept-reserved : (t new : Table Event) (all : List Lists) (counts : List ℕ) (room : ℕ) → new ≡ record t { room = room } → Kept t all counts → Kept new all counts
 kept-reserved t new all counts room is kept = rw is (record { there = kept.there; apart = kept.apart; limited = kept.limited; counted = kept.counted })
+
+-- each process that may be has a list
+pub process-within : (t : Table Event) (all : List Lists) (counts : List ℕ) → Kept t all counts → (user : ℕ) → user < length all → (process : ℕ) → process ≤ PROCESSES → process < length (lists_at all user).pulses
+process-within t all counts kept user within process few = omega (arith, (kept.limited user within).places, length-map (lists_at all user).pulses (pulses_in t), few)
 
 -- a user whose events are told has lists
 pub within-told : (t : Table Event) (all : List Lists) (user : ℕ) (now : AllEvents) → told t all ≡ now → user < length now.events → user < length all

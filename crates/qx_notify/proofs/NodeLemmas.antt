@@ -1,13 +1,13 @@
 -- Lists of nodes: the first that a test passes, and what stands where one was taken out.
-use Rattle.std.proofs.Common.{◌==◌, ◌≡◌, ◌≢◌, inl, inr, ℕ, zero, suc, ◌+◌, ◌<◌, ◌≤◌, Bool, true, false, not, nat_eq, List, [], ◌∷◌, ◌++◌, length, get_or, map, set, below_more, Contains, Option, Some, None, slice_get, refl, sym, ◌∙◌, ap, ap₂, arith}
+use Rattle.std.proofs.Common.{◌≡◌, ◌≢◌, inl, inr, ℕ, zero, suc, ◌+◌, ◌<◌, ◌≤◌, Bool, true, false, not, nat_eq, List, [], ◌∷◌, length, get_or, map, set, below_more, Contains, Some, None, slice_get, refl, sym, ◌∙◌, ap, ap₂, arith}
 use Rattle.std.specs.Prelude.{filter}
-use Rattle.std.specs.List.{AllByRecursion, IsDistinct}
+use Rattle.std.specs.List.{IsDistinct}
 use Rattle.std.proofs.lemmas.Bool.{cases_Bool}
 use Rattle.std.proofs.lemmas.Bool.Decides.{eqb_tells, nat_tests}
 use Rattle.std.proofs.lemmas.Option.{get_or_from_slice_get}
-use Rattle.qx_lists.specs.Table.{next_after, without}
+use Rattle.qx_lists.specs.Table.{without}
 use Rattle.qx_lists.proofs.ListLemmas.{contains_first, contains_later}
-use Rattle.qx_lists.proofs.WalkLemmas.{differs_at, nodes_from, without-absent}
+use Rattle.qx_lists.proofs.WalkLemmas.{without-absent}
 use Rattle.qx_machine.specs.declared.rows.Event.{Event}
 use Rattle.qx_machine.specs.Events.{is_on}
 

@@ -1,8 +1,8 @@
 -- What contracts see of the events of all users, and what the calls make of it.
-use Rattle.std.specs.Prelude.{ℕ, ◌+◌, ◌-◌, ◌&&◌, not, Bool, false, true, List, Result, Ok, Err, Option, Some, None, get_or, nat_lt, refl, replicate, slice_set, ⊤}
+use Rattle.std.specs.Prelude.{ℕ, ◌≡◌, ◌≤◌, ◌+◌, ◌-◌, ◌&&◌, not, Bool, false, true, List, Result, Ok, Err, filter, get_or, length, nat_lt, refl, replicate, slice_set, ⊤}
 use Rattle.std.specs.Coded.{Coded, code_by, coded×, coded_ℕ, coded_list}
-use Rattle.std.specs.List.{list_any}
-use Rattle.qx_types.specs.declared.limits.TheConstants.Limits.{EVENTS}
+use Rattle.std.specs.List.{AllByRecursion, list_any}
+use Rattle.qx_types.specs.declared.limits.TheConstants.Limits.{EVENTS, PROCESSES}
 use Rattle.qx_types.specs.declared.errno.Errno.{Errno}
 use Rattle.qx_types.specs.declared.fields.NotifyAction.{NotifyAction}
 use Rattle.qx_types.specs.declared.fields.NotifyAction.TheVariants.{Poll, PollArm, TranArm}
@@ -38,6 +38,13 @@ no_events users = record { events = replicate (users + 1) machine.no_events; roo
 -- a user's events
 abbrev pub events_of : AllEvents → ℕ → Events
 events_of all user = get_or all.events user machine.no_events
+
+-- a user's events are within the limit, each is of a process that may be, and a block has one at most
+pub record AreLimited (events : Events) : Type 0 where
+  pub few : event_count events ≤ EVENTS
+  pub places : length events.pulses ≡ PROCESSES + 1
+  pub processes : AllByRecursion (λ event. event.process ≤ PROCESSES) events.armed
+  pub once : (block : ℕ) → length (filter (is_on block) events.armed) ≤ 1
 
 -- a user's events are these. What is there more takes of the room, and room is kept for what goes
 abbrev pub with_events : AllEvents → ℕ → Events → AllEvents

@@ -1,14 +1,12 @@
 -- How the events of all users stand in lists of the table. No public clause cites this module.
-use Rattle.std.specs.Prelude.{◌≡◌, ◌+◌, ◌<◌, ◌≤◌, ℕ, List, [], ◌∷◌, None, Some, Contains, filter, get_or, length, map, refl, slice_get, unwrap_or}
+use Rattle.std.specs.Prelude.{◌≡◌, ◌≢◌, ◌+◌, ◌<◌, ◌++◌, ℕ, List, [], ◌∷◌, None, Some, Contains, get_or, length, map, refl, slice_get, unwrap_or}
 use Rattle.std.specs.FinMap as maps
-use Rattle.std.specs.List.{AllByRecursion}
 use Rattle.std.specs.Coded.{Coded, code_by, coded×, coded_ℕ, coded_list}
-use Rattle.qx_types.specs.declared.limits.TheConstants.Limits.{EVENTS, PROCESSES}
-use Rattle.qx_lists.specs.Table.{ContainsList, Table, nodes_of}
+use Rattle.qx_lists.specs.Table.{ContainsList, Table, nodes_of, with_nodes, without}
 use Rattle.qx_machine.specs.declared.rows.Event.{Event}
 use Rattle.qx_machine.specs.declared.rows.Pulse.{Pulse}
-use Rattle.qx_machine.specs.Events.{Events, event_count, is_on}
-use Rattle.qx_notify.specs.Events.{AllEvents}
+use Rattle.qx_machine.specs.Events.{Events, event_count}
+use Rattle.qx_notify.specs.Events.{AllEvents, AreLimited}
 
 -- the numbers of a user's lists: that of armed events, and under each process' number that of its pulses
 pub record Lists : Type 0 where
@@ -59,17 +57,14 @@ pub record IsList (all : List Lists) (user number list : ℕ) : Type 0 where
   pub within : user < length all
   pub is : slice_get (lists_of (lists_at all user)) number ≡ Some list
 
--- a user's events are within the limit, each is of a process that may be, and a block has one at most
-pub record AreLimited (events : Events) : Type 0 where
-  pub few : event_count events ≤ EVENTS
-  pub places : length events.pulses ≡ PROCESSES + 1
-  pub processes : AllByRecursion (λ event. event.process ≤ PROCESSES) events.armed
-  pub once : (block : ℕ) → length (filter (is_on block) events.armed) ≤ 1
+-- no two have one list
+abbrev pub AreApart : List Lists → Type 0
+AreApart all = (user number other also list : ℕ) → IsList all user number list → IsList all other also list → (user ≡ other) × (number ≡ also)
 
 -- each list of a user is there and is of nobody else, and these are the counts of all users' events
 pub record Kept (t : Table Event) (all : List Lists) (counts : List ℕ) : Type 0 where
   pub there : (user number list : ℕ) → IsList all user number list → ContainsList t list
-  pub apart : (user number other also list : ℕ) → IsList all user number list → IsList all other also list → (user ≡ other) × (number ≡ also)
+  pub apart : AreApart all
   pub limited : (user : ℕ) → user < length all → AreLimited (events_in t (lists_at all user))
   pub counted : counts ≡ map (λ lists. event_count (events_in t lists)) all
 
@@ -83,3 +78,27 @@ pub record AreNew (t new : Table Event) (lists : List ℕ) : Type 0 where
   pub others : (list : ℕ) (nodes : List ℕ) → maps.get t.lists list ≡ Some nodes → maps.get new.lists list ≡ Some nodes
   pub values : new.values ≡ t.values
   pub room : new.room ≡ t.room
+
+-- ---- what a call makes of the lists
+
+-- one list has other nodes, and one node, which stands in no other list, may have another value
+pub record Touched (t new : Table Event) (list node : ℕ) : Type 0 where
+  pub there : (other : ℕ) → ContainsList t other → ContainsList new other
+  pub nodes : (other : ℕ) → other ≢ list → nodes_of new other ≡ nodes_of t other
+  pub values : (other : ℕ) → other ≢ node → maps.get new.values other ≡ maps.get t.values other
+  pub alone : (other : ℕ) → other ≢ list → ¬ (Contains (nodes_of t other) node)
+
+-- a node that stood nowhere stands last in a list, with this event
+pub record Put (t new : Table Event) (list node : ℕ) (event : Event) : Type 0 where
+  pub touched : Touched t new list node
+  pub nowhere : ¬ (Contains (nodes_of t list) node)
+  pub last : nodes_of new list ≡ nodes_of t list ++ node ∷ []
+  pub value : maps.get new.values node ≡ Some event
+
+-- a node stands in its list no more
+abbrev pub unlinked : Table Event → ℕ → ℕ → Table Event
+unlinked t list node = with_nodes t list (without node (nodes_of t list))
+
+-- and is given back
+abbrev pub taken : Table Event → ℕ → ℕ → Table Event
+taken t list node = record (unlinked t list node) { values = maps.remove t.values node; room = t.room + 1 }

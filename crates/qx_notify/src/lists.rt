@@ -1,11 +1,11 @@
 //! The lists of one user, and the event of a block in a list.
 
-ghost use Rattle.std.specs.Prelude.{◌≡◌, ◌+◌, ◌<◌, ◌≤◌, [], IfOk, Some, length, filter, slice_get};
+ghost use Rattle.std.specs.Prelude.{◌≡◌, ◌+◌, ◌-◌, ◌<◌, ◌≤◌, [], IfOk, IsOk, OnErr, OnOk, Some, length, filter, slice_get};
 ghost use Rattle.std.specs.FinMap as map;
 ghost use Rattle.qx_types.specs.declared.limits.TheConstants.Limits.{PROCESSES};
-ghost use Rattle.qx_lists.specs.Table.{ContainsList, nodes_of};
+ghost use Rattle.qx_lists.specs.Table.{ContainsList, IsIn, nodes_of};
 ghost use Rattle.qx_machine.specs.Events.{is_on};
-ghost use Rattle.qx_notify.specs.Kept.{AreNew, event_at, lists_at, lists_of};
+ghost use Rattle.qx_notify.specs.Kept.{AreNew, Put, event_at, lists_at, lists_of, taken, unlinked};
 
 use qx_lists::Table;
 use qx_machine::Event;
@@ -79,4 +79,44 @@ pub(crate) fn find(table: &Table<Event>, list: usize, block: u16) -> Option<usiz
         next = table.next(list, node);
     }
     None
+}
+
+/// A node leaves its list and is given back, and its event is handed out.
+pub(crate) fn take_out(table: &mut Table<Event>, list: usize, node: usize) -> Event
+    requires node { IsIn table.old list node }
+    ensures event { result ≡ event_at table.old node }
+    ensures taken { table.new ≡ taken table.old list node }
+{
+    table.unlink(list, node);
+    table.free_node(node)
+}
+
+/// A node leaves a list, and stands last in a list with another event.
+pub(crate) fn move_to(table: &mut Table<Event>, from: usize, node: usize, to: usize, event: Event)
+    requires node { IsIn table.old from node }
+    requires to { ContainsList table.old to }
+    ensures put { Put (unlinked table.old from node) table.new to node event }
+    ensures room { table.new.room ≡ table.old.room }
+{
+    table.unlink(from, node);
+    *table.value_mut(node) = event;
+    table.push_back(to, node);
+}
+
+/// A new node stands last in a list, with an event.
+pub(crate) fn append(
+    table: &mut Table<Event>,
+    list: usize,
+    event: Event,
+) -> Result<usize, AllocError>
+    requires list { ContainsList table.old list }
+    ensures put { IfOk result (λ node. Put table.old table.new list node event) }
+    ensures room { OnOk result (table.new.room ≡ table.old.room - 1) }
+    ensures err { OnErr result (table.new ≡ table.old) }
+    ensures had_room { 0 < table.old.room → IsOk result }
+{
+    table.know();
+    let node = table.new_node(event)?;
+    table.push_back(list, node);
+    Ok(node)
 }

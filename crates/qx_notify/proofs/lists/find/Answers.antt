@@ -1,4 +1,4 @@
-use Rattle.std.proofs.Common.{◌==◌, ◌≡◌, ℕ, ◌+◌, false, true, Some, slice_get, unwrap_or, add-one, arith, sym, ap, ◌∙◌}
+use Rattle.std.proofs.Common.{◌≡◌, ◌+◌, false, true, Some, slice_get, unwrap_or, add-one, arith, sym, ap, ◌∙◌}
 use Rattle.std.proofs.lemmas.Bool.Decides.{nat_tests}
 use Rattle.qx_lists.specs.Table.{nodes_of}
 use Rattle.qx_lists.proofs.WalkLemmas.{contains-index, next_after-index, nodes_from-smaller, past_the_end}

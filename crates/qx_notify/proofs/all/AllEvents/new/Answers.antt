@@ -1,6 +1,5 @@
-use Rattle.std.proofs.Common.{◌≡◌, ◌+◌, ◌++◌, [], ◌∷◌, length, length-append, replicate, refl, sym, ap, ◌∙◌, arith}
+use Rattle.std.proofs.Common.{◌≡◌, ◌+◌, ◌++◌, [], ◌∷◌, length, length-append, replicate, sym, ap, ◌∙◌, arith}
 use Rattle.std.proofs.lemmas.List.{replicate_more}
-use Rattle.qx_notify.specs.Kept.{Kept}
 use Rattle.qx_notify.proofs.BootLemmas.{empty-kept, empty-more, empty-none, empty-told}
 use Rattle.qx_notify.proofs.all.AllEvents.new.Goals as goal
 

@@ -1,5 +1,4 @@
-use Rattle.std.proofs.Common.{◌≡◌, ◌+◌, ◌++◌, [], ◌∷◌, length, length-append, refl, ap, ◌∙◌}
-use Rattle.qx_notify.specs.Kept.{AreNew}
+use Rattle.std.proofs.Common.{◌+◌, [], ◌∷◌, length, length-append, ap, ◌∙◌}
 use Rattle.qx_notify.proofs.BootLemmas.{new-more, new-none}
 use Rattle.qx_notify.proofs.lists.UserLists.new.Goals as goal
 
