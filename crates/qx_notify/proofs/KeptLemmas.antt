@@ -241,3 +241,15 @@ process-within t all counts kept user within process few = omega (arith, (kept.l
 -- a user whose events are told has lists
 pub within-told : (t : Table Event) (all : List Lists) (user : ℕ) (now : AllEvents) → told t all ≡ now → user < length now.events → user < length all
 within-told t all user now is within = let same : length (map (events_in t) all) ≡ length now.events = ap (λ v. length v.events) is in omega (arith, same, length-map all (events_in t))
+
+-- the list of a user's armed events, as a call finds it
+pub record ArmedList (t : Table Event) (all : List Lists) (user list : ℕ) : Type 0 where
+  pub within : user < length all
+  pub is : list ≡ (lists_at all user).armed
+  pub there : ContainsList t list
+
+pub armed-list : (t : Table Event) (all : List Lists) (counts : List ℕ) → Kept t all counts → (user : ℕ) (now : AllEvents) → told t all ≡ now → user < length now.events → (slice : List Lists) → slice ≡ all → (list : ℕ) → list ≡ (lists_at slice user).armed → ArmedList t all user list
+armed-list t all counts kept user now told_is within slice slice_is list list_is =
+    let here = within-told t all user now told_is within in
+    let is = list_is ∙ ap (λ lists. (lists_at lists user).armed) slice_is in
+    record { within = here; is = is; there = kept.there user 0 list (record { within = here; is = ap Some (sym is) }) }

@@ -1,5 +1,5 @@
 -- Lists of nodes: the first that a test passes, and what stands where one was taken out.
-use Rattle.std.proofs.Common.{◌≡◌, ◌≢◌, inl, inr, ℕ, zero, suc, ◌+◌, ◌<◌, ◌≤◌, Bool, true, false, not, nat_eq, List, [], ◌∷◌, length, get_or, map, set, below_more, Contains, Some, None, slice_get, refl, sym, ◌∙◌, ap, ap₂, arith}
+use Rattle.std.proofs.Common.{is_some, ◌==◌, ◌≡◌, ◌≢◌, inl, inr, ℕ, zero, suc, ◌+◌, ◌<◌, ◌≤◌, Bool, true, false, not, nat_eq, List, [], ◌∷◌, length, get_or, map, set, below_more, Contains, Some, None, slice_get, refl, sym, ◌∙◌, ap, ap₂, arith}
 use Rattle.std.specs.Prelude.{filter}
 use Rattle.std.specs.List.{IsDistinct}
 use Rattle.std.proofs.lemmas.Bool.{cases_Bool}
@@ -88,3 +88,8 @@ module _ {A B : Type 0} (f g : A → B) (d : A) where
   map-one [] i within same = absurd (omega arith)
   map-one (x ∷ xs) zero within same = ap (λ ys. g x ∷ ys) (map-each xs (λ k at. same (suc k) (omega arith) (omega arith)))
   map-one (x ∷ xs) (suc i) within same = ap₂ (λ y ys. y ∷ ys) (same 0 (omega arith) (omega arith)) (map-one xs i (omega arith) (λ k at differs. same (suc k) (omega arith) (omega arith)))
+
+-- whether nodes stand for anything
+pub any-node : {B : Type 0} (f : ℕ → B) (nodes : List ℕ) → is_some (slice_get nodes 0) ≡ not (length (map f nodes) == 0)
+any-node f [] = refl
+any-node f (x ∷ xs) = let some : nat_eq (suc (length (map f xs))) 0 ≡ false = grind (arith, nat_tests) in rw some refl

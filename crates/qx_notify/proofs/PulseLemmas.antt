@@ -4,15 +4,15 @@ use Rattle.std.specs.List.{IsDistinct}
 use Rattle.std.proofs.lemmas.List.{drop-map, length-map, set-get_or}
 use Rattle.std.proofs.lemmas.Option.{slice_get-map, slice_get_within}
 use Rattle.qx_types.specs.declared.limits.TheConstants.Limits.{PROCESSES}
-use Rattle.qx_lists.specs.Table.{Table, nodes_of}
+use Rattle.qx_lists.specs.Table.{ContainsList, Table, nodes_of}
 use Rattle.qx_lists.proofs.ListLemmas.{contains_slice_first, none_first, without-first}
 use Rattle.qx_machine.specs.declared.rows.Event.{Event}
 use Rattle.qx_machine.specs.Events.{Events, event_count, first_pulse, without_first_pulse}
 use Rattle.qx_machine.specs.Lines.{line_at}
-use Rattle.qx_notify.specs.Events.{events_of, with_events}
+use Rattle.qx_notify.specs.Events.{AllEvents, events_of, with_events}
 use Rattle.qx_notify.specs.Kept.{IsList, Kept, Lists, event_at, events_in, given, lists_at, pulses_in, taken, told}
 use Rattle.qx_notify.proofs.EventLemmas.{limited-queue, line_at-get, queue-count}
-use Rattle.qx_notify.proofs.KeptLemmas.{alone-from, became, became-same, count-of, kept-changed, left-taken, queue-events, told-changed, told-of, touched-changed, touched-taken, with-told}
+use Rattle.qx_notify.proofs.KeptLemmas.{alone-from, became, became-same, count-of, kept-changed, left-taken, queue-events, told-changed, told-of, touched-changed, touched-taken, with-told, within-told}
 
 drop-one : {A : Type 0} (xs : List A) → 1 ≤ length xs → length (drop 1 xs) + 1 ≡ length xs
 drop-one [] some = absurd (omega (arith, some))
@@ -71,3 +71,15 @@ module _ (t : Table Event) (all : List Lists) (counts : List ℕ) (kept : Kept t
       let pulses : before.pulses ≡ (without_first_pulse process before).pulses = sym (set-get_or before.pulses process []) ∙ ap (set before.pulses process) (sym (line_at-get before.pulses process) ∙ empty ∙ ap (drop 1) (sym empty)) in
       let same : before ≡ without_first_pulse process before = λ i. record { armed = before.armed; pulses = pulses i } in
       became-same t all user within ∙ ap (became t all user) same ∙ sym (with-told t all user within (without_first_pulse process))
+
+-- the list of a process' pulses, as a call finds it
+pub record QueueList (t : Table Event) (all : List Lists) (user process list : ℕ) : Type 0 where
+  pub within : user < length all
+  pub is : slice_get (lists_at all user).pulses process ≡ Some list
+  pub there : ContainsList t list
+
+pub queue-list : (t : Table Event) (all : List Lists) (counts : List ℕ) → Kept t all counts → (user : ℕ) (now : AllEvents) → told t all ≡ now → user < length now.events → (slice : List Lists) → slice ≡ all → (process list : ℕ) → slice_get (lists_at slice user).pulses process ≡ Some list → QueueList t all user process list
+queue-list t all counts kept user now told_is within slice slice_is process list list_is =
+    let here = within-told t all user now told_is within in
+    let is = ap (λ lists. slice_get (lists_at lists user).pulses process) (sym slice_is) ∙ list_is in
+    record { within = here; is = is; there = kept.there user (suc process) list (record { within = here; is = is }) }

@@ -1,6 +1,6 @@
 //! The armed events and the untaken pulses of all users, in lists over one table.
 
-ghost use Rattle.std.specs.Prelude.{◌≡◌, ◌+◌, ◌<◌, ◌≤◌, ◌&&◌, ℕ, IfOk, IsFalse, IsOk, IsTrue, OnErr, OnOk, length, max};
+ghost use Rattle.std.specs.Prelude.{◌≡◌, ◌==◌, ◌+◌, ◌<◌, ◌≤◌, ◌&&◌, not, ℕ, IfOk, IsFalse, IsOk, IsTrue, OnErr, OnOk, length, max};
 ghost use Rattle.qx_types.specs.declared.limits.TheConstants.Limits.{EVENTS, PROCESSES};
 ghost use Rattle.qx_machine.specs.Events as machine;
 ghost use Rattle.qx_notify.specs.Events.{AreLimited, arms, done, events_after, events_of, no_events, status_given, notified_after, wants_node, with_events};
@@ -65,6 +65,14 @@ impl AllEvents {
     {
         self.table.reserve(count)?;
         Ok(())
+    }
+
+    /// Whether a user has armed events. Where none is armed, none can become due.
+    pub fn has_armed(&self, user: User) -> bool
+        requires user { user.0 < length self.now.events }
+        ensures { result ≡ not (length (events_of self.now user.0).armed == 0) }
+    {
+        self.table.first(armed_of(&self.lists, user)).is_some()
     }
 
     /// Takes away what a block had armed, as the block goes (C Library Reference: `iofunc_notify_remove`).
