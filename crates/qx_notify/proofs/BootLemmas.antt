@@ -10,7 +10,7 @@ use Rattle.qx_lists.specs.Table.{Table, nodes_of}
 use Rattle.qx_lists.proofs.MapLemmas.{get-insert_same, get-insert_other}
 use Rattle.qx_machine.specs.declared.rows.Event.{Event}
 use Rattle.qx_machine.specs.Events.{event_count, no_events}
-use Rattle.qx_notify.specs.Events.{AreLimited, no_events as nobodys}
+use Rattle.qx_notify.specs.Events.{AreLimited, nothing_armed}
 use Rattle.qx_notify.specs.Kept.{AreNew, IsList, Kept, Lists, event_at, events_in, given, lists_at, lists_of, no_lists, pulses_in, told}
 
 pub slice_get-push : {A : Type 0} (xs : List A) (y : A) (k : ℕ) (x : A) → slice_get (xs ++ y ∷ []) k ≡ Some x → (slice_get xs k ≡ Some x) ⊎ ((k ≡ length xs) × (x ≡ y))
@@ -130,7 +130,7 @@ module _ (t : Table Event) (all : List Lists) (are : AreEmpty t all) where
       ∙ ap (λ n. replicate n []) (are.places user within) in
       λ i. record { armed = armed i; pulses = pulses i }
 
-  pub empty-told : (users : ℕ) → length all ≡ users + 1 → t.room ≡ 0 → told t all ≡ nobodys users
+  pub empty-told : (users : ℕ) → length all ≡ users + 1 → t.room ≡ 0 → told t all ≡ nothing_armed users
   empty-told users count room =
       let events = constant (events_in t) no_events no_lists all events-none ∙ ap (λ n. replicate n no_events) count in
       λ i. record { events = events i; room = room i }

@@ -31,9 +31,9 @@ events_code =
 abbrev pub all_events_code : Coded AllEvents
 all_events_code = code_by (List Events × ℕ) (coded× (coded_list events_code) coded_ℕ) (λ a. (a.events, a.room)) (λ p. record { events = p.0; room = p.1 }) (λ _. refl)
 
--- the users from 1 to this many have none
-abbrev pub no_events : ℕ → AllEvents
-no_events users = record { events = replicate (users + 1) machine.no_events; room = 0 }
+-- the users from 1 to this many have no events
+abbrev pub nothing_armed : ℕ → AllEvents
+nothing_armed users = record { events = replicate (users + 1) machine.no_events; room = 0 }
 
 -- a user's events
 abbrev pub events_of : AllEvents → ℕ → Events

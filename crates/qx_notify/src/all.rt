@@ -3,7 +3,7 @@
 ghost use Rattle.std.specs.Prelude.{◌≡◌, ◌==◌, ◌+◌, ◌<◌, ◌≤◌, ◌&&◌, not, ℕ, IfOk, IsFalse, IsOk, IsTrue, OnErr, OnOk, length, max};
 ghost use Rattle.qx_types.specs.declared.limits.TheConstants.Limits.{EVENTS, PROCESSES};
 ghost use Rattle.qx_machine.specs.Events as machine;
-ghost use Rattle.qx_notify.specs.Events.{AreLimited, arms, done, events_after, events_of, no_events, status_given, notified_after, wants_node, with_events};
+ghost use Rattle.qx_notify.specs.Events.{AreLimited, arms, done, events_after, events_of, nothing_armed, status_given, notified_after, wants_node, with_events};
 
 use crate::changes::Changes;
 use crate::conditions::{come_to_hold, is_any, pulse_value, status_of, wanted_of};
@@ -41,7 +41,7 @@ impl AllEvents {
     /// No events and no pulses of the users from 1 to this many.
     pub fn new(alloc: Global, users: usize) -> Result<Self, AllocError>
         requires few { users < 256 }
-        ensures empty { IfOk result (λ all. all ≡ no_events users) }
+        ensures empty { IfOk result (λ all. all ≡ nothing_armed users) }
     {
         let mut table = Table::new(alloc);
         let mut lists = Vec::new(alloc);
