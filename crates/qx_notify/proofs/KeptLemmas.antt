@@ -7,7 +7,7 @@ use Rattle.std.proofs.lemmas.Bool.Decides.{eqb_tells}
 use Rattle.std.proofs.lemmas.List.{get_or-map, length-map, set-get_or}
 use Rattle.std.proofs.lemmas.Option.{get_or_from_slice_get, slice_get-get_or, slice_get_within}
 use Rattle.qx_types.specs.declared.limits.TheConstants.Limits.{PROCESSES}
-use Rattle.qx_lists.specs.Table.{ContainsList, Table, nodes_of, with_nodes, with_value, without}
+use Rattle.qx_lists.specs.Table.{ContainsList, Table, nodes_of, with_nodes, without}
 use Rattle.qx_lists.proofs.ListLemmas.{absent_without}
 use Rattle.qx_lists.proofs.MapLemmas.{get-insert_same, get-insert_other, get-remove_other}
 use Rattle.qx_lists.proofs.TableFacts.{kept_there}
@@ -111,14 +111,6 @@ module _ (t : Table Event) (list node : ℕ) (alone : (other : ℕ) → other �
     there = λ other there. (kept_there t.lists list nodes other there).1;
     nodes = λ other differs. ap (λ o. unwrap_or o []) (get-insert_other t.lists list nodes other differs);
     values = λ other differs. refl;
-    alone = alone;
-  }
-
-  pub touched-value : (event : Event) → Touched t (with_value t node event) list node
-  touched-value event = record {
-    there = λ other there. there;
-    nodes = λ other differs. refl;
-    values = λ other differs. get-insert_other t.values node event other differs;
     alone = alone;
   }
 
