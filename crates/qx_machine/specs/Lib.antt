@@ -2,6 +2,7 @@ pub mod Attributes
 pub mod Calls
 pub mod Clients
 pub mod Defaults
+pub mod Events
 pub mod Examples
 pub mod Files
 pub mod Inodes

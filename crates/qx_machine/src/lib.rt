@@ -5,6 +5,7 @@
 //! - `Rows.antt`, `Lines.antt`: rows under small numbers; priority lines
 //! - `Attributes.antt`, `Inodes.antt`, `Names.antt`, `Listings.antt`, `Files.antt`, `Pipes.antt`, `Waiting.antt`,
 //!   `Resources.antt`: what the managers keep for a user
+//! - `Events.antt`: the armed events and untaken pulses of a user; no step speaks of them yet, `qx_notify` does
 //! - `Servers.antt`, `Processes.antt`: processes; `Parts.antt`: all rows of a user, and what a step changes in the lines
 //! - `Judgements.antt`, `Calls.antt`, `Mounting.antt`, `Clients.antt`: the six steps of clients
 //! - `Functions.antt`, `RamManager.antt`, `PipeManager.antt`, `Defaults.antt`, `Managers.antt`: what managers do
@@ -24,7 +25,7 @@ pub mod laws;
 pub mod rows;
 
 pub use rows::{
-    Access, Addressed, Attribute, Caller, Connection, Content, Effect, Entry, Held, Kind, Manner,
-    NewOpen, Ocb, Opened, Over, OwnItem, Queued, Seen, Sent, ServerConnection, Sides, State,
-    Target, ThreadRow, WaitingCall, Wish,
+    Access, Addressed, Attribute, Caller, Conditions, Connection, Content, Effect, Entry, Event,
+    Held, Kind, Manner, NewOpen, Ocb, Opened, Over, OwnItem, Pulse, Queued, Seen, Sent,
+    ServerConnection, Sides, State, Target, ThreadRow, WaitingCall, Wish,
 };

@@ -1,5 +1,7 @@
 use qx_paths::Path;
-use qx_types::{Actor, Answer, Coid, Manager, MessageBytes, OFlags, Outcome, Prio, Step, User};
+use qx_types::{
+    Actor, Answer, Coid, Conds, Manager, MessageBytes, OFlags, Outcome, Prio, Step, User,
+};
 use qx_wire::{BorrowedBytes, Message};
 
 /// What a call sends (C Library Reference: `MsgSend`): a message of the table, or bytes as they are.
@@ -198,6 +200,38 @@ pub struct Manner {
 pub struct Sides {
     pub for_reading: bool,
     pub for_writing: bool,
+}
+
+/// Which conditions hold of what an open control block has open (C Library Reference: `ionotify`).
+#[derive(Clone, Copy, Debug, PartialEq, Eq)]
+pub struct Conditions {
+    pub input: bool,
+    pub output: bool,
+}
+
+/// An armed event: once a wanted condition comes to hold of what a block has open, a process gets a pulse of this code and
+/// value (C Library Reference: `ionotify`, `struct sigevent`, `SIGEV_PULSE_INIT`).
+#[derive(Clone, Copy, Debug, PartialEq, Eq)]
+pub struct Event {
+    pub process: u8,
+    pub block: u16,
+    pub conditions: Conds,
+    pub code: u8,
+    pub value: u32,
+}
+
+/// A pulse (C Library Reference: `MsgReceivePulse`, `struct _pulse`).
+#[derive(Clone, Copy, Debug, PartialEq, Eq)]
+pub struct Pulse {
+    pub code: u8,
+    pub value: u32,
+}
+
+impl Pulse {
+    /// The bit of a value, 28, that says that INPUT is wanted and holds.
+    pub const INPUT: u32 = 268_435_456;
+    /// The bit of a value, 29, that says that OUTPUT is wanted and holds.
+    pub const OUTPUT: u32 = 536_870_912;
 }
 
 /// An item of a line or of a worker, by the numbers of its user.

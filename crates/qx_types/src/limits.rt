@@ -50,6 +50,8 @@ impl Limits {
     pub const PULSE_CODE: u8 = 127;
     /// The greatest value of a pulse, below 2^28.
     pub const PULSE_VALUE: u32 = 268_435_455;
+    /// Armed events and untaken pulses of a user, together.
+    pub const EVENTS: usize = 128;
     /// Calls of a thread.
     pub const CALLS: u64 = 18_446_744_073_709_551_615;
 }
