@@ -50,8 +50,8 @@ abbrev pub bit_of : Bool → ℕ → ℕ
 bit_of is_set bit = if is_set then bit else 0
 
 -- the status that tells of these conditions
-abbrev pub status_of : Conditions → ℕ
-status_of conditions = bit_of conditions.input conds.INPUT.0 + bit_of conditions.output conds.OUTPUT.0
+abbrev pub wanted_status : Conditions → ℕ
+wanted_status conditions = bit_of conditions.input conds.INPUT.0 + bit_of conditions.output conds.OUTPUT.0
 
 -- ---- arming (C Library Reference: iofunc_notify)
 
@@ -68,8 +68,8 @@ abbrev pub armed_anew : Event → Events → Events
 armed_anew event events = record events { armed = (disarmed event.block events).armed ++ event ∷ [] }
 
 -- unless there were too many then
-abbrev pub arm : Event → Events → Result Events Errno
-arm event events = do
+abbrev pub arm_event : Event → Events → Result Events Errno
+arm_event event events = do
   few ← need (nat_lt (event_count (disarmed event.block events)) EVENTS) EAGAIN
   Ok (armed_anew event events)
 
@@ -80,12 +80,12 @@ pub record Notified : Type 0 where
 
 -- a poll tells which of the wanted conditions hold, and takes away what the block had armed
 abbrev pub polled : Event → Conditions → Events → Notified
-polled event holding events = record { status = status_of (wanted_of event.conditions holding); events = disarmed event.block events }
+polled event holding events = record { status = wanted_status (wanted_of event.conditions holding); events = disarmed event.block events }
 
 -- an event is armed, and the status is 0
 abbrev pub arming : Event → Events → Result Notified Errno
 arming event events = do
-  armed ← arm event events
+  armed ← arm_event event events
   Ok (record { status = 0; events = armed })
 
 -- POLL polls, TRANARM arms, and POLLARM polls where a wanted condition holds and else arms

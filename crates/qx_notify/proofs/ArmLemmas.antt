@@ -9,19 +9,19 @@ use Rattle.qx_types.specs.declared.errno.Errno.TheVariants.{EAGAIN}
 use Rattle.qx_types.specs.declared.limits.TheConstants.Limits.{EVENTS, PROCESSES}
 use Rattle.qx_lists.specs.Table.{Table, nodes_of}
 use Rattle.qx_machine.specs.declared.rows.Event.{Event}
-use Rattle.qx_machine.specs.Events.{Events, arm, armed_anew, disarmed, event_count, is_on}
-use Rattle.qx_notify.specs.Events.{AllEvents, done, events_after, events_of, wants_node}
-use Rattle.qx_notify.specs.Kept.{IsList, Kept, Lists, Put, Touched, armed_in, event_at, events_in, lists_at, told, unlinked}
+use Rattle.qx_machine.specs.Events.{Events, arm_event, armed_anew, disarmed, event_count, is_on}
+use Rattle.qx_notify.specs.Events.{AllEvents, armed_outcome, events_after, events_of, wants_node}
+use Rattle.qx_notify.specs.Kept.{IsList, KeepsLists, EventLists, Put, Touched, armed_in, event_at, events_in, lists_at, shown_events, unlinked}
 use Rattle.qx_notify.proofs.EventLemmas.{limited-armed}
 use Rattle.qx_notify.proofs.KeptLemmas.{alone-from, armed-events, count-at, count-of, kept-changed, nodes-unlinked, told-changed, told-of, touched-changed, touched-nodes, touched-then}
 use Rattle.qx_notify.proofs.NodeLemmas.{found, none-found}
 use Rattle.qx_notify.proofs.PutLemmas.{put-events}
 
 module _ (event : Event) (events : Events) where
-  pub arm-few : event_count (disarmed event.block events) < EVENTS → arm event events ≡ Ok (armed_anew event events)
+  pub arm-few : event_count (disarmed event.block events) < EVENTS → arm_event event events ≡ Ok (armed_anew event events)
   arm-few few = let test : nat_lt (event_count (disarmed event.block events)) EVENTS ≡ true = grind (arith, nat_tests) in rw test refl
 
-  pub arm-full : EVENTS ≤ event_count (disarmed event.block events) → arm event events ≡ Err EAGAIN
+  pub arm-full : EVENTS ≤ event_count (disarmed event.block events) → arm_event event events ≡ Err EAGAIN
   arm-full full = let test : nat_lt (event_count (disarmed event.block events)) EVENTS ≡ false = grind (arith, nat_tests) in rw test refl
 
 none-any : (f : ℕ → Event) (block : ℕ) (nodes : List ℕ) → slice_get (filter (λ n. is_on block (f n)) nodes) 0 ≡ None → list_any (is_on block) (map f nodes) ≡ false
@@ -31,21 +31,21 @@ none-any f block (x ∷ xs) none = elim (cases_Bool (is_on block (f x))) [
   | inr not ↦ rw not (none-any f block xs (rw not at none))
 ]
 
-module _ (t : Table Event) (all : List Lists) (counts : List ℕ) (kept : Kept t all counts) (user : ℕ) (within : user < length all) (list : ℕ) (is : list ≡ (lists_at all user).armed) (event : Event) where
+module _ (t : Table Event) (all : List EventLists) (counts : List ℕ) (kept : KeepsLists t all counts) (user : ℕ) (within : user < length all) (list : ℕ) (is : list ≡ (lists_at all user).armed) (event : Event) where
   abbrev before : Events
   before = events_in t (lists_at all user)
 
   abbrev judged : AllEvents → AllEvents
-  judged now = events_after now user (arm event (events_of now user))
+  judged now = events_after now user (arm_event event (events_of now user))
 
   -- what an arming comes to
   pub record Arms (new : Table Event) (all_counts : List ℕ) : Type 0 where
-    pub told_is : told new all ≡ events_after (told t all) user (arm event (events_of (told t all) user))
-    pub kept_is : Kept new all all_counts
-    pub done_is : Ok tt ≡ done (arm event (events_of (told t all) user))
+    pub told_is : shown_events new all ≡ events_after (shown_events t all) user (arm_event event (events_of (shown_events t all) user))
+    pub kept_is : KeepsLists new all all_counts
+    pub done_is : Ok tt ≡ armed_outcome (arm_event event (events_of (shown_events t all) user))
 
-  few-told : event_count (disarmed event.block before) < EVENTS → arm event (events_of (told t all) user) ≡ Ok (armed_anew event (events_of (told t all) user))
-  few-told few = arm-few event (events_of (told t all) user) (rw (ap (λ e. event_count (disarmed event.block e)) (told-of t all user within)) few)
+  few-told : event_count (disarmed event.block before) < EVENTS → arm_event event (events_of (shown_events t all) user) ≡ Ok (armed_anew event (events_of (shown_events t all) user))
+  few-told few = arm-few event (events_of (shown_events t all) user) (rw (ap (λ e. event_count (disarmed event.block e)) (told-of t all user within)) few)
 
   arms : (new : Table Event) (node : ℕ) (all_counts : List ℕ) → event.process ≤ PROCESSES → event_count (disarmed event.block before) < EVENTS → Touched t new list node → armed_in new list ≡ (armed_anew event before).armed → new.room ≡ t.room + event_count before - event_count (armed_anew event before) → all_counts ≡ set counts user (event_count (armed_anew event before)) → Arms new all_counts
   arms new node all_counts process few touched armed room counted =
@@ -54,9 +54,9 @@ module _ (t : Table Event) (all : List Lists) (counts : List ℕ) (kept : Kept t
       let own_is : events_in new (lists_at all user) ≡ armed_anew event before = armed-events t all kept.apart user within new list node is touched (armed_anew event before).armed armed in
       let few_is = few-told few in
       record {
-        told_is = told-changed t all counts kept user within new changed (armed_anew event before) own_is (armed_anew event) refl room ∙ ap (events_after (told t all) user) (sym few_is);
+        told_is = told-changed t all counts kept user within new changed (armed_anew event before) own_is (armed_anew event) refl room ∙ ap (events_after (shown_events t all) user) (sym few_is);
         kept_is = rw counted (kept-changed t all counts kept user within new changed (armed_anew event before) own_is (limited-armed event before (kept.limited user within) process few));
-        done_is = ap done (sym few_is);
+        done_is = ap armed_outcome (sym few_is);
       }
 
   -- the event of the block gives its node
@@ -83,19 +83,19 @@ module _ (t : Table Event) (all : List Lists) (counts : List ℕ) (kept : Kept t
 
   -- there are too many
   pub record Full : Type 0 where
-    pub told_is : told t all ≡ events_after (told t all) user (arm event (events_of (told t all) user))
-    pub done_is : Err EAGAIN ≡ done (arm event (events_of (told t all) user))
+    pub told_is : shown_events t all ≡ events_after (shown_events t all) user (arm_event event (events_of (shown_events t all) user))
+    pub done_is : Err EAGAIN ≡ armed_outcome (arm_event event (events_of (shown_events t all) user))
 
   pub arms-none : (count : ℕ) → slice_get (filter (λ n. is_on event.block (event_at t n)) (nodes_of t list)) 0 ≡ None → count ≡ get_or counts user count → EVENTS ≤ count → Full
   arms-none count none count_is full =
       let counted = count-of t all counts kept user within count count_is in
       let left : (disarmed event.block before).armed ≡ armed_in t list = ap (λ l. filter (λ other. not (is_on event.block other)) (armed_in t l)) (sym is) ∙ none-found (event_at t) event.block (nodes_of t list) none in
       let same : length (disarmed event.block before).armed ≡ length before.armed = ap length left ∙ ap (λ l. length (armed_in t l)) is in
-      let full_is = arm-full event (events_of (told t all) user) (rw (ap (λ e. event_count (disarmed event.block e)) (told-of t all user within)) (omega (arith, full, counted, same))) in
-      record { told_is = ap (events_after (told t all) user) (sym full_is); done_is = ap done (sym full_is) }
+      let full_is = arm-full event (events_of (shown_events t all) user) (rw (ap (λ e. event_count (disarmed event.block e)) (told-of t all user within)) (omega (arith, full, counted, same))) in
+      record { told_is = ap (events_after (shown_events t all) user) (sym full_is); done_is = ap armed_outcome (sym full_is) }
 
   -- it was to be a node more
-  pub wanted-node : (count : ℕ) → slice_get (filter (λ n. is_on event.block (event_at t n)) (nodes_of t list)) 0 ≡ None → count ≡ get_or counts user count → count < EVENTS → wants_node event (events_of (told t all) user) ≡ true
+  pub wanted-node : (count : ℕ) → slice_get (filter (λ n. is_on event.block (event_at t n)) (nodes_of t list)) 0 ≡ None → count ≡ get_or counts user count → count < EVENTS → wants_node event (events_of (shown_events t all) user) ≡ true
   wanted-node count none count_is few =
       let counted = count-of t all counts kept user within count count_is in
       let nobody : list_any (is_on event.block) before.armed ≡ false = ap (λ l. list_any (is_on event.block) (armed_in t l)) (sym is) ∙ none-any (event_at t) event.block (nodes_of t list) none in

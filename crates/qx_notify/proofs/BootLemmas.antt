@@ -11,7 +11,7 @@ use Rattle.qx_lists.proofs.MapLemmas.{get-insert_same, get-insert_other}
 use Rattle.qx_machine.specs.declared.rows.Event.{Event}
 use Rattle.qx_machine.specs.Events.{event_count, no_events}
 use Rattle.qx_notify.specs.Events.{AreLimited, nothing_armed}
-use Rattle.qx_notify.specs.Kept.{AreNew, IsList, Kept, Lists, event_at, events_in, given, lists_at, lists_of, no_lists, pulses_in, told}
+use Rattle.qx_notify.specs.Kept.{AreNew, IsList, KeepsLists, EventLists, event_at, events_in, given, lists_at, lists_of, no_lists, pulses_in, shown_events}
 
 pub slice_get-push : {A : Type 0} (xs : List A) (y : A) (k : ℕ) (x : A) → slice_get (xs ++ y ∷ []) k ≡ Some x → (slice_get xs k ≡ Some x) ⊎ ((k ≡ length xs) × (x ≡ y))
 slice_get-push [] y zero x is = let same : y ≡ x = cc in inr (refl, sym same)
@@ -65,7 +65,7 @@ new-more t mid new lists list are none made = rw made (record {
 -- ---- the lists of all users, as they are made
 
 -- each list is there, is empty and is of one user
-pub record AreEmpty (t : Table Event) (all : List Lists) : Type 0 where
+pub record AreEmpty (t : Table Event) (all : List EventLists) : Type 0 where
   pub empty : (user number list : ℕ) → IsList all user number list → maps.get t.lists list ≡ Some []
   pub apart : (user number other also list : ℕ) → IsList all user number list → IsList all other also list → (user ≡ other) × (number ≡ also)
   pub places : (user : ℕ) → user < length all → length (lists_at all user).pulses ≡ PROCESSES + 1
@@ -80,7 +80,7 @@ empty-none t = record {
   places = λ user within. absurd (omega arith);
 }
 
-module _ (all : List Lists) (lists : Lists) where
+module _ (all : List EventLists) (lists : EventLists) where
   -- a list of theirs is of one that was there or of the new one
   list-cases : (user number list : ℕ) → IsList (all ++ lists ∷ []) user number list → IsList all user number list ⊎ ((user ≡ length all) × (slice_get (lists_of lists) number ≡ Some list))
   list-cases user number list is = elim (cases_lt user (length all)) [
@@ -90,7 +90,7 @@ module _ (all : List Lists) (lists : Lists) where
         inr (last, ap (λ l. slice_get (lists_of l) number) (sym (ap (λ u. get_or (all ++ lists ∷ []) u no_lists) last ∙ get_or-append_seam all lists [] no_lists)) ∙ is.is)
   ]
 
-pub empty-more : (t new : Table Event) (all : List Lists) (lists : Lists) → AreEmpty t all → AreNew t new (lists_of lists) → length lists.pulses ≡ PROCESSES + 1 → AreEmpty new (all ++ lists ∷ [])
+pub empty-more : (t new : Table Event) (all : List EventLists) (lists : EventLists) → AreEmpty t all → AreNew t new (lists_of lists) → length lists.pulses ≡ PROCESSES + 1 → AreEmpty new (all ++ lists ∷ [])
 empty-more t new all lists are made places = record {
   empty = λ user number list is. elim (list-cases all lists user number list is) [
     | inl before ↦ made.others list [] (are.empty user number list before)
@@ -117,7 +117,7 @@ constant : {A B : Type 0} (f : A → B) (b : B) (d : A) (xs : List A) → ((k : 
 constant f b d [] is = refl
 constant f b d (x ∷ xs) is = ap₂ (λ y ys. y ∷ ys) (is 0 (omega arith)) (constant f b d xs (λ k within. is (suc k) (omega arith)))
 
-module _ (t : Table Event) (all : List Lists) (are : AreEmpty t all) where
+module _ (t : Table Event) (all : List EventLists) (are : AreEmpty t all) where
   nothing-in : (user number list : ℕ) → IsList all user number list → nodes_of t list ≡ []
   nothing-in user number list is = ap (λ o. unwrap_or o []) (are.empty user number list is)
 
@@ -130,7 +130,7 @@ module _ (t : Table Event) (all : List Lists) (are : AreEmpty t all) where
       ∙ ap (λ n. replicate n []) (are.places user within) in
       λ i. record { armed = armed i; pulses = pulses i }
 
-  pub empty-told : (users : ℕ) → length all ≡ users + 1 → t.room ≡ 0 → told t all ≡ nothing_armed users
+  pub empty-told : (users : ℕ) → length all ≡ users + 1 → t.room ≡ 0 → shown_events t all ≡ nothing_armed users
   empty-told users count room =
       let events = constant (events_in t) no_events no_lists all events-none ∙ ap (λ n. replicate n no_events) count in
       λ i. record { events = events i; room = room i }
@@ -138,7 +138,7 @@ module _ (t : Table Event) (all : List Lists) (are : AreEmpty t all) where
   none-limited : AreLimited no_events
   none-limited = record { few = omega arith; places = refl; processes = tt; once = λ block. omega arith }
 
-  pub empty-kept : (counts : List ℕ) → counts ≡ replicate (length all) 0 → Kept t all counts
+  pub empty-kept : (counts : List ℕ) → counts ≡ replicate (length all) 0 → KeepsLists t all counts
   empty-kept counts none = record {
     there = λ user number list is. ap is_some (are.empty user number list is);
     apart = are.apart;

@@ -15,7 +15,7 @@ use Rattle.qx_machine.specs.declared.rows.Event.{Event}
 use Rattle.qx_machine.specs.declared.rows.Pulse.{Pulse}
 use Rattle.qx_machine.specs.Events.{Events, disarmed, event_count, is_on, no_events}
 use Rattle.qx_notify.specs.Events.{AreLimited, AllEvents, events_of, with_events}
-use Rattle.qx_notify.specs.Kept.{AreApart, IsList, Kept, Lists, Touched, armed_in, event_at, events_in, given, lists_at, lists_of, no_event, no_lists, pulses_in, taken, told, unlinked}
+use Rattle.qx_notify.specs.Kept.{AreApart, IsList, KeepsLists, EventLists, Touched, armed_in, event_at, events_in, given, lists_at, lists_of, no_event, no_lists, pulses_in, pulse_taken, shown_events, unlinked}
 use Rattle.qx_notify.proofs.EventLemmas.{limited-disarmed}
 use Rattle.qx_notify.proofs.NodeLemmas.{Found, found, map-agree, map-each, map-one, none-found}
 
@@ -34,7 +34,7 @@ module _ (t new : Table Event) where
   pub same-pulses : (list : ℕ) → Same t new list → pulses_in new list ≡ pulses_in t list
   same-pulses list same = same-map given list same
 
-  pub same-events : (lists : Lists) → ((number list : ℕ) → slice_get (lists_of lists) number ≡ Some list → Same t new list) → events_in new lists ≡ events_in t lists
+  pub same-events : (lists : EventLists) → ((number list : ℕ) → slice_get (lists_of lists) number ≡ Some list → Same t new list) → events_in new lists ≡ events_in t lists
   same-events lists same =
       let armed = same-armed lists.armed (same 0 lists.armed refl) in
       let pulses = map-each (pulses_in t) (pulses_in new) 0 lists.pulses (λ k within. same-pulses (get_or lists.pulses k 0) (same (suc k) _ (slice_get-get_or lists.pulses k 0 within))) in
@@ -47,42 +47,42 @@ same-then t mid new list first next = record {
 }
 
 -- the lists of all other users are as they were
-pub record Changed (t new : Table Event) (all : List Lists) (user : ℕ) : Type 0 where
+pub record Changed (t new : Table Event) (all : List EventLists) (user : ℕ) : Type 0 where
   pub there : (list : ℕ) → ContainsList t list → ContainsList new list
   pub others : (other number list : ℕ) → other ≢ user → IsList all other number list → Same t new list
 
-pub told-of : (t : Table Event) (all : List Lists) (user : ℕ) → user < length all → events_of (told t all) user ≡ events_in t (lists_at all user)
+pub told-of : (t : Table Event) (all : List EventLists) (user : ℕ) → user < length all → events_of (shown_events t all) user ≡ events_in t (lists_at all user)
 told-of t all user within = get_or-map (events_in t) all user no_lists no_events within
 
 -- a user's events became these
-abbrev pub became : Table Event → List Lists → ℕ → Events → AllEvents
+abbrev pub became : Table Event → List EventLists → ℕ → Events → AllEvents
 became t all user events = record { events = set (map (events_in t) all) user events; room = t.room + event_count (events_in t (lists_at all user)) - event_count events }
 
-pub with-told : (t : Table Event) (all : List Lists) (user : ℕ) → user < length all → (change : Events → Events) → with_events (told t all) user (change (events_of (told t all) user)) ≡ became t all user (change (events_in t (lists_at all user)))
+pub with-told : (t : Table Event) (all : List EventLists) (user : ℕ) → user < length all → (change : Events → Events) → with_events (shown_events t all) user (change (events_of (shown_events t all) user)) ≡ became t all user (change (events_in t (lists_at all user)))
 with-told t all user within change = ap (λ e. record { events = set (map (events_in t) all) user (change e); room = t.room + event_count e - event_count (change e) }) (told-of t all user within)
 
 -- nothing became of them
-pub became-same : (t : Table Event) (all : List Lists) (user : ℕ) → user < length all → told t all ≡ became t all user (events_in t (lists_at all user))
+pub became-same : (t : Table Event) (all : List EventLists) (user : ℕ) → user < length all → shown_events t all ≡ became t all user (events_in t (lists_at all user))
 became-same t all user within =
     let before = events_in t (lists_at all user) in
     let same_room : t.room ≡ t.room + event_count before - event_count before = omega arith in
     let same : map (events_in t) all ≡ set (map (events_in t) all) user before = sym (set-get_or (map (events_in t) all) user no_events) ∙ ap (set (map (events_in t) all) user) (told-of t all user within) in
     λ i. record { events = same i; room = same_room i }
 
-module _ (t : Table Event) (all : List Lists) (counts : List ℕ) (kept : Kept t all counts) (user : ℕ) (within : user < length all) (new : Table Event) (changed : Changed t new all user) (events : Events) (own : events_in new (lists_at all user) ≡ events) where
+module _ (t : Table Event) (all : List EventLists) (counts : List ℕ) (kept : KeepsLists t all counts) (user : ℕ) (within : user < length all) (new : Table Event) (changed : Changed t new all user) (events : Events) (own : events_in new (lists_at all user) ≡ events) where
   others-same : (other : ℕ) → other < length all → other ≢ user → events_in new (lists_at all other) ≡ events_in t (lists_at all other)
   others-same other at differs = same-events t new (lists_at all other) (λ number list is. changed.others other number list differs (record { within = at; is = is }))
 
   events-changed : map (events_in new) all ≡ set (map (events_in t) all) user events
   events-changed = map-one (events_in t) (events_in new) no_lists all user within others-same ∙ ap (set (map (events_in t) all) user) own
 
-  pub told-changed : (change : Events → Events) → events ≡ change (events_in t (lists_at all user)) → new.room ≡ t.room + event_count (events_in t (lists_at all user)) - event_count events → told new all ≡ with_events (told t all) user (change (events_of (told t all) user))
+  pub told-changed : (change : Events → Events) → events ≡ change (events_in t (lists_at all user)) → new.room ≡ t.room + event_count (events_in t (lists_at all user)) - event_count events → shown_events new all ≡ with_events (shown_events t all) user (change (events_of (shown_events t all) user))
   told-changed change is room = told_new ∙ sym (with-told t all user within change ∙ ap (became t all user) (sym is))
     where
-      told_new : told new all ≡ became t all user events
+      told_new : shown_events new all ≡ became t all user events
       told_new = λ i. record { events = events-changed i; room = room i }
 
-  pub kept-changed : AreLimited events → Kept new all (set counts user (event_count events))
+  pub kept-changed : AreLimited events → KeepsLists new all (set counts user (event_count events))
   kept-changed limited = record {
     there = λ other number list is. changed.there list (kept.there other number list is);
     apart = kept.apart;
@@ -122,15 +122,15 @@ touched-then t mid new list node first next = record {
   alone = first.alone;
 }
 
-module _ (t : Table Event) (all : List Lists) (counts : List ℕ) (kept : Kept t all counts) (user : ℕ) (within : user < length all) where
+module _ (t : Table Event) (all : List EventLists) (counts : List ℕ) (kept : KeepsLists t all counts) (user : ℕ) (within : user < length all) where
   pub count-at : (d : ℕ) → get_or counts user d ≡ event_count (events_in t (lists_at all user))
   count-at d = ap (λ c. get_or c user d) kept.counted ∙ get_or-map (λ lists. event_count (events_in t lists)) all user no_lists d within
 
   pub count-of : (count : ℕ) → count ≡ get_or counts user count → count ≡ event_count (events_in t (lists_at all user))
   count-of count is = is ∙ count-at count
 
-module _ (t : Table Event) (all : List Lists) (apart : AreApart all) (user : ℕ) (within : user < length all) where
-  abbrev own : Lists
+module _ (t : Table Event) (all : List EventLists) (apart : AreApart all) (user : ℕ) (within : user < length all) where
+  abbrev own : EventLists
   own = lists_at all user
 
   abbrev events : Events
@@ -169,7 +169,7 @@ pub nodes-unlinked : (t : Table Event) (list node : ℕ) → nodes_of (unlinked 
 nodes-unlinked t list node = ap (λ o. unwrap_or o []) (get-insert_same t.lists list (without node (nodes_of t list)))
 
 module _ (t : Table Event) (list node : ℕ) (alone : (other : ℕ) → other ≢ list → Contains (nodes_of t other) node → ⊥) where
-  pub touched-taken : Touched t (taken t list node) list node
+  pub touched-taken : Touched t (pulse_taken t list node) list node
   touched-taken = record {
     there = λ other there. (kept_there t.lists list (without node (nodes_of t list)) other there).1;
     nodes = λ other differs. ap (λ o. unwrap_or o []) (get-insert_other t.lists list (without node (nodes_of t list)) other differs);
@@ -177,29 +177,29 @@ module _ (t : Table Event) (list node : ℕ) (alone : (other : ℕ) → other �
     alone = alone;
   }
 
-  pub left-taken : {B : Type 0} (f : Event → B) → map (λ n. f (event_at (taken t list node) n)) (nodes_of (taken t list node) list) ≡ map (λ n. f (event_at t n)) (without node (nodes_of t list))
-  left-taken f = ap (map (λ n. f (event_at (taken t list node) n))) (nodes-unlinked t list node) ∙ map-agree (λ n. f (event_at (taken t list node) n)) (λ n. f (event_at t n)) (without node (nodes_of t list)) (λ n at. ap (λ o. f (unwrap_or o no_event)) (get-remove_other t.values node n (λ same. absent_without node (nodes_of t list) (rw same at at))))
+  pub left-taken : {B : Type 0} (f : Event → B) → map (λ n. f (event_at (pulse_taken t list node) n)) (nodes_of (pulse_taken t list node) list) ≡ map (λ n. f (event_at t n)) (without node (nodes_of t list))
+  left-taken f = ap (map (λ n. f (event_at (pulse_taken t list node) n))) (nodes-unlinked t list node) ∙ map-agree (λ n. f (event_at (pulse_taken t list node) n)) (λ n. f (event_at t n)) (without node (nodes_of t list)) (λ n at. ap (λ o. f (unwrap_or o no_event)) (get-remove_other t.values node n (λ same. absent_without node (nodes_of t list) (rw same at at))))
 
 pub alone-from : (t : Table Event) → ((one two node : ℕ) → Contains (nodes_of t one) node → Contains (nodes_of t two) node → one ≡ two) → (list node : ℕ) → Contains (nodes_of t list) node → (other : ℕ) → other ≢ list → Contains (nodes_of t other) node → ⊥
 alone-from t apart list node here other differs there = differs (apart other list node there here)
 
-module _ (t : Table Event) (all : List Lists) (counts : List ℕ) (kept : Kept t all counts) (user : ℕ) (within : user < length all) (list : ℕ) (is : list ≡ (lists_at all user).armed) (block : ℕ) where
+module _ (t : Table Event) (all : List EventLists) (counts : List ℕ) (kept : KeepsLists t all counts) (user : ℕ) (within : user < length all) (list : ℕ) (is : list ≡ (lists_at all user).armed) (block : ℕ) where
   abbrev before : Events
   before = events_in t (lists_at all user)
 
   -- what a disarming comes to
   pub record Disarms (new : Table Event) (count : ℕ) : Type 0 where
-    pub told_is : told new all ≡ with_events (told t all) user (disarmed block (events_of (told t all) user))
-    pub kept_is : Kept new all (set counts user (count - 1))
+    pub told_is : shown_events new all ≡ with_events (shown_events t all) user (disarmed block (events_of (shown_events t all) user))
+    pub kept_is : KeepsLists new all (set counts user (count - 1))
     pub some : 1 ≤ count
 
   pub block-found : (node : ℕ) → ((list : ℕ) → IsDistinct nat_eq (nodes_of t list)) → slice_get (filter (λ n. is_on block (event_at t n)) (nodes_of t list)) 0 ≡ Some node → Found (event_at t) block (nodes_of t list) node
   block-found node distinct first = found (event_at t) block (nodes_of t list) node (distinct list) first (rw is ((kept.limited user within).once block))
 
-  pub disarms : (node count : ℕ) → ((list : ℕ) → IsDistinct nat_eq (nodes_of t list)) → ((one two node : ℕ) → Contains (nodes_of t one) node → Contains (nodes_of t two) node → one ≡ two) → slice_get (filter (λ n. is_on block (event_at t n)) (nodes_of t list)) 0 ≡ Some node → count ≡ get_or counts user count → Disarms (taken t list node) count
+  pub disarms : (node count : ℕ) → ((list : ℕ) → IsDistinct nat_eq (nodes_of t list)) → ((one two node : ℕ) → Contains (nodes_of t one) node → Contains (nodes_of t two) node → one ≡ two) → slice_get (filter (λ n. is_on block (event_at t n)) (nodes_of t list)) 0 ≡ Some node → count ≡ get_or counts user count → Disarms (pulse_taken t list node) count
   disarms node count distinct apart first count_is =
       let one = block-found node distinct first in
-      let new = taken t list node in
+      let new = pulse_taken t list node in
       let alone = alone-from t apart list node one.there in
       let touched = touched-taken t list node alone in
       let at : IsList all user 0 list = record { within = within; is = ap Some (sym is) } in
@@ -216,31 +216,31 @@ module _ (t : Table Event) (all : List Lists) (counts : List ℕ) (kept : Kept t
       }
 
   -- nothing to disarm
-  pub nothing-disarmed : slice_get (filter (λ n. is_on block (event_at t n)) (nodes_of t list)) 0 ≡ None → told t all ≡ with_events (told t all) user (disarmed block (events_of (told t all) user))
+  pub nothing-disarmed : slice_get (filter (λ n. is_on block (event_at t n)) (nodes_of t list)) 0 ≡ None → shown_events t all ≡ with_events (shown_events t all) user (disarmed block (events_of (shown_events t all) user))
   nothing-disarmed none =
       let armed : before.armed ≡ (disarmed block before).armed = ap (armed_in t) (sym is) ∙ sym (none-found (event_at t) block (nodes_of t list) none) ∙ ap (λ l. filter (λ event. not (is_on block event)) (armed_in t l)) is in
       let same : before ≡ disarmed block before = λ i. record { armed = armed i; pulses = before.pulses } in
       became-same t all user within ∙ ap (became t all user) same ∙ sym (with-told t all user within (disarmed block))
 
 -- more room
-pub kept-reserved : (t new : Table Event) (all : List Lists) (counts : List ℕ) (room : ℕ) → new ≡ record t { room = room } → Kept t all counts → Kept new all counts
+pub kept-reserved : (t new : Table Event) (all : List EventLists) (counts : List ℕ) (room : ℕ) → new ≡ record t { room = room } → KeepsLists t all counts → KeepsLists new all counts
 kept-reserved t new all counts room is kept = rw is (record { there = kept.there; apart = kept.apart; limited = kept.limited; counted = kept.counted })
 
 -- each process that may be has a list
-pub process-within : (t : Table Event) (all : List Lists) (counts : List ℕ) → Kept t all counts → (user : ℕ) → user < length all → (process : ℕ) → process ≤ PROCESSES → process < length (lists_at all user).pulses
+pub process-within : (t : Table Event) (all : List EventLists) (counts : List ℕ) → KeepsLists t all counts → (user : ℕ) → user < length all → (process : ℕ) → process ≤ PROCESSES → process < length (lists_at all user).pulses
 process-within t all counts kept user within process few = omega (arith, (kept.limited user within).places, length-map (lists_at all user).pulses (pulses_in t), few)
 
 -- a user whose events are told has lists
-pub within-told : (t : Table Event) (all : List Lists) (user : ℕ) (now : AllEvents) → told t all ≡ now → user < length now.events → user < length all
+pub within-told : (t : Table Event) (all : List EventLists) (user : ℕ) (now : AllEvents) → shown_events t all ≡ now → user < length now.events → user < length all
 within-told t all user now is within = let same : length (map (events_in t) all) ≡ length now.events = ap (λ v. length v.events) is in omega (arith, same, length-map all (events_in t))
 
 -- the list of a user's armed events, as a call finds it
-pub record ArmedList (t : Table Event) (all : List Lists) (user list : ℕ) : Type 0 where
+pub record ArmedList (t : Table Event) (all : List EventLists) (user list : ℕ) : Type 0 where
   pub within : user < length all
   pub is : list ≡ (lists_at all user).armed
   pub there : ContainsList t list
 
-pub armed-list : (t : Table Event) (all : List Lists) (counts : List ℕ) → Kept t all counts → (user : ℕ) (now : AllEvents) → told t all ≡ now → user < length now.events → (slice : List Lists) → slice ≡ all → (list : ℕ) → list ≡ (lists_at slice user).armed → ArmedList t all user list
+pub armed-list : (t : Table Event) (all : List EventLists) (counts : List ℕ) → KeepsLists t all counts → (user : ℕ) (now : AllEvents) → shown_events t all ≡ now → user < length now.events → (slice : List EventLists) → slice ≡ all → (list : ℕ) → list ≡ (lists_at slice user).armed → ArmedList t all user list
 armed-list t all counts kept user now told_is within slice slice_is list list_is =
     let here = within-told t all user now told_is within in
     let is = list_is ∙ ap (λ lists. (lists_at lists user).armed) slice_is in

@@ -10,7 +10,7 @@ use Rattle.qx_machine.specs.declared.rows.Event.{Event}
 use Rattle.qx_machine.specs.Events.{Events, event_count, first_pulse, without_first_pulse}
 use Rattle.qx_machine.specs.Lines.{line_at}
 use Rattle.qx_notify.specs.Events.{AllEvents, events_of, with_events}
-use Rattle.qx_notify.specs.Kept.{IsList, Kept, Lists, event_at, events_in, given, lists_at, pulses_in, taken, told}
+use Rattle.qx_notify.specs.Kept.{IsList, KeepsLists, EventLists, event_at, events_in, given, lists_at, pulses_in, pulse_taken, shown_events}
 use Rattle.qx_notify.proofs.EventLemmas.{limited-queue, line_at-get, queue-count}
 use Rattle.qx_notify.proofs.KeptLemmas.{alone-from, became, became-same, count-of, kept-changed, left-taken, queue-events, told-changed, told-of, touched-changed, touched-taken, with-told, within-told}
 
@@ -19,10 +19,10 @@ drop-one [] some = absurd (omega (arith, some))
 drop-one (x ∷ xs) some = omega arith
 
 -- the queue of a process is told by its list
-pub queue-line : (t : Table Event) (lists : Lists) (process list : ℕ) → slice_get lists.pulses process ≡ Some list → line_at (events_in t lists).pulses process ≡ pulses_in t list
+pub queue-line : (t : Table Event) (lists : EventLists) (process list : ℕ) → slice_get lists.pulses process ≡ Some list → line_at (events_in t lists).pulses process ≡ pulses_in t list
 queue-line t lists process list is = ap (λ o. unwrap_or o []) (slice_get-map (pulses_in t) lists.pulses process ∙ ap (option_map (pulses_in t)) is)
 
-module _ (t : Table Event) (all : List Lists) (counts : List ℕ) (kept : Kept t all counts) (user : ℕ) (within : user < length all) (process list : ℕ) (is : slice_get (lists_at all user).pulses process ≡ Some list) where
+module _ (t : Table Event) (all : List EventLists) (counts : List ℕ) (kept : KeepsLists t all counts) (user : ℕ) (within : user < length all) (process list : ℕ) (is : slice_get (lists_at all user).pulses process ≡ Some list) where
   abbrev before : Events
   before = events_in t (lists_at all user)
 
@@ -33,21 +33,21 @@ module _ (t : Table Event) (all : List Lists) (counts : List ℕ) (kept : Kept t
   line = queue-line t (lists_at all user) process list is
 
   -- the first pulse is that of the first node
-  pub first-is : first_pulse process (events_of (told t all) user) ≡ option_map (λ node. given (event_at t node)) (slice_get (nodes_of t list) 0)
+  pub first-is : first_pulse process (events_of (shown_events t all) user) ≡ option_map (λ node. given (event_at t node)) (slice_get (nodes_of t list) 0)
   first-is = ap (first_pulse process) (told-of t all user within) ∙ ap (λ queue. slice_get queue 0) line ∙ slice_get-map (λ node. given (event_at t node)) (nodes_of t list) 0
 
   pub record Takes (new : Table Event) (count : ℕ) : Type 0 where
-    pub told_is : told new all ≡ with_events (told t all) user (without_first_pulse process (events_of (told t all) user))
-    pub kept_is : Kept new all (set counts user (count - 1))
+    pub told_is : shown_events new all ≡ with_events (shown_events t all) user (without_first_pulse process (events_of (shown_events t all) user))
+    pub kept_is : KeepsLists new all (set counts user (count - 1))
     pub some : 1 ≤ count
 
-  pub takes : (node count : ℕ) → ((list : ℕ) → IsDistinct nat_eq (nodes_of t list)) → ((one two node : ℕ) → Contains (nodes_of t one) node → Contains (nodes_of t two) node → one ≡ two) → slice_get (nodes_of t list) 0 ≡ Some node → count ≡ get_or counts user count → Takes (taken t list node) count
+  pub takes : (node count : ℕ) → ((list : ℕ) → IsDistinct nat_eq (nodes_of t list)) → ((one two node : ℕ) → Contains (nodes_of t one) node → Contains (nodes_of t two) node → one ≡ two) → slice_get (nodes_of t list) 0 ≡ Some node → count ≡ get_or counts user count → Takes (pulse_taken t list node) count
   takes node count distinct apart first count_is =
       let limits = kept.limited user within in
       let within_process = slice_get_within (lists_at all user).pulses process list is in
       let here : process < length before.pulses = omega (arith, within_process, length-map (lists_at all user).pulses (pulses_in t)) in
       let few : process ≤ PROCESSES = omega (arith, here, limits.places) in
-      let new = taken t list node in
+      let new = pulse_taken t list node in
       let alone = alone-from t apart list node (contains_slice_first (nodes_of t list) node first) in
       let touched = touched-taken t list node alone in
       let changed = touched-changed t all kept.apart user within new (suc process) list node pulses-list touched in
@@ -65,7 +65,7 @@ module _ (t : Table Event) (all : List Lists) (counts : List ℕ) (kept : Kept t
       }
 
   -- there is none
-  pub takes-none : slice_get (nodes_of t list) 0 ≡ None → told t all ≡ with_events (told t all) user (without_first_pulse process (events_of (told t all) user))
+  pub takes-none : slice_get (nodes_of t list) 0 ≡ None → shown_events t all ≡ with_events (shown_events t all) user (without_first_pulse process (events_of (shown_events t all) user))
   takes-none none =
       let empty : line_at before.pulses process ≡ [] = line ∙ ap (map (λ n. given (event_at t n))) (none_first (nodes_of t list) none) in
       let pulses : before.pulses ≡ (without_first_pulse process before).pulses = sym (set-get_or before.pulses process []) ∙ ap (set before.pulses process) (sym (line_at-get before.pulses process) ∙ empty ∙ ap (drop 1) (sym empty)) in
@@ -73,12 +73,12 @@ module _ (t : Table Event) (all : List Lists) (counts : List ℕ) (kept : Kept t
       became-same t all user within ∙ ap (became t all user) same ∙ sym (with-told t all user within (without_first_pulse process))
 
 -- the list of a process' pulses, as a call finds it
-pub record QueueList (t : Table Event) (all : List Lists) (user process list : ℕ) : Type 0 where
+pub record QueueList (t : Table Event) (all : List EventLists) (user process list : ℕ) : Type 0 where
   pub within : user < length all
   pub is : slice_get (lists_at all user).pulses process ≡ Some list
   pub there : ContainsList t list
 
-pub queue-list : (t : Table Event) (all : List Lists) (counts : List ℕ) → Kept t all counts → (user : ℕ) (now : AllEvents) → told t all ≡ now → user < length now.events → (slice : List Lists) → slice ≡ all → (process list : ℕ) → slice_get (lists_at slice user).pulses process ≡ Some list → QueueList t all user process list
+pub queue-list : (t : Table Event) (all : List EventLists) (counts : List ℕ) → KeepsLists t all counts → (user : ℕ) (now : AllEvents) → shown_events t all ≡ now → user < length now.events → (slice : List EventLists) → slice ≡ all → (process list : ℕ) → slice_get (lists_at slice user).pulses process ≡ Some list → QueueList t all user process list
 queue-list t all counts kept user now told_is within slice slice_is process list list_is =
     let here = within-told t all user now told_is within in
     let is = ap (λ lists. slice_get (lists_at lists user).pulses process) (sym slice_is) ∙ list_is in

@@ -15,7 +15,7 @@ use Rattle.qx_machine.specs.declared.rows.Pulse.{Pulse}
 use Rattle.qx_machine.specs.Events.{event_count, is_due, pulse_of, triggered, with_pulse, with_pulses}
 use Rattle.qx_machine.specs.Lines.{line_at}
 use Rattle.qx_notify.specs.Events.{events_of, with_events}
-use Rattle.qx_notify.specs.Kept.{AreApart, IsList, Kept, Lists, Put, Touched, armed_in, event_at, events_in, given, lists_at, no_event, pulses_in, told, unlinked}
+use Rattle.qx_notify.specs.Kept.{AreApart, IsList, KeepsLists, EventLists, Put, Touched, armed_in, event_at, events_in, given, lists_at, no_event, pulses_in, shown_events, unlinked}
 use Rattle.qx_notify.proofs.EventLemmas.{count-triggered, limited-triggered}
 use Rattle.qx_notify.proofs.KeptLemmas.{Changed, armed-events, alone-from, count-at, kept-changed, nodes-unlinked, queue-events, same-then, told-changed, touched-changed, touched-nodes}
 use Rattle.qx_notify.proofs.NodeLemmas.{map-agree}
@@ -94,7 +94,7 @@ module _ (before after : ℕ → Conditions) where
   due = is_due before after
 
   -- from these nodes on, what is left leads to these events, and the walk has passed the nodes before them
-  pub record Left (old t : Table Event) (all : List Lists) (user : ℕ) (list : ℕ) (next : Option ℕ) : Type 0 where
+  pub record Left (old t : Table Event) (all : List EventLists) (user : ℕ) (list : ℕ) (next : Option ℕ) : Type 0 where
     pub front : List ℕ
     pub rest : List ℕ
     pub nodes : nodes_of t list ≡ front ++ rest
@@ -114,20 +114,20 @@ pub headed : (rest : List ℕ) (node : ℕ) → slice_get rest 0 ≡ Some node �
 headed [] node is = let clash : None ≡ Some node = is in absurd (cc)
 headed (x ∷ back) node is = let same : x ≡ node = cc in record { back = back; is = ap (λ y. y ∷ back) same }
 
-changed-none : (t : Table Event) (all : List Lists) (user : ℕ) → Changed t t all user
+changed-none : (t : Table Event) (all : List EventLists) (user : ℕ) → Changed t t all user
 changed-none t all user = record { there = λ list there. there; others = λ other number list differs is. record { nodes = refl; values = λ node at. refl } }
 
-changed-then : (t mid new : Table Event) (all : List Lists) (user : ℕ) → Changed t mid all user → Changed mid new all user → Changed t new all user
+changed-then : (t mid new : Table Event) (all : List EventLists) (user : ℕ) → Changed t mid all user → Changed mid new all user → Changed t new all user
 changed-then t mid new all user first next = record {
   there = λ list there. next.there list (first.there list there);
   others = λ other number list differs is. same-then t mid new list (first.others other number list differs is) (next.others other number list differs is);
 }
 
-module _ (before after : ℕ → Conditions) (all : List Lists) (user : ℕ) (within : user < length all) (list : ℕ) (is : list ≡ (lists_at all user).armed) where
+module _ (before after : ℕ → Conditions) (all : List EventLists) (user : ℕ) (within : user < length all) (list : ℕ) (is : list ≡ (lists_at all user).armed) where
   abbrev stays : Event → Bool
   stays event = not (is_due before after event)
 
-  pub left-all : (t : Table Event) (counts : List ℕ) (next : Option ℕ) → Kept t all counts → next ≡ slice_get (nodes_of t list) 0 → Left before after t t all user list next
+  pub left-all : (t : Table Event) (counts : List ℕ) (next : Option ℕ) → KeepsLists t all counts → next ≡ slice_get (nodes_of t list) 0 → Left before after t t all user list next
   left-all t counts next kept next_is = record {
     front = [];
     rest = nodes_of t list;
@@ -250,10 +250,10 @@ module _ (before after : ℕ → Conditions) (all : List Lists) (user : ℕ) (wi
 
   -- nothing is left
   pub record Triggers (old t : Table Event) (counts : List ℕ) : Type 0 where
-    pub told_is : told t all ≡ with_events (told old all) user (triggered before after (events_of (told old all) user))
-    pub kept_is : Kept t all counts
+    pub told_is : shown_events t all ≡ with_events (shown_events old all) user (triggered before after (events_of (shown_events old all) user))
+    pub kept_is : KeepsLists t all counts
 
-  pub triggers : (old t : Table Event) (counts : List ℕ) → Kept old all counts → Left before after old t all user list None → Triggers old t counts
+  pub triggers : (old t : Table Event) (counts : List ℕ) → KeepsLists old all counts → Left before after old t all user list None → Triggers old t counts
   triggers old t counts kept left =
       let limits = kept.limited user within in
       let none = none_first left.rest left.next_is in

@@ -52,9 +52,9 @@ with_events all user events = record { events = slice_set all.events user events
 
 -- ---- arming
 
-abbrev pub done : {A : Type 0} → Result A Errno → Result ⊤ Errno
-done (Ok events) = Ok tt
-done (Err error) = Err error
+abbrev pub armed_outcome : {A : Type 0} → Result A Errno → Result ⊤ Errno
+armed_outcome (Ok events) = Ok tt
+armed_outcome (Err error) = Err error
 
 -- once a user's events were to become what a judgement says
 abbrev pub events_after : AllEvents → ℕ → Result Events Errno → AllEvents
@@ -74,7 +74,7 @@ abbrev pub wants_node : Event → Events → Bool
 wants_node event events = not (list_any (is_on event.block) events.armed) && nat_lt (event_count events) EVENTS
 
 -- a notification arms
-abbrev pub arms : NotifyAction → Event → Conditions → Bool
-arms Poll event holding = false
-arms TranArm event holding = true
-arms PollArm event holding = not (is_any (wanted_of event.conditions holding))
+abbrev pub arms_event : NotifyAction → Event → Conditions → Bool
+arms_event Poll event holding = false
+arms_event TranArm event holding = true
+arms_event PollArm event holding = not (is_any (wanted_of event.conditions holding))

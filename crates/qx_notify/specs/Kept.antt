@@ -9,21 +9,21 @@ use Rattle.qx_machine.specs.Events.{Events, event_count}
 use Rattle.qx_notify.specs.Events.{AllEvents, AreLimited}
 
 -- the numbers of a user's lists: that of armed events, and under each process' number that of its pulses
-pub record Lists : Type 0 where
+pub record EventLists : Type 0 where
   pub armed : ℕ
   pub pulses : List ℕ
 
-abbrev pub lists_code : Coded Lists
+abbrev pub lists_code : Coded EventLists
 lists_code = code_by (ℕ × List ℕ) (coded× coded_ℕ (coded_list coded_ℕ)) (λ l. (l.armed, l.pulses)) (λ p. record { armed = p.0; pulses = p.1 }) (λ _. refl)
 
-abbrev pub no_lists : Lists
+abbrev pub no_lists : EventLists
 no_lists = record { armed = 0; pulses = [] }
 
-abbrev pub lists_at : List Lists → ℕ → Lists
+abbrev pub lists_at : List EventLists → ℕ → EventLists
 lists_at all user = get_or all user no_lists
 
 -- the list of armed events is the first
-abbrev pub lists_of : Lists → List ℕ
+abbrev pub lists_of : EventLists → List ℕ
 lists_of lists = lists.armed ∷ lists.pulses
 
 -- ---- what the lists tell
@@ -44,25 +44,25 @@ armed_in t list = map (event_at t) (nodes_of t list)
 abbrev pub pulses_in : Table Event → ℕ → List Pulse
 pulses_in t list = map (λ node. given (event_at t node)) (nodes_of t list)
 
-abbrev pub events_in : Table Event → Lists → Events
+abbrev pub events_in : Table Event → EventLists → Events
 events_in t lists = record { armed = armed_in t lists.armed; pulses = map (pulses_in t) lists.pulses }
 
-abbrev pub told : Table Event → List Lists → AllEvents
-told t all = record { events = map (events_in t) all; room = t.room }
+abbrev pub shown_events : Table Event → List EventLists → AllEvents
+shown_events t all = record { events = map (events_in t) all; room = t.room }
 
 -- ---- what holds of them
 
 -- a user's list of a number: 0 is that of armed events
-pub record IsList (all : List Lists) (user number list : ℕ) : Type 0 where
+pub record IsList (all : List EventLists) (user number list : ℕ) : Type 0 where
   pub within : user < length all
   pub is : slice_get (lists_of (lists_at all user)) number ≡ Some list
 
 -- no two have one list
-abbrev pub AreApart : List Lists → Type 0
+abbrev pub AreApart : List EventLists → Type 0
 AreApart all = (user number other also list : ℕ) → IsList all user number list → IsList all other also list → (user ≡ other) × (number ≡ also)
 
 -- each list of a user is there and is of nobody else, and these are the counts of all users' events
-pub record Kept (t : Table Event) (all : List Lists) (counts : List ℕ) : Type 0 where
+pub record KeepsLists (t : Table Event) (all : List EventLists) (counts : List ℕ) : Type 0 where
   pub there : (user number list : ℕ) → IsList all user number list → ContainsList t list
   pub apart : AreApart all
   pub limited : (user : ℕ) → user < length all → AreLimited (events_in t (lists_at all user))
@@ -100,5 +100,5 @@ abbrev pub unlinked : Table Event → ℕ → ℕ → Table Event
 unlinked t list node = with_nodes t list (without node (nodes_of t list))
 
 -- and is given back
-abbrev pub taken : Table Event → ℕ → ℕ → Table Event
-taken t list node = record (unlinked t list node) { values = maps.remove t.values node; room = t.room + 1 }
+abbrev pub pulse_taken : Table Event → ℕ → ℕ → Table Event
+pulse_taken t list node = record (unlinked t list node) { values = maps.remove t.values node; room = t.room + 1 }

@@ -3,7 +3,7 @@
 ghost use Rattle.std.specs.Prelude.{◌≡◌, ◌==◌, ◌+◌, ◌<◌, ◌≤◌, ◌&&◌, not, ℕ, IfOk, IsFalse, IsOk, IsTrue, OnErr, OnOk, length, max};
 ghost use Rattle.qx_types.specs.declared.limits.TheConstants.Limits.{EVENTS, PROCESSES};
 ghost use Rattle.qx_machine.specs.Events as machine;
-ghost use Rattle.qx_notify.specs.Events.{AreLimited, arms, done, events_after, events_of, nothing_armed, status_given, notified_after, wants_node, with_events};
+ghost use Rattle.qx_notify.specs.Events.{AreLimited, arms_event, armed_outcome, events_after, events_of, nothing_armed, status_given, notified_after, wants_node, with_events};
 
 use crate::changes::Changes;
 use crate::conditions::{come_to_hold, is_any, pulse_value, status_of, wanted_of};
@@ -25,16 +25,16 @@ pub struct AllEvents {
 }
 
 impl Model for AllEvents {
-    ghost use Rattle.qx_notify.specs.Kept.{Kept, told};
+    ghost use Rattle.qx_notify.specs.Kept.{KeepsLists, shown_events};
     ghost use Rattle.qx_notify.specs.Events as words;
 
     ghost Value = { words.AllEvents };
 
     ghost coded = { words.all_events_code };
 
-    ghost view = { λ a. told a.table a.lists.items };
+    ghost view = { λ a. shown_events a.table a.lists.items };
 
-    ghost invariant = { λ a. Kept a.table a.lists.items a.counts.items };
+    ghost invariant = { λ a. KeepsLists a.table a.lists.items a.counts.items };
 }
 
 impl AllEvents {
@@ -105,8 +105,8 @@ impl AllEvents {
     pub fn arm(&mut self, user: User, event: Event) -> Result<Result<(), Errno>, AllocError>
         requires user { user.0 < length self.old.events }
         requires process { event.process ≤ PROCESSES }
-        ensures judged { IfOk result (λ given. given ≡ done (machine.arm event (events_of self.old user.0))) }
-        ensures armed { OnOk result (self.new ≡ events_after self.old user.0 (machine.arm event (events_of self.old user.0))) }
+        ensures judged { IfOk result (λ given. given ≡ armed_outcome (machine.arm_event event (events_of self.old user.0))) }
+        ensures armed { OnOk result (self.new ≡ events_after self.old user.0 (machine.arm_event event (events_of self.old user.0))) }
         ensures err { OnErr result (self.new ≡ self.old) }
         ensures sure { IsFalse (wants_node event (events_of self.old user.0)) → IsOk result }
         ensures had_room { 0 < self.old.room → IsOk result }
@@ -139,7 +139,7 @@ impl AllEvents {
         ensures judged { IfOk result (λ given. given ≡ status_given (machine.notified action event holding (events_of self.old user.0))) }
         ensures notified { OnOk result (self.new ≡ notified_after self.old user.0 (machine.notified action event holding (events_of self.old user.0))) }
         ensures err { OnErr result (self.new ≡ self.old) }
-        ensures sure { IsFalse (arms action event holding && wants_node event (events_of self.old user.0)) → IsOk result }
+        ensures sure { IsFalse (arms_event action event holding && wants_node event (events_of self.old user.0)) → IsOk result }
         ensures had_room { 0 < self.old.room → IsOk result }
     {
         let arms = match action {

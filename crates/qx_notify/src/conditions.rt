@@ -37,7 +37,7 @@ pub(crate) fn is_any(conditions: Conditions) -> bool
 
 /// The status that tells of these conditions.
 pub(crate) fn status_of(conditions: Conditions) -> u64
-    ensures { result ≡ machine.status_of conditions }
+    ensures { result ≡ machine.wanted_status conditions }
 {
     let input: u64 = if conditions.input { 1 } else { 0 };
     let output: u64 = if conditions.output { 2 } else { 0 };

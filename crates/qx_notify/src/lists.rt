@@ -5,7 +5,7 @@ ghost use Rattle.std.specs.FinMap as map;
 ghost use Rattle.qx_types.specs.declared.limits.TheConstants.Limits.{PROCESSES};
 ghost use Rattle.qx_lists.specs.Table.{ContainsList, IsIn, nodes_of};
 ghost use Rattle.qx_machine.specs.Events.{is_on};
-ghost use Rattle.qx_notify.specs.Kept.{AreNew, Put, event_at, lists_at, lists_of, taken, unlinked};
+ghost use Rattle.qx_notify.specs.Kept.{AreNew, Put, event_at, lists_at, lists_of, pulse_taken, unlinked};
 
 use qx_lists::Table;
 use qx_machine::Event;
@@ -23,7 +23,7 @@ pub(crate) struct UserLists {
 impl Model for UserLists {
     ghost use Rattle.qx_notify.specs.Kept as words;
 
-    ghost Value = { words.Lists };
+    ghost Value = { words.EventLists };
 
     ghost coded = { words.lists_code };
 
@@ -85,7 +85,7 @@ pub(crate) fn find(table: &Table<Event>, list: usize, block: u16) -> Option<usiz
 pub(crate) fn take_out(table: &mut Table<Event>, list: usize, node: usize) -> Event
     requires node { IsIn table.old list node }
     ensures event { result ≡ event_at table.old node }
-    ensures taken { table.new ≡ taken table.old list node }
+    ensures taken { table.new ≡ pulse_taken table.old list node }
 {
     table.unlink(list, node);
     table.free_node(node)
