@@ -11,7 +11,7 @@ use Rattle.qx_lists.specs.Table.{Table, nodes_of}
 use Rattle.qx_machine.specs.declared.rows.Event.{Event}
 use Rattle.qx_machine.specs.Events.{Events, arm_event, armed_anew, disarmed, event_count, is_on}
 use Rattle.qx_notify.specs.Events.{AllEvents, armed_outcome, events_after, events_of, wants_node}
-use Rattle.qx_notify.specs.Kept.{IsList, KeepsLists, EventLists, Put, Touched, armed_in, event_at, events_in, lists_at, shown_events, unlinked}
+use Rattle.qx_notify.specs.inner.Kept.{IsList, KeepsLists, EventLists, Put, Touched, armed_in, event_at, events_in, lists_at, shown_events, unlinked}
 use Rattle.qx_notify.proofs.EventLemmas.{limited-armed}
 use Rattle.qx_notify.proofs.KeptLemmas.{alone-from, armed-events, count-at, count-of, kept-changed, nodes-unlinked, told-changed, told-of, touched-changed, touched-nodes, touched-then}
 use Rattle.qx_notify.proofs.NodeLemmas.{found, none-found}

@@ -11,7 +11,7 @@ use Rattle.qx_lists.proofs.MapLemmas.{get-insert_same, get-insert_other}
 use Rattle.qx_machine.specs.declared.rows.Event.{Event}
 use Rattle.qx_machine.specs.Events.{event_count, no_events}
 use Rattle.qx_notify.specs.Events.{AreLimited, nothing_armed}
-use Rattle.qx_notify.specs.Kept.{AreNew, IsList, KeepsLists, EventLists, event_at, events_in, given, lists_at, lists_of, no_lists, pulses_in, shown_events}
+use Rattle.qx_notify.specs.inner.Kept.{AreNew, IsList, KeepsLists, EventLists, event_at, events_in, given, lists_at, lists_of, no_lists, pulses_in, shown_events}
 
 pub slice_get-push : {A : Type 0} (xs : List A) (y : A) (k : ℕ) (x : A) → slice_get (xs ++ y ∷ []) k ≡ Some x → (slice_get xs k ≡ Some x) ⊎ ((k ≡ length xs) × (x ≡ y))
 slice_get-push [] y zero x is = let same : y ≡ x = cc in inr (refl, sym same)

@@ -15,7 +15,7 @@ use Rattle.qx_machine.specs.declared.rows.Event.{Event}
 use Rattle.qx_machine.specs.declared.rows.Pulse.{Pulse}
 use Rattle.qx_machine.specs.Events.{Events, disarmed, event_count, is_on, no_events}
 use Rattle.qx_notify.specs.Events.{AreLimited, AllEvents, events_of, with_events}
-use Rattle.qx_notify.specs.Kept.{AreApart, IsList, KeepsLists, EventLists, Touched, armed_in, event_at, events_in, given, lists_at, lists_of, no_event, no_lists, pulses_in, pulse_taken, shown_events, unlinked}
+use Rattle.qx_notify.specs.inner.Kept.{AreApart, IsList, KeepsLists, EventLists, Touched, armed_in, event_at, events_in, given, lists_at, lists_of, no_event, no_lists, pulses_in, pulse_taken, shown_events, unlinked}
 use Rattle.qx_notify.proofs.EventLemmas.{limited-disarmed}
 use Rattle.qx_notify.proofs.NodeLemmas.{Found, found, map-agree, map-each, map-one, none-found}
 

@@ -7,7 +7,7 @@ use Rattle.qx_lists.proofs.ListLemmas.{stands_nowhere}
 use Rattle.qx_lists.proofs.MapLemmas.{get-insert_same, get-insert_other}
 use Rattle.qx_lists.proofs.TableFacts.{kept_there}
 use Rattle.qx_machine.specs.declared.rows.Event.{Event}
-use Rattle.qx_notify.specs.Kept.{Put, event_at, no_event}
+use Rattle.qx_notify.specs.inner.Kept.{Put, event_at, no_event}
 use Rattle.qx_notify.proofs.NodeLemmas.{map-agree}
 
 -- a node that stands in no list, by what it is to be free

@@ -25,7 +25,7 @@ pub struct AllEvents {
 }
 
 impl Model for AllEvents {
-    ghost use Rattle.qx_notify.specs.Kept.{KeepsLists, shown_events};
+    ghost use Rattle.qx_notify.specs.inner.Kept.{KeepsLists, shown_events};
     ghost use Rattle.qx_notify.specs.Events as words;
 
     ghost Value = { words.AllEvents };

@@ -5,7 +5,7 @@ ghost use Rattle.std.specs.FinMap as map;
 ghost use Rattle.qx_types.specs.declared.limits.TheConstants.Limits.{PROCESSES};
 ghost use Rattle.qx_lists.specs.Table.{ContainsList, IsIn, nodes_of};
 ghost use Rattle.qx_machine.specs.Events.{is_on};
-ghost use Rattle.qx_notify.specs.Kept.{AreNew, Put, event_at, lists_at, lists_of, pulse_taken, unlinked};
+ghost use Rattle.qx_notify.specs.inner.Kept.{AreNew, Put, event_at, lists_at, lists_of, pulse_taken, unlinked};
 
 use qx_lists::Table;
 use qx_machine::Event;
@@ -21,7 +21,7 @@ pub(crate) struct UserLists {
 }
 
 impl Model for UserLists {
-    ghost use Rattle.qx_notify.specs.Kept as words;
+    ghost use Rattle.qx_notify.specs.inner.Kept as words;
 
     ghost Value = { words.EventLists };
 

@@ -3,7 +3,7 @@ use Rattle.std.proofs.lemmas.Bool.Decides.{nat_tests}
 use Rattle.qx_lists.specs.Table.{nodes_of}
 use Rattle.qx_lists.proofs.WalkLemmas.{contains-index, next_after-index, nodes_from-smaller, past_the_end}
 use Rattle.qx_machine.specs.Events.{is_on}
-use Rattle.qx_notify.specs.Kept.{event_at, no_event}
+use Rattle.qx_notify.specs.inner.Kept.{event_at, no_event}
 use Rattle.qx_notify.proofs.NodeLemmas.{fails-more, first-passes, none-passes}
 use Rattle.qx_notify.proofs.lists.find.Goals as goal
 

@@ -2,7 +2,7 @@ use Rattle.std.proofs.Common.{◌≡◌, ℕ, length, slice_get}
 use Rattle.qx_lists.specs.Table.{nodes_of}
 use Rattle.qx_lists.proofs.WalkLemmas.{nodes_from}
 use Rattle.qx_machine.specs.Events.{is_on}
-use Rattle.qx_notify.specs.Kept.{event_at}
+use Rattle.qx_notify.specs.inner.Kept.{event_at}
 use Rattle.qx_notify.proofs.NodeLemmas.{Fails}
 use Rattle.qx_notify.proofs.lists.find.Given as goal
 

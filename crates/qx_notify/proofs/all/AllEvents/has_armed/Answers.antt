@@ -1,5 +1,5 @@
 use Rattle.std.proofs.Common.{◌==◌, not, is_some, length, ap, ◌∙◌}
-use Rattle.qx_notify.specs.Kept.{armed_in, event_at}
+use Rattle.qx_notify.specs.inner.Kept.{armed_in, event_at}
 use Rattle.qx_notify.proofs.KeptLemmas.{armed-list, told-of}
 use Rattle.qx_notify.proofs.NodeLemmas.{any-node}
 use Rattle.qx_notify.proofs.all.AllEvents.has_armed.Goals as goal

@@ -1,5 +1,5 @@
 use Rattle.std.proofs.Common.{ap}
-use Rattle.qx_notify.specs.Kept.{shown_events}
+use Rattle.qx_notify.specs.inner.Kept.{shown_events}
 use Rattle.qx_notify.proofs.KeptLemmas.{kept-reserved}
 use Rattle.qx_notify.proofs.all.AllEvents.reserve.Goals as goal
 

@@ -1,5 +1,5 @@
 use Rattle.std.proofs.Common.{Some, option_map, sym, ap, ◌∙◌}
-use Rattle.qx_notify.specs.Kept.{event_at, given}
+use Rattle.qx_notify.specs.inner.Kept.{event_at, given}
 use Rattle.qx_notify.proofs.PulseLemmas.{first-is, queue-list, takes, takes-none}
 use Rattle.qx_notify.proofs.all.AllEvents.take_pulse.Goals as goal
 

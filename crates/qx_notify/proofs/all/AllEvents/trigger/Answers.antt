@@ -1,6 +1,6 @@
 use Rattle.std.proofs.Common.{◌≡◌, ◌≤◌, suc, slice_get, unwrap_or, refl, sym, ap, ap₂, ◌∙◌}
 use Rattle.qx_types.specs.declared.limits.TheConstants.Limits.{PROCESSES}
-use Rattle.qx_notify.specs.Kept.{event_at, lists_at, no_event}
+use Rattle.qx_notify.specs.inner.Kept.{event_at, lists_at, no_event}
 use Rattle.qx_machine.specs.Events.{come_to_hold, is_any, is_due, wanted_of}
 use Rattle.qx_notify.proofs.KeptLemmas.{armed-list, process-within}
 use Rattle.qx_notify.proofs.TriggerLemmas.{headed, left-all, left-due, left-passed, node-process, node-there, pulse-told, triggers, walk-gone, walk-passed}

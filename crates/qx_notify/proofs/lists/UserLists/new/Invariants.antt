@@ -1,5 +1,5 @@
 use Rattle.std.proofs.Common.{◌≡◌, ◌∷◌, length}
-use Rattle.qx_notify.specs.Kept.{AreNew}
+use Rattle.qx_notify.specs.inner.Kept.{AreNew}
 use Rattle.qx_notify.proofs.lists.UserLists.new.Given as goal
 
 abbrev pub invariant-processes : goal.invariant-processes
