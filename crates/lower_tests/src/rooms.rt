@@ -1,8 +1,9 @@
 //! A thread's room for its replies: when it stays, and what of it an answer gives back. No clause says what memory is left.
 
-ghost use Rattle.std.specs.Prelude.{◌≡◌, ◌<◌, ◌≤◌, length, IfOk, IsSome};
+ghost use Rattle.std.specs.Prelude.{◌≡◌, ◌<◌, ◌≤◌, length, IfOk, IsSome, IsTrue};
 ghost use Rattle.qx_types.specs.declared.limits.TheConstants.Limits.{BODY, CALLS};
 ghost use Rattle.qx_machine.specs.Performing.{taken_in};
+ghost use Rattle.qx_process.specs.Reads.{is_waiting};
 
 use all_memory::take_all_memory;
 use qx_machine::{Over, Sent, Target};
@@ -48,12 +49,11 @@ enum Way {
     More,
     /// With an error, after it waited; the room came back.
     Returned,
-    /// The same, and the room did not.
-    Lost,
 }
 
 /// A thread is replied to from its room.
 fn reply(cell: &mut ThreadCell, room: Room, bytes: &[u8])
+    requires served { IsTrue (is_waiting cell.old.state) }
     requires fits { length bytes.now ≤ BODY }
     ensures counted { cell.new.calls ≡ cell.old.calls }
 {
@@ -72,7 +72,6 @@ fn answer(cell: &mut ThreadCell, way: Way)
         Way::Few => reply(cell, room, &[7; MessageBytes::INLINE]),
         Way::More => reply(cell, room, &[7; MessageBytes::INLINE + 1]),
         Way::Returned => cell.answer(Answer::Failed(Errno::EINTR), Some(room)),
-        Way::Lost => cell.answer(Answer::Failed(Errno::EINTR), None),
     }
 }
 
@@ -99,7 +98,6 @@ fn a_room_stays_with_its_thread_or_goes(rt: HostRuntime) -> Result<(), Fail> {
         (Way::Few, true),
         (Way::More, false),
         (Way::Returned, true),
-        (Way::Lost, false),
     ] {
         assert!(rt; calls_again(rt.alloc(), way)? == stays, "{way:?}");
     }

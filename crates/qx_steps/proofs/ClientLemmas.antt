@@ -1,5 +1,5 @@
 -- A client's step, by what the channel makes of it.
-use Rattle.std.proofs.Common.{◌≡◌, inl, inr, ℕ, List, Option, Some, None, Result, Ok, Err, slice_set, refl, ap}
+use Rattle.std.proofs.Common.{◌≡◌, inl, inr, ℕ, List, [], Option, Some, None, Result, Ok, Err, slice_set, refl, ap}
 use Rattle.std.specs.Prelude.{IfOk, IsErr, IsTrue, option_map}
 use Rattle.std.proofs.lemmas.Bool.{cases_Bool}
 use Rattle.qx_types.specs.Configuration.{Configuration}
@@ -13,6 +13,8 @@ use Rattle.qx_types.specs.declared.request.Request.{Request}
 use Rattle.qx_types.specs.declared.step.Step.TheVariants.{Spawn, Call, TakeReply, SetPrio, Interrupt}
 use Rattle.qx_machine.specs.declared.rows.Addressed.{Addressed}
 use Rattle.qx_machine.specs.declared.rows.Held.{Held}
+use Rattle.qx_machine.specs.declared.rows.Over.{Over}
+use Rattle.qx_machine.specs.declared.rows.Over.TheVariants.{Existing, New, Side}
 use Rattle.qx_machine.specs.declared.rows.Sent.{Sent as Message}
 use Rattle.qx_machine.specs.declared.rows.State.{State}
 use Rattle.qx_machine.specs.declared.rows.State.TheVariants as state
@@ -28,8 +30,9 @@ use Rattle.qx_machine.specs.Users.{client, settle}
 use Rattle.qx_process.proofs.RowLemmas.{set-row, with_row-none}
 use Rattle.qx_procs.specs.Calls.{after_or, spawn_outcome, spawned, with_prio}
 use Rattle.qx_chan.specs.Calls.{answer_of, queued_in}
-use Rattle.qx_chan.specs.Channel.{Channel, after_asking, after_ranking, after_send, after_spawn, after_taking, after_withdrawing}
+use Rattle.qx_chan.specs.Channel.{Channel, IsExisting, after_asking, after_ranking, after_send, after_spawn, after_taking, after_withdrawing}
 use Rattle.qx_chan.specs.Users.{prio_outcome_in, spawn_number_in, thread_row, IsThreadReady}
+use Rattle.qx_requests.specs.Targets.{HasRest}
 use Rattle.qx_steps.specs.Parts.{parts_of, told_world, SameUsers}
 use Rattle.qx_steps.specs.Steps.{sent_to, target_in}
 use Rattle.qx_chan.proofs.RowReads.{option_cases}
@@ -215,3 +218,9 @@ pub judged-ready : (given : Result Addressed Outcome) (row : Option ThreadRow) �
 judged-ready (Ok addressed) (Some row) is = let ready : row.state ≡ state.Ready = cc in ready
 judged-ready (Ok addressed) None is = cc
 judged-ready (Err outcome) row is = tt
+
+-- a message over a connection that is there names no path
+pub no-rest : (over : Over) (rest : List (List ℕ)) → IsExisting over → HasRest over rest → rest ≡ []
+no-rest (Existing coid) rest existing none = none
+no-rest (New coid) rest existing none = absurd existing
+no-rest Side rest existing none = absurd existing

@@ -1,5 +1,6 @@
 -- A call, a mount and a perform in parts: how a call and a mount are judged, and the world once a message or a pulse is done.
-use Rattle.std.specs.Prelude.{◌≡◌, ℕ, false, List, Option, Some, None, Result, Ok, Err}
+use Rattle.std.specs.Prelude.{◌≡◌, ◌≤◌, ℕ, false, List, Option, Some, None, Result, Ok, Err, IfSome, IsTrue, length}
+use Rattle.qx_bytes.specs.declared.message.TheConstants.MessageBytes.{INLINE}
 use Rattle.qx_types.specs.Configuration.{Configuration}
 use Rattle.qx_types.specs.declared.names.Manager.{Manager}
 use Rattle.qx_types.specs.declared.names.Thread.{Thread}
@@ -10,6 +11,7 @@ use Rattle.qx_paths.specs.Mounts.{mount_fault}
 use Rattle.qx_paths.specs.Prefixes.{MountPoint}
 use Rattle.qx_machine.specs.declared.rows.Addressed.{Addressed}
 use Rattle.qx_machine.specs.declared.rows.Sent.{Sent}
+use Rattle.qx_machine.specs.declared.rows.ThreadRow.{ThreadRow}
 use Rattle.qx_machine.specs.Calls.{bytes_of, content_of}
 use Rattle.qx_machine.specs.Clients.{mount_by, target_by}
 use Rattle.qx_machine.specs.Inodes.{inode_number}
@@ -19,6 +21,7 @@ use Rattle.qx_machine.specs.Parts.{Part}
 use Rattle.qx_machine.specs.Resources.{Resources}
 use Rattle.qx_machine.specs.Performing.{Served, or_kept, serve_message, serve_pulse}
 use Rattle.qx_machine.specs.Rows.{row_at, with_row}
+use Rattle.qx_chan.specs.Channel.{IsExisting}
 
 abbrev pub target_from : Configuration → Thread → Request → Option Part → Result Addressed Outcome
 target_from config thread request None = Err WrongState
@@ -31,6 +34,13 @@ target_in w thread request = target_from w.config thread request (row_at w.parts
 -- the message of a call that goes there
 abbrev pub sent_to : Addressed → Request → Sent
 sent_to addressed request = record { target = addressed.target; is_asked = false; bytes = bytes_of (content_of request addressed.rest) }
+
+-- what a call wants memory for is there: it goes over a connection that is there, its message stands in its value, and its thread has
+-- room for the reply
+pub record HasMemory (place : Option ThreadRow) (request : Request) (addressed : Addressed) : Type 0 where
+  pub over : IsExisting addressed.target.over
+  pub few : length (bytes_of (content_of request addressed.rest)) ≤ INLINE
+  pub room : IfSome place (λ row. IsTrue row.has_room)
 
 abbrev pub mount_from : Configuration → Thread → List ℕ → Manager → Option Part → Result MountPoint Outcome
 mount_from config thread path manager None = Err WrongState

@@ -12,9 +12,10 @@ ghost use Rattle.qx_process.specs.Reads.{is_thread_blocked, CanCall, CanGo};
 ghost use Rattle.qx_chan.specs.Users.{IsThreadReady};
 ghost use Rattle.qx_chan.specs.Calls.{taken_of};
 ghost use Rattle.qx_chan.specs.Serving.{IsReadOf};
+ghost use Rattle.qx_requests.specs.Targets.{HasRest};
 ghost use Rattle.qx_steps.specs.Held.{bytes_of_work, held_work, taken_item, work_now, IsReadFor, IsStale};
 ghost use Rattle.qx_steps.specs.Reads.{is_thread_answered, is_thread_ready, row_among_parts};
-ghost use Rattle.qx_steps.specs.Steps.{after_message, after_mount, after_pulse, mount_in, target_in, CanMount};
+ghost use Rattle.qx_steps.specs.Steps.{after_message, after_mount, after_pulse, mount_in, target_in, CanMount, HasMemory};
 
 use crate::work::{PerformFault, Work, WorkRef};
 use qx_attr::Reply;
@@ -146,11 +147,13 @@ impl World {
     /// `MsgSend`). `WrongState` where the thread is not there or not ready; then EINVAL for fields out of their ranges,
     /// EAGAIN where the thread's calls are used up; for a path, the errors of `read_path`, EACCES and ENOENT by whose
     /// name is its first; for a connection, EBADF where it is not there; EMFILE where no connection is free for a new one;
-    /// EAGAIN where the user has all its server connections at the manager. A call that is refused wants no memory.
+    /// EAGAIN where the user has all its server connections at the manager. A call that is refused wants no memory, nor does
+    /// one over a connection that is there, with a message of few bytes, of a thread that has room for the reply.
     pub fn call(&mut self, thread: Thread, request: &Request) -> Result<Outcome, NoMemory>
         ensures outcome { IfOk result (λ outcome. outcome ≡ (machine.step self.old (Step.Call thread request.now)).outcome) }
         ensures world { OnOk result (self.new ≡ (machine.step self.old (Step.Call thread request.now)).world) }
         ensures sure { IsTrue (is_refusal (machine.step self.old (Step.Call thread request.now)).outcome) → IsOk result }
+        ensures had_room { IfOk (target_in self.old thread request.now) (HasMemory (row_among_parts self.old.parts thread) request.now) → IsOk result }
         ensures err { OnErr result (self.new ≡ self.old) }
     {
         match self.judge(thread, request) {
@@ -173,6 +176,7 @@ impl World {
         ensures countable { IfOk result (λ _. CanCall (row_among_parts self.now.parts thread)) }
         ensures goes { IfOk result (λ addressed. CanGo addressed.target) }
         ensures sendable { IfOk result (λ addressed. IsTrue (can_send (content_of request.now addressed.rest))) }
+        ensures rest { IfOk result (λ addressed. HasRest addressed.target.over addressed.rest) }
         ensures target { result ≡ target_in self.now thread request.now }
     {
         let user = thread.proc.user;

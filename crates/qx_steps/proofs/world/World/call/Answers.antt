@@ -2,7 +2,7 @@ use Rattle.std.proofs.Common.{◌≡◌, Ok, Err, refl, sym}
 use Rattle.std.proofs.lemmas.Bool.{false≢true}
 use Rattle.qx_steps.specs.Parts.{told_all, world_of}
 use Rattle.qx_steps.specs.Steps.{target_in}
-use Rattle.qx_steps.proofs.ClientLemmas.{call-refused, call-sent}
+use Rattle.qx_steps.proofs.ClientLemmas.{call-refused, call-sent, no-rest}
 use Rattle.qx_steps.proofs.PartsLemmas.{same-told, thread_row-told}
 use Rattle.qx_steps.proofs.StillLemmas.{still-send}
 use Rattle.qx_steps.proofs.world.World.call.Goals as goal
@@ -11,6 +11,16 @@ pub returns-in_err-encoded-in-Ok-clause-sure : goal.returns-in_err-encoded-in-Ok
 returns-in_err-encoded-in-Ok-clause-sure c =
     let goes : target_in (world_of c.self.inside.config c.self.inside.channel c.self.inside.resources c.self.inside.hands.items) c.args.thread c.args.request.now ≡ Ok c.in-Ok.addressed = rw (← c.self.view_is) at (sym c.in-Ok.ensures.target) in
     rw (← c.self.view_is, call-sent c.self.inside.config c.self.inside.channel (told_all c.self.inside.channel c.self.inside.resources) c.self.inside.hands.items (same-told c.self.inside.channel c.self.inside.resources c.self.invariant) c.args.thread c.args.request.now c.in-Ok.addressed goes) (λ refused. absurd (false≢true refused))
+
+pub returns-in_err-encoded-in-Ok-clause-had_room : goal.returns-in_err-encoded-in-Ok-clause-had_room
+returns-in_err-encoded-in-Ok-clause-had_room c =
+    let goes : target_in (world_of c.self.inside.config c.self.inside.channel c.self.inside.resources c.self.inside.hands.items) c.args.thread c.args.request.now ≡ Ok c.in-Ok.addressed = rw (← c.self.view_is) at (sym c.in-Ok.ensures.target) in
+    rw (← c.self.view_is, goes) (λ its. absurd (false≢true (c.in_err-encoded-in-Ok.ensures.few (no-rest c.in-Ok.addressed.target.over c.in-Ok.addressed.rest its.over c.in-Ok.ensures.rest) its.few)))
+
+pub returns-in_err-send-in-Ok-clause-had_room : goal.returns-in_err-send-in-Ok-clause-had_room
+returns-in_err-send-in-Ok-clause-had_room c =
+    let goes : target_in (world_of c.self.inside.config c.self.inside.channel c.self.inside.resources c.self.inside.hands.items) c.args.thread c.args.request.now ≡ Ok c.in-Ok.addressed = rw (← c.self.view_is) at (sym c.in-Ok.ensures.target) in
+    rw (← c.self.view_is, goes) (λ its. absurd (false≢true (c.in_err-send-in-Ok.ensures.had_room its.over (rw (← thread_row-told c.self.inside.channel c.self.inside.resources c.args.thread c.self.invariant) its.room))))
 
 pub send-requires-clause-ready : goal.send-requires-clause-ready
 send-requires-clause-ready c = rw (← thread_row-told c.self.inside.channel c.self.inside.resources c.args.thread c.self.invariant) (rw (← c.self.view_is) at c.in-Ok.ensures.ready)
