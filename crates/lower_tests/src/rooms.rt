@@ -94,11 +94,7 @@ fn calls_again(alloc: Global, way: Way) -> Result<bool, AllocError> {
 
 #[test]
 fn a_room_stays_with_its_thread_or_goes(rt: HostRuntime) -> Result<(), Fail> {
-    for (way, stays) in [
-        (Way::Few, true),
-        (Way::More, false),
-        (Way::Returned, true),
-    ] {
+    for (way, stays) in [(Way::Few, true), (Way::More, false), (Way::Returned, true)] {
         assert!(rt; calls_again(rt.alloc(), way)? == stays, "{way:?}");
     }
     Ok(())

@@ -33,8 +33,9 @@ use Rattle.qx_chan.specs.Calls.{answer_of, queued_in}
 use Rattle.qx_chan.specs.Channel.{Channel, IsExisting, after_asking, after_ranking, after_send, after_spawn, after_taking, after_withdrawing}
 use Rattle.qx_chan.specs.Users.{prio_outcome_in, spawn_number_in, thread_row, IsThreadReady}
 use Rattle.qx_requests.specs.Targets.{HasRest}
-use Rattle.qx_steps.specs.Parts.{parts_of, told_world, SameUsers}
-use Rattle.qx_steps.specs.Steps.{sent_to, target_in}
+use Rattle.qx_steps.specs.inner.Parts.{parts_of, told_world, SameUsers}
+use Rattle.qx_steps.specs.inner.Steps.{sent_to}
+use Rattle.qx_steps.specs.Steps.{target_in}
 use Rattle.qx_chan.proofs.RowReads.{option_cases}
 use Rattle.qx_steps.proofs.PartsLemmas.{part-none, part-there, parts-set_processes, result_cases, row_at-parts}
 

@@ -26,9 +26,10 @@ use Rattle.qx_resources.specs.Mounts as mounts
 use Rattle.qx_resources.specs.Mounts.{with_new_mount}
 use Rattle.qx_resources.specs.State.{told, Kept}
 use Rattle.qx_chan.specs.Channel.{Channel, lists}
-use Rattle.qx_steps.specs.Parts.{part_of, parts_of, told_all, world_of}
-use Rattle.qx_steps.specs.Reads.{is_thread_ready, process_of_part, row_among_parts}
-use Rattle.qx_steps.specs.Steps.{after_mount, mount_from, mount_in, CanMount, IsMountable}
+use Rattle.qx_steps.specs.inner.Parts.{part_of, parts_of, told_all, world_of}
+use Rattle.qx_steps.specs.inner.Reads.{is_thread_ready}
+use Rattle.qx_steps.specs.Reads.{process_of_part, row_among_parts}
+use Rattle.qx_steps.specs.inner.Steps.{after_mount, mount_from, mount_in, CanMount, IsMountable}
 use Rattle.qx_chan.proofs.RowReads.{option_cases}
 use Rattle.qx_steps.proofs.PartsLemmas.{mapped-put, row_at-parts, told-none, told-there}
 

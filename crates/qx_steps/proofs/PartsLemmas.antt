@@ -19,7 +19,7 @@ use Rattle.qx_chan.proofs.RowReads.{option_cases}
 use Rattle.qx_chan.specs.Channel.{Channel, empty_channel, lists}
 use Rattle.qx_chan.specs.Users as users
 use Rattle.qx_chan.specs.Users.{no_processes}
-use Rattle.qx_steps.specs.Parts.{part_of, parts_of, told_all, world_of, AreResourcesOf, SameUsers}
+use Rattle.qx_steps.specs.inner.Parts.{part_of, parts_of, told_all, world_of, AreResourcesOf, SameUsers}
 use Rattle.qx_steps.specs.Reads.{process_among_parts, row_among_parts}
 
 pub result_cases : {A E : Type 0} (r : Result A E) → ((x : A) × (r ≡ Ok x)) ⊎ ((e : E) × (r ≡ Err e))

@@ -19,8 +19,8 @@ use Rattle.qx_chan.specs.Channel.{Channel, lists}
 use Rattle.qx_chan.specs.Serving.{part_in, Serves}
 use Rattle.qx_chan.specs.inner.Serving.{PartServed}
 use Rattle.qx_chan.proofs.RowReads.{option_cases}
-use Rattle.qx_steps.specs.Parts.{part_of, parts_of, told_all, world_of, AreResourcesOf, SameUsers}
-use Rattle.qx_steps.specs.Steps.{world_after_serving, with_served}
+use Rattle.qx_steps.specs.inner.Parts.{part_of, parts_of, told_all, world_of, AreResourcesOf, SameUsers}
+use Rattle.qx_steps.specs.inner.Steps.{world_after_serving, with_served}
 use Rattle.qx_steps.proofs.PartsLemmas.{mapped-put, no_resources, parts-set_both, row_at-parts, same-with_processes, still-resources, told-none, told-there}
 use Rattle.qx_steps.proofs.StillLemmas.{of-users}
 

@@ -20,7 +20,7 @@ use Rattle.qx_chan.specs.Calls.{answer_of, queued_call, unasked_call}
 use Rattle.qx_chan.specs.Channel.{Channel, after_asking, after_ranking, after_receive, after_send, after_spawn, after_taking, after_withdrawing, asked, channel_line, failed, readied, with_first_taken, withdrawn}
 use Rattle.qx_chan.specs.declared.call.Call.{Call}
 use Rattle.qx_chan.specs.Users.{thread_row}
-use Rattle.qx_steps.specs.Parts.{told_all, told_world, world_of, AreResourcesOf, SameUsers}
+use Rattle.qx_steps.specs.inner.Parts.{told_all, told_world, world_of, AreResourcesOf, SameUsers}
 use Rattle.qx_steps.proofs.PartsLemmas.{same-with_processes}
 
 -- a channel with the same lists tells the same resources

@@ -22,10 +22,10 @@ use Rattle.qx_machine.proofs.Workers.{after_item, after_taking, item_taken}
 use Rattle.qx_process.proofs.RowLemmas.{set-row, with_row-none}
 use Rattle.qx_chan.specs.Calls.{taken_of}
 use Rattle.qx_chan.specs.Channel.{Channel, after_receive, channel_line}
-use Rattle.qx_steps.specs.Parts.{told_world, SameUsers}
+use Rattle.qx_steps.specs.inner.Parts.{told_world, SameUsers}
 use Rattle.qx_steps.specs.Held.{held_work, work_of_sent}
 use Rattle.qx_steps.specs.Reads.{row_among_parts as thread_of_parts}
-use Rattle.qx_steps.specs.Steps.{after_message, after_pulse}
+use Rattle.qx_steps.specs.inner.Steps.{after_message, after_pulse}
 use Rattle.qx_chan.proofs.RowReads.{option_cases}
 use Rattle.qx_steps.proofs.PartsLemmas.{part-none, part-there, parts-set_processes}
 

@@ -1,6 +1,5 @@
 -- What a worker holds, as the work that it has to do.
-use Rattle.std.specs.Prelude.{◌≡◌, ◌≢◌, ⊤, ℕ, List, Bool, false, Option, Some, None, if◌then◌else◌}
-use Rattle.qx_types.specs.declared.names.Thread.{Thread}
+use Rattle.std.specs.Prelude.{◌≡◌, ◌≢◌, ⊤, ℕ, List, Option, Some, None, if◌then◌else◌}
 use Rattle.qx_machine.specs.declared.rows.Held.{Held}
 use Rattle.qx_machine.specs.declared.rows.OwnItem.{OwnItem}
 use Rattle.qx_machine.specs.declared.rows.OwnItem.TheVariants as item
@@ -14,11 +13,6 @@ use Rattle.qx_steps.specs.declared.work.Work.TheVariants as work
 use Rattle.qx_steps.specs.declared.work.WorkRef.{WorkRef}
 use Rattle.qx_steps.specs.declared.work.WorkRef.TheVariants as lent
 use Rattle.qx_steps.specs.Reads.{row_among_parts}
-
--- the message of an item that was received and is not served
-abbrev pub taken_item : List (Option Part) → ℕ → OwnItem → Option Sent
-taken_item parts user (item.Message process thread) = taken_of (row_among_parts parts (named_thread user process thread))
-taken_item parts user (item.Unblock process thread call) = None
 
 abbrev pub work_of_sent : Option Sent → Option Work
 work_of_sent None = None

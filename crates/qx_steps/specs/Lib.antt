@@ -1,4 +1,4 @@
 pub mod Held
-pub mod Parts
 pub mod Reads
 pub mod Steps
+pub mod inner

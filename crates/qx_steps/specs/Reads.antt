@@ -5,7 +5,6 @@ use Rattle.qx_types.specs.declared.names.Thread.{Thread}
 use Rattle.qx_machine.specs.declared.rows.State.{State}
 use Rattle.qx_machine.specs.declared.rows.State.TheVariants.{Answered}
 use Rattle.qx_machine.specs.declared.rows.ThreadRow.{ThreadRow}
-use Rattle.qx_machine.specs.Calls.{is_ready}
 use Rattle.qx_machine.specs.Parts.{Part, thread_of}
 use Rattle.qx_machine.specs.Processes.{Process}
 use Rattle.qx_machine.specs.Rows.{row_at}
@@ -29,7 +28,3 @@ is_state_answered _ = false
 abbrev pub is_thread_answered : Option ThreadRow → Bool
 is_thread_answered None = false
 is_thread_answered (Some row) = is_state_answered row.state
-
-abbrev pub is_thread_ready : Option ThreadRow → Bool
-is_thread_ready None = false
-is_thread_ready (Some row) = is_ready row.state

@@ -13,9 +13,12 @@ ghost use Rattle.qx_chan.specs.Users.{IsThreadReady};
 ghost use Rattle.qx_chan.specs.Calls.{taken_of};
 ghost use Rattle.qx_chan.specs.Serving.{IsReadOf};
 ghost use Rattle.qx_requests.specs.Targets.{HasRest};
-ghost use Rattle.qx_steps.specs.Held.{bytes_of_work, held_work, taken_item, work_now, IsReadFor, IsStale};
-ghost use Rattle.qx_steps.specs.Reads.{is_thread_answered, is_thread_ready, row_among_parts};
-ghost use Rattle.qx_steps.specs.Steps.{after_message, after_mount, after_pulse, mount_in, target_in, CanMount, HasMemory};
+ghost use Rattle.qx_steps.specs.Held.{bytes_of_work, held_work, work_now, IsReadFor, IsStale};
+ghost use Rattle.qx_steps.specs.inner.Held.{taken_item};
+ghost use Rattle.qx_steps.specs.Reads.{is_thread_answered, row_among_parts};
+ghost use Rattle.qx_steps.specs.inner.Reads.{is_thread_ready};
+ghost use Rattle.qx_steps.specs.inner.Steps.{after_message, after_mount, after_pulse, mount_in, CanMount};
+ghost use Rattle.qx_steps.specs.Steps.{target_in, HasMemory};
 
 use crate::work::{PerformFault, Work, WorkRef};
 use qx_attr::Reply;
@@ -61,7 +64,7 @@ impl Model for World {
     ghost use Rattle.std.specs.Coded.{codes};
     ghost use Rattle.qx_names.specs.Paths.{names_code};
     ghost use Rattle.qx_machine.specs.Machine as machine;
-    ghost use Rattle.qx_steps.specs.Parts.{world_of, AreResourcesOf};
+    ghost use Rattle.qx_steps.specs.inner.Parts.{world_of, AreResourcesOf};
 
     ghost Value = { machine.World };
 

@@ -17,7 +17,7 @@ use Rattle.qx_machine.specs.Rows.{row_at}
 use Rattle.qx_machine.specs.Runs.{run, world_after, entries_from, seen_by, received, is_owner, erase_from}
 use Rattle.qx_machine.specs.Parts.{Part}
 use Rattle.qx_machine.proofs.Workers.{server_leaves}
-use Rattle.qx_world.specs.Trace.{IsRun, owners_from, steps_of}
+use Rattle.qx_world.specs.inner.Trace.{IsRun, owners_from, steps_of}
 
 -- the configuration stays
 

@@ -1,2 +1,3 @@
 pub mod Lending
 pub mod Trace
+pub mod inner

@@ -1,11 +1,9 @@
 -- The trace of a run: its configuration, its steps, and for how many more it has memory.
-use Rattle.std.specs.Prelude.{◌≡◌, ℕ, ◌+◌, ◌≤◌, Bool, List, [], ◌∷◌, ◌++◌, Option, option_map, map, if◌then◌else◌}
+use Rattle.std.specs.Prelude.{◌≡◌, ℕ, ◌+◌, ◌≤◌, Bool, List, [], ◌∷◌, ◌++◌, if◌then◌else◌}
 use Rattle.qx_types.specs.Configuration.{Configuration}
-use Rattle.qx_types.specs.declared.names.User.{User}
 use Rattle.qx_types.specs.declared.outcome.Outcome.{Outcome}
 use Rattle.qx_types.specs.declared.step.Step.{Step}
-use Rattle.qx_machine.specs.declared.rows.Entry.{Entry}
-use Rattle.qx_machine.specs.Machine.{World, boot, step, owner}
+use Rattle.qx_machine.specs.Machine.{step}
 use Rattle.qx_machine.specs.Runs.{Run, run}
 
 -- a configuration and the steps taken from boot; `room` more can be stored without more memory for the trace itself
@@ -31,18 +29,3 @@ outcome_now trace e = (step (run_of trace).world e).outcome
 -- the outcome of the last step
 abbrev pub IsLast : Trace → Outcome → Type 0
 IsLast trace outcome = (earlier : List Step) (e : Step) → trace.steps ≡ earlier ++ e ∷ [] → outcome ≡ (step (run trace.config earlier).world e).outcome
-
--- the steps that were stored
-abbrev pub steps_of : List Entry → List Step
-steps_of entries = map (λ entry. entry.step) entries
-
--- by or for whom each step is taken, from a world on
-abbrev pub owners_from : World → List Step → List (Option ℕ)
-owners_from w [] = []
-owners_from w (e ∷ steps) = owner w e ∷ owners_from (step w e).world steps
-
--- the world, the entries and the owners are those of the run of the stored steps
-pub record IsRun (world : World) (entries : List Entry) (owners : List (Option User)) : Type 0 where
-  pub same_world : world ≡ (run world.config (steps_of entries)).world
-  pub same_entries : entries ≡ (run world.config (steps_of entries)).entries
-  pub same_owners : map (option_map (λ user. user.0)) owners ≡ owners_from (boot world.config) (steps_of entries)

@@ -12,7 +12,8 @@ ghost use Rattle.qx_machine.specs.Wants.{wants_memory};
 ghost use Rattle.qx_types.specs.Step.{actor_of};
 ghost use Rattle.qx_steps.specs.declared.work.PerformFault.{PerformFault};
 ghost use Rattle.qx_steps.specs.Held.{held_work, IsStale};
-ghost use Rattle.qx_world.specs.Trace.{IsAfter, IsLast, run_of, outcome_now, owners_from};
+ghost use Rattle.qx_world.specs.Trace.{IsAfter, IsLast, run_of, outcome_now};
+ghost use Rattle.qx_world.specs.inner.Trace.{owners_from};
 
 use qx_machine::{Entry, Seen, laws};
 use qx_steps::{PerformFault, Work, World};
@@ -51,7 +52,8 @@ impl Drop for Traced {
 
 impl Model for Traced {
     ghost use Rattle.std.specs.Prelude.{◌-◌, min, vec_len, vec_capacity};
-    ghost use Rattle.qx_world.specs.Trace.{Trace, IsRun, steps_of};
+    ghost use Rattle.qx_world.specs.Trace.{Trace};
+    ghost use Rattle.qx_world.specs.inner.Trace.{IsRun, steps_of};
 
     ghost Value = { Trace };
 

@@ -1,7 +1,7 @@
 use Rattle.std.proofs.Common.{Some, slice_set, sym, subst, ap, ap₂, ◌∙◌}
 use Rattle.qx_machine.specs.Performing.{or_kept, serve_message}
 use Rattle.qx_process.proofs.RowLemmas.{set-row}
-use Rattle.qx_steps.specs.Parts.{world_of, AreResourcesOf}
+use Rattle.qx_steps.specs.inner.Parts.{world_of, AreResourcesOf}
 use Rattle.qx_steps.proofs.PartsLemmas.{still-resources, thread_row-told}
 use Rattle.qx_steps.proofs.ResultLemmas.{on_either, on_err_by, on_ok_by}
 use Rattle.qx_steps.proofs.ServeLemmas.{part-in, still-serving, world-nobody, world-serving}

@@ -1,6 +1,6 @@
 use Rattle.std.proofs.Common.{◌≡◌, Ok, Err, refl, sym}
 use Rattle.std.proofs.lemmas.Bool.{false≢true}
-use Rattle.qx_steps.specs.Parts.{told_all, world_of}
+use Rattle.qx_steps.specs.inner.Parts.{told_all, world_of}
 use Rattle.qx_steps.specs.Steps.{target_in}
 use Rattle.qx_steps.proofs.ClientLemmas.{call-refused, call-sent, no-rest}
 use Rattle.qx_steps.proofs.PartsLemmas.{same-told, thread_row-told}

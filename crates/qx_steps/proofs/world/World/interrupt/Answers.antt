@@ -1,6 +1,6 @@
 use Rattle.std.proofs.Common.{refl, rules, sym, ap, ◌∙◌}
 use Rattle.qx_chan.specs.Channel.{after_asking, after_withdrawing}
-use Rattle.qx_steps.specs.Parts.{told_all, world_of}
+use Rattle.qx_steps.specs.inner.Parts.{told_all, world_of}
 use Rattle.qx_steps.proofs.ClientLemmas.{interrupt-nobody, interrupt-queued, interrupt-unqueued}
 use Rattle.qx_steps.proofs.PartsLemmas.{same-told}
 use Rattle.qx_steps.proofs.StillLemmas.{still-asking, still-withdrawing, world-told}

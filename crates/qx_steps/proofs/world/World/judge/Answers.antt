@@ -1,7 +1,7 @@
 use Rattle.std.proofs.Common.{sym}
 use Rattle.qx_resources.specs.State.{told}
 use Rattle.qx_chan.specs.Channel.{lists}
-use Rattle.qx_steps.specs.Parts.{told_all}
+use Rattle.qx_steps.specs.inner.Parts.{told_all}
 use Rattle.qx_steps.proofs.ClientLemmas.{judged, judged-nobody, judged-ready}
 use Rattle.qx_steps.proofs.PartsLemmas.{same-told, thread_row-told, told-there}
 use Rattle.qx_steps.proofs.world.World.judge.Goals as goal

@@ -1,6 +1,6 @@
 use Rattle.std.proofs.Common.{rules, ap}
 use Rattle.qx_types.specs.declared.outcome.Outcome.TheVariants.{Took}
-use Rattle.qx_steps.specs.Parts.{told_all}
+use Rattle.qx_steps.specs.inner.Parts.{told_all}
 use Rattle.qx_steps.proofs.PartsLemmas.{same-told}
 use Rattle.qx_steps.proofs.StillLemmas.{still-receive}
 use Rattle.qx_steps.proofs.WorkerLemmas.{receive-idle, receive-took}

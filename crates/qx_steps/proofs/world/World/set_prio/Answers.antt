@@ -1,4 +1,4 @@
-use Rattle.qx_steps.specs.Parts.{told_all}
+use Rattle.qx_steps.specs.inner.Parts.{told_all}
 use Rattle.qx_steps.proofs.ClientLemmas.{set_prio-step}
 use Rattle.qx_steps.proofs.PartsLemmas.{same-told}
 use Rattle.qx_steps.proofs.StillLemmas.{still-ranking}

@@ -1,5 +1,5 @@
 use Rattle.std.proofs.Common.{ap}
-use Rattle.qx_steps.specs.Parts.{told_all, world_of}
+use Rattle.qx_steps.specs.inner.Parts.{told_all, world_of}
 use Rattle.qx_steps.proofs.ClientLemmas.{spawn-refused, spawn-step}
 use Rattle.qx_steps.proofs.PartsLemmas.{same-told}
 use Rattle.qx_steps.proofs.ResultLemmas.{on_either, on_err_by, on_ok_by}

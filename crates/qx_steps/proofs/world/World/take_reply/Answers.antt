@@ -1,6 +1,6 @@
 use Rattle.std.proofs.Common.{rules, ap, ◌∙◌}
 use Rattle.qx_chan.specs.Channel.{after_taking}
-use Rattle.qx_steps.specs.Parts.{told_all, world_of}
+use Rattle.qx_steps.specs.inner.Parts.{told_all, world_of}
 use Rattle.qx_steps.proofs.ClientLemmas.{take_reply-step}
 use Rattle.qx_steps.proofs.PartsLemmas.{same-told}
 use Rattle.qx_steps.proofs.StillLemmas.{still-taking, world-told}

@@ -1,0 +1,4 @@
+pub mod Held
+pub mod Parts
+pub mod Reads
+pub mod Steps
