@@ -1,6 +1,5 @@
 -- What only the proofs need of Forms.
-use Rattle.std.specs.Prelude.{if◌then◌else◌}
-use Rattle.qx_calls.specs.Forms.{Form, at_most, Values, Maker}
+use Rattle.qx_calls.specs.Forms.{Form, Maker, Values, at_most, end, ◌then◌}
 
 abbrev pub made_of : {A : Type 0} (form : Form) → Maker form A → Values form → A
 made_of end made values = made
