@@ -6,7 +6,7 @@ use Rattle.qx_queues.specs.Queues.{UsersAnswer, caller}
 use Rattle.qx_queues.specs.declared.waiting.Answered as taken
 use Rattle.qx_queues.specs.declared.waiting.Slot.{Slot}
 use Rattle.qx_queues.specs.declared.waiting.Slot.TheVariants as slot
-use Rattle.qx_queues.specs.Waiting.{Load, Waits, Answered, Waiting, addressed_by, ComesWithRoom}
+use Rattle.qx_queues.specs.Waiting.{Answered, ComesWithRoom, Load, Nothing, Waiting, Waits, addressed_by}
 
 abbrev pub nobody : Thread
 nobody = record { proc = record { user = record { 0 = 0 }; num = 0 }; tid = 0 }
