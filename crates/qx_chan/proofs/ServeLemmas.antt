@@ -26,7 +26,7 @@ use Rattle.qx_resources.specs.State.{told}
 use Rattle.qx_chan.specs.inner.Answers.{given_lines, given_users}
 use Rattle.qx_chan.specs.Channel.{Channel, lists}
 use Rattle.qx_chan.specs.inner.Kept.{Answering, IsAwaited, IsWaiting, StandTogether}
-use Rattle.qx_chan.specs.inner.Serving.{PartServed}
+use Rattle.qx_chan.specs.Serving.{PartServed}
 use Rattle.qx_chan.specs.Serving.{Serves, part_in}
 use Rattle.qx_chan.specs.Users.{Users}
 use Rattle.qx_chan.proofs.RowReads.{with_row-fixed}

@@ -17,7 +17,7 @@ use Rattle.qx_machine.specs.Waiting.{no_pipes}
 use Rattle.qx_resources.specs.State.{told, Kept}
 use Rattle.qx_chan.specs.Channel.{Channel, lists}
 use Rattle.qx_chan.specs.Serving.{part_in, Serves}
-use Rattle.qx_chan.specs.inner.Serving.{PartServed}
+use Rattle.qx_chan.specs.Serving.{PartServed}
 use Rattle.qx_chan.proofs.RowReads.{option_cases}
 use Rattle.qx_steps.specs.inner.Parts.{part_of, parts_of, told_all, world_of, AreResourcesOf, SameUsers}
 use Rattle.qx_steps.specs.inner.Steps.{world_after_serving, with_served}

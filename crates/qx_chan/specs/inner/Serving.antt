@@ -1,23 +1,18 @@
 -- What only the proofs need of Serving.
-use Rattle.std.specs.Prelude.{◌≡◌, ℕ, List, Option, Some, None, Result, slice_set}
+use Rattle.std.specs.Prelude.{◌≡◌, ℕ, List, Some, Result}
 use Rattle.qx_types.specs.declared.errno.Errno.{Errno}
 use Rattle.qx_types.specs.declared.names.Thread.{Thread}
 use Rattle.qx_wire.specs.Reading.{meaning}
 use Rattle.qx_machine.specs.declared.rows.Caller.{Caller}
 use Rattle.qx_machine.specs.Functions.{Deed}
-use Rattle.qx_machine.specs.Machine.{lines_after}
-use Rattle.qx_machine.specs.Parts.{Part}
 use Rattle.qx_machine.specs.Resources.{Resources}
-use Rattle.qx_machine.specs.Performing.{Served, deed_of}
+use Rattle.qx_machine.specs.Performing.{deed_of}
 use Rattle.qx_machine.specs.Processes.{Process}
-use Rattle.qx_machine.specs.Rows.{with_row}
 use Rattle.qx_shared.specs.Shared.{Shared}
 use Rattle.qx_resources.specs.State.{told, Kept}
 use Rattle.qx_chan.specs.inner.Calls.{taken_bytes}
-use Rattle.qx_chan.specs.Channel.{Channel, lists}
 use Rattle.qx_chan.specs.Users.{Users, process_of, thread_row}
 use Rattle.qx_chan.specs.declared.call.Call.{Call}
-use Rattle.qx_chan.specs.Serving.{part_in}
 
 -- the process of a thread, and the bytes of its message, which was received and is not served
 pub record Sends (users : Users) (thread : Thread) (process : Process) (bytes : List ℕ) : Type 0 where
@@ -31,21 +26,3 @@ caller_of_call thread call = record { process = thread.proc.num; thread = thread
 -- what these bytes of a process come to
 abbrev pub deed_in : Kept → Shared → Process → Thread → Call → ℕ → List ℕ → Result (Deed Resources) Errno
 deed_in resources queues process thread call moment bytes = deed_of (told resources queues) process (caller_of_call thread call) call.target moment (meaning bytes)
-
-module _ (c d : Channel) (k l : Kept) (served : Part → Served) where
-  -- the user's part and the lines became that, and nothing else is different but the room for nodes
-  abbrev pub PartServed : Option Part → Type 0
-  PartServed None = (d ≡ c) × (l ≡ k)
-  PartServed (Some part) =
-      (d ≡ record {
-        users = with_row c.users k.user (λ _. (served part).part.processes);
-        lines = lines_after k.user c.lines (served part).changes;
-        pipes = slice_set c.pipes k.user (served part).part.resources.pipes;
-        room = d.room;
-      })
-      × (told l (lists d) ≡ (served part).part.resources)
-
-  -- that is done for a user whose processes are there
-  pub record Serves : Type 0 where
-    pub did : PartServed (part_in c k)
-    pub user : l.user ≡ k.user
