@@ -1,7 +1,6 @@
 -- What only the proofs need of Laws.
 use Rattle.std.specs.Prelude.{map}
 use Rattle.qx_machine.specs.Pipes.{PipeAfter, Pipe}
-use Rattle.qx_pipe.specs.Laws.{readers, writers, bytes}
 
 -- the same pipe, its waiting messages told in another way
 module _ {W V : Type 0} (tell : W → V) where
