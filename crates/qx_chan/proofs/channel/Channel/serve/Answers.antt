@@ -65,4 +65,4 @@ returns-clause-room c =
     let same = ap (λ (q : Shared). q.room + held q proc) c.give_answers.ensures.queues ∙ ap (λ (q : Shared). q.room + held q proc) c.answer.ensures.queues
     ∙ held-answered c.perform.new.queues c.answer.new.users c.args.thread c.in-Some.call c.in_ok-given.given
     ∙ held-did c.args.resources.now c.perform.new.resources c.self.inside.queues c.perform.new.queues c.perform.new.reply proc c.in_ok-given.given _ (c.in_ok-given.ensures.did its.process its.sent.bytes (sends c.self.inside.users c.args.thread c.in-Some.call its)) in
-    rw (← c.self.view_is) (room-told c.self.inside.users c.give_answers.new.users c.self.inside.queues c.give_answers.new.queues proc c.self.inside.queues.room c.self.invariant (invariant_of-self-2 c) same)
+    rw (← c.self.view_is) (room-told c.self.inside.users c.give_answers.new.users c.self.inside.queues c.give_answers.new.queues proc c.self.inside.queues.room c.self.invariant c.give_answers.ensures.kept same)
