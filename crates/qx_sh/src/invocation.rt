@@ -25,8 +25,8 @@ pub fn invoke<S: AsStr + Drop, R: Source, W: Sink, E: Sink>(
     errors: &mut Watched<E>,
 ) -> u8
     ensures exit { Exits (λ end. MatchResult words
-        (λ words. EndsOn (map S.text words.items) (told R.remaining W.contents input.old input.new output.old output.new) end)
-        (λ error. EndsUnread (error_kind error) (told R.remaining W.contents input.old input.new output.old output.new) end))
+        (λ words. EndsOn (map S.text words.items) (told_by R.remaining W.contents input.old input.new output.old output.new) end)
+        (λ error. EndsUnread (error_kind error) (told_by R.remaining W.contents input.old input.new output.old output.new) end))
         (held E.contents errors.old) (held E.contents errors.new) (has_failed errors.new) result }
 {
     let end = end_of(alloc, words, input, output);
@@ -42,8 +42,8 @@ fn end_of<S: AsStr + Drop, R: Source, W: Sink>(
     output: &mut Watched<W>,
 ) -> End
     ensures ends { MatchResult words
-        (λ words. EndsOn (map S.text words.items) (told R.remaining W.contents input.old input.new output.old output.new) result)
-        (λ error. EndsUnread (error_kind error) (told R.remaining W.contents input.old input.new output.old output.new) result) }
+        (λ words. EndsOn (map S.text words.items) (told_by R.remaining W.contents input.old input.new output.old output.new) result)
+        (λ error. EndsUnread (error_kind error) (told_by R.remaining W.contents input.old input.new output.old output.new) result) }
 {
     match words {
         Ok(words) => run_as_asked(alloc, options(alloc, &words), input, output),
