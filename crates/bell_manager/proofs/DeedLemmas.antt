@@ -3,12 +3,12 @@ use Rattle.std.proofs.Common.{◌≡◌, ℕ, true, List, [], length, Option, No
 use Rattle.std.specs.Prelude.{◌==◌, IfOk}
 use Rattle.qx_types.specs.declared.errno.Errno.{Errno}
 use Rattle.qx_types.specs.declared.errno.Errno.TheVariants.{EBADF}
-use Rattle.qx_types.specs.declared.flags.OFlags.{OFlags}
 use Rattle.qx_types.specs.declared.outcome.Answer.TheVariants as answer
 use Rattle.qx_machine.specs.declared.rows.Effect.TheVariants.{Closes, Keeps}
 use Rattle.qx_machine.specs.declared.rows.NewOpen.{NewOpen}
 use Rattle.qx_machine.specs.declared.rows.Opened.{Opened}
 use Rattle.qx_machine.specs.declared.rows.WaitingCall.{WaitingCall}
+use Rattle.qx_machine.specs.declared.rows.Wish.{Wish}
 use Rattle.qx_machine.specs.Functions as functions
 use Rattle.qx_machine.specs.Functions.{Deed, function_deed}
 use Rattle.qx_machine.specs.Judgements.{◌>>=◌}
@@ -48,12 +48,12 @@ module _ (k : KeptBells) (c : Shared) (fits : HasOwnPlace k c) where
     as_null (Ok done) (Err meant) did = absurd did
     as_null (Err error) (Ok deed) did = absurd did
 
-    pub opened : {E : Type 0} (result : Result (Result Done Errno) E) (over : Result NewOpen Errno) (flags : OFlags) (mode : ℕ) (rest : List (List ℕ)) (moment : ℕ) →
-        IfOk result (λ done. Did null_state k.blocks tt blocks tt [] done (function_deed null_connect.«open» over (λ f over. f k.blocks over flags mode rest moment))) →
-        IfOk result (λ done. Did bells_state k c (record k { blocks = blocks }) c [] done (function_deed bell_connect.«open» over (λ f over. f (bells_told k c) over flags mode rest moment)))
-    opened (Ok done) (Ok over) flags mode rest moment did = as_null done _ did
-    opened (Ok done) (Err error) flags mode rest moment did = as_null done (Err error) did
-    opened (Err error) over flags mode rest moment did = tt
+    pub opened : {E : Type 0} (result : Result (Result Done Errno) E) (over : Result NewOpen Errno) (rest : List (List ℕ)) (wish : Wish) →
+        IfOk result (λ done. Did null_state k.blocks tt blocks tt [] done (function_deed null_connect.«open» over (λ f over. f k.blocks over rest wish))) →
+        IfOk result (λ done. Did bells_state k c (record k { blocks = blocks }) c [] done (function_deed bell_connect.«open» over (λ f over. f (bells_told k c) over rest wish)))
+    opened (Ok done) (Ok over) rest wish did = as_null done _ did
+    opened (Ok done) (Err error) rest wish did = as_null done (Err error) did
+    opened (Err error) over rest wish did = tt
 
     pub closed : (now : Shared) (done : Result Done Errno) (over : Opened) → now ≡ with_pipe_after c k.user k.inode (readers_dismissed (λ call. call.block == over.number) (answer.Failed EBADF) (bells_told k c).place) →
         Did null_state k.blocks tt blocks tt [] done (reply_deed 0 (slice_set k.blocks over.number None) (Closes over.coid)) →

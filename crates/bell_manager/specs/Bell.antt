@@ -82,11 +82,11 @@ close_deed bells opened =
     (readers_dismissed (λ call. call.block == opened.number) (answer.Failed EBADF) bells.place)
 
 abbrev pub bell_connect : ConnectFunctions Bells
-bell_connect = record no_connect { «open» = Some (λ bells over flags mode rest moment. bell_open_deed bells over flags rest) }
+bell_connect = record no_connect { «open» = Some (λ bells over rest wish. bell_open_deed bells over wish.flags rest) }
 
 abbrev pub bell_io : IoFunctions Bells
 bell_io = record no_io {
-  read = Some (λ bells opened count moment. read_deed bells opened count);
-  write = Some (λ bells opened bytes moment. write_deed bells bytes);
-  close = Some (λ bells opened moment. close_deed bells opened);
+  read = Some (λ bells opened count. read_deed bells opened count);
+  write = Some (λ bells opened bytes. write_deed bells bytes);
+  close = Some (λ bells opened. close_deed bells opened);
 }

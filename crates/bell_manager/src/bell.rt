@@ -77,9 +77,15 @@ impl Bell {
     }
 
     /// What a caller's connection with a block of that number has open; EBADF where there is no such block.
-    pub fn opened(&self, caller: Caller, coid: Coid, number: u16) -> Result<Opened, Errno>
-        ensures opened { result ≡ opened_at self.now.blocks caller coid number }
+    pub fn opened(
+        &self,
+        caller: Caller,
+        coid: Coid,
+        number: u16,
+        moment: u64,
+    ) -> Result<Opened, Errno>
+        ensures opened { result ≡ opened_at self.now.blocks caller coid number moment }
     {
-        self.blocks.opened(caller, coid, number)
+        self.blocks.opened(caller, coid, number, moment)
     }
 }

@@ -3,12 +3,12 @@ ghost use Rattle.bell_manager.specs.Bell.{bell_connect, bell_io};
 use crate::bell::{Bell, Bells};
 use null_manager::Null;
 use qx_attr::Reply;
-use qx_machine::{NewOpen, Opened};
+use qx_machine::{NewOpen, Opened, Wish};
 use qx_process::Room;
 use qx_queues::{Leaving, PipeCall};
 use qx_resmgr::{Connect, Done, Io, no_function};
 use qx_shared::{Shared, Side};
-use qx_types::{Errno, OFlags, Whence};
+use qx_types::{Errno, Whence};
 use qx_wire::Rest;
 use std::alloc::AllocError;
 
@@ -22,12 +22,10 @@ impl Connect<Bell, Shared, Bells> for Ringing {
         state: &mut Bell,
         _waits: &mut Shared,
         over: Result<NewOpen, Errno>,
-        flags: OFlags,
-        mode: u16,
         rest: &Rest<'_>,
-        moment: u64,
+        wish: Wish,
     ) -> Result<Result<Done, Errno>, AllocError> {
-        Null::open(&mut state.blocks, &mut (), over, flags, mode, rest, moment)
+        Null::open(&mut state.blocks, &mut (), over, rest, wish)
     }
 
     fn stat(
@@ -75,7 +73,6 @@ impl Io<Bell, Shared, Bells> for Ringing {
         waits: &mut Shared,
         opened: Result<Opened, Errno>,
         count: u32,
-        _moment: u64,
         _reply: &mut Reply,
         room: &mut Option<Room>,
     ) -> Result<Done, Errno> {
@@ -96,7 +93,6 @@ impl Io<Bell, Shared, Bells> for Ringing {
         waits: &mut Shared,
         opened: Result<Opened, Errno>,
         bytes: &[u8],
-        _moment: u64,
         _room: &mut Option<Room>,
     ) -> Result<Result<Done, Errno>, AllocError> {
         if let Err(error) = opened {
@@ -116,7 +112,6 @@ impl Io<Bell, Shared, Bells> for Ringing {
         state: &mut Bell,
         waits: &mut Shared,
         opened: Result<Opened, Errno>,
-        moment: u64,
     ) -> Result<Done, Errno> {
         let over_it = Leaving::Block(opened?.number);
         waits.dismiss(
@@ -126,7 +121,7 @@ impl Io<Bell, Shared, Bells> for Ringing {
             over_it,
             Err(Errno::EBADF),
         );
-        Null::close(&mut state.blocks, &mut (), opened, moment)
+        Null::close(&mut state.blocks, &mut (), opened)
     }
 
     fn lseek(
@@ -135,7 +130,6 @@ impl Io<Bell, Shared, Bells> for Ringing {
         _opened: Result<Opened, Errno>,
         _whence: Whence,
         _offset: i64,
-        _moment: u64,
     ) -> Result<Done, Errno> {
         no_function()
     }
@@ -144,7 +138,6 @@ impl Io<Bell, Shared, Bells> for Ringing {
         _state: &mut Bell,
         _waits: &mut Shared,
         _opened: Result<Opened, Errno>,
-        _moment: u64,
         _reply: &mut Reply,
     ) -> Result<Done, Errno> {
         no_function()
@@ -155,7 +148,6 @@ impl Io<Bell, Shared, Bells> for Ringing {
         _waits: &mut Shared,
         _opened: Result<Opened, Errno>,
         _after: &[u8],
-        _moment: u64,
         _reply: &mut Reply,
     ) -> Result<Done, Errno> {
         no_function()
@@ -166,7 +158,6 @@ impl Io<Bell, Shared, Bells> for Ringing {
         _waits: &mut Shared,
         _opened: Result<Opened, Errno>,
         _mode: u16,
-        _moment: u64,
     ) -> Result<Done, Errno> {
         no_function()
     }

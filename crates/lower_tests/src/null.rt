@@ -4,7 +4,7 @@
 use all_memory::take_all_memory;
 use null_manager::{Blocks, Null};
 use qx_attr::Reply;
-use qx_machine::{Caller, Effect, Over, Target};
+use qx_machine::{Caller, Context, Effect, Over, Target};
 use qx_process::Room;
 use qx_resmgr::{Done, serve};
 use qx_types::{Coid, Errno, Manager, NoMemory, OFlags, Prio};
@@ -122,21 +122,23 @@ impl Bench {
     ) -> Result<Result<(Done, usize), Errno>, AllocError> {
         let message = message(ask);
         assert!(rt; in_ranges(&message) && self.room.is_some());
-        let opened = self.blocks.opened(CALLER, THREE, 1);
         let target = Target {
             manager: Manager::Ram,
             root: Some(5),
             over,
             prio: Prio(10),
         };
+        let context = Context {
+            target,
+            opened: self.blocks.opened(CALLER, THREE, 1, 7),
+            moment: 7,
+        };
         self.reply.clear();
         let given = serve::<Null, Blocks, (), Blocks>(
             &mut self.blocks,
             &mut (),
-            target,
-            opened,
+            context,
             message,
-            7,
             &mut self.reply,
             &mut self.room,
         )?;

@@ -19,10 +19,10 @@ abbrev pub Blocks : Type 0
 Blocks = List (Option Ocb)
 
 -- what a caller's connection has open
-abbrev pub opened_at : Blocks → Caller → Coid → ℕ → Result Opened Errno
-opened_at blocks caller coid number = do
+abbrev pub opened_at : Blocks → Caller → Coid → ℕ → ℕ → Result Opened Errno
+opened_at blocks caller coid number moment = do
   block ← found (row_at blocks number) EBADF
-  Ok (record { caller = caller; coid = coid; number = number })
+  Ok (record { caller = caller; coid = coid; number = number; moment = moment })
 
 -- a reply without bytes
 abbrev pub reply_deed : ℕ → Blocks → Effect → Result (Deed Blocks) Errno
@@ -36,11 +36,11 @@ open_deed blocks over flags rest = do
   reply_deed over.coid.0 (put_row blocks (lowest_from 1 blocks) (record { inode = over.root; flags = flags; offset = 0 })) (Opens over.coid (lowest_from 1 blocks))
 
 abbrev pub null_connect : ConnectFunctions Blocks
-null_connect = record no_connect { «open» = Some (λ blocks over flags mode rest moment. open_deed blocks over flags rest) }
+null_connect = record no_connect { «open» = Some (λ blocks over rest wish. open_deed blocks over wish.flags rest) }
 
 abbrev pub null_io : IoFunctions Blocks
 null_io = record no_io {
-  read = Some (λ blocks opened count moment. reply_deed 0 blocks Keeps);
-  write = Some (λ blocks opened bytes moment. reply_deed (length bytes) blocks Keeps);
-  close = Some (λ blocks opened moment. reply_deed 0 (slice_set blocks opened.number None) (Closes opened.coid));
+  read = Some (λ blocks opened count. reply_deed 0 blocks Keeps);
+  write = Some (λ blocks opened bytes. reply_deed (length bytes) blocks Keeps);
+  close = Some (λ blocks opened. reply_deed 0 (slice_set blocks opened.number None) (Closes opened.coid));
 }

@@ -38,14 +38,21 @@ impl Blocks {
     }
 
     /// What a caller's connection with a block of that number has open; EBADF where there is no such block.
-    pub fn opened(&self, caller: Caller, coid: Coid, number: u16) -> Result<Opened, Errno>
-        ensures opened { result ≡ null.opened_at self.now caller coid number }
+    pub fn opened(
+        &self,
+        caller: Caller,
+        coid: Coid,
+        number: u16,
+        moment: u64,
+    ) -> Result<Opened, Errno>
+        ensures opened { result ≡ null.opened_at self.now caller coid number moment }
     {
         places::row(self.rows.as_slice(), number as usize).ok_or(Errno::EBADF)?;
         Ok(Opened {
             caller,
             coid,
             number,
+            moment,
         })
     }
 }

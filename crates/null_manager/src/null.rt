@@ -2,10 +2,10 @@ ghost use Rattle.null_manager.specs.Null.{null_connect, null_io};
 
 use crate::blocks::Blocks;
 use qx_attr::Reply;
-use qx_machine::{Effect, NewOpen, Ocb, Opened};
+use qx_machine::{Effect, NewOpen, Ocb, Opened, Wish};
 use qx_process::{Room, places};
 use qx_resmgr::{Connect, Done, Io, no_function};
-use qx_types::{Errno, Limits, OFlags, Whence};
+use qx_types::{Errno, Limits, Whence};
 use qx_wire::Rest;
 use std::alloc::AllocError;
 
@@ -19,10 +19,8 @@ impl Connect<Blocks, (), Blocks> for Null {
         state: &mut Blocks,
         _waits: &mut (),
         over: Result<NewOpen, Errno>,
-        flags: OFlags,
-        _mode: u16,
         rest: &Rest<'_>,
-        _moment: u64,
+        wish: Wish,
     ) -> Result<Result<Done, Errno>, AllocError> {
         let over = match over {
             Ok(over) => over,
@@ -37,7 +35,7 @@ impl Connect<Blocks, (), Blocks> for Null {
         }
         let block = Ocb {
             inode: over.root,
-            flags,
+            flags: wish.flags,
             offset: 0,
         };
         places::put(&mut state.rows, number, block)?;
@@ -91,7 +89,6 @@ impl Io<Blocks, (), Blocks> for Null {
         _waits: &mut (),
         opened: Result<Opened, Errno>,
         _count: u32,
-        _moment: u64,
         _reply: &mut Reply,
         _room: &mut Option<Room>,
     ) -> Result<Done, Errno> {
@@ -104,7 +101,6 @@ impl Io<Blocks, (), Blocks> for Null {
         _waits: &mut (),
         opened: Result<Opened, Errno>,
         bytes: &[u8],
-        _moment: u64,
         _room: &mut Option<Room>,
     ) -> Result<Result<Done, Errno>, AllocError> {
         Ok(opened.map(|_| Done::keeps(bytes.len() as u64)))
@@ -114,7 +110,6 @@ impl Io<Blocks, (), Blocks> for Null {
         state: &mut Blocks,
         _waits: &mut (),
         opened: Result<Opened, Errno>,
-        _moment: u64,
     ) -> Result<Done, Errno> {
         let opened = opened?;
         places::free(&mut state.rows, opened.number as usize);
@@ -130,7 +125,6 @@ impl Io<Blocks, (), Blocks> for Null {
         _opened: Result<Opened, Errno>,
         _whence: Whence,
         _offset: i64,
-        _moment: u64,
     ) -> Result<Done, Errno> {
         no_function()
     }
@@ -139,7 +133,6 @@ impl Io<Blocks, (), Blocks> for Null {
         _state: &mut Blocks,
         _waits: &mut (),
         _opened: Result<Opened, Errno>,
-        _moment: u64,
         _reply: &mut Reply,
     ) -> Result<Done, Errno> {
         no_function()
@@ -150,7 +143,6 @@ impl Io<Blocks, (), Blocks> for Null {
         _waits: &mut (),
         _opened: Result<Opened, Errno>,
         _after: &[u8],
-        _moment: u64,
         _reply: &mut Reply,
     ) -> Result<Done, Errno> {
         no_function()
@@ -161,7 +153,6 @@ impl Io<Blocks, (), Blocks> for Null {
         _waits: &mut (),
         _opened: Result<Opened, Errno>,
         _mode: u16,
-        _moment: u64,
     ) -> Result<Done, Errno> {
         no_function()
     }

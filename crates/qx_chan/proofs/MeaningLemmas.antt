@@ -1,7 +1,6 @@
--- What bytes mean has its values in their ranges, and where memory is short a message is done that wants it.
-use Rattle.std.proofs.Common.{inl, inr, refl, sym, ℕ, List, Bool, true, false, Result, Ok, Err}
-use Rattle.std.specs.Prelude.{◌&&◌, IsFalse, IsOk, is_ok}
-use Rattle.std.proofs.lemmas.Bool.{cases_Bool, false≢true}
+-- What bytes mean has its values in their ranges.
+use Rattle.std.proofs.Common.{inl, inr, ℕ, List}
+use Rattle.std.proofs.lemmas.Bool.{cases_Bool}
 use Rattle.qx_wire.specs.declared.message.Meaning.{Meaning}
 use Rattle.qx_wire.specs.declared.message.Meaning.TheVariants.{Known, Unknown, Malformed}
 use Rattle.qx_wire.specs.Reading.{cut, judged, meaning}
@@ -20,9 +19,3 @@ judged-in_ranges (Known message) = elim (cases_Bool (in_ranges message)) [
 pub meaning-in_ranges : (bytes : List ℕ) → IsInRanges (meaning bytes)
 unfolding meaning
 meaning-in_ranges bytes = judged-in_ranges (cut bytes)
-
--- memory is short only where it may be wanted, and where the message would be done
-pub unwanted : {A E : Type 0} (wants : Bool) (deed : Result A E) → (IsFalse wants → ⊥) → IsOk deed → IsFalse (wants && is_ok deed) → ⊥
-unwanted true (Ok deed) short done none = false≢true (sym none)
-unwanted true (Err error) short done none = false≢true done
-unwanted false deed short done none = short refl

@@ -1,6 +1,6 @@
 -- A received message is performed: what its thread's row and the queues tell before, and what comes of that, as in the machine.
 use Rattle.std.proofs.Common.{◌≡◌, inl, inr, ℕ, List, Option, Some, None, Ok, Err, refl, sym, ◌∙◌, ap}
-use Rattle.std.specs.Prelude.{◌&&◌, [], IsSome, Result, is_ok, option_map}
+use Rattle.std.specs.Prelude.{[], IsSome, Result, option_map}
 use Rattle.qx_types.specs.declared.errno.Errno.{Errno}
 use Rattle.qx_types.specs.declared.names.Thread.{Thread}
 use Rattle.qx_wire.specs.declared.message.Meaning.{Meaning}
@@ -9,7 +9,7 @@ use Rattle.qx_machine.specs.declared.rows.Sent.{Sent}
 use Rattle.qx_machine.specs.declared.rows.State.TheVariants.{Taken}
 use Rattle.qx_machine.specs.declared.rows.ThreadRow.{ThreadRow}
 use Rattle.qx_machine.specs.Parts.{Part, thread_at, thread_of}
-use Rattle.qx_machine.specs.Performing.{caller_of, deed_of, or_kept, serve_message, served_by, taken_in}
+use Rattle.qx_machine.specs.Performing.{caller_of, context_of, deed_of, or_kept, serve_message, served_by, taken_in}
 use Rattle.qx_machine.specs.Processes.{Process, served_state, served_thread, with_thread}
 use Rattle.qx_machine.specs.Rows.{row_at}
 use Rattle.qx_machine.specs.Wants.{bytes_want_memory, thread_wants_memory}
@@ -89,7 +89,7 @@ sends users thread call its = record {
 
 -- what the machine serves
 pub serves-message : (part : Part) (number thread moment : ℕ) (process : Process) (row : ThreadRow) (sent : Sent) → row_at part.processes number ≡ Some process → row_at process.threads thread ≡ Some row → taken_in row.state ≡ Some sent
-    → serve_message part number thread moment ≡ Ok (served_by part (caller_of number thread row sent) sent (deed_of part.resources process (caller_of number thread row sent) sent.target moment (meaning sent.bytes)))
+    → serve_message part number thread moment ≡ Ok (served_by part (caller_of number thread row sent) sent (deed_of part.resources (context_of process (caller_of number thread row sent) sent.target moment) (meaning sent.bytes)))
 serves-message part number thread moment process row sent there at is = rw (there, at, is) refl
 
 -- ---- the message is handed over
@@ -97,14 +97,15 @@ serves-message part number thread moment process row sent there at is = rw (ther
 -- it comes to the same as before
 pub deed-served : (k : state.Kept) (queues : Shared) (users new : Users) (thread : Thread) (call : Call) (moment : ℕ) (process found : Process) (bytes given : List ℕ) (means : Meaning) → Sends users thread process bytes
     → new ≡ with_thread_row users thread served_thread → Some found ≡ process_of new thread.proc → Some given ≡ taken_bytes (thread_row users thread) → means ≡ meaning given
-    → deed_of (told k queues) found (caller_of_call thread call) call.target moment means ≡ deed_in k queues process thread call moment bytes
+    → deed_of (told k queues) (context_of found (caller_of_call thread call) call.target moment) means ≡ deed_in k queues process (record { thread = thread; call = call; moment = moment }) bytes
 deed-served k queues users new thread call moment process found bytes given means of served there read is =
     let here : process_of (with_thread_row users thread served_thread) thread.proc ≡ Some (with_thread thread.tid served_thread process) = process_of-same users thread.proc (with_thread thread.tid served_thread) ∙ ap (option_map (with_thread thread.tid served_thread)) of.there in
     let both : Some found ≡ Some (with_thread thread.tid served_thread process) = there ∙ ap (λ users. process_of users thread.proc) served ∙ here in
     let its : found ≡ with_thread thread.tid served_thread process = cc in
     let same : Some given ≡ Some bytes = read ∙ of.bytes_are in
     let bytes_are : given ≡ bytes = cc in
-    ap (λ process. deed_of (told k queues) process (caller_of_call thread call) call.target moment means) its ∙ ap (deed_of (told k queues) process (caller_of_call thread call) call.target moment) (is ∙ ap meaning bytes_are)
+    ap (λ process. deed_of (told k queues) (context_of process (caller_of_call thread call) call.target moment) means) its
+    ∙ ap (deed_of (told k queues) (context_of process (caller_of_call thread call) call.target moment)) (is ∙ ap meaning bytes_are)
 
 -- ---- memory is refused
 
@@ -150,12 +151,12 @@ module _ (thread : Thread) (moment : ℕ) where
       let idle : taken_call (thread_of thread.tid (process_of_user thread.proc.num (Some processes))) ≡ None = ap (λ rows. taken_call (thread_of thread.tid (process_of_user thread.proc.num rows))) (sym there ∙ ap (row_at users) of) ∙ none in
       untaken (record { processes = processes; resources = told k queues }) idle)
 
--- doing a received message may want memory, where its function may and the message is done
+-- whether doing a received message may want memory is told by its call
 pub received-wants : (users : Users) (queues : Shared) (k : state.Kept) (thread : Thread) (call : Call) (its : Received users thread call) → k.user ≡ thread.proc.user.0 → (moment : ℕ)
-    → thread_wants_memory (part_in (shown users queues) k) thread.proc.num thread.tid moment ≡ (bytes_want_memory call.target.manager (meaning its.sent.bytes) && is_ok (deed_in k queues its.process thread call moment its.sent.bytes))
+    → thread_wants_memory (part_in (shown users queues) k) thread.proc.num thread.tid moment ≡ bytes_want_memory call.target.manager (told k queues) (meaning its.sent.bytes) (deed_in k queues its.process (record { thread = thread; call = call; moment = moment }) its.sent.bytes)
 received-wants users queues k thread call its of moment =
     rw (ap (row_at users) of ∙ its.user, its.there, its.at, ap taken_in its.is)
-    (ap (λ (call : Call). bytes_want_memory call.target.manager (meaning its.sent.bytes) && is_ok (deed_in k queues its.process thread call moment its.sent.bytes)) its.call_is)
+    (ap (λ (call : Call). bytes_want_memory call.target.manager (told k queues) (meaning its.sent.bytes) (deed_in k queues its.process (record { thread = thread; call = call; moment = moment }) its.sent.bytes)) its.call_is)
 
 -- the room for a reply is there still, where there is a reply
 pub room-there : {R : Type 0} (before room : Option R) (given : Result Done Errno) → IsSome before → HasRoomAfter before room given → IsReplied given → IsSome room

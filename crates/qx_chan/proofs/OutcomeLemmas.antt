@@ -134,7 +134,7 @@ module _ (users : Users) (queues : Shared) (thread : Thread) (call : Call) (take
     part = record { processes = its.processes; resources = told k queues }
 
     abbrev meant : Result (Deed Resources) Errno
-    meant = deed_in k queues its.process thread call moment its.sent.bytes
+    meant = deed_in k queues its.process (record { thread = thread; call = call; moment = moment }) its.sent.bytes
 
     abbrev served : Part → Served
     served part = or_kept part (serve_message part thread.proc.num thread.tid moment)
@@ -145,8 +145,8 @@ module _ (users : Users) (queues : Shared) (thread : Thread) (call : Call) (take
 
     served_is : served part ≡ served_by meant
     served_is = subst (λ (c : Call). served part ≡ record {
-      part = after_answer part thread.proc.num thread.tid c.target.over (deed_in k queues its.process thread c moment its.sent.bytes);
-      changes = served_changes c.target.manager (caller_of_call thread c) (deed_in k queues its.process thread c moment its.sent.bytes);
+      part = after_answer part thread.proc.num thread.tid c.target.over (deed_in k queues its.process (record { thread = thread; call = c; moment = moment }) its.sent.bytes);
+      changes = served_changes c.target.manager (caller_of_call thread c) (deed_in k queues its.process (record { thread = thread; call = c; moment = moment }) its.sent.bytes);
     }) its.call_is
         (ap (or_kept part) (serves-message part thread.proc.num thread.tid moment its.process its.row its.sent its.there its.at (ap taken_in its.is)))
 

@@ -1,4 +1,4 @@
-//! The call that a thread waits for.
+//! The call that a thread waits for, its message as it is served, and what that is replied.
 
 ghost use Rattle.std.specs.Prelude.{◌≡◌, IfSome};
 ghost use Rattle.qx_machine.specs.declared.rows.State.TheVariants as state;
@@ -6,7 +6,8 @@ ghost use Rattle.qx_machine.specs.Performing.{taken_in};
 ghost use Rattle.qx_process.specs.Reads.{IsPriority, IsRanked};
 ghost use Rattle.qx_chan.specs.Calls.{call_by, queued_in, unasked_in};
 
-use qx_machine::{State, Target, ThreadRow};
+use qx_machine::{Effect, State, Target, ThreadRow};
+use qx_types::{MessageBytes, Thread};
 
 /// A call of a thread: where its message went, the call's number, and whether it was asked to unblock its thread.
 #[derive(Clone, Copy, Debug, PartialEq, Eq)]
@@ -14,6 +15,22 @@ pub struct Call {
     pub target: Target,
     pub number: u64,
     pub is_asked: bool,
+}
+
+/// A message that was received, as it is served: whose it is, which call sent it, and the moment.
+#[derive(Clone, Copy, Debug, PartialEq, Eq)]
+pub struct TakenMessage {
+    pub thread: Thread,
+    pub call: Call,
+    pub moment: u64,
+}
+
+/// What a message is replied: status and bytes, and what becomes of the connection that it came over.
+#[derive(Debug, Drop)]
+pub struct Replied {
+    pub status: u64,
+    pub bytes: MessageBytes,
+    pub effect: Effect,
 }
 
 /// The call whose message stands in a line.

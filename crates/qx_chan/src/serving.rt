@@ -16,7 +16,7 @@ ghost use Rattle.qx_queues.specs.Queues.{unblock_call};
 ghost use Rattle.qx_shared.specs.Shared.{IsReceived, shared_line};
 ghost use Rattle.qx_resmgr.specs.Deeds.{Did, IsReplied};
 ghost use Rattle.qx_resources.specs.Ranges.{IsInRanges};
-ghost use Rattle.qx_resources.specs.State.{HasUser, state};
+ghost use Rattle.qx_resources.specs.State.{HasUser, state, told};
 ghost use Rattle.qx_chan.specs.inner.Answers.{answered_queues, answered_users};
 ghost use Rattle.qx_chan.specs.inner.Calls.{taken_call};
 ghost use Rattle.qx_chan.specs.Calls.{taken_of};
@@ -26,7 +26,7 @@ ghost use Rattle.qx_chan.specs.inner.Serving.{Sends, caller_of_call, deed_in};
 ghost use Rattle.qx_chan.specs.Users.{process_of, thread_row, with_thread_row};
 
 use crate::answers::give_answers;
-use crate::call::Call;
+use crate::call::{Call, Replied, TakenMessage};
 use crate::channel::Channel;
 use crate::servers;
 use crate::users::Users;
@@ -35,7 +35,7 @@ use qx_machine::Caller;
 use qx_process::Room;
 use qx_process::room::reply_bytes;
 use qx_resmgr::Done;
-use qx_resources::Resources;
+use qx_resources::{Resources, context_of};
 use qx_shared::Shared;
 use qx_types::{Errno, MessageBytes, Thread};
 use qx_wire::{Meaning, Parsed, meaning};
@@ -64,26 +64,15 @@ impl Channel {
         let Some(call) = self.taken(thread) else {
             return Ok(());
         };
-        let (given, room) = perform(
-            &mut self.users,
-            &mut self.queues,
-            resources,
+        let message = TakenMessage {
             thread,
             call,
-            read,
             moment,
-            reply,
-        )?;
-        answer(
-            &mut self.users,
-            &mut self.queues,
-            thread,
-            call,
-            given,
-            reply.as_slice(),
-            room,
-        );
-        give_answers(&mut self.users, &mut self.queues);
+        };
+        let (users, queues) = (&mut self.users, &mut self.queues);
+        let (given, room) = perform(users, queues, resources, message, read, reply)?;
+        answer(users, queues, message, given, reply.as_slice(), room);
+        give_answers(users, queues);
         Ok(())
     }
 
@@ -108,40 +97,34 @@ fn perform(
     users: &mut Users,
     queues: &mut Shared,
     resources: &mut Resources,
-    thread: Thread,
-    call: Call,
+    message: TakenMessage,
     read: Option<&Parsed>,
-    moment: u64,
     reply: &mut Reply,
 ) -> Result<(Result<Done, Errno>, Option<Room>), AllocError>
-    requires user { resources.old.user ≡ thread.proc.user.0 }
+    requires user { resources.old.user ≡ message.thread.proc.user.0 }
     requires fits { HasUser resources.old queues.old }
-    requires taken { Some call ≡ taken_call (thread_row users.old thread) }
-    requires received { IsReceived queues.old thread }
-    requires read { IsReadOf (option_copied read) (taken_of (thread_row users.old thread)) }
-    ensures served { OnOk result (users.new ≡ with_thread_row users.old thread served_thread) }
-    ensures did { (process : machine.Process) (bytes : List ℕ) → Sends users.old thread process bytes → IfOk result (λ given. Did state resources.old queues.old resources.new queues.new reply.new given.0 (deed_in resources.old queues.old process thread call moment bytes)) }
+    requires taken { Some message.call ≡ taken_call (thread_row users.old message.thread) }
+    requires received { IsReceived queues.old message.thread }
+    requires read { IsReadOf (option_copied read) (taken_of (thread_row users.old message.thread)) }
+    ensures served { OnOk result (users.new ≡ with_thread_row users.old message.thread served_thread) }
+    ensures did { (process : machine.Process) (bytes : List ℕ) → Sends users.old message.thread process bytes → IfOk result (λ given. Did state resources.old queues.old resources.new queues.new reply.new given.0 (deed_in resources.old queues.old process message bytes)) }
     ensures room { IfOk result (λ given. IsReplied given.0 → IsSome given.1) }
     ensures err { OnErr result ((users.new ≡ users.old) × (queues.new ≡ queues.old) × (resources.new ≡ resources.old)) }
-    ensures wanted { (process : machine.Process) (bytes : List ℕ) → Sends users.old thread process bytes → OnErr result (IsOk (deed_in resources.old queues.old process thread call moment bytes)) }
-    ensures sure { (process : machine.Process) (bytes : List ℕ) → Sends users.old thread process bytes → IsFalse (bytes_want_memory call.target.manager (reading.meaning bytes)) → IsOk result }
+    ensures wanted { (process : machine.Process) (bytes : List ℕ) → Sends users.old message.thread process bytes → OnErr result (IsTrue (bytes_want_memory message.call.target.manager (told resources.old queues.old) (reading.meaning bytes) (deed_in resources.old queues.old process message bytes))) }
 {
+    let TakenMessage {
+        thread,
+        call,
+        moment,
+    } = message;
     let (bytes, room) = users.hand_over(thread);
     let mut room = Some(room);
     let Some(process) = users.process(thread.proc) else {
         unreachable!();
     };
-    let given = resources.perform(
-        queues,
-        process,
-        caller(thread, call),
-        call.target,
-        meaning_of(&bytes, read),
-        moment,
-        reply,
-        &mut room,
-    );
-    match given {
+    let context = context_of(process, caller(thread, call), call.target, moment);
+    let meaning = meaning_of(&bytes, read);
+    match resources.perform(queues, context, meaning, reply, &mut room) {
         Ok(given) => Ok((given, room)),
         Err(error) => {
             let Some(room) = room else {
@@ -159,25 +142,30 @@ fn perform(
 fn answer(
     users: &mut Users,
     queues: &mut Shared,
-    thread: Thread,
-    call: Call,
+    message: TakenMessage,
     given: Result<Done, Errno>,
     reply: &[u8],
     mut room: Option<Room>,
 )
     requires fits { length reply.now ≤ BODY }
     requires room { IsReplied given → IsSome room }
-    requires served { IfSome (thread_row users.old thread) (λ row. IsTrue (is_waiting row.state)) }
-    ensures users { users.new ≡ answered_users users.old thread call.target.over reply.now given }
-    ensures queues { queues.new ≡ answered_queues queues.old users.new thread call given }
-    ensures gone { IsReplied given → unblock_call (shared_line queues.old (manager_number call.target.manager)) thread ≡ Some call.number → unblock_call (line_without thread.proc.user.0 (item.Unblock thread.proc.num thread.tid call.number) (shared_line queues.old (manager_number call.target.manager))) thread ≡ None }
+    requires served { IfSome (thread_row users.old message.thread) (λ row. IsTrue (is_waiting row.state)) }
+    ensures users { users.new ≡ answered_users users.old message.thread message.call.target.over reply.now given }
+    ensures queues { queues.new ≡ answered_queues queues.old users.new message.thread message.call given }
+    ensures gone { IsReplied given → unblock_call (shared_line queues.old (manager_number message.call.target.manager)) message.thread ≡ Some message.call.number → unblock_call (line_without message.thread.proc.user.0 (item.Unblock message.thread.proc.num message.thread.tid message.call.number) (shared_line queues.old (manager_number message.call.target.manager))) message.thread ≡ None }
 {
+    let TakenMessage { thread, call, .. } = message;
     let over = call.target.over;
     match given {
         Ok(Done::NoReply) => return,
         Ok(Done::Reply { status, effect }) => {
             let bytes = reply_bytes(&mut room, reply);
-            users.reply(thread, over, effect, status, bytes, room);
+            let replied = Replied {
+                status,
+                bytes,
+                effect,
+            };
+            users.reply(thread, over, replied, room);
         }
         Err(error) => users.fail(thread, over, error, room),
     }

@@ -15,6 +15,7 @@ ghost use Rattle.qx_chan.specs.inner.Channel.{process_replied};
 ghost use Rattle.qx_chan.specs.inner.Users.{HasPlace};
 ghost use Rattle.qx_chan.specs.Users.{no_processes, process_of, thread_row, with_process_of, with_thread_row};
 
+use crate::call::Replied;
 use qx_machine::{Effect, Over, Sent, ThreadRow};
 use qx_process::{Process, Room, ThreadCell, places};
 use qx_procs::Processes;
@@ -182,18 +183,15 @@ impl Users {
     /// A thread gets a reply, once its message has done what it does to the connection that it came over, with the room for
     /// its replies, unless the reply took that along.
     #[tactic(auto, using(crate::proofs::ProcessLemmas::lends))]
-    pub fn reply(
-        &mut self,
-        thread: Thread,
-        over: Over,
-        effect: Effect,
-        status: u64,
-        bytes: MessageBytes,
-        room: Option<Room>,
-    )
-        requires room { BringsRoom (Reply status bytes) room (thread_row self.old thread) }
-        ensures replied { self.new ≡ with_process_of self.old thread.proc (process_replied thread.tid effect status bytes over) }
+    pub fn reply(&mut self, thread: Thread, over: Over, replied: Replied, room: Option<Room>)
+        requires room { BringsRoom (Reply replied.status replied.bytes) room (thread_row self.old thread) }
+        ensures replied { self.new ≡ with_process_of self.old thread.proc (process_replied thread.tid replied.effect replied.status replied.bytes over) }
     {
+        let Replied {
+            status,
+            bytes,
+            effect,
+        } = replied;
         if let Some(process) = self.process_mut(thread.proc) {
             apply(process, effect);
             process.reply(thread.tid, over, status, bytes, room);

@@ -20,6 +20,7 @@ use Rattle.qx_wire.specs.declared.message.Message.TheVariants as msg
 use Rattle.qx_machine.specs.declared.rows.Access.TheVariants.{Write}
 use Rattle.qx_machine.specs.declared.rows.Attribute.{Attribute}
 use Rattle.qx_machine.specs.declared.rows.Caller.{Caller}
+use Rattle.qx_machine.specs.declared.rows.Context.{Context}
 use Rattle.qx_machine.specs.declared.rows.Effect.{Effect}
 use Rattle.qx_types.specs.declared.outcome.Answer.{Answer}
 use Rattle.qx_machine.specs.declared.rows.Kind.{Kind}
@@ -28,7 +29,6 @@ use Rattle.qx_machine.specs.declared.rows.Kind.TheVariants.{Directory, File}
 use Rattle.qx_machine.specs.declared.rows.NewOpen.{NewOpen}
 use Rattle.qx_machine.specs.declared.rows.Ocb.{Ocb}
 use Rattle.qx_machine.specs.declared.rows.Opened.{Opened}
-use Rattle.qx_machine.specs.declared.rows.Target.{Target}
 use Rattle.qx_machine.specs.declared.rows.WaitingCall.{WaitingCall}
 use Rattle.qx_machine.specs.declared.rows.Wish.{Wish}
 use Rattle.qx_machine.specs.Attributes.{top_inode}
@@ -203,22 +203,22 @@ module _ (K : Resources → Told → Type 0) (keeps : (change : ResourceChange) 
               ap (λ (inodes : Inodes). is_some (row_at inodes.attributes number)) (empty-same kind number _) ∙ made-there at is_spot missing parent there kind mode moment number free,
             )
 
-    missing-gives : (coid : Coid) (at : Spot) → IsSpot r at → at.inode ≡ None → (wish : Wish) → Gives Kept (open_missing r coid at wish)
-    missing-gives coid at is_spot missing wish =
+    missing-gives : (own : Kind) (coid : Coid) (at : Spot) → IsSpot r at → at.inode ≡ None → (wish : Wish) → Gives Kept (open_missing own r coid at wish)
+    missing-gives own coid at is_spot missing wish =
         gives_on _ (need (has wish.flags CREAT) ENOENT) _ (λ making is_making.
         gives_by (λ attribute. row_at r.inodes.attributes at.parent ≡ Some attribute) _ (writable r.inodes r.user at.parent) _ (writable-gives at.parent) (λ parent there.
         gives_on _ (block_number r.inodes) _ (λ free is_free.
-        gives_by IsMade _ (made_at r at parent wish.kind wish.mode wish.moment) _ (made-gives at is_spot missing parent there wish.kind wish.mode wish.moment) (λ made is.
+        gives_by IsMade _ (made_at r at parent own wish.mode wish.moment) _ (made-gives at is_spot missing parent there own wish.mode wish.moment) (λ made is.
         opened-gives made.after is.0 coid wish.flags made.inode is.1))))
 
-    open_at-gives : (coid : Coid) (at : Spot) (there : Option ℕ) → IsSpot r at → at.inode ≡ there → (wish : Wish) → Gives Kept (open_spot r coid at there wish)
-    open_at-gives coid at (Some inode) is_spot is wish = existing-gives coid inode wish
-    open_at-gives coid at None is_spot is wish = missing-gives coid at is_spot is wish
+    open_at-gives : (own : Kind) (coid : Coid) (at : Spot) (there : Option ℕ) → IsSpot r at → at.inode ≡ there → (wish : Wish) → Gives Kept (open_spot own r coid at there wish)
+    open_at-gives own coid at (Some inode) is_spot is wish = existing-gives coid inode wish
+    open_at-gives own coid at None is_spot is wish = missing-gives own coid at is_spot is wish
 
-    open-gives : (over : NewOpen) (rest : List (List ℕ)) (wish : Wish) → AreComponents rest → Gives Kept (open_path r over rest wish)
-    open-gives over [] wish components = existing-gives over.coid over.root wish
-    open-gives over (name ∷ rest) wish components =
-        gives_by (IsSpot r) _ (spot r.inodes r.names r.user over.root (name ∷ rest) ENOENT) _ (spot-gives r r.user over.root (name ∷ rest) ENOENT components) (λ at is_spot. open_at-gives over.coid at at.inode is_spot refl wish)
+    open-gives : (own : Kind) (over : NewOpen) (rest : List (List ℕ)) (wish : Wish) → AreComponents rest → Gives Kept (open_path own r over rest wish)
+    open-gives own over [] wish components = existing-gives over.coid over.root wish
+    open-gives own over (name ∷ rest) wish components =
+        gives_by (IsSpot r) _ (spot r.inodes r.names r.user over.root (name ∷ rest) ENOENT) _ (spot-gives r r.user over.root (name ∷ rest) ENOENT components) (λ at is_spot. open_at-gives own over.coid at at.inode is_spot refl wish)
 
     directory-gives : (root mode : ℕ) (rest : List (List ℕ)) (moment : ℕ) → AreComponents rest → Gives Kept (make_directory r root mode rest moment)
     directory-gives root mode rest moment components =
@@ -294,32 +294,32 @@ module _ (K : Resources → Told → Type 0) (keeps : (change : ResourceChange) 
         no_one (not (is_open (λ flags. true) block.inode (row_at r.inodes.blocks call.block))) (ap not is_its)
 
     -- a call comes to a pipe, and leaves it as each call may
-    came-keeps : (over : Opened) (count : ℕ) (bytes : List ℕ) (moment : ℕ) → over.caller ≡ caller → (block : Ocb) → row_at r.inodes.blocks over.number ≡ Some block → (pipe : Pipe WaitingCall) → row_at r.pipes block.inode ≡ Some pipe → (after : PipeAfter WaitingCall)
-        → ((which : WaitingCall → Bool) → count_answers_to which after.answers + count_waiting_of which after.pipe ≡ count_waiting_of which pipe + count_by which (waiting_call over count bytes ∷ [])) → IsPipeSettled after.pipe → (length pipe.bytes ≤ PIPE → length after.pipe.bytes ≤ PIPE) → Kept (deed_of_pipe r block.inode moment after)
-    came-keeps over count bytes moment same block opened pipe here after once settled short = record {
+    came-keeps : (over : Opened) (count : ℕ) (bytes : List ℕ) → over.caller ≡ caller → (block : Ocb) → row_at r.inodes.blocks over.number ≡ Some block → (pipe : Pipe WaitingCall) → row_at r.pipes block.inode ≡ Some pipe → (after : PipeAfter WaitingCall)
+        → ((which : WaitingCall → Bool) → count_answers_to which after.answers + count_waiting_of which after.pipe ≡ count_waiting_of which pipe + count_by which (waiting_call over count bytes ∷ [])) → IsPipeSettled after.pipe → (length pipe.bytes ≤ PIPE → length after.pipe.bytes ≤ PIPE) → Kept (deed_of_pipe r block.inode over.moment after)
+    came-keeps over count bytes same block opened pipe here after once settled short = record {
       came = waiting_call over count bytes ∷ [];
-      kept = keeps (Fills block.inode moment after (waiting_call over count bytes ∷ [])) r nothing (record { pipe = pipe; there = here; over = own_over over.number block (waiting_call over count bytes) opened refl; once = once; settled = settled; short = short }) h;
+      kept = keeps (Fills block.inode over.moment after (waiting_call over count bytes ∷ [])) r nothing (record { pipe = pipe; there = here; over = own_over over.number block (waiting_call over count bytes) opened refl; once = once; settled = settled; short = short }) h;
       own = (waiting_call over count bytes, refl, ap (λ (c : Caller). c.process) same, ap (λ (c : Caller). c.thread) same);
     }
 
-    read-gives : (over : Opened) (count moment : ℕ) → over.caller ≡ caller → Gives Kept (read_pipe r over count moment)
-    read-gives over count moment same =
+    read-gives : (over : Opened) (count : ℕ) → over.caller ≡ caller → Gives Kept (read_pipe r over count)
+    read-gives over count same =
         gives_on _ (found (row_at r.inodes.blocks over.number) EBADF) _ (λ block opened.
         gives_on _ (need (reads block.flags) EBADF) _ (λ may allowed.
         gives_on _ (found (row_at r.pipes block.inode) EISDIR) _ (λ pipe here.
         let manner = manner_of (writers_of r.inodes block.inode) block over.caller.is_asked in
         let call = waiting_call over count [] in
-        gives_done _ _ (came-keeps over count [] moment same block (found-row _ _ block opened) pipe (found-row _ _ pipe here) (read wanted offered is_gone manner call pipe)
+        gives_done _ _ (came-keeps over count [] same block (found-row _ _ block opened) pipe (found-row _ _ pipe here) (read wanted offered is_gone manner call pipe)
         (read_once wanted offered is_gone (λ who. refl) manner call pipe) (rests wanted offered _ (read_settled wanted offered is_gone manner call pipe)) (λ short. read_short wanted offered is_gone pipe short manner call)))))
 
-    write-gives : (over : Opened) (bytes : List ℕ) (moment : ℕ) → over.caller ≡ caller → Gives Kept (write_pipe r over bytes moment)
-    write-gives over bytes moment same =
+    write-gives : (over : Opened) (bytes : List ℕ) → over.caller ≡ caller → Gives Kept (write_pipe r over bytes)
+    write-gives over bytes same =
         gives_on _ (found (row_at r.inodes.blocks over.number) EBADF) _ (λ block opened.
         gives_on _ (need (writes block.flags) EBADF) _ (λ may allowed.
         gives_on _ (found (row_at r.pipes block.inode) EBADF) _ (λ pipe here.
         let manner = manner_of (readers_of r.inodes block.inode) block over.caller.is_asked in
         let call = waiting_call over 0 bytes in
-        gives_done _ _ (came-keeps over 0 bytes moment same block (found-row _ _ block opened) pipe (found-row _ _ pipe here) (write wanted offered is_gone manner call pipe)
+        gives_done _ _ (came-keeps over 0 bytes same block (found-row _ _ block opened) pipe (found-row _ _ pipe here) (write wanted offered is_gone manner call pipe)
         (write_once wanted offered is_gone (λ who. refl) manner call pipe) (rests wanted offered _ (write_settled wanted offered is_gone manner call pipe)) (λ short. write_short wanted offered is_gone pipe short manner call)))))
 
     -- the same of a cancelled call, where no call comes
@@ -374,40 +374,40 @@ module _ (K : Resources → Told → Type 0) (keeps : (change : ResourceChange) 
           short = λ short. release_short wanted offered is_gone pipe short (is_over number) sides;
         }) h)
 
-    close-gives : (own : Kind) (over : Opened) (moment : ℕ) → Gives Kept (close own r over moment)
-    close-gives own over moment =
+    close-gives : (own : Kind) (over : Opened) → Gives Kept (close own r over)
+    close-gives own over =
         gives_by (IsOwnBlock own over.number) _ (own_block r.inodes over.number own) _ (own_block-gives own over.number) (λ block is.
-        gives_done _ _ (record { came = []; kept = closed-keeps own over.number moment block is.0 is.1 (pipe_in own r block.inode) refl; own = refl }))
+        gives_done _ _ (record { came = []; kept = closed-keeps own over.number over.moment block is.0 is.1 (pipe_in own r block.inode) refl; own = refl }))
 
     -- ---- what tells, and what moves
 
     stat_path-gives : (root : ℕ) (rest : List (List ℕ)) (moment : ℕ) → Gives Kept (stat_path r root rest moment)
     stat_path-gives root rest moment = search (gives_on, gives_done, alone, h)
 
-    stat_block-gives : (over : Opened) (moment : ℕ) → Gives Kept (stat_block r over moment)
-    stat_block-gives over moment = search (gives_on, gives_done, alone, h)
+    stat_block-gives : (over : Opened) → Gives Kept (stat_block r over)
+    stat_block-gives over = search (gives_on, gives_done, alone, h)
 
-    list-gives : (over : Opened) (after : List ℕ) (moment : ℕ) → Gives Kept (list_block r over after moment)
-    list-gives over after moment = search (gives_on, gives_done, alone, h)
+    list-gives : (over : Opened) (after : List ℕ) → Gives Kept (list_block r over after)
+    list-gives over after = search (gives_on, gives_done, alone, h)
 
-    chmod-gives : (over : Opened) (mode moment : ℕ) → Gives Kept (chmod_block r over mode moment)
-    chmod-gives over mode moment =
+    chmod-gives : (over : Opened) (mode : ℕ) → Gives Kept (chmod_block r over mode)
+    chmod-gives over mode =
         gives_on _ (found (row_at r.inodes.blocks over.number) EBADF) _ (λ block opened.
         gives_on _ (need (not (block.inode == top_inode)) EPERM) _ (λ other is_other.
         gives_on _ (found (row_at r.inodes.attributes block.inode) EBADF) _ (λ attribute there.
-        gives_done _ _ (alone _ _ _ _ (touch-keeps r h block.inode attribute (record attribute { mode = mode; ctime = moment }) (found-row _ _ attribute there) refl)))))
+        gives_done _ _ (alone _ _ _ _ (touch-keeps r h block.inode attribute (record attribute { mode = mode; ctime = over.moment }) (found-row _ _ attribute there) refl)))))
 
-    seek_pipe-gives : (over : Opened) (whence : Whence) (by : ℤ) (moment : ℕ) → Gives Kept (seek_pipe r over whence by moment)
-    seek_pipe-gives over whence by moment = search (gives_on, gives_error)
+    seek_pipe-gives : (over : Opened) (whence : Whence) (by : ℤ) → Gives Kept (seek_pipe r over whence by)
+    seek_pipe-gives over whence by = search (gives_on, gives_error)
 
     moved-keeps : (number offset : ℕ) → Q (record r { inodes = with_offset r.inodes number offset })
     moved-keeps number offset = keeps (Moves number offset) r nothing tt h
 
-    read_file-gives : (over : Opened) (count moment : ℕ) → Gives Kept (read_file r over count moment)
-    read_file-gives over count moment = search (gives_on, gives_done, alone, moved-keeps) depth 8
+    read_file-gives : (over : Opened) (count : ℕ) → Gives Kept (read_file r over count)
+    read_file-gives over count = search (gives_on, gives_done, alone, moved-keeps) depth 8
 
-    seek_file-gives : (over : Opened) (whence : Whence) (by : ℤ) (moment : ℕ) → Gives Kept (seek_file r over whence by moment)
-    seek_file-gives over whence by moment = search (gives_on, gives_done, alone, moved-keeps) depth 8
+    seek_file-gives : (over : Opened) (whence : Whence) (by : ℤ) → Gives Kept (seek_file r over whence by)
+    seek_file-gives over whence by = search (gives_on, gives_done, alone, moved-keeps) depth 8
 
     written-gives : (number inode : ℕ) (bytes : List ℕ) (offset : ℕ) (new : List ℕ) (moment : ℕ) → row_at r.files inode ≡ Some bytes → Gives Kept (written_at r number inode bytes offset new moment)
     written-gives number inode bytes offset new moment here =
@@ -415,44 +415,44 @@ module _ (K : Resources → Told → Type 0) (keeps : (change : ResourceChange) 
         gives_on _ (need (nat_le (total_size (slice_set r.files inode (Some (put bytes offset new)))) FILES) ENOSPC) _ (λ few is_few.
         gives_done _ _ (alone _ _ _ _ (keeps (Moves number (offset + length new)) (with_bytes inode moment (put bytes offset new) r) nothing tt (keeps (Writes inode moment (put bytes offset new)) r nothing (record { was = bytes; there = here; file = put_short bytes new offset (leb-true _ _ (need-true _ _ short is_short)); files = inr (leb-true _ _ (need-true _ _ few is_few)) }) h)))))
 
-    write_file-gives : (over : Opened) (new : List ℕ) (moment : ℕ) → Gives Kept (write_file r over new moment)
-    write_file-gives over new moment =
+    write_file-gives : (over : Opened) (new : List ℕ) → Gives Kept (write_file r over new)
+    write_file-gives over new =
         gives_on _ (found (row_at r.inodes.blocks over.number) EBADF) _ (λ block opened.
         gives_on _ (need (writes block.flags) EBADF) _ (λ may allowed.
         gives_on _ (found (row_at r.files block.inode) EBADF) _ (λ bytes here.
-        cond_both (length new == 0) _ _ (Gives Kept) (λ none. gives_done _ _ (alone _ _ _ _ h)) (λ some. written-gives over.number block.inode bytes _ new moment (found-row _ _ bytes here)))))
+        cond_both (length new == 0) _ _ (Gives Kept) (λ none. gives_done _ _ (alone _ _ _ _ h)) (λ some. written-gives over.number block.inode bytes _ new over.moment (found-row _ _ bytes here)))))
 
     -- ---- the managers
 
-    module _ (target : Target) (opened : Result Opened Errno) (callers : (over : Opened) → opened ≡ Ok over → over.caller ≡ caller) (moment : ℕ) where
-      ram-gives : (message : Message) → NamesComponents message → Gives Kept (manager_deed managers.Ram r target opened moment message)
-      ram-gives (msg.Open flags mode rest) names = gives_on _ (new_open target) _ (λ over is. open-gives over rest _ names)
-      ram-gives (msg.Stat rest) names = gives_on _ (side_root target) _ (λ root is. stat_path-gives root rest moment)
-      ram-gives (msg.Unlink rest) names = gives_on _ (side_root target) _ (λ root is. unlink-gives File root rest moment names)
-      ram-gives (msg.Mknod mode rest) names = gives_on _ (side_root target) _ (λ root is. directory-gives root mode rest moment names)
-      ram-gives (msg.Read count) names = gives_on _ opened _ (λ over is. read_file-gives over count moment)
-      ram-gives (msg.Write bytes) names = gives_on _ opened _ (λ over is. write_file-gives over bytes moment)
-      ram-gives msg.Close names = gives_on _ opened _ (λ over is. close-gives File over moment)
-      ram-gives (msg.Lseek whence offset) names = gives_on _ opened _ (λ over is. seek_file-gives over whence offset moment)
-      ram-gives msg.Fstat names = gives_on _ opened _ (λ over is. stat_block-gives over moment)
-      ram-gives (msg.List after) names = gives_on _ opened _ (λ over is. list-gives over after moment)
-      ram-gives (msg.Chmod mode) names = gives_on _ opened _ (λ over is. chmod-gives over mode moment)
+    module _ (context : Context) (callers : (over : Opened) → context.opened ≡ Ok over → over.caller ≡ caller) where
+      ram-gives : (message : Message) → NamesComponents message → Gives Kept (manager_deed managers.Ram r context message)
+      ram-gives (msg.Open flags mode rest) names = gives_on _ (new_open context.target) _ (λ over is. open-gives File over rest _ names)
+      ram-gives (msg.Stat rest) names = gives_on _ (side_root context.target) _ (λ root is. stat_path-gives root rest context.moment)
+      ram-gives (msg.Unlink rest) names = gives_on _ (side_root context.target) _ (λ root is. unlink-gives File root rest context.moment names)
+      ram-gives (msg.Mknod mode rest) names = gives_on _ (side_root context.target) _ (λ root is. directory-gives root mode rest context.moment names)
+      ram-gives (msg.Read count) names = gives_on _ context.opened _ (λ over is. read_file-gives over count)
+      ram-gives (msg.Write bytes) names = gives_on _ context.opened _ (λ over is. write_file-gives over bytes)
+      ram-gives msg.Close names = gives_on _ context.opened _ (λ over is. close-gives File over)
+      ram-gives (msg.Lseek whence offset) names = gives_on _ context.opened _ (λ over is. seek_file-gives over whence offset)
+      ram-gives msg.Fstat names = gives_on _ context.opened _ (λ over is. stat_block-gives over)
+      ram-gives (msg.List after) names = gives_on _ context.opened _ (λ over is. list-gives over after)
+      ram-gives (msg.Chmod mode) names = gives_on _ context.opened _ (λ over is. chmod-gives over mode)
       ram-gives _ names = gives_error _ _
 
-      pipe-gives : (message : Message) → NamesComponents message → Gives Kept (manager_deed managers.Pipe r target opened moment message)
-      pipe-gives (msg.Open flags mode rest) names = gives_on _ (new_open target) _ (λ over is. open-gives over rest _ names)
-      pipe-gives (msg.Stat rest) names = gives_on _ (side_root target) _ (λ root is. stat_path-gives root rest moment)
-      pipe-gives (msg.Unlink rest) names = gives_on _ (side_root target) _ (λ root is. unlink-gives kind.Pipe root rest moment names)
+      pipe-gives : (message : Message) → NamesComponents message → Gives Kept (manager_deed managers.Pipe r context message)
+      pipe-gives (msg.Open flags mode rest) names = gives_on _ (new_open context.target) _ (λ over is. open-gives kind.Pipe over rest _ names)
+      pipe-gives (msg.Stat rest) names = gives_on _ (side_root context.target) _ (λ root is. stat_path-gives root rest context.moment)
+      pipe-gives (msg.Unlink rest) names = gives_on _ (side_root context.target) _ (λ root is. unlink-gives kind.Pipe root rest context.moment names)
       pipe-gives (msg.Mknod mode rest) names = gives_error _ _
-      pipe-gives (msg.Read count) names = gives_on _ opened _ (λ over is. read-gives over count moment (callers over is))
-      pipe-gives (msg.Write bytes) names = gives_on _ opened _ (λ over is. write-gives over bytes moment (callers over is))
-      pipe-gives msg.Close names = gives_on _ opened _ (λ over is. close-gives kind.Pipe over moment)
-      pipe-gives (msg.Lseek whence offset) names = gives_on _ opened _ (λ over is. seek_pipe-gives over whence offset moment)
-      pipe-gives msg.Fstat names = gives_on _ opened _ (λ over is. stat_block-gives over moment)
-      pipe-gives (msg.List after) names = gives_on _ opened _ (λ over is. list-gives over after moment)
-      pipe-gives (msg.Chmod mode) names = gives_on _ opened _ (λ over is. chmod-gives over mode moment)
+      pipe-gives (msg.Read count) names = gives_on _ context.opened _ (λ over is. read-gives over count (callers over is))
+      pipe-gives (msg.Write bytes) names = gives_on _ context.opened _ (λ over is. write-gives over bytes (callers over is))
+      pipe-gives msg.Close names = gives_on _ context.opened _ (λ over is. close-gives kind.Pipe over)
+      pipe-gives (msg.Lseek whence offset) names = gives_on _ context.opened _ (λ over is. seek_pipe-gives over whence offset)
+      pipe-gives msg.Fstat names = gives_on _ context.opened _ (λ over is. stat_block-gives over)
+      pipe-gives (msg.List after) names = gives_on _ context.opened _ (λ over is. list-gives over after)
+      pipe-gives (msg.Chmod mode) names = gives_on _ context.opened _ (λ over is. chmod-gives over mode)
       pipe-gives _ names = gives_error _ _
 
-      pub manager-gives : (manager : Manager) (message : Message) → NamesComponents message → Gives Kept (manager_deed manager r target opened moment message)
+      pub manager-gives : (manager : Manager) (message : Message) → NamesComponents message → Gives Kept (manager_deed manager r context message)
       manager-gives managers.Ram message names = ram-gives message names
       manager-gives managers.Pipe message names = pipe-gives message names

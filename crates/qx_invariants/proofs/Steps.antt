@@ -33,12 +33,12 @@ use Rattle.qx_machine.specs.Inodes.{inode_number}
 use Rattle.qx_machine.specs.Judgements.{found, need, or_refused}
 use Rattle.qx_machine.specs.Mounting.{new_mount}
 use Rattle.qx_machine.specs.Parts.{Part, thread_at, Change as LineChange}
-use Rattle.qx_machine.specs.Performing.{Served, after_answer, deed_of, opened_by, or_kept, read_message, serve_message, serve_pulse, taken_in, with_answers}
+use Rattle.qx_machine.specs.Performing.{Served, after_answer, context_of, deed_of, or_kept, read_message, serve_message, serve_pulse, taken_in, with_answers}
 use Rattle.qx_machine.specs.PipeManager.{cancel_call}
 use Rattle.qx_machine.specs.Processes.{Process}
 use Rattle.qx_machine.specs.Resources.{Resources}
 use Rattle.qx_machine.specs.Rows.{row_at}
-use Rattle.qx_machine.specs.Users.{client, serve, take, boot_part, settle}
+use Rattle.qx_machine.specs.Users.{client, serve, take, boot_part, settle_part}
 use Rattle.qx_invariants.specs.Changes.{ResourceChange, MayHappen, Mounts, with_change}
 use Rattle.qx_invariants.proofs.Deeds.{Kept, NamesComponents, Told, cancel-gives, manager-gives, nothing, told_by}
 use Rattle.qx_invariants.proofs.Gives.{Gives, gives_by, gives_done, gives_error, gives_more, gives_on, gives-value}
@@ -53,6 +53,7 @@ use Rattle.qx_machine.specs.Runs.{run, world_after}
 use Rattle.qx_machine.proofs.Places.{row_at-set_cases, row_at-set_other}
 use Rattle.qx_machine.proofs.Workers.{server_leaves}
 use Rattle.qx_machine.specs.declared.rows.OwnItem.TheVariants as item
+use Rattle.qx_machine.proofs.Waiters.{opened_by-caller}
 use Rattle.qx_machine.specs.declared.rows.State.TheVariants as state
 
 pub answers-resources : (answers : List (WaitingCall × Answer)) (part : Part) → (with_answers answers part).resources ≡ part.resources
@@ -64,21 +65,12 @@ read-components bytes (Known message) is = gives_done _ _ (meaning-components by
 read-components bytes Unknown is = gives_error _ _
 read-components bytes Malformed is = gives_error _ _
 
-opened_by-caller : (process : Process) (caller : Caller) (target : Target) (over : Opened) → opened_by process caller target ≡ Ok over → over.caller ≡ caller
-opened_by-caller process caller target over is =
-    gives-value (λ (over : Opened). over.caller ≡ caller) _ over is
-    (gives_on _ (found (existing_coid target.over) EINVAL) _ (λ coid is_over.
-    gives_on _ (found (row_at process.connections coid.0) EBADF) _ (λ connection there.
-    gives_on _ (need (is_numbered (manager_number target.manager) connection.manager) EBADF) _ (λ here is_here.
-    gives_on _ (found connection.block EBADF) _ (λ number has_block.
-    gives_done _ _ refl)))))
-
 -- what a property of the resources and of what was answered is after a deed
 pub deed_kept : (K : Resources → Told → Type 0) (keeps : (change : ResourceChange) (r : Resources) (told : Told) → MayHappen change r → K r told → K (with_change change r) (told_by change told)) (caller : Caller) (r : Resources) → K r nothing
-    → (process : Process) (target : Target) (moment : ℕ) (bytes : List ℕ) → Gives (Kept K keeps caller) (deed_of r process caller target moment (meaning bytes))
+    → (process : Process) (target : Target) (moment : ℕ) (bytes : List ℕ) → Gives (Kept K keeps caller) (deed_of r (context_of process caller target moment) (meaning bytes))
 deed_kept K keeps caller r h process target moment bytes =
     gives_by NamesComponents _ (read_message (meaning bytes)) _ (read-components bytes (meaning bytes) refl)
-    (λ message names. manager-gives K keeps caller r h target (opened_by process caller target) (opened_by-caller process caller target) moment target.manager message names)
+    (λ message names. manager-gives K keeps caller r h (context_of process caller target moment) (opened_by-caller process caller target moment) target.manager message names)
 
 -- what holds of a part that was given holds of what is kept where none was
 pub kept-keeps : (P : Part → Type 0) (part : Part) → P part → (given : Result Served Outcome) → Gives (λ (served : Served). P served.part) given → P (or_kept part given).part
@@ -95,7 +87,7 @@ module _ (K : Resources → Type 0) (keeps : (change : ResourceChange) (r : Reso
 
   -- ---- what a worker does
 
-  deed-gives : (r : Resources) → K r → (process : Process) (caller : Caller) (target : Target) (moment : ℕ) (bytes : List ℕ) → Gives (λ (deed : Deed Resources). K deed.state) (deed_of r process caller target moment (meaning bytes))
+  deed-gives : (r : Resources) → K r → (process : Process) (caller : Caller) (target : Target) (moment : ℕ) (bytes : List ℕ) → Gives (λ (deed : Deed Resources). K deed.state) (deed_of r (context_of process caller target moment) (meaning bytes))
   deed-gives r h process caller target moment bytes =
       gives_more _ (λ (deed : Deed Resources). K deed.state) _ (λ deed kept. kept.kept) (deed_kept (λ r told. K r) (λ change r told. keeps change r) caller r h process target moment bytes)
 
@@ -180,7 +172,7 @@ module _ (P : ℕ → Part → Type 0) (keeps : IsKept P) where
   HoldsIn parts = (user : ℕ) (part : Part) → row_at parts user ≡ Some part → P user part
 
   end-holds : (user : ℕ) (before after : Part) (changes : List LineChange) (w : World) → HoldsIn w.parts → P user after → HoldsIn (step_end user before after changes w).parts
-  unfolding settle
+  unfolding settle_part
   end-holds user before after changes w h own other part there = elim (cases_eq other user) [
     | inl same ↦ elim (row_at-set_cases w.parts user other (Some after) part there) [
       | inl was ↦ h other part was

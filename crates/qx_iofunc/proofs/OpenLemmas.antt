@@ -188,15 +188,15 @@ not_made : (kind : Kind) (number inode : ℕ) (r : Resources) → given.with_pip
 not_made Pipe number inode r = refl
 not_made kind number inode r = refl
 
-pub existing_done : (s : Stored) (now : Inodes) (number inode : ℕ) (wish : Wish) → may_open s.inodes s.user inode wish.flags ≡ Ok done → with_number now (Ok number) ≡ open_block (emptied_in wish.flags inode wish.moment s).inodes inode wish.flags → (r : Resources) (coid : Coid)
+pub existing_done : (s : Stored) (now : Inodes) (number inode : ℕ) (own : Kind) (wish : Wish) → may_open s.inodes s.user inode wish.flags ≡ Ok done → with_number now (Ok number) ≡ open_block (emptied_in wish.flags inode wish.moment s).inodes inode wish.flags → (r : Resources) (coid : Coid)
     → open_existing (with_stored r s) coid inode wish
-    ≡ Ok (given.open_given coid wish.kind (record { number = number; inode = inode; is_new = false }) (with_stored r (record (emptied_in wish.flags inode wish.moment s) { inodes = now })))
-existing_done s now number inode wish may is r coid =
+    ≡ Ok (given.open_given coid own (record { number = number; inode = inode; is_new = false }) (with_stored r (record (emptied_in wish.flags inode wish.moment s) { inodes = now })))
+existing_done s now number inode own wish may is r coid =
     existing_judged (with_stored r s) coid inode wish (Ok done) may
     ∙ (ap (λ (after : Resources). opened coid wish.flags inode after) (emptied_is wish.flags inode wish.moment s r)
     ∙ (opened_deed (emptied_in wish.flags inode wish.moment s).inodes now inode number wish.flags is coid (with_stored r (emptied_in wish.flags inode wish.moment s)) refl
     ∙ ap (λ (after : Resources). Ok (reply_alone coid.0 [] (Opens coid number) after))
-    (sym (not_made wish.kind number inode (with_stored r (record (emptied_in wish.flags inode wish.moment s) { inodes = now }))))))
+    (sym (not_made own number inode (with_stored r (record (emptied_in wish.flags inode wish.moment s) { inodes = now }))))))
 
 -- ---- what may be made
 
@@ -253,7 +253,7 @@ missing_makes inodes user parent new flags is = by_parts (has flags CREAT) (writ
 
 -- ---- it is made, and opened
 
-module _ (r : Resources) (s : Stored) (coid : Coid) (at : Spot) (wish : Wish) where
+module _ (r : Resources) (s : Stored) (coid : Coid) (at : Spot) (own : Kind) (wish : Wish) where
   -- what there is once it is made
   abbrev after : Kind → New → Resources
   after kind new = with_empty kind new.inode (record (with_stored r s) { inodes = (with_made at new.inode new.parent kind wish.mode wish.moment s).inodes; names = insert s.names at.key new.inode })
@@ -268,20 +268,20 @@ module _ (r : Resources) (s : Stored) (coid : Coid) (at : Spot) (wish : Wish) wh
   after_is Pipe new number now = refl
   after_is kind new number now = refl
 
-  missing_is : (new : New) → may_make s.inodes s.user at.parent wish.flags ≡ Ok new → open_missing (with_stored r s) coid at wish ≡ opened coid wish.flags new.inode (after wish.kind new)
+  missing_is : (new : New) → may_make s.inodes s.user at.parent wish.flags ≡ Ok new → open_missing own (with_stored r s) coid at wish ≡ opened coid wish.flags new.inode (after own new)
   missing_is new may = let it = missing_makes s.inodes s.user at.parent new wish.flags may in rw (it.creates, it.writable_is, it.block_is, it.number_is) refl
 
   pub missing_done : (new : New) (now : Inodes) (number : ℕ) → may_make s.inodes s.user at.parent wish.flags ≡ Ok new
-      → with_number now (Ok number) ≡ open_block (with_made at new.inode new.parent wish.kind wish.mode wish.moment s).inodes new.inode wish.flags
-      → open_missing (with_stored r s) coid at wish
-      ≡ Ok (given.open_given coid wish.kind (record { number = number; inode = new.inode; is_new = true }) (with_stored r (record (with_made at new.inode new.parent wish.kind wish.mode wish.moment s) { inodes = now })))
+      → with_number now (Ok number) ≡ open_block (with_made at new.inode new.parent own wish.mode wish.moment s).inodes new.inode wish.flags
+      → open_missing own (with_stored r s) coid at wish
+      ≡ Ok (given.open_given coid own (record { number = number; inode = new.inode; is_new = true }) (with_stored r (record (with_made at new.inode new.parent own wish.mode wish.moment s) { inodes = now })))
   missing_done new now number may is =
       missing_is new may
-      ∙ (opened_deed (with_made at new.inode new.parent wish.kind wish.mode wish.moment s).inodes now new.inode number wish.flags is coid (after wish.kind new) (after_inodes wish.kind new)
-      ∙ ap (λ (after : Resources). Ok (reply_alone coid.0 [] (Opens coid number) after)) (after_is wish.kind new number now))
+      ∙ (opened_deed (with_made at new.inode new.parent own wish.mode wish.moment s).inodes now new.inode number wish.flags is coid (after own new) (after_inodes own new)
+      ∙ ap (λ (after : Resources). Ok (reply_alone coid.0 [] (Opens coid number) after)) (after_is own new number now))
 
-  pub missing_allowed : (new : New) → may_make s.inodes s.user at.parent wish.flags ≡ Ok new → IsOk (open_missing (with_stored r s) coid at wish)
+  pub missing_allowed : (new : New) → may_make s.inodes s.user at.parent wish.flags ≡ Ok new → IsOk (open_missing own (with_stored r s) coid at wish)
   missing_allowed new may =
       let free = (missing_makes s.inodes s.user at.parent new wish.flags may).block_is in
       let number : IsOk (block_number s.inodes) = rw free refl in
-      subst IsOk (sym (missing_is new may)) (opened_ok coid wish.flags new.inode (after wish.kind new) (subst (λ (inodes : Inodes). IsOk (block_number inodes)) (sym (after_inodes wish.kind new)) number))
+      subst IsOk (sym (missing_is new may)) (opened_ok coid wish.flags new.inode (after own new) (subst (λ (inodes : Inodes). IsOk (block_number inodes)) (sym (after_inodes own new)) number))

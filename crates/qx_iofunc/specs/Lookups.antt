@@ -19,9 +19,9 @@ use Rattle.qx_types.specs.declared.errno.Errno.{Errno}
 use Rattle.qx_types.specs.declared.flags.OFlags.{OFlags}
 use Rattle.qx_types.specs.declared.names.Coid.{Coid}
 
-abbrev pub open_found : Resources → Coid → Lookup → Wish → Result (Deed Resources) Errno
-open_found r coid (Found inode) wish = open_existing r coid inode wish
-open_found r coid (Missing at new) wish = open_missing r coid (spot_of r.names at) wish
+abbrev pub open_found : Kind → Resources → Coid → Lookup → Wish → Result (Deed Resources) Errno
+open_found own r coid (Found inode) wish = open_existing r coid inode wish
+open_found own r coid (Missing at new) wish = open_missing own r coid (spot_of r.names at) wish
 
 -- how many inodes and open control blocks it needs room for
 abbrev pub needed : Lookup → ℕ
@@ -29,15 +29,15 @@ needed (Found inode) = 1
 needed (Missing at new) = 2
 
 -- an open, once it was looked up what it opens
-abbrev pub open_looked_up : Resources → Coid → Result Lookup Errno → Wish → Result (Deed Resources) Errno
-open_looked_up r coid lookup wish = do
+abbrev pub open_looked_up : Kind → Resources → Coid → Result Lookup Errno → Wish → Result (Deed Resources) Errno
+open_looked_up own r coid lookup wish = do
   there ← lookup
-  open_found r coid there wish
+  open_found own r coid there wish
 
 -- what is missing has a directory, in which nothing has its name
-abbrev pub IsFree : Names → Lookup → Type 0
-IsFree names (Found inode) = Unit {0}
-IsFree names (Missing at new) = HasPath names at.parent × (get names (under (path_of names at.parent) at.name.now) ≡ None)
+abbrev pub HasFreeName : Names → Lookup → Type 0
+HasFreeName names (Found inode) = Unit {0}
+HasFreeName names (Missing at new) = HasPath names at.parent × (get names (under (path_of names at.parent) at.name.now) ≡ None)
 
 -- what is to be made was judged, for this directory
 abbrev pub IsJudged : Inodes → ℕ → OFlags → Lookup → Type 0
@@ -46,6 +46,6 @@ IsJudged inodes user flags (Missing at new) = may_make inodes user at.parent fla
 
 -- what a lookup found may be opened, or made and opened
 pub record IsAllowed (s : Stored) (flags : OFlags) (lookup : Lookup) : Type 0 where
-  pub free : IsFree s.names lookup
+  pub free : HasFreeName s.names lookup
   pub judged : IsJudged s.inodes s.user flags lookup
-  pub opens : (r : Resources) (coid : Coid) (kind : Kind) (mode moment : ℕ) → IsOk (open_found (with_stored r s) coid lookup (record { flags = flags; kind = kind; mode = mode; moment = moment }))
+  pub opens : (r : Resources) (coid : Coid) (own : Kind) (mode moment : ℕ) → IsOk (open_found own (with_stored r s) coid lookup (record { flags = flags; mode = mode; moment = moment }))

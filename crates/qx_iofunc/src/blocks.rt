@@ -1,6 +1,6 @@
 //! Messages over what is open.
 
-ghost use Rattle.std.specs.Prelude.{◌≡◌, ℕ, [], Ok, IfOk, OnErr};
+ghost use Rattle.std.specs.Prelude.{◌≡◌, [], Ok, IfOk, OnErr};
 ghost use Rattle.std.specs.Result.{result_map_both};
 ghost use Rattle.qx_iofunc.specs.Given as given;
 ghost use Rattle.qx_iofunc.specs.Store.{block_gone, unused_gone, with_stored};
@@ -36,7 +36,7 @@ fn own_block(inodes: &Inodes, number: u16, own: Kind) -> Result<Ocb, Errno>
 impl Store {
     /// The status of what is open (C Library Reference: `fstat`). EBADF without a block.
     pub fn fstat(&self, opened: Opened) -> Result<Status, Errno>
-        ensures status { (r : Resources) (moment : ℕ) → given.status_told (with_stored r self.now.stored) result ≡ machine.stat_block (with_stored r self.now.stored) opened moment }
+        ensures status { (r : Resources) → given.status_told (with_stored r self.now.stored) result ≡ machine.stat_block (with_stored r self.now.stored) opened }
     {
         let Some(block) = self.tables.inodes.block(opened.number) else {
             return Err(Errno::EBADF);
@@ -49,7 +49,7 @@ impl Store {
     /// profile). EBADF without a block, ENOTDIR on what is no directory.
     pub fn list(&self, opened: Opened, after: &[u8], reply: &mut Reply) -> Result<u64, Errno>
         requires empty { reply.old ≡ [] }
-        ensures listed { (r : Resources) (moment : ℕ) → given.number_replied reply.new (with_stored r self.now.stored) result ≡ machine.list_block (with_stored r self.now.stored) opened after.now moment }
+        ensures listed { (r : Resources) → given.number_replied reply.new (with_stored r self.now.stored) result ≡ machine.list_block (with_stored r self.now.stored) opened after.now }
         ensures kept { OnErr result (reply.new ≡ []) }
     {
         let Some(block) = self.tables.inodes.block(opened.number) else {
@@ -66,9 +66,9 @@ impl Store {
 
     /// Sets the mode of what is open (C Library Reference: `fchmod`). EBADF without a block, EPERM where that is the user's
     /// top.
-    pub fn chmod(&mut self, opened: Opened, mode: u16, moment: u64) -> Result<(), Errno>
+    pub fn chmod(&mut self, opened: Opened, mode: u16) -> Result<(), Errno>
         ensures user { self.new.stored.user ≡ self.old.stored.user }
-        ensures changed { (r : Resources) → given.done (with_stored r self.new.stored) result ≡ machine.chmod_block (with_stored r self.old.stored) opened mode moment }
+        ensures changed { (r : Resources) → given.done (with_stored r self.new.stored) result ≡ machine.chmod_block (with_stored r self.old.stored) opened mode }
         ensures kept { OnErr result (self.new ≡ self.old) }
     {
         let Some(block) = self.tables.inodes.block(opened.number) else {
@@ -83,7 +83,7 @@ impl Store {
         };
         let attribute = Attribute {
             mode,
-            ctime: moment,
+            ctime: opened.moment,
             ..attr.attribute
         };
         self.tables.inodes.set_attribute(inode, attribute);

@@ -18,7 +18,7 @@ use crate::entries::{may_make, may_open, opened};
 use crate::found::{Lookup, New, Opening};
 use crate::store::Store;
 use bitflags::Flags;
-use qx_machine::Wish;
+use qx_machine::{Kind, Wish};
 use qx_names::Spot;
 use qx_types::{Errno, OFlags};
 use qx_wire::Rest;
@@ -29,7 +29,7 @@ impl Store {
     /// `iofunc_open`). The errors of a walk; of what is there EEXIST for CREAT with EXCL, EISDIR for a directory with WRITE,
     /// EACCES by its mode, ENFILE; of what is missing ENOENT without CREAT, EACCES by its directory's mode, ENFILE, ENOSPC.
     pub fn lookup<'a>(&self, root: u32, rest: &Rest<'a>, flags: OFlags) -> Result<Lookup<'a>, Errno>
-        ensures opens { (r : Resources) (coid : AnyCoid) (kind : AnyKind) (mode moment : ℕ) → machine.open_path (with_stored r self.now.stored) (record { coid = coid; root = root }) rest.now (record { flags = flags; kind = kind; mode = mode; moment = moment }) ≡ open_looked_up (with_stored r self.now.stored) coid result (record { flags = flags; kind = kind; mode = mode; moment = moment }) }
+        ensures opens { (r : Resources) (coid : AnyCoid) (own : AnyKind) (mode moment : ℕ) → machine.open_path own (with_stored r self.now.stored) (record { coid = coid; root = root }) rest.now (record { flags = flags; mode = mode; moment = moment }) ≡ open_looked_up own (with_stored r self.now.stored) coid result (record { flags = flags; mode = mode; moment = moment }) }
         ensures allowed { IfOk result (IsAllowed self.now.stored flags) }
     {
         if rest.components().next().is_none() {
@@ -53,26 +53,27 @@ impl Store {
 
     // What is there, where it may be opened so.
     fn found<'a>(&self, inode: u32, flags: OFlags) -> Result<Lookup<'a>, Errno>
-        ensures opens { (r : Resources) (coid : AnyCoid) (kind : AnyKind) (mode moment : ℕ) → machine.open_existing (with_stored r self.now.stored) coid inode (record { flags = flags; kind = kind; mode = mode; moment = moment }) ≡ open_looked_up (with_stored r self.now.stored) coid result (record { flags = flags; kind = kind; mode = mode; moment = moment }) }
+        ensures opens { (r : Resources) (coid : AnyCoid) (own : AnyKind) (mode moment : ℕ) → machine.open_existing (with_stored r self.now.stored) coid inode (record { flags = flags; mode = mode; moment = moment }) ≡ open_looked_up own (with_stored r self.now.stored) coid result (record { flags = flags; mode = mode; moment = moment }) }
         ensures allowed { IfOk result (IsAllowed self.now.stored flags) }
     {
         may_open(&self.tables.inodes, self.tables.user, inode, flags)?;
         Ok(Lookup::Found(inode))
     }
 
-    /// Opens what a lookup found, or makes what is missing and opens it; an open for writing with TRUNC makes a file empty.
-    /// What is in an inode that is made elsewhere, a pipe, is the caller's to make. Where memory is short, nothing changes.
-    pub fn open(&mut self, lookup: Lookup<'_>, wish: Wish) -> Result<Opening, AllocError>
+    /// Opens what a lookup found, or makes what is missing, of the manager's own kind, and opens it; an open for writing with
+    /// TRUNC makes a file empty. What is in an inode that is made elsewhere, a pipe, is the caller's to make. Where memory is
+    /// short, nothing changes.
+    pub fn open(&mut self, own: Kind, lookup: Lookup<'_>, wish: Wish) -> Result<Opening, AllocError>
         requires allowed { IsAllowed self.old.stored wish.flags lookup }
         ensures user { self.new.stored.user ≡ self.old.stored.user }
-        ensures opened { IfOk result (λ o. (r : Resources) (coid : AnyCoid) → open_found (with_stored r self.old.stored) coid lookup.entry wish ≡ Ok (given.open_given coid wish.kind o (with_stored r self.new.stored))) }
+        ensures opened { IfOk result (λ o. (r : Resources) (coid : AnyCoid) → open_found own (with_stored r self.old.stored) coid lookup.entry wish ≡ Ok (given.open_given coid own o (with_stored r self.new.stored))) }
         ensures err { OnErr result (self.new.stored ≡ self.old.stored) }
         ensures room { OnOk result (self.new.room ≡ self.old.room - needed lookup.entry) }
         ensures spare { self.new.room ≤ max self.old.room (needed lookup.entry) }
     {
         match lookup {
             Lookup::Found(inode) => self.open_existing(inode, wish),
-            Lookup::Missing { at, new } => self.open_missing(at, new, wish),
+            Lookup::Missing { at, new } => self.open_missing(own, at, new, wish),
         }
     }
 
@@ -80,7 +81,7 @@ impl Store {
     fn open_existing(&mut self, inode: u32, wish: Wish) -> Result<Opening, AllocError>
         requires allowed { (r : Resources) (coid : AnyCoid) → IsOk (machine.open_existing (with_stored r self.old.stored) coid inode wish) }
         ensures user { self.new.stored.user ≡ self.old.stored.user }
-        ensures opened { IfOk result (λ o. (r : Resources) (coid : AnyCoid) → machine.open_existing (with_stored r self.old.stored) coid inode wish ≡ Ok (given.open_given coid wish.kind o (with_stored r self.new.stored))) }
+        ensures opened { IfOk result (λ o. (r : Resources) (coid : AnyCoid) (own : AnyKind) → machine.open_existing (with_stored r self.old.stored) coid inode wish ≡ Ok (given.open_given coid own o (with_stored r self.new.stored))) }
         ensures err { OnErr result (self.new.stored ≡ self.old.stored) }
         ensures room { OnOk result (self.new.room ≡ self.old.room - 1) }
         ensures spare { self.new.room ≤ max self.old.room 1 }
@@ -97,19 +98,18 @@ impl Store {
     }
 
     // Makes what is missing, and opens it.
-    fn open_missing(&mut self, at: Spot<'_>, new: New, wish: Wish) -> Result<Opening, AllocError>
+    fn open_missing(&mut self, own: Kind, at: Spot<'_>, new: New, wish: Wish) -> Result<Opening, AllocError>
         requires parent { HasPath self.old.stored.names at.parent }
         requires missing { get self.old.stored.names (under (path_of self.old.stored.names at.parent) at.name.now) ≡ None }
         requires judged { may_make self.old.stored.inodes self.old.stored.user at.parent wish.flags ≡ Ok new }
         ensures user { self.new.stored.user ≡ self.old.stored.user }
-        ensures opened { IfOk result (λ o. (r : Resources) (coid : AnyCoid) → machine.open_missing (with_stored r self.old.stored) coid (spot_of self.old.stored.names at.entry) wish ≡ Ok (given.open_given coid wish.kind o (with_stored r self.new.stored))) }
+        ensures opened { IfOk result (λ o. (r : Resources) (coid : AnyCoid) → machine.open_missing own (with_stored r self.old.stored) coid (spot_of self.old.stored.names at.entry) wish ≡ Ok (given.open_given coid own o (with_stored r self.new.stored))) }
         ensures err { OnErr result (self.new.stored ≡ self.old.stored) }
         ensures room { OnOk result (self.new.room ≡ self.old.room - 2) }
         ensures spare { self.new.room ≤ max self.old.room 2 }
     {
         self.tables.inodes.reserve(2)?;
-        self.tables
-            .make(at, new, wish.kind, wish.mode, wish.moment)?;
+        self.tables.make(at, new, own, wish.mode, wish.moment)?;
         Ok(Opening {
             number: opened(&mut self.tables.inodes, new.inode, wish.flags),
             inode: new.inode,

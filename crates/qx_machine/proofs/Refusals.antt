@@ -20,7 +20,7 @@ use Rattle.qx_types.specs.Step.{actor_of, user_of}
 use Rattle.qx_machine.specs.Rows.{row_at}
 use Rattle.qx_machine.specs.Clients.{ClientStep, client_given, interrupt_in, or_unchanged, outcome_of}
 use Rattle.qx_machine.specs.Parts.{Part}
-use Rattle.qx_machine.specs.Users.{client, settle}
+use Rattle.qx_machine.specs.Users.{client, settle_part}
 use Rattle.qx_machine.proofs.Places.{set-row_at}
 use Rattle.qx_machine.proofs.Workers.{server_same}
 
@@ -69,7 +69,7 @@ client_stays config user held part e refused = unchanged_stays part (client_give
 
 -- rows that stay are put back where they were
 acted_same : (w : World) (user : ℕ) (part : Part) → row_at w.parts user ≡ Some part → step_end user part part [] w ≡ w
-unfolding settle
+unfolding settle_part
 acted_same w user part here = ap (λ parts. record w { parts = parts }) (ap (slice_set w.parts user) (sym here) ∙ set-row_at w.parts user)
 
 client_same : (w : World) (user : ℕ) (e : Step) (row : Option Part) → row_at w.parts user ≡ row → is_refusal (client_step w user e row).outcome ≡ true → (client_step w user e row).world ≡ w

@@ -10,7 +10,7 @@ use Rattle.qx_machine.specs.Machine.{World, After, boot, rank, own_held, own_han
 use Rattle.qx_types.specs.Managers.{manager_number}
 use Rattle.qx_machine.specs.Rows.{row_at}
 use Rattle.qx_machine.specs.Parts.{Part, Change}
-use Rattle.qx_machine.specs.Users.{client, settle}
+use Rattle.qx_machine.specs.Users.{client, settle_part}
 use Rattle.qx_machine.proofs.Changes.{AreInOrder, in_order_at, own_held-view, own_lines-after, own_lines-after_other, lines_in_order_after}
 use Rattle.qx_machine.proofs.Places.{row_at-set_other, set-row_at_set, row_at-set_row_at, at-map}
 
@@ -46,7 +46,7 @@ in_order_line w manager h = in_order_at w.lines (manager_number manager) h.lines
 pub reached_acted : (user : ℕ) (before after : Part) (changes : List Change) (w : World) → IsReached w → IsReached (step_end user before after changes w)
 reached_acted user before after changes w h = record {
   lines = lines_in_order_after user w.lines changes h.lines;
-  parts = length-set w.parts user (Some (settle before (own_held user w.hands) after)) ∙ h.parts;
+  parts = length-set w.parts user (Some (settle_part before (own_held user w.hands) after)) ∙ h.parts;
 }
 
 pub acted_self : (user : ℕ) (before after : Part) (changes : List Change) (w : World) → IsReached w → view user (step_end user before after changes w) ≡ step_end user before after changes (view user w)
@@ -58,11 +58,11 @@ acted_self user before after changes w h = λ i. record {
   hands = map (own_hand user) w.hands;
 }
   where
-    parts : slice_set (boot w.config).parts user (row_at (slice_set w.parts user (Some (settle before (own_held user w.hands) after))) user)
-        ≡ slice_set (slice_set (boot w.config).parts user (row_at w.parts user)) user (Some (settle before (own_held user (map (own_hand user) w.hands)) after))
+    parts : slice_set (boot w.config).parts user (row_at (slice_set w.parts user (Some (settle_part before (own_held user w.hands) after))) user)
+        ≡ slice_set (slice_set (boot w.config).parts user (row_at w.parts user)) user (Some (settle_part before (own_held user (map (own_hand user) w.hands)) after))
     parts = rw (own_held-view user w.hands)
-        (set-row_at_set (boot w.config).parts w.parts user (Some (settle before (own_held user w.hands) after)) h.parts
-        ∙ sym (set-set (boot w.config).parts user (row_at w.parts user) (Some (settle before (own_held user w.hands) after))))
+        (set-row_at_set (boot w.config).parts w.parts user (Some (settle_part before (own_held user w.hands) after)) h.parts
+        ∙ sym (set-set (boot w.config).parts user (row_at w.parts user) (Some (settle_part before (own_held user w.hands) after))))
 
 pub acted_own : (user of : ℕ) (before after : Part) (changes : List Change) (w : World) → IsReached w → of ≡ user → view user (step_end of before after changes w) ≡ step_end of before after changes (view user w)
 acted_own user of before after changes w h same = subst (λ n. view n (step_end of before after changes w) ≡ step_end of before after changes (view n w)) same (acted_self of before after changes w h)
@@ -71,7 +71,7 @@ pub acted_other : (user other : ℕ) (before after : Part) (changes : List Chang
 unfolding view
 acted_other user other before after changes w differ = λ i. record {
   config = w.config;
-  parts = slice_set (boot w.config).parts user (row_at-set_other w.parts other user (Some (settle before (own_held other w.hands) after)) apart i);
+  parts = slice_set (boot w.config).parts user (row_at-set_other w.parts other user (Some (settle_part before (own_held other w.hands) after)) apart i);
   lines = own_lines-after_other user other w.lines changes differ i;
   hands = map (own_hand user) w.hands;
 }

@@ -22,6 +22,7 @@ use Rattle.qx_wire.specs.declared.message.Meaning.{Meaning}
 use Rattle.qx_wire.specs.declared.message.Message.{Message}
 use Rattle.qx_wire.specs.declared.message.Message.TheVariants as msg
 use Rattle.qx_machine.specs.declared.rows.Caller.{Caller}
+use Rattle.qx_machine.specs.declared.rows.Context.{Context}
 use Rattle.qx_machine.specs.declared.rows.Effect.{Effect}
 use Rattle.qx_machine.specs.declared.rows.Attribute.{Attribute}
 use Rattle.qx_machine.specs.declared.rows.Kind.{Kind}
@@ -42,7 +43,7 @@ use Rattle.qx_machine.specs.Judgements.{◌>>=◌, found, need}
 use Rattle.qx_machine.specs.Managers.{manager_deed}
 use Rattle.qx_machine.specs.Names.{Spot, is_directory, is_empty, names_in, spot}
 use Rattle.qx_machine.specs.Parts.{Part}
-use Rattle.qx_machine.specs.Performing.{Served, answered_changes, deed_of, opened_by, read_message, serve_pulse, with_answers}
+use Rattle.qx_machine.specs.Performing.{Served, answered_changes, context_of, deed_of, opened_by, read_message, serve_pulse, with_answers}
 use Rattle.qx_machine.specs.PipeManager.{cancel_call, read_pipe, released, seek_pipe, deed_of_pipe, write_pipe}
 use Rattle.qx_machine.specs.Pipes.{PipeAfter, Pipe, all_answered, and_then, cancel, clean, clean_read, clean_write, dismissed, first_answered, fits, nobody_answered, one_answered, portion, read, readers_dismissed, readers_ended, release, removed, served, settle, waiting_unless, without_bytes, write, writers_dismissed, writers_ended}
 use Rattle.qx_machine.specs.Processes.{Process}
@@ -259,19 +260,19 @@ module _ (P : WaitingCall → Type 0) where
     answers = k.answers;
   }
 
-  read-gives : (r : Resources) (over : Opened) (count moment : ℕ) → InPipes r.pipes → P (waiting_call over count []) → Gives InDeed (read_pipe r over count moment)
-  read-gives r over count moment h own =
+  read-gives : (r : Resources) (over : Opened) (count : ℕ) → InPipes r.pipes → P (waiting_call over count []) → Gives InDeed (read_pipe r over count)
+  read-gives r over count h own =
       gives_on _ (found (row_at r.inodes.blocks over.number) EBADF) _ (λ block opened.
       gives_on _ (need (reads block.flags) EBADF) _ (λ may allowed.
       gives_on _ (found (row_at r.pipes block.inode) EISDIR) _ (λ pipe here.
-      gives_done _ _ (after-keeps r block.inode moment _ h (read-keeps P wanted offered is_gone _ _ pipe own (h.each block.inode pipe (found-row _ _ pipe here)))))))
+      gives_done _ _ (after-keeps r block.inode over.moment _ h (read-keeps P wanted offered is_gone _ _ pipe own (h.each block.inode pipe (found-row _ _ pipe here)))))))
 
-  write-gives : (r : Resources) (over : Opened) (bytes : List ℕ) (moment : ℕ) → InPipes r.pipes → P (waiting_call over 0 bytes) → Gives InDeed (write_pipe r over bytes moment)
-  write-gives r over bytes moment h own =
+  write-gives : (r : Resources) (over : Opened) (bytes : List ℕ) → InPipes r.pipes → P (waiting_call over 0 bytes) → Gives InDeed (write_pipe r over bytes)
+  write-gives r over bytes h own =
       gives_on _ (found (row_at r.inodes.blocks over.number) EBADF) _ (λ block opened.
       gives_on _ (need (writes block.flags) EBADF) _ (λ may allowed.
       gives_on _ (found (row_at r.pipes block.inode) EBADF) _ (λ pipe here.
-      gives_done _ _ (after-keeps r block.inode moment _ h (write-keeps P wanted offered is_gone _ _ pipe own (h.each block.inode pipe (found-row _ _ pipe here)))))))
+      gives_done _ _ (after-keeps r block.inode over.moment _ h (write-keeps P wanted offered is_gone _ _ pipe own (h.each block.inode pipe (found-row _ _ pipe here)))))))
 
   released-keeps : (r : Resources) (number inode moment : ℕ) (row : Option (Pipe WaitingCall)) → InPipes r.pipes → ((pipe : Pipe WaitingCall) → row ≡ Some pipe → InPipe P pipe) → InDeed (released r number inode moment row)
   released-keeps r number inode moment None h here = record { pipes = h; answers = tt }
@@ -313,22 +314,22 @@ module _ (K : Pipes → Type 0) where
       → Gives (λ (made : MadeInode). K made.after.pipes) (made_at r at parent kind mode moment)
   made-gives r at parent kind mode moment empty h = gives_on _ (new_inode r.inodes (new_attribute kind mode r.user moment)) _ (λ made is. gives_done _ _ (empty made.number _ h))
 
-  missing-gives : (r : Resources) (coid : Coid) (at : Spot) (wish : Wish) → ((inode : ℕ) (s : Resources) → K s.pipes → K (with_empty wish.kind inode s).pipes) → K r.pipes → Gives (Quiet K) (open_missing r coid at wish)
-  missing-gives r coid at wish empty h =
+  missing-gives : (own : Kind) (r : Resources) (coid : Coid) (at : Spot) (wish : Wish) → ((inode : ℕ) (s : Resources) → K s.pipes → K (with_empty own inode s).pipes) → K r.pipes → Gives (Quiet K) (open_missing own r coid at wish)
+  missing-gives own r coid at wish empty h =
       gives_on _ (need (has wish.flags CREAT) ENOENT) _ (λ making is_making.
       gives_on _ (writable r.inodes r.user at.parent) _ (λ parent is_parent.
       gives_on _ (block_number r.inodes) _ (λ free is_free.
-      gives_by (λ (made : MadeInode). K made.after.pipes) _ (made_at r at parent wish.kind wish.mode wish.moment) _ (made-gives r at parent wish.kind wish.mode wish.moment empty h) (λ made kept.
+      gives_by (λ (made : MadeInode). K made.after.pipes) _ (made_at r at parent own wish.mode wish.moment) _ (made-gives r at parent own wish.mode wish.moment empty h) (λ made kept.
       opened-gives coid wish.flags made.inode made.after kept))))
 
-  open_at-gives : (r : Resources) (coid : Coid) (at : Spot) (there : Option ℕ) (wish : Wish) → ((inode : ℕ) (s : Resources) → K s.pipes → K (with_empty wish.kind inode s).pipes) → K r.pipes → Gives (Quiet K) (open_spot r coid at there wish)
-  open_at-gives r coid at (Some inode) wish empty h = existing-gives r coid inode wish h
-  open_at-gives r coid at None wish empty h = missing-gives r coid at wish empty h
+  open_at-gives : (own : Kind) (r : Resources) (coid : Coid) (at : Spot) (there : Option ℕ) (wish : Wish) → ((inode : ℕ) (s : Resources) → K s.pipes → K (with_empty own inode s).pipes) → K r.pipes → Gives (Quiet K) (open_spot own r coid at there wish)
+  open_at-gives own r coid at (Some inode) wish empty h = existing-gives r coid inode wish h
+  open_at-gives own r coid at None wish empty h = missing-gives own r coid at wish empty h
 
-  open-gives : (r : Resources) (over : NewOpen) (rest : List (List ℕ)) (wish : Wish) → ((inode : ℕ) (s : Resources) → K s.pipes → K (with_empty wish.kind inode s).pipes) → K r.pipes → Gives (Quiet K) (open_path r over rest wish)
-  open-gives r over [] wish empty h = existing-gives r over.coid over.root wish h
-  open-gives r over (name ∷ rest) wish empty h =
-      gives_on _ (spot r.inodes r.names r.user over.root (name ∷ rest) ENOENT) _ (λ at is. open_at-gives r over.coid at at.inode wish empty h)
+  open-gives : (own : Kind) (r : Resources) (over : NewOpen) (rest : List (List ℕ)) (wish : Wish) → ((inode : ℕ) (s : Resources) → K s.pipes → K (with_empty own inode s).pipes) → K r.pipes → Gives (Quiet K) (open_path own r over rest wish)
+  open-gives own r over [] wish empty h = existing-gives r over.coid over.root wish h
+  open-gives own r over (name ∷ rest) wish empty h =
+      gives_on _ (spot r.inodes r.names r.user over.root (name ∷ rest) ENOENT) _ (λ at is. open_at-gives own r over.coid at at.inode wish empty h)
 
   directory-gives : (r : Resources) (root mode : ℕ) (rest : List (List ℕ)) (moment : ℕ) → K r.pipes → Gives (Quiet K) (make_directory r root mode rest moment)
   directory-gives r root mode rest moment h =
@@ -357,23 +358,23 @@ module _ (K : Pipes → Type 0) where
   stat_path-gives : (r : Resources) (root : ℕ) (rest : List (List ℕ)) (moment : ℕ) → K r.pipes → Gives (Quiet K) (stat_path r root rest moment)
   stat_path-gives r root rest moment h = search (gives_on, gives_done, reply-quiet, h)
 
-  stat_block-gives : (r : Resources) (over : Opened) (moment : ℕ) → K r.pipes → Gives (Quiet K) (stat_block r over moment)
-  stat_block-gives r over moment h = search (gives_on, gives_done, reply-quiet, h)
+  stat_block-gives : (r : Resources) (over : Opened) → K r.pipes → Gives (Quiet K) (stat_block r over)
+  stat_block-gives r over h = search (gives_on, gives_done, reply-quiet, h)
 
-  list-gives : (r : Resources) (over : Opened) (after : List ℕ) (moment : ℕ) → K r.pipes → Gives (Quiet K) (list_block r over after moment)
-  list-gives r over after moment h = search (gives_on, gives_done, reply-quiet, h)
+  list-gives : (r : Resources) (over : Opened) (after : List ℕ) → K r.pipes → Gives (Quiet K) (list_block r over after)
+  list-gives r over after h = search (gives_on, gives_done, reply-quiet, h)
 
-  chmod-gives : (r : Resources) (over : Opened) (mode moment : ℕ) → K r.pipes → Gives (Quiet K) (chmod_block r over mode moment)
-  chmod-gives r over mode moment h = search (gives_on, gives_done, reply-quiet, h)
+  chmod-gives : (r : Resources) (over : Opened) (mode : ℕ) → K r.pipes → Gives (Quiet K) (chmod_block r over mode)
+  chmod-gives r over mode h = search (gives_on, gives_done, reply-quiet, h)
 
-  seek_pipe-gives : (r : Resources) (over : Opened) (whence : Whence) (by : ℤ) (moment : ℕ) → Gives (Quiet K) (seek_pipe r over whence by moment)
-  seek_pipe-gives r over whence by moment = search (gives_on, gives_error)
+  seek_pipe-gives : (r : Resources) (over : Opened) (whence : Whence) (by : ℤ) → Gives (Quiet K) (seek_pipe r over whence by)
+  seek_pipe-gives r over whence by = search (gives_on, gives_error)
 
-  read_file-gives : (r : Resources) (over : Opened) (count moment : ℕ) → K r.pipes → Gives (Quiet K) (read_file r over count moment)
-  read_file-gives r over count moment h = search (gives_on, gives_done, reply-quiet, h)
+  read_file-gives : (r : Resources) (over : Opened) (count : ℕ) → K r.pipes → Gives (Quiet K) (read_file r over count)
+  read_file-gives r over count h = search (gives_on, gives_done, reply-quiet, h)
 
-  seek_file-gives : (r : Resources) (over : Opened) (whence : Whence) (by : ℤ) (moment : ℕ) → K r.pipes → Gives (Quiet K) (seek_file r over whence by moment)
-  seek_file-gives r over whence by moment h =
+  seek_file-gives : (r : Resources) (over : Opened) (whence : Whence) (by : ℤ) → K r.pipes → Gives (Quiet K) (seek_file r over whence by)
+  seek_file-gives r over whence by h =
       gives_on _ (found (row_at r.inodes.blocks over.number) EBADF) _ (λ block opened.
       gives_on _ (found (row_at r.files block.inode) EINVAL) _ (λ bytes here.
       gives_on _ (found (moved_by (base whence block bytes) by) EINVAL) _ (λ offset moved.
@@ -382,12 +383,12 @@ module _ (K : Pipes → Type 0) where
   written-gives : (r : Resources) (number inode : ℕ) (bytes : List ℕ) (offset : ℕ) (new : List ℕ) (moment : ℕ) → K r.pipes → Gives (Quiet K) (written_at r number inode bytes offset new moment)
   written-gives r number inode bytes offset new moment h = search (gives_on, gives_done, reply-quiet, h)
 
-  write_file-gives : (r : Resources) (over : Opened) (new : List ℕ) (moment : ℕ) → K r.pipes → Gives (Quiet K) (write_file r over new moment)
-  write_file-gives r over new moment h =
+  write_file-gives : (r : Resources) (over : Opened) (new : List ℕ) → K r.pipes → Gives (Quiet K) (write_file r over new)
+  write_file-gives r over new h =
       gives_on _ (found (row_at r.inodes.blocks over.number) EBADF) _ (λ block opened.
       gives_on _ (need (writes block.flags) EBADF) _ (λ may allowed.
       gives_on _ (found (row_at r.files block.inode) EBADF) _ (λ bytes here.
-      cond_both (length new == 0) _ _ (Gives (Quiet K)) (λ none. gives_done _ _ (reply-quiet _ _ _ _ h)) (λ some. written-gives r over.number block.inode bytes _ new moment h))))
+      cond_both (length new == 0) _ _ (Gives (Quiet K)) (λ none. gives_done _ _ (reply-quiet _ _ _ _ h)) (λ some. written-gives r over.number block.inode bytes _ new over.moment h))))
 
 -- ---- the managers
 
@@ -405,30 +406,30 @@ alone-answers r deed alone = alone.answers
 pub alone-replied : (r : Resources) (deed : Deed Resources) → IsAlone r deed → is_some deed.reply ≡ true
 alone-replied r deed alone = alone.replied
 
-module _ (resources : Resources) (target : Target) (opened : Result Opened Errno) (moment : ℕ) where
+module _ (resources : Resources) (context : Context) where
   abbrev Same : Pipes → Type 0
   Same pipes = pipes ≡ resources.pipes
 
-  file-closed : (over : Opened) → Gives (Quiet Same) (close File resources over moment)
+  file-closed : (over : Opened) → Gives (Quiet Same) (close File resources over)
   file-closed over =
       gives_on _ (own_block resources.inodes over.number File) _ (λ block is.
       gives_done _ _ (record { replied = refl; pipes = unused-keeps Same File (λ inode s h. h) block.inode (without_block over.number resources) refl; answers = refl }))
 
-  ram-gives : (message : Message) → Gives (IsAlone resources) (manager_deed managers.Ram resources target opened moment message)
-  ram-gives (msg.Open flags mode rest) = gives_on _ (new_open target) _ (λ over is. open-gives Same resources over rest _ (λ inode s h. h) refl)
-  ram-gives (msg.Stat rest) = gives_on _ (side_root target) _ (λ root is. stat_path-gives Same resources root rest moment refl)
-  ram-gives (msg.Unlink rest) = gives_on _ (side_root target) _ (λ root is. unlink-gives Same File (λ inode s h. h) resources root rest moment refl)
-  ram-gives (msg.Mknod mode rest) = gives_on _ (side_root target) _ (λ root is. directory-gives Same resources root mode rest moment refl)
-  ram-gives (msg.Read count) = gives_on _ opened _ (λ over is. read_file-gives Same resources over count moment refl)
-  ram-gives (msg.Write bytes) = gives_on _ opened _ (λ over is. write_file-gives Same resources over bytes moment refl)
-  ram-gives msg.Close = gives_on _ opened _ (λ over is. file-closed over)
-  ram-gives (msg.Lseek whence offset) = gives_on _ opened _ (λ over is. seek_file-gives Same resources over whence offset moment refl)
-  ram-gives msg.Fstat = gives_on _ opened _ (λ over is. stat_block-gives Same resources over moment refl)
-  ram-gives (msg.List after) = gives_on _ opened _ (λ over is. list-gives Same resources over after moment refl)
-  ram-gives (msg.Chmod mode) = gives_on _ opened _ (λ over is. chmod-gives Same resources over mode moment refl)
+  ram-gives : (message : Message) → Gives (IsAlone resources) (manager_deed managers.Ram resources context message)
+  ram-gives (msg.Open flags mode rest) = gives_on _ (new_open context.target) _ (λ over is. open-gives Same File resources over rest _ (λ inode s h. h) refl)
+  ram-gives (msg.Stat rest) = gives_on _ (side_root context.target) _ (λ root is. stat_path-gives Same resources root rest context.moment refl)
+  ram-gives (msg.Unlink rest) = gives_on _ (side_root context.target) _ (λ root is. unlink-gives Same File (λ inode s h. h) resources root rest context.moment refl)
+  ram-gives (msg.Mknod mode rest) = gives_on _ (side_root context.target) _ (λ root is. directory-gives Same resources root mode rest context.moment refl)
+  ram-gives (msg.Read count) = gives_on _ context.opened _ (λ over is. read_file-gives Same resources over count refl)
+  ram-gives (msg.Write bytes) = gives_on _ context.opened _ (λ over is. write_file-gives Same resources over bytes refl)
+  ram-gives msg.Close = gives_on _ context.opened _ (λ over is. file-closed over)
+  ram-gives (msg.Lseek whence offset) = gives_on _ context.opened _ (λ over is. seek_file-gives Same resources over whence offset refl)
+  ram-gives msg.Fstat = gives_on _ context.opened _ (λ over is. stat_block-gives Same resources over refl)
+  ram-gives (msg.List after) = gives_on _ context.opened _ (λ over is. list-gives Same resources over after refl)
+  ram-gives (msg.Chmod mode) = gives_on _ context.opened _ (λ over is. chmod-gives Same resources over mode refl)
   ram-gives _ = gives_error _ _
 
-  manager-alone : (manager : Manager) → manager ≡ managers.Ram → (message : Message) → Gives (IsAlone resources) (manager_deed manager resources target opened moment message)
+  manager-alone : (manager : Manager) → manager ≡ managers.Ram → (message : Message) → Gives (IsAlone resources) (manager_deed manager resources context message)
   manager-alone managers.Ram ram message = ram-gives message
   manager-alone managers.Pipe ram message = absurd (cc)
 
@@ -458,39 +459,39 @@ module _ (P : WaitingCall → Type 0) (caller : Caller) where
   own-gives (Ok deed) none h = gives_done _ _ (record { keeps = λ own. gives-value (InDeed P) (Ok deed) deed refl (h (own (none deed refl))) })
   own-gives (Err error) none h = gives_error _ _
 
-  module _ (resources : Resources) (h : InPipes P resources.pipes) (target : Target) (opened : Result Opened Errno) (callers : (over : Opened) → opened ≡ Ok over → over.caller ≡ caller) (moment : ℕ) where
-    pipe-closed : (over : Opened) → Gives DeedKeeps (close kind.Pipe resources over moment)
+  module _ (resources : Resources) (h : InPipes P resources.pipes) (context : Context) (callers : (over : Opened) → context.opened ≡ Ok over → over.caller ≡ caller) where
+    pipe-closed : (over : Opened) → Gives DeedKeeps (close kind.Pipe resources over)
     pipe-closed over =
         gives_on _ (own_block resources.inodes over.number kind.Pipe) _ (λ block is.
-        let left = released-keeps P (without_block over.number resources) over.number block.inode moment (row_at resources.pipes block.inode) h (h.each block.inode) in
-        gives_done _ _ (record { keeps = λ own. record { pipes = unused-keeps (InPipes P) kind.Pipe (content-keeps P kind.Pipe) block.inode (released (without_block over.number resources) over.number block.inode moment (row_at resources.pipes block.inode)).state left.pipes; answers = left.answers } }))
+        let left = released-keeps P (without_block over.number resources) over.number block.inode over.moment (row_at resources.pipes block.inode) h (h.each block.inode) in
+        gives_done _ _ (record { keeps = λ own. record { pipes = unused-keeps (InPipes P) kind.Pipe (content-keeps P kind.Pipe) block.inode (released (without_block over.number resources) over.number block.inode over.moment (row_at resources.pipes block.inode)).state left.pipes; answers = left.answers } }))
 
-    read-own : (over : Opened) (count : ℕ) → over.caller ≡ caller → Gives DeedKeeps (read_pipe resources over count moment)
-    read-own over count same = own-gives _ (λ deed is. gives-value (λ (d : Deed Resources). d.reply ≡ None) _ deed is (search (gives_on, gives_done))) (λ own. read-gives P resources over count moment h (own-waits over count [] same own))
+    read-own : (over : Opened) (count : ℕ) → over.caller ≡ caller → Gives DeedKeeps (read_pipe resources over count)
+    read-own over count same = own-gives _ (λ deed is. gives-value (λ (d : Deed Resources). d.reply ≡ None) _ deed is (search (gives_on, gives_done))) (λ own. read-gives P resources over count h (own-waits over count [] same own))
 
-    write-own : (over : Opened) (bytes : List ℕ) → over.caller ≡ caller → Gives DeedKeeps (write_pipe resources over bytes moment)
-    write-own over bytes same = own-gives _ (λ deed is. gives-value (λ (d : Deed Resources). d.reply ≡ None) _ deed is (search (gives_on, gives_done))) (λ own. write-gives P resources over bytes moment h (own-waits over 0 bytes same own))
+    write-own : (over : Opened) (bytes : List ℕ) → over.caller ≡ caller → Gives DeedKeeps (write_pipe resources over bytes)
+    write-own over bytes same = own-gives _ (λ deed is. gives-value (λ (d : Deed Resources). d.reply ≡ None) _ deed is (search (gives_on, gives_done))) (λ own. write-gives P resources over bytes h (own-waits over 0 bytes same own))
 
-    pipe-gives : (message : Message) → Gives DeedKeeps (manager_deed managers.Pipe resources target opened moment message)
-    pipe-gives (msg.Open flags mode rest) = gives_on _ (new_open target) _ (λ over is. quiet-gives _ (open-gives (InPipes P) resources over rest _ (empty-keeps P kind.Pipe) h))
-    pipe-gives (msg.Stat rest) = gives_on _ (side_root target) _ (λ root is. quiet-gives _ (stat_path-gives (InPipes P) resources root rest moment h))
-    pipe-gives (msg.Unlink rest) = gives_on _ (side_root target) _ (λ root is. quiet-gives _ (unlink-gives (InPipes P) kind.Pipe (content-keeps P kind.Pipe) resources root rest moment h))
+    pipe-gives : (message : Message) → Gives DeedKeeps (manager_deed managers.Pipe resources context message)
+    pipe-gives (msg.Open flags mode rest) = gives_on _ (new_open context.target) _ (λ over is. quiet-gives _ (open-gives (InPipes P) kind.Pipe resources over rest _ (empty-keeps P kind.Pipe) h))
+    pipe-gives (msg.Stat rest) = gives_on _ (side_root context.target) _ (λ root is. quiet-gives _ (stat_path-gives (InPipes P) resources root rest context.moment h))
+    pipe-gives (msg.Unlink rest) = gives_on _ (side_root context.target) _ (λ root is. quiet-gives _ (unlink-gives (InPipes P) kind.Pipe (content-keeps P kind.Pipe) resources root rest context.moment h))
     pipe-gives (msg.Mknod mode rest) = gives_error _ _
-    pipe-gives (msg.Read count) = gives_on _ opened _ (λ over is. read-own over count (callers over is))
-    pipe-gives (msg.Write bytes) = gives_on _ opened _ (λ over is. write-own over bytes (callers over is))
-    pipe-gives msg.Close = gives_on _ opened _ (λ over is. pipe-closed over)
-    pipe-gives (msg.Lseek whence offset) = gives_on _ opened _ (λ over is. quiet-gives _ (seek_pipe-gives (InPipes P) resources over whence offset moment))
-    pipe-gives msg.Fstat = gives_on _ opened _ (λ over is. quiet-gives _ (stat_block-gives (InPipes P) resources over moment h))
-    pipe-gives (msg.List after) = gives_on _ opened _ (λ over is. quiet-gives _ (list-gives (InPipes P) resources over after moment h))
-    pipe-gives (msg.Chmod mode) = gives_on _ opened _ (λ over is. quiet-gives _ (chmod-gives (InPipes P) resources over mode moment h))
+    pipe-gives (msg.Read count) = gives_on _ context.opened _ (λ over is. read-own over count (callers over is))
+    pipe-gives (msg.Write bytes) = gives_on _ context.opened _ (λ over is. write-own over bytes (callers over is))
+    pipe-gives msg.Close = gives_on _ context.opened _ (λ over is. pipe-closed over)
+    pipe-gives (msg.Lseek whence offset) = gives_on _ context.opened _ (λ over is. quiet-gives _ (seek_pipe-gives (InPipes P) resources over whence offset))
+    pipe-gives msg.Fstat = gives_on _ context.opened _ (λ over is. quiet-gives _ (stat_block-gives (InPipes P) resources over h))
+    pipe-gives (msg.List after) = gives_on _ context.opened _ (λ over is. quiet-gives _ (list-gives (InPipes P) resources over after h))
+    pipe-gives (msg.Chmod mode) = gives_on _ context.opened _ (λ over is. quiet-gives _ (chmod-gives (InPipes P) resources over mode h))
     pipe-gives _ = gives_error _ _
 
-    manager-gives : (manager : Manager) (message : Message) → Gives DeedKeeps (manager_deed manager resources target opened moment message)
-    manager-gives managers.Ram message = gives_more (IsAlone resources) DeedKeeps _ (λ deed. alone-keeps resources deed h) (ram-gives resources target opened moment message)
+    manager-gives : (manager : Manager) (message : Message) → Gives DeedKeeps (manager_deed manager resources context message)
+    manager-gives managers.Ram message = gives_more (IsAlone resources) DeedKeeps _ (λ deed. alone-keeps resources deed h) (ram-gives resources context message)
     manager-gives managers.Pipe message = pipe-gives message
 
-opened_by-caller : (process : Process) (caller : Caller) (target : Target) (over : Opened) → opened_by process caller target ≡ Ok over → over.caller ≡ caller
-opened_by-caller process caller target over is =
+pub opened_by-caller : (process : Process) (caller : Caller) (target : Target) (moment : ℕ) (over : Opened) → opened_by process caller target moment ≡ Ok over → over.caller ≡ caller
+opened_by-caller process caller target moment over is =
     gives-value (λ over. over.caller ≡ caller) _ over is
     (gives_on _ (found (existing_coid target.over) EINVAL) _ (λ coid is_over.
     gives_on _ (found (row_at process.connections coid.0) EBADF) _ (λ connection there.
@@ -498,17 +499,17 @@ opened_by-caller process caller target over is =
     gives_on _ (found connection.block EBADF) _ (λ number has_block.
     gives_done _ _ refl)))))
 
-module _ (resources : Resources) (process : Process) (caller : Caller) (target : Target) (moment : ℕ) (given : Meaning) (deed : Deed Resources) (is : deed_of resources process caller target moment given ≡ Ok deed) where
+module _ (resources : Resources) (process : Process) (caller : Caller) (target : Target) (moment : ℕ) (given : Meaning) (deed : Deed Resources) (is : deed_of resources (context_of process caller target moment) given ≡ Ok deed) where
   -- the RAM manager answers nobody who waited, and leaves the pipes
   pub ram_deed-alone : target.manager ≡ managers.Ram → IsAlone resources deed
   ram_deed-alone ram =
       gives-value (IsAlone resources) _ deed is
-      (gives_on _ (read_message given) _ (λ message known. manager-alone resources target (opened_by process caller target) moment target.manager ram message))
+      (gives_on _ (read_message given) _ (λ message known. manager-alone resources (context_of process caller target moment) target.manager ram message))
 
   deed-gives : (P : WaitingCall → Type 0) → InPipes P resources.pipes → DeedKeeps P caller deed
   deed-gives P h =
       gives-value (DeedKeeps P caller) _ deed is
-      (gives_on _ (read_message given) _ (λ message known. manager-gives P caller resources h target (opened_by process caller target) (opened_by-caller process caller target) moment target.manager message))
+      (gives_on _ (read_message given) _ (λ message known. manager-gives P caller resources h (context_of process caller target moment) (opened_by-caller process caller target moment) target.manager message))
 
   -- the caller's own call may wait or be answered too
   pub deed-keeps : (P : WaitingCall → Type 0) → InPipes P resources.pipes → ((block wanted : ℕ) (bytes : List ℕ) → P (call_of caller block wanted bytes)) → InDeed P deed

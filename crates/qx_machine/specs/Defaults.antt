@@ -80,25 +80,25 @@ open_existing r coid inode wish = do
   allowed ← need (allows attribute r.user wish.flags) EACCES
   opened coid wish.flags inode (emptied wish.flags inode wish.moment r)
 
--- what is missing is made, and opened whatever its mode
-abbrev pub open_missing : Resources → Coid → Spot → Wish → Result (Deed Resources) Errno
-open_missing r coid at wish = do
+-- what is missing is made, of the manager's kind, and opened whatever its mode
+abbrev pub open_missing : Kind → Resources → Coid → Spot → Wish → Result (Deed Resources) Errno
+open_missing own r coid at wish = do
   making ← need (has wish.flags CREAT) ENOENT
   parent ← writable r.inodes r.user at.parent
   free ← block_number r.inodes
-  made ← made_at r at parent wish.kind wish.mode wish.moment
+  made ← made_at r at parent own wish.mode wish.moment
   opened coid wish.flags made.inode made.after
 
-abbrev pub open_spot : Resources → Coid → Spot → Option ℕ → Wish → Result (Deed Resources) Errno
-open_spot r coid at (Some inode) wish = open_existing r coid inode wish
-open_spot r coid at None wish = open_missing r coid at wish
+abbrev pub open_spot : Kind → Resources → Coid → Spot → Option ℕ → Wish → Result (Deed Resources) Errno
+open_spot own r coid at (Some inode) wish = open_existing r coid inode wish
+open_spot own r coid at None wish = open_missing own r coid at wish
 
 -- where a path leads from a mount's root
-abbrev pub open_path : Resources → NewOpen → List (List ℕ) → Wish → Result (Deed Resources) Errno
-open_path r over [] wish = open_existing r over.coid over.root wish
-open_path r over rest wish = do
+abbrev pub open_path : Kind → Resources → NewOpen → List (List ℕ) → Wish → Result (Deed Resources) Errno
+open_path own r over [] wish = open_existing r over.coid over.root wish
+open_path own r over rest wish = do
   at ← spot r.inodes r.names r.user over.root rest ENOENT
-  open_spot r over.coid at at.inode wish
+  open_spot own r over.coid at at.inode wish
 
 -- ---- other messages to a path
 
@@ -179,16 +179,16 @@ closed own coid inode deed = record deed {
 }
 
 -- a close takes the connection and its open control block away (C Library Reference: close); who waits over the block is answered
-abbrev pub close : Kind → Resources → Opened → ℕ → Result (Deed Resources) Errno
-close own r opened moment = do
+abbrev pub close : Kind → Resources → Opened → Result (Deed Resources) Errno
+close own r opened = do
   block ← own_block r.inodes opened.number own
-  Ok (closed own opened.coid block.inode (released (without_block opened.number r) opened.number block.inode moment (pipe_in own r block.inode)))
+  Ok (closed own opened.coid block.inode (released (without_block opened.number r) opened.number block.inode opened.moment (pipe_in own r block.inode)))
 
 -- ---- other messages over what is open
 
 -- an fstat tells the status of what is open
-abbrev pub stat_block : Resources → Opened → ℕ → Result (Deed Resources) Errno
-stat_block r opened moment = do
+abbrev pub stat_block : Resources → Opened → Result (Deed Resources) Errno
+stat_block r opened = do
   block ← found (row_at r.inodes.blocks opened.number) EBADF
   attribute ← found (row_at r.inodes.attributes block.inode) EBADF
   Ok (status_deed block.inode attribute r)
@@ -198,17 +198,17 @@ abbrev pub names_told : List (List ℕ) → Resources → Deed Resources
 names_told names r = reply_alone (length names) (listing names) Keeps r
 
 -- a listing gives the names in a directory behind one, as many as fit
-abbrev pub list_block : Resources → Opened → List ℕ → ℕ → Result (Deed Resources) Errno
-list_block r opened after moment = do
+abbrev pub list_block : Resources → Opened → List ℕ → Result (Deed Resources) Errno
+list_block r opened after = do
   block ← found (row_at r.inodes.blocks opened.number) EBADF
   attribute ← found (row_at r.inodes.attributes block.inode) EBADF
   directory ← need (is_directory attribute.kind) ENOTDIR
   Ok (names_told (listed r.names block.inode after) r)
 
 -- another mode; the mode of a user's top is fixed (this profile)
-abbrev pub chmod_block : Resources → Opened → ℕ → ℕ → Result (Deed Resources) Errno
-chmod_block r opened mode moment = do
+abbrev pub chmod_block : Resources → Opened → ℕ → Result (Deed Resources) Errno
+chmod_block r opened mode = do
   block ← found (row_at r.inodes.blocks opened.number) EBADF
   other ← need (not (block.inode == top_inode)) EPERM
   attribute ← found (row_at r.inodes.attributes block.inode) EBADF
-  Ok (reply_alone 0 [] Keeps (record r { inodes = with_attribute r.inodes block.inode (record attribute { mode = mode; ctime = moment }) }))
+  Ok (reply_alone 0 [] Keeps (record r { inodes = with_attribute r.inodes block.inode (record attribute { mode = mode; ctime = opened.moment }) }))

@@ -4,11 +4,11 @@ use Rattle.std.specs.Prelude.{ℕ, ℤ, Bool, true, false, List, [], Option, Som
 use Rattle.qx_types.specs.declared.errno.Errno.{Errno}
 use Rattle.qx_types.specs.declared.errno.Errno.TheVariants.{EINVAL, ENOSYS}
 use Rattle.qx_types.specs.declared.fields.Whence.{Whence}
-use Rattle.qx_types.specs.declared.flags.OFlags.{OFlags}
 use Rattle.qx_types.specs.declared.names.Coid.{Coid}
 use Rattle.qx_types.specs.declared.outcome.Answer.{Answer}
 use Rattle.qx_wire.specs.declared.message.Message.{Message}
 use Rattle.qx_wire.specs.declared.message.Message.TheVariants as msg
+use Rattle.qx_machine.specs.declared.rows.Context.{Context}
 use Rattle.qx_machine.specs.declared.rows.Effect.{Effect}
 use Rattle.qx_machine.specs.declared.rows.NewOpen.{NewOpen}
 use Rattle.qx_machine.specs.declared.rows.Opened.{Opened}
@@ -16,6 +16,7 @@ use Rattle.qx_machine.specs.declared.rows.Over.{Over}
 use Rattle.qx_machine.specs.declared.rows.Over.TheVariants.{New, Existing, Side}
 use Rattle.qx_machine.specs.declared.rows.Target.{Target}
 use Rattle.qx_machine.specs.declared.rows.WaitingCall.{WaitingCall}
+use Rattle.qx_machine.specs.declared.rows.Wish.{Wish}
 use Rattle.qx_machine.specs.Judgements.{◌>>=◌, found, need}
 
 -- what a message is replied: status and bytes, and what becomes of its connection
@@ -35,22 +36,22 @@ pub record Deed (S : Type 0) : Type 0 where
 abbrev pub reply_alone : {S : Type 0} → ℕ → List ℕ → Effect → S → Deed S
 reply_alone status bytes effect state = record { reply = Some (record { status = status; bytes = bytes; effect = effect }); state = state; answers = [] }
 
--- the functions for messages to a path, each with the moment last; a stat and those after it are given the root of the mount
+-- the functions for messages to a path; a stat and those after it are given the root of the mount, and the moment last
 pub record ConnectFunctions (S : Type 0) : Type 0 where
-  pub «open» : Option (S → NewOpen → OFlags → ℕ → List (List ℕ) → ℕ → Result (Deed S) Errno)
+  pub «open» : Option (S → NewOpen → List (List ℕ) → Wish → Result (Deed S) Errno)
   pub stat : Option (S → ℕ → List (List ℕ) → ℕ → Result (Deed S) Errno)
   pub unlink : Option (S → ℕ → List (List ℕ) → ℕ → Result (Deed S) Errno)
   pub mknod : Option (S → ℕ → ℕ → List (List ℕ) → ℕ → Result (Deed S) Errno)
 
--- the functions for messages over what is open, each with the moment last
+-- the functions for messages over what is open
 pub record IoFunctions (S : Type 0) : Type 0 where
-  pub read : Option (S → Opened → ℕ → ℕ → Result (Deed S) Errno)
-  pub write : Option (S → Opened → List ℕ → ℕ → Result (Deed S) Errno)
-  pub close : Option (S → Opened → ℕ → Result (Deed S) Errno)
-  pub lseek : Option (S → Opened → Whence → ℤ → ℕ → Result (Deed S) Errno)
-  pub fstat : Option (S → Opened → ℕ → Result (Deed S) Errno)
-  pub list : Option (S → Opened → List ℕ → ℕ → Result (Deed S) Errno)
-  pub chmod : Option (S → Opened → ℕ → ℕ → Result (Deed S) Errno)
+  pub read : Option (S → Opened → ℕ → Result (Deed S) Errno)
+  pub write : Option (S → Opened → List ℕ → Result (Deed S) Errno)
+  pub close : Option (S → Opened → Result (Deed S) Errno)
+  pub lseek : Option (S → Opened → Whence → ℤ → Result (Deed S) Errno)
+  pub fstat : Option (S → Opened → Result (Deed S) Errno)
+  pub list : Option (S → Opened → List ℕ → Result (Deed S) Errno)
+  pub chmod : Option (S → Opened → ℕ → Result (Deed S) Errno)
 
 -- the tables of a manager that has no function
 abbrev pub no_connect : {S : Type 0} → ConnectFunctions S
@@ -97,16 +98,17 @@ function_deed function over deed = do
   deed f given
 
 -- a message is served by one function of one of the manager's tables; no manager has one for the other messages
-abbrev pub served : {S : Type 0} → ConnectFunctions S → IoFunctions S → S → Target → Result Opened Errno → ℕ → Message → Result (Deed S) Errno
-served connect io state target opened moment (msg.Open flags mode rest) = function_deed connect.«open» (new_open target) (λ f over. f state over flags mode rest moment)
-served connect io state target opened moment (msg.Stat rest) = function_deed connect.stat (side_root target) (λ f root. f state root rest moment)
-served connect io state target opened moment (msg.Unlink rest) = function_deed connect.unlink (side_root target) (λ f root. f state root rest moment)
-served connect io state target opened moment (msg.Mknod mode rest) = function_deed connect.mknod (side_root target) (λ f root. f state root mode rest moment)
-served connect io state target opened moment (msg.Read count) = function_deed io.read opened (λ f o. f state o count moment)
-served connect io state target opened moment (msg.Write bytes) = function_deed io.write opened (λ f o. f state o bytes moment)
-served connect io state target opened moment msg.Close = function_deed io.close opened (λ f o. f state o moment)
-served connect io state target opened moment (msg.Lseek whence offset) = function_deed io.lseek opened (λ f o. f state o whence offset moment)
-served connect io state target opened moment msg.Fstat = function_deed io.fstat opened (λ f o. f state o moment)
-served connect io state target opened moment (msg.List after) = function_deed io.list opened (λ f o. f state o after moment)
-served connect io state target opened moment (msg.Chmod mode) = function_deed io.chmod opened (λ f o. f state o mode moment)
-served connect io state target opened moment _ = Err ENOSYS
+abbrev pub message_deed : {S : Type 0} → ConnectFunctions S → IoFunctions S → S → Context → Message → Result (Deed S) Errno
+message_deed connect io state context (msg.Open flags mode rest) =
+    function_deed connect.«open» (new_open context.target) (λ f over. f state over rest (record { flags = flags; mode = mode; moment = context.moment }))
+message_deed connect io state context (msg.Stat rest) = function_deed connect.stat (side_root context.target) (λ f root. f state root rest context.moment)
+message_deed connect io state context (msg.Unlink rest) = function_deed connect.unlink (side_root context.target) (λ f root. f state root rest context.moment)
+message_deed connect io state context (msg.Mknod mode rest) = function_deed connect.mknod (side_root context.target) (λ f root. f state root mode rest context.moment)
+message_deed connect io state context (msg.Read count) = function_deed io.read context.opened (λ f opened. f state opened count)
+message_deed connect io state context (msg.Write bytes) = function_deed io.write context.opened (λ f opened. f state opened bytes)
+message_deed connect io state context msg.Close = function_deed io.close context.opened (λ f opened. f state opened)
+message_deed connect io state context (msg.Lseek whence offset) = function_deed io.lseek context.opened (λ f opened. f state opened whence offset)
+message_deed connect io state context msg.Fstat = function_deed io.fstat context.opened (λ f opened. f state opened)
+message_deed connect io state context (msg.List after) = function_deed io.list context.opened (λ f opened. f state opened after)
+message_deed connect io state context (msg.Chmod mode) = function_deed io.chmod context.opened (λ f opened. f state opened mode)
+message_deed connect io state context _ = Err ENOSYS

@@ -23,7 +23,7 @@ use Rattle.qx_machine.specs.Lines.{into, line_at, with_line}
 use Rattle.qx_machine.specs.Parts.{Part, Change, Put, Remove}
 use Rattle.qx_machine.specs.Performing.{Served}
 use Rattle.qx_machine.specs.Rows.{row_at}
-use Rattle.qx_machine.specs.Users.{boot_part, client, take, serve, settle}
+use Rattle.qx_machine.specs.Users.{boot_part, client, take, serve, settle_part}
 
 -- the rows of all users, the lines under their managers' numbers and what each worker holds; users and workers are numbered from 1
 pub record World : Type 0 where
@@ -94,7 +94,7 @@ own_held user (Some held ∷ hands) = if held.user.0 == user then held.item ∷ 
 -- the end of a step of one user: its rows, settled, and its changes of the lines
 abbrev pub step_end : ℕ → Part → Part → List Change → World → World
 step_end user before after changes w = record w {
-  parts = slice_set w.parts user (Some (settle before (own_held user w.hands) after));
+  parts = slice_set w.parts user (Some (settle_part before (own_held user w.hands) after));
   lines = lines_after user w.lines changes;
 }
 

@@ -1,31 +1,23 @@
 -- The two managers, each as its tables of functions (Writing a Resource Manager: resmgr_connect_funcs_t, resmgr_io_funcs_t).
-use Rattle.std.specs.Prelude.{ℕ, List, Some, None, Result}
+use Rattle.std.specs.Prelude.{Some, None, Result}
 use Rattle.qx_types.specs.declared.errno.Errno.{Errno}
-use Rattle.qx_types.specs.declared.flags.OFlags.{OFlags}
 use Rattle.qx_types.specs.declared.names.Manager.{Manager}
 use Rattle.qx_types.specs.declared.names.Manager.TheVariants as manager
 use Rattle.qx_wire.specs.declared.message.Message.{Message}
-use Rattle.qx_machine.specs.declared.rows.Kind.{Kind}
+use Rattle.qx_machine.specs.declared.rows.Context.{Context}
 use Rattle.qx_machine.specs.declared.rows.Kind.TheVariants.{File, Pipe}
-use Rattle.qx_machine.specs.declared.rows.NewOpen.{NewOpen}
-use Rattle.qx_machine.specs.declared.rows.Opened.{Opened}
-use Rattle.qx_machine.specs.declared.rows.Target.{Target}
 use Rattle.qx_machine.specs.Defaults.{chmod_block, close, list_block, make_directory, open_path, stat_block, stat_path, unlink_path}
-use Rattle.qx_machine.specs.Functions.{ConnectFunctions, Deed, IoFunctions, served}
+use Rattle.qx_machine.specs.Functions.{ConnectFunctions, Deed, IoFunctions, message_deed}
 use Rattle.qx_machine.specs.PipeManager.{read_pipe, seek_pipe, write_pipe}
 use Rattle.qx_machine.specs.RamManager.{read_file, seek_file, write_file}
 use Rattle.qx_machine.specs.Resources.{Resources}
 
--- the open of a manager that makes inodes of this kind
-abbrev pub open_making : Kind → Resources → NewOpen → OFlags → ℕ → List (List ℕ) → ℕ → Result (Deed Resources) Errno
-open_making kind r over flags mode rest moment = open_path r over rest (record { flags = flags; kind = kind; mode = mode; moment = moment })
-
 abbrev pub ram_connect : ConnectFunctions Resources
-ram_connect = record { «open» = Some (open_making File); stat = Some stat_path; unlink = Some (unlink_path File); mknod = Some make_directory }
+ram_connect = record { «open» = Some (open_path File); stat = Some stat_path; unlink = Some (unlink_path File); mknod = Some make_directory }
 
 -- a pipe mount has no directories to be made
 abbrev pub pipe_connect : ConnectFunctions Resources
-pipe_connect = record { «open» = Some (open_making Pipe); stat = Some stat_path; unlink = Some (unlink_path Pipe); mknod = None }
+pipe_connect = record { «open» = Some (open_path Pipe); stat = Some stat_path; unlink = Some (unlink_path Pipe); mknod = None }
 
 abbrev pub ram_io : IoFunctions Resources
 ram_io = record { read = Some read_file; write = Some write_file; close = Some (close File); lseek = Some seek_file; fstat = Some stat_block; list = Some list_block; chmod = Some chmod_block }
@@ -34,6 +26,6 @@ abbrev pub pipe_io : IoFunctions Resources
 pipe_io = record { read = Some read_pipe; write = Some write_pipe; close = Some (close Pipe); lseek = Some seek_pipe; fstat = Some stat_block; list = Some list_block; chmod = Some chmod_block }
 
 -- each manager serves by its own two tables
-abbrev pub manager_deed : Manager → Resources → Target → Result Opened Errno → ℕ → Message → Result (Deed Resources) Errno
-manager_deed manager.Ram = served ram_connect ram_io
-manager_deed manager.Pipe = served pipe_connect pipe_io
+abbrev pub manager_deed : Manager → Resources → Context → Message → Result (Deed Resources) Errno
+manager_deed manager.Ram = message_deed ram_connect ram_io
+manager_deed manager.Pipe = message_deed pipe_connect pipe_io

@@ -15,6 +15,7 @@ use Rattle.qx_wire.specs.declared.message.Meaning.TheVariants.{Known, Unknown, M
 use Rattle.qx_wire.specs.declared.message.Message.{Message}
 use Rattle.qx_wire.specs.Reading.{meaning}
 use Rattle.qx_machine.specs.declared.rows.Caller.{Caller}
+use Rattle.qx_machine.specs.declared.rows.Context.{Context}
 use Rattle.qx_machine.specs.declared.rows.Opened.{Opened}
 use Rattle.qx_machine.specs.declared.rows.Over.{Over}
 use Rattle.qx_machine.specs.declared.rows.OwnItem.TheVariants as item
@@ -40,13 +41,17 @@ pub record Served : Type 0 where
   pub changes : List Change
 
 -- what a message's connection has open: the connection is there still, at this manager, with a block (C Library Reference: EBADF)
-abbrev pub opened_by : Process → Caller → Target → Result Opened Errno
-opened_by process caller target = do
+abbrev pub opened_by : Process → Caller → Target → ℕ → Result Opened Errno
+opened_by process caller target moment = do
   coid ← found (existing_coid target.over) EINVAL
   connection ← found (row_at process.connections coid.0) EBADF
   here ← need (is_numbered (manager_number target.manager) connection.manager) EBADF
   number ← found connection.block EBADF
-  Ok (record { caller = caller; coid = coid; number = number })
+  Ok (record { caller = caller; coid = coid; number = number; moment = moment })
+
+-- what a message of a process is served with
+abbrev pub context_of : Process → Caller → Target → ℕ → Context
+context_of process caller target moment = record { target = target; opened = opened_by process caller target moment; moment = moment }
 
 -- the message that a manager reads, or how it answers other bytes (Writing a Resource Manager: ENOSYS for an unknown message; that
 -- malformed ones are EINVAL is this profile)
@@ -55,11 +60,11 @@ read_message (Known message) = Ok message
 read_message Unknown = Err ENOSYS
 read_message Malformed = Err EINVAL
 
--- what bytes of a process that mean this come to
-abbrev pub deed_of : Resources → Process → Caller → Target → ℕ → Meaning → Result (Deed Resources) Errno
-deed_of resources process caller target moment given = do
+-- what bytes that mean this come to
+abbrev pub deed_of : Resources → Context → Meaning → Result (Deed Resources) Errno
+deed_of resources context given = do
   message ← read_message given
-  manager_deed target.manager resources target (opened_by process caller target) moment message
+  manager_deed context.target.manager resources context message
 
 -- ---- answers
 
@@ -116,7 +121,7 @@ serve_message part number thread moment = do
   process ← found (row_at part.processes number) WrongState
   row ← found (row_at process.threads thread) WrongState
   sent ← found (taken_in row.state) WrongState
-  Ok (served_by part (caller_of number thread row sent) sent (deed_of part.resources process (caller_of number thread row sent) sent.target moment (meaning sent.bytes)))
+  Ok (served_by part (caller_of number thread row sent) sent (deed_of part.resources (context_of process (caller_of number thread row sent) sent.target moment) (meaning sent.bytes)))
 
 -- an unblock pulse is for a call that waits in a pipe, and for no other (Writing a Resource Manager: the unblock pulse)
 abbrev pub serve_pulse : Part → ℕ → ℕ → ℕ → ℕ → Result Served Outcome

@@ -1,6 +1,6 @@
 -- What the pipe manager does to pipes and the calls that wait there (C Library Reference: read, write, lseek, close; that nobody waits for a
 -- pipe to be opened, and that a pipe mount has no directory but its root, is this profile).
-use Rattle.std.specs.Prelude.{ℕ, ℤ, ◌==◌, not, List, [], Option, Some, None, Result, Ok, Err, position, length, slice_set, if◌then◌else◌}
+use Rattle.std.specs.Prelude.{ℕ, ℤ, not, List, [], Option, Some, None, Result, Ok, Err, position, length, slice_set, if◌then◌else◌}
 use Rattle.std.specs.List.{list_any}
 use Rattle.qx_types.specs.declared.errno.Errno.{Errno}
 use Rattle.qx_types.specs.declared.errno.Errno.TheVariants.{EBADF, EINVAL, EISDIR, ESPIPE}
@@ -43,24 +43,24 @@ deed_of_pipe r inode moment after = record {
 }
 
 -- a READ is answered with those who waited, or waits; the mount's root can't be read
-abbrev pub read_pipe : Resources → Opened → ℕ → ℕ → Result (Deed Resources) Errno
-read_pipe r opened count moment = do
+abbrev pub read_pipe : Resources → Opened → ℕ → Result (Deed Resources) Errno
+read_pipe r opened count = do
   block ← found (row_at r.inodes.blocks opened.number) EBADF
   reading ← need (reads block.flags) EBADF
   pipe ← found (row_at r.pipes block.inode) EISDIR
-  Ok (deed_of_pipe r block.inode moment (read wanted offered is_gone (manner_of (writers_of r.inodes block.inode) block opened.caller.is_asked) (waiting_call opened count []) pipe))
+  Ok (deed_of_pipe r block.inode opened.moment (read wanted offered is_gone (manner_of (writers_of r.inodes block.inode) block opened.caller.is_asked) (waiting_call opened count []) pipe))
 
 -- a WRITE is answered with those who waited, or waits
-abbrev pub write_pipe : Resources → Opened → List ℕ → ℕ → Result (Deed Resources) Errno
-write_pipe r opened bytes moment = do
+abbrev pub write_pipe : Resources → Opened → List ℕ → Result (Deed Resources) Errno
+write_pipe r opened bytes = do
   block ← found (row_at r.inodes.blocks opened.number) EBADF
   writing ← need (writes block.flags) EBADF
   pipe ← found (row_at r.pipes block.inode) EBADF
-  Ok (deed_of_pipe r block.inode moment (write wanted offered is_gone (manner_of (readers_of r.inodes block.inode) block opened.caller.is_asked) (waiting_call opened 0 bytes) pipe))
+  Ok (deed_of_pipe r block.inode opened.moment (write wanted offered is_gone (manner_of (readers_of r.inodes block.inode) block opened.caller.is_asked) (waiting_call opened 0 bytes) pipe))
 
 -- a pipe has no offset (C Library Reference: lseek, ESPIPE), nor has the mount's root
-abbrev pub seek_pipe : Resources → Opened → Whence → ℤ → ℕ → Result (Deed Resources) Errno
-seek_pipe r opened whence by moment = do
+abbrev pub seek_pipe : Resources → Opened → Whence → ℤ → Result (Deed Resources) Errno
+seek_pipe r opened whence by = do
   block ← found (row_at r.inodes.blocks opened.number) EBADF
   attribute ← found (row_at r.inodes.attributes block.inode) EBADF
   pipe ← need (not (is_directory attribute.kind)) EINVAL

@@ -7,7 +7,6 @@ use Rattle.qx_types.specs.declared.flags.OFlags.{OFlags}
 use Rattle.qx_types.specs.declared.flags.TheConstants.OFlags.{TRUNC}
 use Rattle.qx_types.specs.declared.limits.TheConstants.Limits.{FILE, FILES, OFFSET}
 use Rattle.qx_machine.specs.declared.rows.Effect.TheVariants.{Keeps}
-use Rattle.qx_machine.specs.declared.rows.Ocb.{Ocb}
 use Rattle.qx_machine.specs.declared.rows.Opened.{Opened}
 use Rattle.qx_machine.specs.Files.{base, get, moved_by, put, total_size, write_offset}
 use Rattle.qx_machine.specs.Functions.{Deed, reply_alone}
@@ -32,8 +31,8 @@ abbrev pub moved : ℕ → ℕ → ℕ → List ℕ → Resources → Deed Resou
 moved number offset status bytes r = reply_alone status bytes Keeps (record r { inodes = with_offset r.inodes number offset })
 
 -- a read gives at most so many bytes from the offset on, and moves past them
-abbrev pub read_file : Resources → Opened → ℕ → ℕ → Result (Deed Resources) Errno
-read_file r opened count moment = do
+abbrev pub read_file : Resources → Opened → ℕ → Result (Deed Resources) Errno
+read_file r opened count = do
   block ← found (row_at r.inodes.blocks opened.number) EBADF
   reading ← need (reads block.flags) EBADF
   bytes ← found (row_at r.files block.inode) EISDIR
@@ -47,16 +46,16 @@ written_at r number inode bytes offset new moment = do
   Ok (moved number (offset + length new) (length new) [] (with_bytes inode moment (put bytes offset new) r))
 
 -- no bytes change nothing, wherever they would stand
-abbrev pub write_file : Resources → Opened → List ℕ → ℕ → Result (Deed Resources) Errno
-write_file r opened new moment = do
+abbrev pub write_file : Resources → Opened → List ℕ → Result (Deed Resources) Errno
+write_file r opened new = do
   block ← found (row_at r.inodes.blocks opened.number) EBADF
   writing ← need (writes block.flags) EBADF
   bytes ← found (row_at r.files block.inode) EBADF
-  if length new == 0 then Ok (reply_alone 0 [] Keeps r) else written_at r opened.number block.inode bytes (write_offset block bytes) new moment
+  if length new == 0 then Ok (reply_alone 0 [] Keeps r) else written_at r opened.number block.inode bytes (write_offset block bytes) new opened.moment
 
 -- a seek moves to a further offset, past the end too; a directory has none
-abbrev pub seek_file : Resources → Opened → Whence → ℤ → ℕ → Result (Deed Resources) Errno
-seek_file r opened whence by moment = do
+abbrev pub seek_file : Resources → Opened → Whence → ℤ → Result (Deed Resources) Errno
+seek_file r opened whence by = do
   block ← found (row_at r.inodes.blocks opened.number) EBADF
   bytes ← found (row_at r.files block.inode) EINVAL
   offset ← found (moved_by (base whence block bytes) by) EINVAL

@@ -29,5 +29,5 @@ serve config user held part (Message process thread) moment = or_kept part (serv
 serve config user held part (Unblock process thread call) moment = or_kept part (serve_pulse part process thread call moment)
 
 -- what the end of each step of a user settles, from the rows before it; nothing is left to settle yet
-unfoldable pub settle : Part → List OwnItem → Part → Part
-settle before held after = after
+unfoldable pub settle_part : Part → List OwnItem → Part → Part
+settle_part before held after = after

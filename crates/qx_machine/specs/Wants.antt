@@ -1,5 +1,6 @@
 -- Which steps may be refused for want of memory.
-use Rattle.std.specs.Prelude.{ℕ, ◌&&◌, not, Bool, true, false, Option, Result, Ok, Err, is_ok}
+use Rattle.std.specs.Prelude.{ℕ, not, Bool, true, false, Option, Result, Ok, Err, nat_lt}
+use Rattle.qx_types.specs.declared.errno.Errno.{Errno}
 use Rattle.qx_types.specs.declared.names.Manager.{Manager}
 use Rattle.qx_types.specs.declared.names.Manager.TheVariants.{Ram, Pipe}
 use Rattle.qx_types.specs.declared.outcome.Outcome.TheVariants.{WrongState}
@@ -12,11 +13,14 @@ use Rattle.qx_wire.specs.declared.message.Message.TheVariants.{Open, Mknod, Writ
 use Rattle.qx_wire.specs.Reading.{meaning}
 use Rattle.qx_machine.specs.declared.rows.OwnItem.{OwnItem}
 use Rattle.qx_machine.specs.declared.rows.OwnItem.TheVariants as item
+use Rattle.qx_machine.specs.Files.{total_size}
+use Rattle.qx_machine.specs.Functions.{Deed}
 use Rattle.qx_machine.specs.Judgements.{◌>>=◌, found, or_false}
 use Rattle.qx_machine.specs.Laws.{is_refusal}
 use Rattle.qx_machine.specs.Machine.{World, item_to_do, step}
 use Rattle.qx_machine.specs.Parts.{Part}
-use Rattle.qx_machine.specs.Performing.{caller_of, deed_of, taken_in}
+use Rattle.qx_machine.specs.Performing.{caller_of, context_of, deed_of, taken_in}
+use Rattle.qx_machine.specs.Resources.{Resources}
 use Rattle.qx_machine.specs.Rows.{row_at}
 
 -- what a message asks for may want memory, of a manager whose writes may or may not
@@ -26,22 +30,39 @@ message_wants_memory writes (Mknod mode rest) = true
 message_wants_memory writes (Write bytes) = writes
 message_wants_memory writes _ = false
 
--- what bytes with this meaning ask a manager for may want memory: of the writes, those to the RAM manager
-abbrev pub bytes_want_memory : Manager → Meaning → Bool
-bytes_want_memory Ram (Known message) = message_wants_memory true message
-bytes_want_memory Pipe (Known message) = message_wants_memory false message
-bytes_want_memory _ _ = false
+-- that is done, and makes such a difference to what the functions work on
+abbrev pub is_done_so : {S : Type 0} → (S → S → Bool) → S → Result (Deed S) Errno → Bool
+is_done_so so state (Ok deed) = so state deed.state
+is_done_so so state (Err error) = false
 
--- performing the message of a thread at a moment may want memory, where these are its user's rows: the message was received, what it
--- asks for may, and it is not answered an error
+-- a message that comes to this may want memory, of a manager of whose writes those may that make such a difference
+abbrev pub deed_wants_memory : {S : Type 0} → (S → S → Bool) → S → Message → Result (Deed S) Errno → Bool
+deed_wants_memory writes state message deed = is_done_so (λ before after. message_wants_memory (writes before after) message) state deed
+
+-- the files of a user got longer
+abbrev pub got_longer : Resources → Resources → Bool
+got_longer before after = nat_lt (total_size before.files) (total_size after.files)
+
+-- of the writes, those to the RAM manager that make a file longer
+abbrev pub write_wants_memory : Manager → Resources → Resources → Bool
+write_wants_memory Ram before after = got_longer before after
+write_wants_memory Pipe before after = false
+
+-- bytes with this meaning that come to this may want memory
+abbrev pub bytes_want_memory : Manager → Resources → Meaning → Result (Deed Resources) Errno → Bool
+bytes_want_memory manager resources (Known message) deed = deed_wants_memory (write_wants_memory manager) resources message deed
+bytes_want_memory manager resources _ deed = false
+
+-- performing the message of a thread at a moment may want memory, where these are its user's rows: the message was received, and what
+-- it comes to may
 abbrev pub thread_wants_memory : Option Part → ℕ → ℕ → ℕ → Bool
 thread_wants_memory rows number thread moment = or_false (do
   part ← found rows WrongState
   process ← found (row_at part.processes number) WrongState
   row ← found (row_at process.threads thread) WrongState
   sent ← found (taken_in row.state) WrongState
-  Ok (bytes_want_memory sent.target.manager (meaning sent.bytes)
-      && is_ok (deed_of part.resources process (caller_of number thread row sent) sent.target moment (meaning sent.bytes))))
+  Ok (bytes_want_memory sent.target.manager part.resources (meaning sent.bytes)
+      (deed_of part.resources (context_of process (caller_of number thread row sent) sent.target moment) (meaning sent.bytes))))
 
 -- an unblock pulse wants none
 abbrev pub item_wants_memory : Option Part → OwnItem → ℕ → Bool
@@ -49,7 +70,7 @@ item_wants_memory rows (item.Message process thread) moment = thread_wants_memor
 item_wants_memory rows (item.Unblock process thread call) moment = false
 
 -- in this world, a step that may be refused for want of memory: a spawn, a call and a mount that are not refused otherwise, and a
--- perform of an open, a mkdir or a write to the RAM manager that is not answered an error
+-- perform of an open, a mkdir or a write that makes a file longer that is not answered an error
 abbrev pub wants_memory : World → Step → Bool
 wants_memory w (Spawn user threads prio) = not (is_refusal (step w (Spawn user threads prio)).outcome)
 wants_memory w (Call thread request) = not (is_refusal (step w (Call thread request)).outcome)

@@ -10,7 +10,7 @@
 //! - `Judgements.antt`, `Calls.antt`, `Mounting.antt`, `Clients.antt`: the six steps of clients
 //! - `Functions.antt`, `RamManager.antt`, `PipeManager.antt`, `Defaults.antt`, `Managers.antt`: what managers do
 //! - `Performing.antt`: what bytes that a worker holds come to
-//! - `Users.antt`: all that the machine knows of a user's rows: `boot_part`, `client`, `take`, `serve`, `settle`
+//! - `Users.antt`: all that the machine knows of a user's rows: `boot_part`, `client`, `take`, `serve`, `settle_part`
 //! - `Machine.antt`, `Runs.antt`: the world and the step; run, received and erase
 //! - `Wants.antt`: which steps may be refused for want of memory
 //! - `Laws.antt`, `Examples.antt`: the words of the laws; a run that is worked out
@@ -25,7 +25,7 @@ pub mod laws;
 pub mod rows;
 
 pub use rows::{
-    Access, Addressed, Attribute, Caller, Conditions, Connection, Content, Effect, Entry, Event,
-    Held, Kind, Manner, NewOpen, Ocb, Opened, Over, OwnItem, Pulse, Queued, Seen, Sent,
+    Access, Addressed, Attribute, Caller, Conditions, Connection, Content, Context, Effect, Entry,
+    Event, Held, Kind, Manner, NewOpen, Ocb, Opened, Over, OwnItem, Pulse, Queued, Seen, Sent,
     ServerConnection, Sides, State, Target, ThreadRow, WaitingCall, Wish,
 };

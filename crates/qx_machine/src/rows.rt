@@ -1,6 +1,6 @@
 use qx_paths::Path;
 use qx_types::{
-    Actor, Answer, Coid, Conds, Manager, MessageBytes, OFlags, Outcome, Prio, Step, User,
+    Actor, Answer, Coid, Conds, Errno, Manager, MessageBytes, OFlags, Outcome, Prio, Step, User,
 };
 use qx_wire::{BorrowedBytes, Message};
 
@@ -107,12 +107,22 @@ pub struct Caller {
 }
 
 /// What a message over a connection works on: whose message it is, the connection, and the number of its open control
-/// block.
+/// block; and the moment at which it does.
 #[derive(Clone, Copy, Debug, PartialEq, Eq)]
 pub struct Opened {
     pub caller: Caller,
     pub coid: Coid,
     pub number: u16,
+    pub moment: u64,
+}
+
+/// What a message is served with beside its own fields: where it was sent, what it has open, or the error if that is nothing,
+/// and the moment (Writing a Resource Manager: `resmgr_context_t`).
+#[derive(Clone, Copy, Debug, PartialEq, Eq)]
+pub struct Context {
+    pub target: Target,
+    pub opened: Result<Opened, Errno>,
+    pub moment: u64,
 }
 
 /// A call that waits in a pipe (Writing a Resource Manager: a client to whom no reply is made yet): of which thread, over
@@ -136,12 +146,11 @@ pub struct NewOpen {
     pub root: u32,
 }
 
-/// What an open wishes: to be opened with these flags, and what is missing to be made of this kind and mode, at that moment
-/// (C Library Reference: `open`).
+/// What an open wishes: to be opened with these flags, and what is missing to be made of this mode, at that moment (C Library
+/// Reference: `open`).
 #[derive(Clone, Copy, Debug, PartialEq, Eq)]
 pub struct Wish {
     pub flags: OFlags,
-    pub kind: Kind,
     pub mode: u16,
     pub moment: u64,
 }

@@ -1,6 +1,6 @@
 //! What messages over an open control block do.
 
-ghost use Rattle.std.specs.Prelude.{◌≡◌, ◌<◌, ◌≤◌, ℕ, ℤ, IsSome, MatchResult, None, Err, if◌then◌else◌, is_ok, length, position};
+ghost use Rattle.std.specs.Prelude.{◌≡◌, ◌<◌, ◌≤◌, ℤ, IsSome, MatchResult, None, Err, if◌then◌else◌, is_ok, length, position};
 ghost use Rattle.qx_iofunc.specs.Sizes.{sized};
 ghost use Rattle.qx_iofunc.specs.Store.{with_stored};
 ghost use Rattle.qx_machine.specs.Defaults as defaults;
@@ -34,14 +34,13 @@ pub fn read(
     opened: Opened,
     wanted: u32,
     room: &mut Option<Room>,
-    moment: u64,
 ) -> Result<(), Errno>
     requires user { store.old.stored.user < length shared.old.pipes }
     requires received { IsReceived shared.old (callers_thread store.old.stored.user opened.caller) }
     requires room { IsSome room.old }
     ensures user { store.new.stored.user ≡ store.old.stored.user }
-    ensures done { (r : Resources) → result ≡ done_of (machine.read_pipe (seen r store.old.stored shared.old) opened wanted moment) }
-    ensures left { (r : Resources) → Follows store.old.stored shared.old store.new.stored shared.new r (machine.read_pipe (seen r store.old.stored shared.old) opened wanted moment) }
+    ensures done { (r : Resources) → result ≡ done_of (machine.read_pipe (seen r store.old.stored shared.old) opened wanted) }
+    ensures left { (r : Resources) → Follows store.old.stored shared.old store.new.stored shared.new r (machine.read_pipe (seen r store.old.stored shared.old) opened wanted) }
     ensures room { MatchResult result (λ done. room.new ≡ None) (λ error. room.new ≡ room.old) }
 {
     let block = store.inodes().block_for(opened.number, OFlags::READ)?;
@@ -56,7 +55,7 @@ pub fn read(
     let manner = manner(sides.for_writing, &block, opened.caller.is_asked);
     let call = PipeCall::reading(opened, wanted, own_room);
     let filled = qx_pipe::pipe::read(shared, user, block.inode, call, manner);
-    set_size(shared, store, block.inode, filled, moment);
+    set_size(shared, store, block.inode, filled, opened.moment);
     Ok(())
 }
 
@@ -69,15 +68,14 @@ pub fn write(
     opened: Opened,
     bytes: &[u8],
     room: &mut Option<Room>,
-    moment: u64,
 ) -> Result<(), Errno>
     requires user { store.old.stored.user < length shared.old.pipes }
     requires received { IsReceived shared.old (callers_thread store.old.stored.user opened.caller) }
     requires fits { length bytes.now ≤ TRANSFER }
     requires room { IsSome room.old }
     ensures user { store.new.stored.user ≡ store.old.stored.user }
-    ensures done { (r : Resources) → result ≡ done_of (machine.write_pipe (seen r store.old.stored shared.old) opened bytes.now moment) }
-    ensures left { (r : Resources) → Follows store.old.stored shared.old store.new.stored shared.new r (machine.write_pipe (seen r store.old.stored shared.old) opened bytes.now moment) }
+    ensures done { (r : Resources) → result ≡ done_of (machine.write_pipe (seen r store.old.stored shared.old) opened bytes.now) }
+    ensures left { (r : Resources) → Follows store.old.stored shared.old store.new.stored shared.new r (machine.write_pipe (seen r store.old.stored shared.old) opened bytes.now) }
     ensures room { MatchResult result (λ done. room.new ≡ None) (λ error. room.new ≡ room.old) }
 {
     let block = store.inodes().block_for(opened.number, OFlags::WRITE)?;
@@ -93,13 +91,13 @@ pub fn write(
     let manner = manner(sides.for_reading, &block, opened.caller.is_asked);
     let call = PipeCall::writing(opened, own_room);
     let filled = qx_pipe::pipe::write(shared, user, block.inode, call, manner);
-    set_size(shared, store, block.inode, filled, moment);
+    set_size(shared, store, block.inode, filled, opened.moment);
     Ok(())
 }
 
 /// A pipe has no offset: ESPIPE; on the mount's root EINVAL (C Library Reference: `lseek`).
 pub fn seek(store: &Store, opened: Opened) -> Errno
-    ensures refused { (r : Resources) (whence : AnyWhence) (by : ℤ) (moment : ℕ) → machine.seek_pipe (with_stored r store.now.stored) opened whence by moment ≡ Err result }
+    ensures refused { (r : Resources) (whence : AnyWhence) (by : ℤ) → machine.seek_pipe (with_stored r store.now.stored) opened whence by ≡ Err result }
 {
     let Some(block) = store.inodes().block(opened.number) else {
         return Errno::EBADF;
@@ -118,19 +116,18 @@ pub fn close(
     shared: &mut Shared,
     store: &mut Store,
     opened: Opened,
-    moment: u64,
 ) -> Result<(), Errno>
     requires user { store.old.stored.user < length shared.old.pipes }
     ensures user { store.new.stored.user ≡ store.old.stored.user }
-    ensures done { (r : Resources) → result ≡ done_of (defaults.close kind.Pipe (seen r store.old.stored shared.old) opened moment) }
-    ensures left { (r : Resources) → Follows store.old.stored shared.old store.new.stored shared.new r (defaults.close kind.Pipe (seen r store.old.stored shared.old) opened moment) }
+    ensures done { (r : Resources) → result ≡ done_of (defaults.close kind.Pipe (seen r store.old.stored shared.old) opened) }
+    ensures left { (r : Resources) → Follows store.old.stored shared.old store.new.stored shared.new r (defaults.close kind.Pipe (seen r store.old.stored shared.old) opened) }
 {
     let user = store.user();
     let closed = store.close(Kind::Pipe, opened.number)?;
     if shared.has_pipe(user, closed.inode) {
         let sides = store.inodes().sides(closed.inode);
         let filled = qx_pipe::pipe::release(shared, user, closed.inode, opened.number, sides);
-        set_size(shared, store, closed.inode, filled, moment);
+        set_size(shared, store, closed.inode, filled, opened.moment);
         remove(shared, user, closed.inode, closed.is_gone);
     }
     Ok(())

@@ -19,7 +19,7 @@ use qx_iofunc::{Lookup, Store};
 use qx_machine::{Kind, Wish};
 use qx_queues::Leaving;
 use qx_shared::Shared;
-use qx_types::{Errno, OFlags, User};
+use qx_types::{Errno, User};
 use qx_wire::Rest;
 use std::alloc::AllocError;
 
@@ -31,26 +31,18 @@ pub fn open(
     store: &mut Store,
     root: u32,
     rest: &Rest<'_>,
-    flags: OFlags,
-    mode: u16,
-    moment: u64,
+    wish: Wish,
 ) -> Result<Result<u16, Errno>, AllocError>
     requires user { store.old.stored.user < length shared.old.pipes }
     ensures user { store.new.stored.user ≡ store.old.stored.user }
-    ensures opened { IfOk result (λ o. (r : Resources) (coid : AnyCoid) → open_of_block coid (seen r store.new.stored shared.new) o ≡ machine.open_path (seen r store.old.stored shared.old) (record { coid = coid; root = root }) rest.now (record { flags = flags; kind = kind.Pipe; mode = mode; moment = moment })) }
-    ensures left { IfOk result (λ o. (r : Resources) (coid : AnyCoid) → Follows store.old.stored shared.old store.new.stored shared.new r (machine.open_path (seen r store.old.stored shared.old) (record { coid = coid; root = root }) rest.now (record { flags = flags; kind = kind.Pipe; mode = mode; moment = moment }))) }
+    ensures opened { IfOk result (λ o. (r : Resources) (coid : AnyCoid) → open_of_block coid (seen r store.new.stored shared.new) o ≡ machine.open_path kind.Pipe (seen r store.old.stored shared.old) (record { coid = coid; root = root }) rest.now wish) }
+    ensures left { IfOk result (λ o. (r : Resources) (coid : AnyCoid) → Follows store.old.stored shared.old store.new.stored shared.new r (machine.open_path kind.Pipe (seen r store.old.stored shared.old) (record { coid = coid; root = root }) rest.now wish)) }
     ensures err { OnErr result ((store.new.stored ≡ store.old.stored) × (shared.new ≡ shared.old)) }
-    ensures wanted { OnErr result ((r : Resources) (coid : AnyCoid) → IsOk (machine.open_path (seen r store.old.stored shared.old) (record { coid = coid; root = root }) rest.now (record { flags = flags; kind = kind.Pipe; mode = mode; moment = moment }))) }
+    ensures wanted { OnErr result ((r : Resources) (coid : AnyCoid) → IsOk (machine.open_path kind.Pipe (seen r store.old.stored shared.old) (record { coid = coid; root = root }) rest.now wish)) }
 {
-    let lookup = match store.lookup(root, rest, flags) {
+    let lookup = match store.lookup(root, rest, wish.flags) {
         Ok(lookup) => lookup,
         Err(error) => return Ok(Err(error)),
-    };
-    let wish = Wish {
-        flags,
-        kind: Kind::Pipe,
-        mode,
-        moment,
     };
     let number = open_found(shared, store, lookup, wish)?;
     Ok(Ok(number))
@@ -65,19 +57,18 @@ fn open_found(
     wish: Wish,
 ) -> Result<u16, AllocError>
     requires user { store.old.stored.user < length shared.old.pipes }
-    requires kind { wish.kind ≡ kind.Pipe }
     requires allowed { IsAllowed store.old.stored wish.flags lookup }
     ensures user { store.new.stored.user ≡ store.old.stored.user }
-    ensures opened { IfOk result (λ number. (r : Resources) (coid : AnyCoid) → open_found (seen r store.old.stored shared.old) coid lookup.entry wish ≡ open_of_block coid (seen r store.new.stored shared.new) (Ok number)) }
-    ensures left { IfOk result (λ number. (r : Resources) (coid : AnyCoid) → Follows store.old.stored shared.old store.new.stored shared.new r (open_found (seen r store.old.stored shared.old) coid lookup.entry wish)) }
+    ensures opened { IfOk result (λ number. (r : Resources) (coid : AnyCoid) → open_found kind.Pipe (seen r store.old.stored shared.old) coid lookup.entry wish ≡ open_of_block coid (seen r store.new.stored shared.new) (Ok number)) }
+    ensures left { IfOk result (λ number. (r : Resources) (coid : AnyCoid) → Follows store.old.stored shared.old store.new.stored shared.new r (open_found kind.Pipe (seen r store.old.stored shared.old) coid lookup.entry wish)) }
     ensures err { OnErr result ((store.new.stored ≡ store.old.stored) × (shared.new ≡ shared.old)) }
 {
     let Lookup::Missing { new, .. } = lookup else {
-        return Ok(store.open(lookup, wish)?.number);
+        return Ok(store.open(Kind::Pipe, lookup, wish)?.number);
     };
     let user = store.user();
     let is_made = make_pipe(shared, user, new.inode)?;
-    match store.open(lookup, wish) {
+    match store.open(Kind::Pipe, lookup, wish) {
         Ok(opening) => {
             empty(shared, user, new.inode);
             Ok(opening.number)

@@ -32,7 +32,7 @@ use Rattle.qx_machine.specs.Parts.{Part, Change, Put, Remove}
 use Rattle.qx_machine.specs.Resources.{Resources}
 use Rattle.qx_machine.specs.PipeManager.{cancel_call}
 use Rattle.qx_machine.specs.Judgements.{◌>>=◌, found}
-use Rattle.qx_machine.specs.Performing.{Served, answered_changes, caller_of, deed_of, or_kept, own_change, served_changes, taken_in}
+use Rattle.qx_machine.specs.Performing.{Served, answered_changes, caller_of, context_of, deed_of, or_kept, own_change, served_changes, taken_in}
 use Rattle.qx_machine.specs.Rows.{row_at}
 use Rattle.qx_machine.specs.Runs.{world_after}
 use Rattle.qx_machine.specs.Users as users
@@ -127,7 +127,7 @@ serve_takes : (c : Configuration) (user : ℕ) (held : List OwnItem) (part : Par
 unfolding serve
 serve_takes c user held part (Message process thread) moment =
     takes_on part (found (row_at part.processes process) WrongState) _ (λ its. takes_on part (found (row_at its.threads thread) WrongState) _ (λ row. takes_on part (found (taken_in row.state) WrongState) _ (λ sent.
-    served_takes sent.target.manager (caller_of process thread row sent) (deed_of part.resources its (caller_of process thread row sent) sent.target moment (meaning sent.bytes)))))
+    served_takes sent.target.manager (caller_of process thread row sent) (deed_of part.resources (context_of its (caller_of process thread row sent) sent.target moment) (meaning sent.bytes)))))
 serve_takes c user held part (Unblock process thread call) moment =
     takes_on part (cancel_call part.resources process thread call moment) _ (λ deed. answers_take Pipe deed.answers)
 

@@ -39,5 +39,5 @@ answered None deed = Ok deed
 answered (Some error) deed = Err error
 
 -- a write of some bytes is judged by its fault alone
-pub written : (r : Resources) (opened : Opened) (new : List ℕ) (moment : ℕ) {inodes : Inodes} {files : Files} {block : Ocb} {bytes : List ℕ} {offset : ℕ} {fault : Option Errno} → inodes ≡ r.inodes → files ≡ r.files → Ok block ≡ block_for inodes opened.number WRITE → Some bytes ≡ row_at files block.inode → false ≡ (length new == 0) → offset ≡ write_offset block bytes → fault ≡ write_fault (total_size files) (length bytes) offset (length new) → answered fault (moved opened.number (offset + length new) (length new) [] (with_bytes block.inode moment (put bytes offset new) r)) ≡ write_file r opened new moment
-written r opened new moment same_inodes same_files is has_bytes some begins faults = grind (arith, total_after)
+pub written : (r : Resources) (opened : Opened) (new : List ℕ) {inodes : Inodes} {files : Files} {block : Ocb} {bytes : List ℕ} {offset : ℕ} {fault : Option Errno} → inodes ≡ r.inodes → files ≡ r.files → Ok block ≡ block_for inodes opened.number WRITE → Some bytes ≡ row_at files block.inode → false ≡ (length new == 0) → offset ≡ write_offset block bytes → fault ≡ write_fault (total_size files) (length bytes) offset (length new) → answered fault (moved opened.number (offset + length new) (length new) [] (with_bytes block.inode opened.moment (put bytes offset new) r)) ≡ write_file r opened new
+written r opened new same_inodes same_files is has_bytes some begins faults = grind (arith, total_after)

@@ -1,3 +1,2 @@
 -- what a write is judged by
-pub mod Given
 pub mod inner

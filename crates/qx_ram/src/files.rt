@@ -1,10 +1,10 @@
-ghost use Rattle.std.specs.Prelude.{◌≡◌, ◌≤◌, ℕ, [], None, IfOk, IsOk, OnErr, length};
+ghost use Rattle.std.specs.Prelude.{◌≡◌, ◌≤◌, [], None, IfOk, IsTrue, OnErr, length};
 ghost use Rattle.qx_iofunc.specs.Given.{number_replied};
 ghost use Rattle.qx_iofunc.specs.Store.{with_stored};
 ghost use Rattle.qx_machine.specs.Files.{total_size, write_offset};
 ghost use Rattle.qx_machine.specs.RamManager as machine;
 ghost use Rattle.qx_machine.specs.Resources.{Resources};
-ghost use Rattle.qx_ram.specs.Given.{Grows};
+ghost use Rattle.qx_machine.specs.Wants.{got_longer, is_done_so};
 ghost use Rattle.qx_ram.specs.inner.Given.{moved_offset, write_fault};
 ghost use Rattle.qx_types.specs.declared.limits.TheConstants.Limits.{TRANSFER};
 
@@ -22,7 +22,7 @@ pub fn read(store: &mut Store, opened: Opened, count: u32, reply: &mut Reply) ->
     requires count { count ≤ TRANSFER }
     requires empty { reply.old ≡ [] }
     ensures user { store.new.stored.user ≡ store.old.stored.user }
-    ensures read { (r : Resources) (moment : ℕ) → number_replied reply.new (with_stored r store.new.stored) result ≡ machine.read_file (with_stored r store.old.stored) opened count moment }
+    ensures read { (r : Resources) → number_replied reply.new (with_stored r store.new.stored) result ≡ machine.read_file (with_stored r store.old.stored) opened count }
     ensures kept { OnErr result ((store.new ≡ store.old) × (reply.new ≡ [])) }
 {
     let block = store.inodes().block_for(opened.number, OFlags::READ)?;
@@ -45,15 +45,13 @@ pub fn write(
     store: &mut Store,
     opened: Opened,
     new: &[u8],
-    moment: u64,
 ) -> Result<Result<u64, Errno>, AllocError>
     requires few { length new.now ≤ TRANSFER }
     ensures user { store.new.stored.user ≡ store.old.stored.user }
-    ensures written { IfOk result (λ w. (r : Resources) → number_replied [] (with_stored r store.new.stored) w ≡ machine.write_file (with_stored r store.old.stored) opened new.now moment) }
+    ensures written { IfOk result (λ w. (r : Resources) → number_replied [] (with_stored r store.new.stored) w ≡ machine.write_file (with_stored r store.old.stored) opened new.now) }
     ensures kept { IfOk result (λ w. OnErr w (store.new ≡ store.old)) }
     ensures err { OnErr result (store.new ≡ store.old) }
-    ensures wanted { OnErr result ((r : Resources) → IsOk (machine.write_file (with_stored r store.old.stored) opened new.now moment)) }
-    ensures longer { OnErr result ((r : Resources) → Grows (with_stored r store.old.stored) (machine.write_file (with_stored r store.old.stored) opened new.now moment)) }
+    ensures wanted { OnErr result ((r : Resources) → IsTrue (is_done_so got_longer (with_stored r store.old.stored) (machine.write_file (with_stored r store.old.stored) opened new.now))) }
 {
     let block = match store.inodes().block_for(opened.number, OFlags::WRITE) {
         Ok(block) => block,
@@ -70,7 +68,7 @@ pub fn write(
     if let Some(error) = write_fault(files, data, offset, new.len()) {
         return Ok(Err(error));
     }
-    store.write(block.inode, offset as usize, new, moment)?;
+    store.write(block.inode, offset as usize, new, opened.moment)?;
     let count = new.len() as u64;
     store.set_offset(opened.number, offset + count);
     Ok(Ok(count))
@@ -80,7 +78,7 @@ pub fn write(
 /// directory, below 0, and above 2^63 - 1.
 pub fn seek(store: &mut Store, opened: Opened, whence: Whence, by: i64) -> Result<u64, Errno>
     ensures user { store.new.stored.user ≡ store.old.stored.user }
-    ensures moved { (r : Resources) (moment : ℕ) → number_replied [] (with_stored r store.new.stored) result ≡ machine.seek_file (with_stored r store.old.stored) opened whence by moment }
+    ensures moved { (r : Resources) → number_replied [] (with_stored r store.new.stored) result ≡ machine.seek_file (with_stored r store.old.stored) opened whence by }
     ensures kept { OnErr result (store.new ≡ store.old) }
 {
     let Some(block) = store.inodes().block(opened.number) else {

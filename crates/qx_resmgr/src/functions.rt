@@ -1,16 +1,17 @@
-ghost use Rattle.std.specs.Prelude.{◌≡◌, ◌≤◌, Bool, false, [], Err, IfOk, IsFalse, IsOk, IsSome, OnErr, length};
+ghost use Rattle.std.specs.Prelude.{◌≡◌, ◌≤◌, Bool, false, [], Err, IfOk, IsOk, IsSome, IsTrue, OnErr, length};
 ghost use Rattle.qx_types.specs.declared.limits.TheConstants.Limits.{TRANSFER};
 ghost use Rattle.qx_types.specs.declared.errno.Errno.TheVariants.{ENOSYS};
 ghost use Rattle.qx_machine.specs.declared.rows.Effect.TheVariants.{Keeps};
 ghost use Rattle.qx_machine.specs.declared.rows.Opened.{Opened};
 ghost use Rattle.qx_machine.specs.Functions.{ConnectFunctions, IoFunctions, function_deed, no_connect, no_io};
+ghost use Rattle.qx_machine.specs.Wants.{is_done_so};
 ghost use Rattle.qx_resmgr.specs.Deeds.{Did, HasRoomAfter, IsReplied};
 
 use crate::state::State;
 use qx_attr::Reply;
-use qx_machine::{Effect, NewOpen, Opened};
+use qx_machine::{Effect, NewOpen, Opened, Wish};
 use qx_process::Room;
-use qx_types::{Errno, OFlags, Whence};
+use qx_types::{Errno, Whence};
 use qx_wire::Rest;
 use std::alloc::AllocError;
 
@@ -49,16 +50,14 @@ pub trait Connect<S: State<W, T>, W, T> {
         state: &mut S,
         waits: &mut W,
         over: Result<NewOpen, Errno>,
-        flags: OFlags,
-        mode: u16,
         rest: &Rest<'_>,
-        moment: u64,
+        wish: Wish,
     ) -> Result<Result<Done, Errno>, AllocError>
         requires fits { S.fits state.old waits.old }
-        ensures did { IfOk result (λ given. Did S.State state.old waits.old state.new waits.new [] given (function_deed connect.«open» over (λ f over. f (S.told state.old waits.old) over flags mode rest.now moment))) }
+        ensures did { IfOk result (λ given. Did S.State state.old waits.old state.new waits.new [] given (function_deed connect.«open» over (λ f over. f (S.told state.old waits.old) over rest.now wish))) }
         ensures replied { IfOk result IsReplied }
         ensures err { OnErr result ((state.new ≡ state.old) × (waits.new ≡ waits.old)) }
-        ensures wanted { OnErr result (IsOk (function_deed connect.«open» over (λ f over. f (S.told state.old waits.old) over flags mode rest.now moment))) };
+        ensures wanted { OnErr result (IsOk (function_deed connect.«open» over (λ f over. f (S.told state.old waits.old) over rest.now wish))) };
 
     /// Tells the status of what a path leads to.
     fn stat(
@@ -103,17 +102,17 @@ pub trait Connect<S: State<W, T>, W, T> {
 }
 
 /// A manager's functions for messages over what is open (Writing a Resource Manager: `resmgr_io_funcs_t`), which work on what
-/// it keeps for a user and on what all users share. A function is given what is open, or the error if nothing is, and the
-/// moment; one whose reply may have bytes puts them into `reply`. A read or a write may leave its message without a reply,
-/// and then takes `room`, memory for a reply that comes later; else it leaves that as it was. The others always reply. An
-/// error leaves all as it was, and no bytes. Where memory is short, all is as it was too, and the message would have been
-/// done.
+/// it keeps for a user and on what all users share. A function is given what is open, with the moment, or the error if
+/// nothing is; one whose reply may have bytes puts them into `reply`. A read or a write may leave its message without a
+/// reply, and then takes `room`, memory for a reply that comes later; else it leaves that as it was. The others always
+/// reply. An error leaves all as it was, and no bytes. Where memory is short, all is as it was too, and the message would
+/// have been done.
 pub trait Io<S: State<W, T>, W, T> {
     /// What they mean. A function that is left out is `no_function()`.
     ghost io: { IoFunctions T } = { no_io };
 
-    /// Whether a write may want memory.
-    ghost wants: { Bool } = { false };
+    /// Which difference a write makes to what the functions work on that may want memory. Most managers' writes want none.
+    ghost wants: { T → T → Bool } = { λ _ _. false };
 
     /// What a read or a write needs of the thread whose message it is. Most managers ask nothing.
     ghost ready: { S → W → Opened → Type 0 } = { λ _ _ _. Unit {0} };
@@ -124,7 +123,6 @@ pub trait Io<S: State<W, T>, W, T> {
         waits: &mut W,
         opened: Result<Opened, Errno>,
         count: u32,
-        moment: u64,
         reply: &mut Reply,
         room: &mut Option<Room>,
     ) -> Result<Done, Errno>
@@ -133,7 +131,7 @@ pub trait Io<S: State<W, T>, W, T> {
         requires room { IsSome room.old }
         requires empty { reply.old ≡ [] }
         requires count { count ≤ TRANSFER }
-        ensures did { Did S.State state.old waits.old state.new waits.new reply.new result (function_deed io.read opened (λ f o. f (S.told state.old waits.old) o count moment)) }
+        ensures did { Did S.State state.old waits.old state.new waits.new reply.new result (function_deed io.read opened (λ f o. f (S.told state.old waits.old) o count)) }
         ensures room { HasRoomAfter room.old room.new result };
 
     /// Writes bytes.
@@ -142,28 +140,25 @@ pub trait Io<S: State<W, T>, W, T> {
         waits: &mut W,
         opened: Result<Opened, Errno>,
         bytes: &[u8],
-        moment: u64,
         room: &mut Option<Room>,
     ) -> Result<Result<Done, Errno>, AllocError>
         requires fits { S.fits state.old waits.old }
         requires ready { IfOk opened (λ o. ready state.old waits.old o) }
         requires room { IsSome room.old }
         requires count { length bytes.now ≤ TRANSFER }
-        ensures did { IfOk result (λ given. Did S.State state.old waits.old state.new waits.new [] given (function_deed io.write opened (λ f o. f (S.told state.old waits.old) o bytes.now moment))) }
+        ensures did { IfOk result (λ given. Did S.State state.old waits.old state.new waits.new [] given (function_deed io.write opened (λ f o. f (S.told state.old waits.old) o bytes.now))) }
         ensures room { IfOk result (λ given. HasRoomAfter room.old room.new given) }
         ensures err { OnErr result ((state.new ≡ state.old) × (waits.new ≡ waits.old) × (room.new ≡ room.old)) }
-        ensures wanted { OnErr result (IsOk (function_deed io.write opened (λ f o. f (S.told state.old waits.old) o bytes.now moment))) }
-        ensures sure { IsFalse wants → IsOk result };
+        ensures wanted { OnErr result (IsTrue (is_done_so wants (S.told state.old waits.old) (function_deed io.write opened (λ f o. f (S.told state.old waits.old) o bytes.now)))) };
 
     /// Takes a connection away, and its block with it.
     fn close(
         state: &mut S,
         waits: &mut W,
         opened: Result<Opened, Errno>,
-        moment: u64,
     ) -> Result<Done, Errno>
         requires fits { S.fits state.old waits.old }
-        ensures did { Did S.State state.old waits.old state.new waits.new [] result (function_deed io.close opened (λ f o. f (S.told state.old waits.old) o moment)) }
+        ensures did { Did S.State state.old waits.old state.new waits.new [] result (function_deed io.close opened (λ f o. f (S.told state.old waits.old) o)) }
         ensures replied { IsReplied result };
 
     /// Sets the offset, in bytes.
@@ -173,10 +168,9 @@ pub trait Io<S: State<W, T>, W, T> {
         opened: Result<Opened, Errno>,
         whence: Whence,
         offset: i64,
-        moment: u64,
     ) -> Result<Done, Errno>
         requires fits { S.fits state.old waits.old }
-        ensures did { Did S.State state.old waits.old state.new waits.new [] result (function_deed io.lseek opened (λ f o. f (S.told state.old waits.old) o whence offset moment)) }
+        ensures did { Did S.State state.old waits.old state.new waits.new [] result (function_deed io.lseek opened (λ f o. f (S.told state.old waits.old) o whence offset)) }
         ensures replied { IsReplied result };
 
     /// Tells the status of what is open.
@@ -184,12 +178,11 @@ pub trait Io<S: State<W, T>, W, T> {
         state: &mut S,
         waits: &mut W,
         opened: Result<Opened, Errno>,
-        moment: u64,
         reply: &mut Reply,
     ) -> Result<Done, Errno>
         requires fits { S.fits state.old waits.old }
         requires empty { reply.old ≡ [] }
-        ensures did { Did S.State state.old waits.old state.new waits.new reply.new result (function_deed io.fstat opened (λ f o. f (S.told state.old waits.old) o moment)) }
+        ensures did { Did S.State state.old waits.old state.new waits.new reply.new result (function_deed io.fstat opened (λ f o. f (S.told state.old waits.old) o)) }
         ensures replied { IsReplied result };
 
     /// Tells the names of a directory behind the name `after`, or the first ones if that is empty.
@@ -198,12 +191,11 @@ pub trait Io<S: State<W, T>, W, T> {
         waits: &mut W,
         opened: Result<Opened, Errno>,
         after: &[u8],
-        moment: u64,
         reply: &mut Reply,
     ) -> Result<Done, Errno>
         requires fits { S.fits state.old waits.old }
         requires empty { reply.old ≡ [] }
-        ensures did { Did S.State state.old waits.old state.new waits.new reply.new result (function_deed io.list opened (λ f o. f (S.told state.old waits.old) o after.now moment)) }
+        ensures did { Did S.State state.old waits.old state.new waits.new reply.new result (function_deed io.list opened (λ f o. f (S.told state.old waits.old) o after.now)) }
         ensures replied { IsReplied result };
 
     /// Sets the permission bits.
@@ -212,10 +204,9 @@ pub trait Io<S: State<W, T>, W, T> {
         waits: &mut W,
         opened: Result<Opened, Errno>,
         mode: u16,
-        moment: u64,
     ) -> Result<Done, Errno>
         requires fits { S.fits state.old waits.old }
-        ensures did { Did S.State state.old waits.old state.new waits.new [] result (function_deed io.chmod opened (λ f o. f (S.told state.old waits.old) o mode moment)) }
+        ensures did { Did S.State state.old waits.old state.new waits.new [] result (function_deed io.chmod opened (λ f o. f (S.told state.old waits.old) o mode)) }
         ensures replied { IsReplied result };
 }
 

@@ -1,66 +1,71 @@
-ghost use Rattle.std.specs.Prelude.{◌≡◌, [], IfOk, IsFalse, IsTrue, IsOk, IsSome, OnErr};
+ghost use Rattle.std.specs.Prelude.{◌≡◌, [], IfOk, IsTrue, IsSome, OnErr};
 ghost use Rattle.qx_wire.specs.Table.{in_ranges};
 ghost use Rattle.qx_machine.specs.Functions as functions;
-ghost use Rattle.qx_machine.specs.Functions.{served};
-ghost use Rattle.qx_machine.specs.Wants.{message_wants_memory};
+ghost use Rattle.qx_machine.specs.Functions.{message_deed};
+ghost use Rattle.qx_machine.specs.Wants.{deed_wants_memory};
 ghost use Rattle.qx_resmgr.specs.Deeds.{Did, HasRoomAfter};
 
 use crate::functions::{Connect, Done, Io, no_function};
 use crate::state::State;
 use qx_attr::Reply;
-use qx_machine::{NewOpen, Opened, Over, Target};
+use qx_machine::{Context, NewOpen, Over, Target, Wish};
 use qx_process::Room;
 use qx_types::Errno;
 use qx_wire::Message;
 use std::alloc::AllocError;
 
-/// Does what a message asks a manager for at a moment, by the function for it in one of the manager's two tables (Writing
-/// a Resource Manager: `resmgr_handler`). ENOSYS where there is none; EINVAL where an open didn't come over a new
-/// connection, or another message to a path not over a side connection; the error of `opened`, for a message over what is
+/// Does what a message asks a manager for, by the function for it in one of the manager's two tables (Writing a Resource
+/// Manager: `resmgr_handler`). ENOSYS where there is none; EINVAL where an open didn't come over a new connection, or
+/// another message to a path not over a side connection; the error of the context's `opened`, for a message over what is
 /// open; then the function's own errors. An error changes nothing. The bytes of the reply are then in `reply`, none after
 /// an error; a message that is left without one took `room` along, and else that is as it was. Only an open, a mknod and,
 /// of some managers, a write may want memory, and only where they would be done.
 pub fn serve<M: Connect<S, W, T> + Io<S, W, T>, S: State<W, T>, W, T>(
     state: &mut S,
     waits: &mut W,
-    target: Target,
-    opened: Result<Opened, Errno>,
+    context: Context,
     message: Message<'_>,
-    moment: u64,
     reply: &mut Reply,
     room: &mut Option<Room>,
 ) -> Result<Result<Done, Errno>, AllocError>
     requires fits { S.fits state.old waits.old }
-    requires ready { IfOk opened (λ o. M.ready state.old waits.old o) }
+    requires ready { IfOk context.opened (λ o. M.ready state.old waits.old o) }
     requires room { IsSome room.old }
     requires ranges { IsTrue (in_ranges message) }
     requires empty { reply.old ≡ [] }
-    ensures did { IfOk result (λ given. Did S.State state.old waits.old state.new waits.new reply.new given (served M.connect M.io (S.told state.old waits.old) target opened moment message.entry)) }
+    ensures did { IfOk result (λ given. Did S.State state.old waits.old state.new waits.new reply.new given (message_deed M.connect M.io (S.told state.old waits.old) context message.entry)) }
     ensures room { IfOk result (λ given. HasRoomAfter room.old room.new given) }
     ensures err { OnErr result ((state.new ≡ state.old) × (waits.new ≡ waits.old) × (room.new ≡ room.old)) }
-    ensures wanted { OnErr result (IsOk (served M.connect M.io (S.told state.old waits.old) target opened moment message.entry)) }
-    ensures sure { IsFalse (message_wants_memory M.wants message.entry) → IsOk result }
+    ensures wanted { OnErr result (IsTrue (deed_wants_memory M.wants (S.told state.old waits.old) message.entry (message_deed M.connect M.io (S.told state.old waits.old) context message.entry))) }
 {
+    let Context {
+        target,
+        opened,
+        moment,
+    } = context;
     let given = match message {
         Message::Open { flags, mode, rest } => {
-            return M::open(state, waits, new_open(target), flags, mode, &rest, moment);
+            let wish = Wish {
+                flags,
+                mode,
+                moment,
+            };
+            return M::open(state, waits, new_open(target), &rest, wish);
         }
         Message::Mknod { mode, rest } => {
             return M::mknod(state, waits, side_root(target), mode, &rest, moment);
         }
         Message::Write { bytes } => {
-            return M::write(state, waits, opened, bytes.as_slice(), moment, room);
+            return M::write(state, waits, opened, bytes.as_slice(), room);
         }
         Message::Stat { rest } => M::stat(state, waits, side_root(target), &rest, moment, reply),
         Message::Unlink { rest } => M::unlink(state, waits, side_root(target), &rest, moment),
-        Message::Read { count } => M::read(state, waits, opened, count, moment, reply, room),
-        Message::Close => M::close(state, waits, opened, moment),
-        Message::Lseek { whence, offset } => {
-            M::lseek(state, waits, opened, whence, offset, moment)
-        }
-        Message::Fstat => M::fstat(state, waits, opened, moment, reply),
-        Message::List { after } => M::list(state, waits, opened, after.as_slice(), moment, reply),
-        Message::Chmod { mode } => M::chmod(state, waits, opened, mode, moment),
+        Message::Read { count } => M::read(state, waits, opened, count, reply, room),
+        Message::Close => M::close(state, waits, opened),
+        Message::Lseek { whence, offset } => M::lseek(state, waits, opened, whence, offset),
+        Message::Fstat => M::fstat(state, waits, opened, reply),
+        Message::List { after } => M::list(state, waits, opened, after.as_slice(), reply),
+        Message::Chmod { mode } => M::chmod(state, waits, opened, mode),
         _ => no_function(),
     };
     Ok(given)

@@ -68,7 +68,7 @@ pub fn fstat(
     reply: &mut Reply,
 ) -> Result<Done, Errno>
     requires empty { reply.old ≡ [] }
-    ensures did { (waits : Shared) (moment : ℕ) → Did kept.state state.now waits state.now waits reply.new result (function_deed ram_io.fstat opened (λ f o. f (kept.told state.now waits) o moment)) }
+    ensures did { (waits : Shared) → Did kept.state state.now waits state.now waits reply.new result (function_deed ram_io.fstat opened (λ f o. f (kept.told state.now waits) o)) }
     ensures replied { IsReplied result }
 {
     tell(state.store.fstat(opened?), reply).map(Done::keeps)
@@ -82,7 +82,7 @@ pub fn list(
     reply: &mut Reply,
 ) -> Result<Done, Errno>
     requires empty { reply.old ≡ [] }
-    ensures did { (waits : Shared) (moment : ℕ) → Did kept.state state.now waits state.now waits reply.new result (function_deed ram_io.list opened (λ f o. f (kept.told state.now waits) o after.now moment)) }
+    ensures did { (waits : Shared) → Did kept.state state.now waits state.now waits reply.new result (function_deed ram_io.list opened (λ f o. f (kept.told state.now waits) o after.now)) }
     ensures replied { IsReplied result }
 {
     state.store.list(opened?, after, reply).map(Done::keeps)
@@ -93,11 +93,9 @@ pub fn chmod(
     state: &mut Resources,
     opened: Result<Opened, Errno>,
     mode: u16,
-    moment: u64,
 ) -> Result<Done, Errno>
-    ensures did { (waits : Shared) → Did kept.state state.old waits state.new waits [] result (function_deed ram_io.chmod opened (λ f o. f (kept.told state.old waits) o mode moment)) }
+    ensures did { (waits : Shared) → Did kept.state state.old waits state.new waits [] result (function_deed ram_io.chmod opened (λ f o. f (kept.told state.old waits) o mode)) }
     ensures replied { IsReplied result }
 {
-    let changed = state.store.chmod(opened?, mode, moment);
-    changed.map(|_| Done::keeps(0))
+    state.store.chmod(opened?, mode).map(|_| Done::keeps(0))
 }

@@ -1,7 +1,7 @@
 //! What the managers keep for users, and what messages do to it.
 //!
-//! - `resources.rt`: what is kept for one user, mounts and a store; boot, mounting, which manager does what, and an
-//!   unblock
+//! - `resources.rt`: what is kept for one user, mounts and a store; boot, mounting, what a message is served with, which
+//!   manager does what, and an unblock
 //! - `ram.rt`, `pipe.rt`: the RAM manager and the pipe manager, each as its functions
 //! - `blocks.rt`: what both do alike: status, listing and mode, and what an open and a close come to
 //! - `state.rt`: the same resources, as the managers' tables see them with the user's pipes
@@ -19,4 +19,4 @@ pub mod resources;
 pub mod state;
 
 pub use all::AllResources;
-pub use resources::{NewMount, Resources};
+pub use resources::{NewMount, Resources, context_of};

@@ -4,11 +4,11 @@ use crate::blocks;
 use crate::resources::Resources;
 use crate::state::Told;
 use qx_attr::Reply;
-use qx_machine::{NewOpen, Opened};
+use qx_machine::{NewOpen, Opened, Wish};
 use qx_process::Room;
 use qx_resmgr::{Connect, Done, Io, no_function};
 use qx_shared::Shared;
-use qx_types::{Errno, OFlags, Whence};
+use qx_types::{Errno, Whence};
 use qx_wire::Rest;
 use std::alloc::AllocError;
 
@@ -22,24 +22,14 @@ impl Connect<Resources, Shared, Told> for Pipe {
         state: &mut Resources,
         waits: &mut Shared,
         over: Result<NewOpen, Errno>,
-        flags: OFlags,
-        mode: u16,
         rest: &Rest<'_>,
-        moment: u64,
+        wish: Wish,
     ) -> Result<Result<Done, Errno>, AllocError> {
         let over = match over {
             Ok(over) => over,
             Err(error) => return Ok(Err(error)),
         };
-        let opened = qx_pipes::open(
-            waits,
-            &mut state.store,
-            over.root,
-            rest,
-            flags,
-            mode,
-            moment,
-        )?;
+        let opened = qx_pipes::open(waits, &mut state.store, over.root, rest, wish)?;
         Ok(opened.map(|block| blocks::opened(over.coid, block)))
     }
 
@@ -89,11 +79,10 @@ impl Io<Resources, Shared, Told> for Pipe {
         waits: &mut Shared,
         opened: Result<Opened, Errno>,
         count: u32,
-        moment: u64,
         _reply: &mut Reply,
         room: &mut Option<Room>,
     ) -> Result<Done, Errno> {
-        let read = qx_pipes::read(waits, &mut state.store, opened?, count, room, moment);
+        let read = qx_pipes::read(waits, &mut state.store, opened?, count, room);
         read.map(|_| Done::NoReply)
     }
 
@@ -102,14 +91,13 @@ impl Io<Resources, Shared, Told> for Pipe {
         waits: &mut Shared,
         opened: Result<Opened, Errno>,
         bytes: &[u8],
-        moment: u64,
         room: &mut Option<Room>,
     ) -> Result<Result<Done, Errno>, AllocError> {
         let opened = match opened {
             Ok(opened) => opened,
             Err(error) => return Ok(Err(error)),
         };
-        let written = qx_pipes::write(waits, &mut state.store, opened, bytes, room, moment);
+        let written = qx_pipes::write(waits, &mut state.store, opened, bytes, room);
         Ok(written.map(|_| Done::NoReply))
     }
 
@@ -117,10 +105,9 @@ impl Io<Resources, Shared, Told> for Pipe {
         state: &mut Resources,
         waits: &mut Shared,
         opened: Result<Opened, Errno>,
-        moment: u64,
     ) -> Result<Done, Errno> {
         let opened = opened?;
-        let closed = qx_pipes::close(waits, &mut state.store, opened, moment);
+        let closed = qx_pipes::close(waits, &mut state.store, opened);
         closed.map(|_| blocks::closed(opened.coid))
     }
 
@@ -130,7 +117,6 @@ impl Io<Resources, Shared, Told> for Pipe {
         opened: Result<Opened, Errno>,
         _whence: Whence,
         _offset: i64,
-        _moment: u64,
     ) -> Result<Done, Errno> {
         Err(qx_pipes::seek(&state.store, opened?))
     }
@@ -139,7 +125,6 @@ impl Io<Resources, Shared, Told> for Pipe {
         state: &mut Resources,
         _waits: &mut Shared,
         opened: Result<Opened, Errno>,
-        _moment: u64,
         reply: &mut Reply,
     ) -> Result<Done, Errno> {
         blocks::fstat(state, opened, reply)
@@ -150,7 +135,6 @@ impl Io<Resources, Shared, Told> for Pipe {
         _waits: &mut Shared,
         opened: Result<Opened, Errno>,
         after: &[u8],
-        _moment: u64,
         reply: &mut Reply,
     ) -> Result<Done, Errno> {
         blocks::list(state, opened, after, reply)
@@ -161,8 +145,7 @@ impl Io<Resources, Shared, Told> for Pipe {
         _waits: &mut Shared,
         opened: Result<Opened, Errno>,
         mode: u16,
-        moment: u64,
     ) -> Result<Done, Errno> {
-        blocks::chmod(state, opened, mode, moment)
+        blocks::chmod(state, opened, mode)
     }
 }

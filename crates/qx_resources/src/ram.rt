@@ -1,5 +1,5 @@
-ghost use Rattle.std.specs.Prelude.{true};
 ghost use Rattle.qx_machine.specs.Managers.{ram_connect, ram_io};
+ghost use Rattle.qx_machine.specs.Wants.{got_longer};
 
 use crate::blocks;
 use crate::resources::Resources;
@@ -9,7 +9,7 @@ use qx_machine::{Kind, NewOpen, Opened, Wish};
 use qx_process::Room;
 use qx_resmgr::{Connect, Done, Io};
 use qx_shared::Shared;
-use qx_types::{Errno, OFlags, Whence};
+use qx_types::{Errno, Whence};
 use qx_wire::Rest;
 use std::alloc::AllocError;
 
@@ -23,26 +23,18 @@ impl Connect<Resources, Shared, Told> for Ram {
         state: &mut Resources,
         _waits: &mut Shared,
         over: Result<NewOpen, Errno>,
-        flags: OFlags,
-        mode: u16,
         rest: &Rest<'_>,
-        moment: u64,
+        wish: Wish,
     ) -> Result<Result<Done, Errno>, AllocError> {
         let over = match over {
             Ok(over) => over,
             Err(error) => return Ok(Err(error)),
         };
-        let lookup = match state.store.lookup(over.root, rest, flags) {
+        let lookup = match state.store.lookup(over.root, rest, wish.flags) {
             Ok(lookup) => lookup,
             Err(error) => return Ok(Err(error)),
         };
-        let wish = Wish {
-            flags,
-            kind: Kind::File,
-            mode,
-            moment,
-        };
-        let opening = state.store.open(lookup, wish)?;
+        let opening = state.store.open(Kind::File, lookup, wish)?;
         Ok(Ok(blocks::opened(over.coid, opening.number)))
     }
 
@@ -88,14 +80,13 @@ impl Connect<Resources, Shared, Told> for Ram {
 impl Io<Resources, Shared, Told> for Ram {
     ghost io = { ram_io };
 
-    ghost wants = { true };
+    ghost wants = { got_longer };
 
     fn read(
         state: &mut Resources,
         _waits: &mut Shared,
         opened: Result<Opened, Errno>,
         count: u32,
-        _moment: u64,
         reply: &mut Reply,
         _room: &mut Option<Room>,
     ) -> Result<Done, Errno> {
@@ -107,14 +98,13 @@ impl Io<Resources, Shared, Told> for Ram {
         _waits: &mut Shared,
         opened: Result<Opened, Errno>,
         bytes: &[u8],
-        moment: u64,
         _room: &mut Option<Room>,
     ) -> Result<Result<Done, Errno>, AllocError> {
         let opened = match opened {
             Ok(opened) => opened,
             Err(error) => return Ok(Err(error)),
         };
-        let written = qx_ram::write(&mut state.store, opened, bytes, moment)?;
+        let written = qx_ram::write(&mut state.store, opened, bytes)?;
         Ok(written.map(Done::keeps))
     }
 
@@ -122,7 +112,6 @@ impl Io<Resources, Shared, Told> for Ram {
         state: &mut Resources,
         _waits: &mut Shared,
         opened: Result<Opened, Errno>,
-        _moment: u64,
     ) -> Result<Done, Errno> {
         let opened = opened?;
         state.store.close(Kind::File, opened.number)?;
@@ -135,7 +124,6 @@ impl Io<Resources, Shared, Told> for Ram {
         opened: Result<Opened, Errno>,
         whence: Whence,
         offset: i64,
-        _moment: u64,
     ) -> Result<Done, Errno> {
         qx_ram::seek(&mut state.store, opened?, whence, offset).map(Done::keeps)
     }
@@ -144,7 +132,6 @@ impl Io<Resources, Shared, Told> for Ram {
         state: &mut Resources,
         _waits: &mut Shared,
         opened: Result<Opened, Errno>,
-        _moment: u64,
         reply: &mut Reply,
     ) -> Result<Done, Errno> {
         blocks::fstat(state, opened, reply)
@@ -155,7 +142,6 @@ impl Io<Resources, Shared, Told> for Ram {
         _waits: &mut Shared,
         opened: Result<Opened, Errno>,
         after: &[u8],
-        _moment: u64,
         reply: &mut Reply,
     ) -> Result<Done, Errno> {
         blocks::list(state, opened, after, reply)
@@ -166,8 +152,7 @@ impl Io<Resources, Shared, Told> for Ram {
         _waits: &mut Shared,
         opened: Result<Opened, Errno>,
         mode: u16,
-        moment: u64,
     ) -> Result<Done, Errno> {
-        blocks::chmod(state, opened, mode, moment)
+        blocks::chmod(state, opened, mode)
     }
 }

@@ -1,6 +1,6 @@
 //! What the managers keep for a user, and what messages do to it.
 
-ghost use Rattle.std.specs.Prelude.{◌≡◌, is_ok, IsFalse, IsOk, IsSome, IfOk, OnErr, OnOk};
+ghost use Rattle.std.specs.Prelude.{◌≡◌, is_ok, IsSome, IsTrue, IfOk, OnErr, OnOk};
 ghost use Rattle.qx_machine.specs.Mounting as mounting;
 ghost use Rattle.qx_machine.specs.Performing as performing;
 ghost use Rattle.qx_machine.specs.Performing.{deed_of};
@@ -20,7 +20,7 @@ use crate::ram::Ram;
 use crate::state::Told;
 use qx_attr::Reply;
 use qx_iofunc::Store;
-use qx_machine::{Caller, Opened, Over, Target};
+use qx_machine::{Caller, Context, Opened, Over, Target};
 use qx_paths::{MountFault, Mounts, Path, read_path};
 use qx_process::{Process, Room};
 use qx_resmgr::{Done, serve};
@@ -135,29 +135,25 @@ impl Resources {
         Ok(())
     }
 
-    /// Does what bytes of a process ask its manager for at a moment, by what they mean; the bytes of the reply are then in
-    /// `reply`, none after an error, and a call that waits took `room` along. Only an open, a mknod and a write to the RAM
-    /// manager may want memory, and only where they would be done.
+    /// Does what bytes that were sent to a manager ask it for, by what they mean; the bytes of the reply are then in `reply`,
+    /// none after an error, and a call that waits took `room` along. Only an open, a mknod and a write that makes a file
+    /// longer may want memory, and only where they would be done.
     pub fn perform(
         &mut self,
         all: &mut Shared,
-        process: &Process,
-        caller: Caller,
-        target: Target,
+        context: Context,
         meaning: Meaning<'_>,
-        moment: u64,
         reply: &mut Reply,
         room: &mut Option<Room>,
     ) -> Result<Result<Done, Errno>, AllocError>
         requires ranges { IsInRanges meaning }
         requires fits { HasUser self.old all.old }
-        requires received { IsReceived all.old (callers_thread self.old.user caller) }
+        requires received { IfOk context.opened (λ o. IsReceived all.old (callers_thread self.old.user o.caller)) }
         requires room { IsSome room.old }
-        ensures did { IfOk result (λ given. Did state self.old all.old self.new all.new reply.new given (deed_of (told self.old all.old) process.now caller target moment meaning.entry)) }
+        ensures did { IfOk result (λ given. Did state self.old all.old self.new all.new reply.new given (deed_of (told self.old all.old) context meaning.entry)) }
         ensures room { IfOk result (λ given. HasRoomAfter room.old room.new given) }
         ensures err { OnErr result ((self.new ≡ self.old) × (all.new ≡ all.old) × (room.new ≡ room.old)) }
-        ensures wanted { OnErr result (IsOk (deed_of (told self.old all.old) process.now caller target moment meaning.entry)) }
-        ensures sure { IsFalse (bytes_want_memory target.manager meaning.entry) → IsOk result }
+        ensures wanted { OnErr result (IsTrue (bytes_want_memory context.target.manager (told self.old all.old) meaning.entry (deed_of (told self.old all.old) context meaning.entry))) }
     {
         reply.clear();
         let message = match meaning {
@@ -165,14 +161,13 @@ impl Resources {
             Meaning::Unknown => return Ok(Err(Errno::ENOSYS)),
             Meaning::Malformed => return Ok(Err(Errno::EINVAL)),
         };
-        let opened = opened_by(process, caller, target);
-        match target.manager {
-            Manager::Ram => serve::<Ram, Resources, Shared, Told>(
-                self, all, target, opened, message, moment, reply, room,
-            ),
-            Manager::Pipe => serve::<Pipe, Resources, Shared, Told>(
-                self, all, target, opened, message, moment, reply, room,
-            ),
+        match context.target.manager {
+            Manager::Ram => {
+                serve::<Ram, Resources, Shared, Told>(self, all, context, message, reply, room)
+            }
+            Manager::Pipe => {
+                serve::<Pipe, Resources, Shared, Told>(self, all, context, message, reply, room)
+            }
         }
     }
 
@@ -190,9 +185,25 @@ impl Resources {
     }
 }
 
+/// What a message of a process is served with at a moment (Writing a Resource Manager: `resmgr_context_t`).
+pub fn context_of(process: &Process, caller: Caller, target: Target, moment: u64) -> Context
+    ensures context { result ≡ performing.context_of process.now caller target moment }
+{
+    Context {
+        target,
+        opened: opened_by(process, caller, target, moment),
+        moment,
+    }
+}
+
 /// What the connection of a message has open.
-fn opened_by(process: &Process, caller: Caller, target: Target) -> Result<Opened, Errno>
-    ensures { result ≡ performing.opened_by process.now caller target }
+fn opened_by(
+    process: &Process,
+    caller: Caller,
+    target: Target,
+    moment: u64,
+) -> Result<Opened, Errno>
+    ensures { result ≡ performing.opened_by process.now caller target moment }
 {
     let Over::Existing(coid) = target.over else {
         return Err(Errno::EINVAL);
@@ -208,6 +219,7 @@ fn opened_by(process: &Process, caller: Caller, target: Target) -> Result<Opened
             caller,
             coid,
             number,
+            moment,
         }),
         None => Err(Errno::EBADF),
     }

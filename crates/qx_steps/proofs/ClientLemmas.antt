@@ -26,7 +26,7 @@ use Rattle.qx_machine.specs.Parts.{thread_of}
 use Rattle.qx_machine.specs.Resources.{Resources}
 use Rattle.qx_machine.specs.Processes.{Process}
 use Rattle.qx_machine.specs.Rows.{row_at}
-use Rattle.qx_machine.specs.Users.{client, settle}
+use Rattle.qx_machine.specs.Users.{client, settle_part}
 use Rattle.qx_process.proofs.RowLemmas.{set-row, with_row-none}
 use Rattle.qx_procs.specs.Calls.{after_or, spawn_outcome, spawned, with_prio}
 use Rattle.qx_chan.specs.Calls.{answer_of, queued_in}
@@ -74,7 +74,7 @@ module _ (config : Configuration) (c : Channel) (rs : List (Option Resources)) (
 
   pub spawn-step : (user : User) (threads : ℕ) (prio : Prio) → step w (Spawn user threads prio)
       ≡ record { world = told_world config (after_spawn c user.0 threads prio.0) rs hands; outcome = spawn_outcome (spawn_number_in threads prio.0 (row_at c.users user.0)) }
-  unfolding step client settle
+  unfolding step client settle_part
   spawn-step user threads prio = elim (option_cases (row_at c.users user.0)) [
     | inl none ↦ rw (part-none c.users rs user.0 none, with_row-none c.users user.0 (λ processes. spawned processes threads prio.0 (spawn_number processes threads prio.0)) none, none) refl
     | inr ps ↦
@@ -89,7 +89,7 @@ module _ (config : Configuration) (c : Channel) (rs : List (Option Resources)) (
 
   pub take_reply-step : (thread : Thread) → step w (TakeReply thread)
       ≡ record { world = told_world config (after_taking c thread) rs hands; outcome = taken_outcome (answer_of (thread_row c.users thread)) }
-  unfolding step client settle
+  unfolding step client settle_part
   take_reply-step thread = elim (option_cases (row_at c.users thread.proc.user.0)) [
     | inl none ↦ rw (part-none c.users rs thread.proc.user.0 none, none) refl
     | inr ps ↦
@@ -106,7 +106,7 @@ module _ (config : Configuration) (c : Channel) (rs : List (Option Resources)) (
 
   pub set_prio-step : (thread : Thread) (prio : Prio) → step w (SetPrio thread prio)
       ≡ record { world = told_world config (after_ranking c thread prio.0) rs hands; outcome = prio_outcome_in thread.proc.num thread.tid prio.0 (row_at c.users thread.proc.user.0) }
-  unfolding step client settle
+  unfolding step client settle_part
   set_prio-step thread prio = elim (option_cases (row_at c.users thread.proc.user.0)) [
     | inl none ↦ rw (part-none c.users rs thread.proc.user.0 none, with_row-none c.users thread.proc.user.0 (λ processes. after_or processes (with_prio processes thread.proc.num thread.tid prio.0)) none, none) refl
     | inr ps ↦
@@ -134,7 +134,7 @@ module _ (config : Configuration) (c : Channel) (rs : List (Option Resources)) (
   judged-nobody thread request none = rw (part-none c.users rs thread.proc.user.0 none) refl
 
   pub call-refused : (thread : Thread) (request : Request) (outcome : Outcome) → target_in w thread request ≡ Err outcome → step w (Call thread request) ≡ record { world = w; outcome = outcome }
-  unfolding step client settle
+  unfolding step client settle_part
   call-refused thread request outcome is = elim (option_cases (row_at w.parts thread.proc.user.0)) [
     | inl none ↦ let its : Err WrongState ≡ Err outcome = rw none at is in rw none (ap (λ o. record { world = w; outcome = o }) (cc))
     | inr part ↦
@@ -144,7 +144,7 @@ module _ (config : Configuration) (c : Channel) (rs : List (Option Resources)) (
 
   pub call-sent : (thread : Thread) (request : Request) (addressed : Addressed) → target_in w thread request ≡ Ok addressed
       → step w (Call thread request) ≡ record { world = told_world config (after_send c thread (sent_to addressed request)) rs hands; outcome = Sent }
-  unfolding step client settle
+  unfolding step client settle_part
   call-sent thread request addressed is = elim (option_cases (row_at c.users thread.proc.user.0)) [
     | inl none ↦ let clash : Err WrongState ≡ Ok addressed = rw (part-none c.users rs thread.proc.user.0 none) at is in absurd (cc)
     | inr ps ↦
@@ -156,7 +156,7 @@ module _ (config : Configuration) (c : Channel) (rs : List (Option Resources)) (
   -- ---- interrupt
 
   pub interrupt-nobody : (thread : Thread) → thread_row c.users thread ≡ None → step w (Interrupt thread) ≡ record { world = w; outcome = WrongState }
-  unfolding step client settle
+  unfolding step client settle_part
   interrupt-nobody thread none = elim (option_cases (row_at c.users thread.proc.user.0)) [
     | inl nobody ↦ rw (part-none c.users rs thread.proc.user.0 nobody) refl
     | inr ps ↦
@@ -168,27 +168,27 @@ module _ (config : Configuration) (c : Channel) (rs : List (Option Resources)) (
   module _ (thread : Thread) (row : ThreadRow) (it : There c rs thread row) where
     -- a thread that waits for nothing is not asked
     unasked-ready : row.state ≡ state.Ready → step w (Interrupt thread) ≡ record { world = told_world config (after_asking c thread) rs hands; outcome = Done }
-    unfolding step client settle
+    unfolding step client settle_part
     unasked-ready is = rw (it.part, it.user, it.its, is, set-row w.parts thread.proc.user.0 (record { processes = it.ps; resources = it.r }) it.part) refl
 
     unasked-answered : (answer : Answer) → row.state ≡ state.Answered answer → step w (Interrupt thread) ≡ record { world = told_world config (after_asking c thread) rs hands; outcome = Done }
-    unfolding step client settle
+    unfolding step client settle_part
     unasked-answered answer is = rw (it.part, it.user, it.its, is, set-row w.parts thread.proc.user.0 (record { processes = it.ps; resources = it.r }) it.part) refl
 
   module _ (thread : Thread) (row : ThreadRow) (sent : Message) (it : There c rs thread row) where
     dismisses : row.state ≡ state.Queued sent → step w (Interrupt thread) ≡ record { world = told_world config (after_withdrawing c thread) rs hands; outcome = Done }
-    unfolding step client settle
+    unfolding step client settle_part
     dismisses is = rw (it.part, it.user, it.its, is, it.user, parts-set_processes c.users rs thread.proc.user.0 _ it.r it.resources) refl
 
     asks : row.state ≡ state.Taken sent → step w (Interrupt thread) ≡ record { world = told_world config (after_asking c thread) rs hands; outcome = Done }
-    unfolding step client settle
+    unfolding step client settle_part
     asks is = elim (cases_Bool sent.is_asked) [
       | inl asked ↦ rw (it.part, it.user, it.its, is, asked, set-row w.parts thread.proc.user.0 (record { processes = it.ps; resources = it.r }) it.part) refl
       | inr unasked ↦ rw (it.part, it.user, it.its, is, unasked, it.user, parts-set_processes c.users rs thread.proc.user.0 _ it.r it.resources) refl
     ]
 
     asks_waiting : row.state ≡ state.Waiting sent → step w (Interrupt thread) ≡ record { world = told_world config (after_asking c thread) rs hands; outcome = Done }
-    unfolding step client settle
+    unfolding step client settle_part
     asks_waiting is = elim (cases_Bool sent.is_asked) [
       | inl asked ↦ rw (it.part, it.user, it.its, is, asked, set-row w.parts thread.proc.user.0 (record { processes = it.ps; resources = it.r }) it.part) refl
       | inr unasked ↦ rw (it.part, it.user, it.its, is, unasked, it.user, parts-set_processes c.users rs thread.proc.user.0 _ it.r it.resources) refl

@@ -20,7 +20,7 @@ use Rattle.qx_machine.specs.Parts.{Part, thread_of}
 use Rattle.qx_machine.specs.Resources.{Resources}
 use Rattle.qx_machine.specs.Processes.{Process}
 use Rattle.qx_machine.specs.Rows.{row_at, with_row}
-use Rattle.qx_machine.specs.Users.{client, settle}
+use Rattle.qx_machine.specs.Users.{client, settle_part}
 use Rattle.qx_machine.proofs.Places.{set-row_at}
 use Rattle.qx_resources.specs.Mounts as mounts
 use Rattle.qx_resources.specs.Mounts.{with_new_mount}
@@ -70,7 +70,7 @@ still_ok (Err errno) P Q step p = tt
 
 -- a user whose rows stay
 refused_by : (w : World) (user : ℕ) (part : Part) (outcome : Outcome) → row_at w.parts user ≡ Some part → client_end w user part (or_unchanged part (Err outcome)) ≡ record { world = w; outcome = outcome }
-unfolding settle
+unfolding settle_part
 refused_by w user part outcome row = ap (λ parts. record { world = record w { parts = parts }; outcome = outcome }) (ap (slice_set w.parts user) (sym row) ∙ set-row_at w.parts user)
 
 pub mount-refused : (w : World) (thread : Thread) (path : List ℕ) (manager : Manager) (outcome : Outcome) → mount_in w thread path manager ≡ Err outcome → step w (Mount thread path manager) ≡ record { world = w; outcome = outcome }
@@ -83,7 +83,7 @@ mount-refused w thread path manager outcome is = elim (option_cases (row_at w.pa
 ]
 
 pub mount-done : (w : World) (thread : Thread) (path : List ℕ) (manager : Manager) (mount : MountPoint) → mount_in w thread path manager ≡ Ok mount → step w (Mount thread path manager) ≡ record { world = after_mount w thread.proc.user.0 mount; outcome = Done }
-unfolding step client settle
+unfolding step client settle_part
 mount-done w thread path manager mount is = elim (option_cases (row_at w.parts thread.proc.user.0)) [
   | inl none ↦ let clash : Err WrongState ≡ Ok mount = rw none at is in absurd (cc)
   | inr part ↦

@@ -12,7 +12,7 @@ use Rattle.qx_machine.specs.Resources.{Resources}
 use Rattle.qx_machine.specs.Performing.{Served}
 use Rattle.qx_machine.specs.Processes.{Process}
 use Rattle.qx_machine.specs.Rows.{row_at, with_row}
-use Rattle.qx_machine.specs.Users.{settle}
+use Rattle.qx_machine.specs.Users.{settle_part}
 use Rattle.qx_machine.specs.Waiting.{no_pipes}
 use Rattle.qx_resources.specs.State.{told, Kept}
 use Rattle.qx_chan.specs.Channel.{Channel, lists}
@@ -39,7 +39,7 @@ part-beside (Some processes) r = refl
 end-of : (config : Configuration) (us vs : List (Option (List (Option Process)))) (rs qs : List (Option Resources)) (lines after : List (List Queued)) (hands : List (Option Held)) (user : ℕ) (part : Part) (given : Served) (r : Resources)
     → vs ≡ slice_set us user (Some given.part.processes) → qs ≡ slice_set rs user (Some r) → r ≡ given.part.resources → after ≡ lines_after user lines given.changes
     → record { config = config; parts = parts_of vs qs; lines = after; hands = hands } ≡ serve_end (record { config = config; parts = parts_of us rs; lines = lines; hands = hands }) user part given
-unfolding settle
+unfolding settle_part
 end-of config us vs rs qs lines after hands user part given r users resources its changed =
     let parts : parts_of vs qs ≡ slice_set (parts_of us rs) user (Some given.part) =
     ap₂ parts_of users resources ∙ (parts-set_both us rs user given.part.processes r ∙ ap (λ x. slice_set (parts_of us rs) user (Some (record given.part { resources = x }))) its)

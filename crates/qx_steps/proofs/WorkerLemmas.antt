@@ -16,7 +16,7 @@ use Rattle.qx_machine.specs.Machine.{World, is_worker, named_thread, performed_p
 use Rattle.qx_machine.specs.Resources.{Resources}
 use Rattle.qx_machine.specs.Processes.{taken_thread, with_thread}
 use Rattle.qx_machine.specs.Rows.{row_at, with_row}
-use Rattle.qx_machine.specs.Users.{serve, settle, take}
+use Rattle.qx_machine.specs.Users.{serve, settle_part, take}
 use Rattle.qx_machine.specs.Wants.{item_wants_memory, wants_memory}
 use Rattle.qx_machine.proofs.Workers.{after_item, after_taking, item_taken}
 use Rattle.qx_process.proofs.RowLemmas.{set-row, with_row-none}
@@ -81,7 +81,7 @@ pub ruleset perform_steps = (perform-no_worker, perform-nothing, perform-handled
 
 pub message-performed : (w : World) (worker : ℕ) (held : Held) (process thread moment : ℕ) → held.item ≡ item.Message process thread
     → performed_part (with_empty_hand w worker) held moment (row_at w.parts held.user.0) ≡ with_empty_hand (after_message w (named_thread held.user.0 process thread) moment) worker
-unfolding serve settle
+unfolding serve settle_part
 message-performed w worker held process thread moment is = elim (option_cases (row_at w.parts held.user.0)) [
   | inl none ↦ rw none refl
   | inr part ↦ rw (part.1, is) refl
@@ -89,7 +89,7 @@ message-performed w worker held process thread moment is = elim (option_cases (r
 
 pub pulse-performed : (w : World) (worker : ℕ) (held : Held) (process thread call moment : ℕ) → held.item ≡ item.Unblock process thread call
     → performed_part (with_empty_hand w worker) held moment (row_at w.parts held.user.0) ≡ with_empty_hand (after_pulse w (named_thread held.user.0 process thread) call moment) worker
-unfolding serve settle
+unfolding serve settle_part
 pulse-performed w worker held process thread call moment is = elim (option_cases (row_at w.parts held.user.0)) [
   | inl none ↦ rw none refl
   | inr part ↦ rw (part.1, is) refl
@@ -115,7 +115,7 @@ module _ (config : Configuration) (c : Channel) (rs : List (Option Resources)) (
   received : (worker : ℕ) (user : ℕ) (own : OwnItem) (prio : ℕ) (rest : List Queued) (manager : Manager) → channel_line c manager ≡ record { user = record { 0 = user }; item = own; prio = record { 0 = prio } } ∷ rest
       → received_part (with_taken w worker manager (record { user = record { 0 = user }; item = own })) (record { user = record { 0 = user }; item = own }) (row_at w.parts user)
       ≡ told_world config (after_receive c manager) rs (slice_set hands worker (Some (record { user = record { 0 = user }; item = own })))
-  unfolding settle take
+  unfolding settle_part take
   received worker user (item.Message process thread) prio rest manager is = elim (option_cases (row_at c.users user)) [
     | inl none ↦ rw (is, part-none c.users rs user none, with_row-none c.users user (λ processes. with_row processes process (with_thread thread taken_thread)) none) refl
     | inr ps ↦

@@ -297,7 +297,7 @@ impl World {
 
     /// A worker does what it holds (C Library Reference: `MsgReply`, `MsgError`), at a moment that becomes the times of
     /// what it changes. `WrongState` where there is no such worker, `Nothing` where it holds nothing. Only an open, a mkdir
-    /// and a write to the RAM manager may want memory; one that is answered an error wants none.
+    /// and a write that makes a file longer may want memory; one that is answered an error wants none.
     pub fn perform_held(&mut self, worker: Worker, moment: u64) -> Result<Outcome, NoMemory>
         ensures outcome { IfOk result (λ outcome. outcome ≡ (machine.step self.old (Step.Perform worker moment)).outcome) }
         ensures world { OnOk result (self.new ≡ (machine.step self.old (Step.Perform worker moment)).world) }

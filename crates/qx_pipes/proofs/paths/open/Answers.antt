@@ -9,17 +9,17 @@ use Rattle.qx_types.specs.declared.names.Coid.{Coid}
 
 pub returns-in-Err : goal.returns-in-Err
 returns-in-Err c =
-    let is = λ (r : Resources) (coid : Coid). sym (c.in-Err.ensures.opens (seen r c.args.store.now.stored c.args.shared.now) coid kind.Pipe c.args.mode c.args.moment) in
+    let is = λ (r : Resources) (coid : Coid). sym (c.in-Err.ensures.opens (seen r c.args.store.now.stored c.args.shared.now) coid kind.Pipe c.args.wish.mode c.args.wish.moment) in
     record { user = refl; opened = is; left = λ r coid. refused (is r coid) refl; err = tt; wanted = tt }
 
 pub returns-in_err-number-clause-wanted : goal.returns-in_err-number-clause-wanted
 returns-in_err-number-clause-wanted c =
     let failed : c.from_residual.result ≡ Err c.in_err-number.field-0.0 = search rules in
     let from = λ (r : Resources). seen r c.args.store.now.stored c.args.shared.now in
-    rw failed (λ r coid. subst IsOk (sym (c.in-Ok.ensures.opens (from r) coid kind.Pipe c.args.mode c.args.moment)) (c.in-Ok.ensures.allowed.opens (from r) coid kind.Pipe c.args.mode c.args.moment))
+    rw failed (λ r coid. subst IsOk (sym (c.in-Ok.ensures.opens (from r) coid kind.Pipe c.args.wish.mode c.args.wish.moment)) (c.in-Ok.ensures.allowed.opens (from r) coid kind.Pipe c.args.wish.mode c.args.wish.moment))
 
 pub returns : goal.returns
 returns c =
     let does = c.in_ok-number.ensures in
-    let is = λ (r : Resources) (coid : Coid). sym (c.in-Ok.ensures.opens (seen r c.args.store.now.stored c.args.shared.now) coid kind.Pipe c.args.mode c.args.moment) in
+    let is = λ (r : Resources) (coid : Coid). sym (c.in-Ok.ensures.opens (seen r c.args.store.now.stored c.args.shared.now) coid kind.Pipe c.args.wish.mode c.args.wish.moment) in
     record { user = does.user; opened = λ r coid. sym (does.opened r coid) ∙ is r coid; left = λ r coid. subst (Follows _ _ _ _ r) (is r coid) (does.left r coid); err = tt; wanted = tt }

@@ -6,5 +6,5 @@ use Rattle.qx_resources.proofs.blocks.chmod.Goals as goal
 pub returns-clause-did : goal.returns-clause-did
 returns-clause-did c = λ waits.
     rw (c.in_ok-opened.was, ← c.state.view_is)
-    (told_alone c.state.inside.mounts c.state.inside.store c.chmod-changed.new.self waits [] done (λ _. 0) (λ _ _. refl) (λ _ _. refl) c.chmod-changed.result c.map.result _
-    c.chmod-changed.ensures.changed c.chmod-changed.ensures.user (search rules) (search rules))
+    (told_alone c.state.inside.mounts c.state.inside.store c.chmod.new.self waits [] done (λ _. 0) (λ _ _. refl) (λ _ _. refl) c.chmod.result c.map.result _
+    c.chmod.ensures.changed c.chmod.ensures.user (search rules) (search rules))

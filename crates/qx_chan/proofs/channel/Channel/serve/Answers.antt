@@ -2,7 +2,6 @@ use Rattle.std.proofs.Common.{◌≡◌, ◌+◌, Some, refl, ◌∙◌, sym, ap
 use Rattle.std.proofs.lemmas.Bool.{false≢true}
 use Rattle.qx_chan.specs.inner.Calls.{taken_call}
 use Rattle.qx_chan.specs.Users.{thread_row}
-use Rattle.qx_chan.proofs.MeaningLemmas.{unwanted}
 use Rattle.qx_chan.proofs.MessageLemmas.{Serves-untaken, received, received-alone, received-wants, sends}
 use Rattle.qx_chan.proofs.OutcomeLemmas.{outcome}
 use Rattle.qx_chan.proofs.PulseLemmas.{user-fits}
@@ -30,8 +29,7 @@ returns-in_err-given-clause-sure c = λ no.
     let taken : Some c.in-Some.call ≡ taken_call (thread_row c.self.inside.users c.args.thread) = rw (← c.self.view_is) at c.in-Some.ensures.call in
     let its = received c.self.inside.users c.args.thread c.in-Some.call taken in
     let of = sends c.self.inside.users c.args.thread c.in-Some.call its in
-    absurd (unwanted _ _ (λ unwilling. false≢true (c.in_err-given.ensures.sure its.process its.sent.bytes of unwilling)) (c.in_err-given.ensures.wanted its.process its.sent.bytes of)
-    (rw (← c.self.view_is, received-wants c.self.inside.users c.self.inside.queues c.args.resources.now c.args.thread c.in-Some.call its c.requires.user c.args.moment) at no))
+    absurd (false≢true (sym (rw (← c.self.view_is, received-wants c.self.inside.users c.self.inside.queues c.args.resources.now c.args.thread c.in-Some.call its c.requires.user c.args.moment) at no) ∙ c.in_err-given.ensures.wanted its.process its.sent.bytes of))
 
 pub answer-requires-clause-served : goal.answer-requires-clause-served
 answer-requires-clause-served c =

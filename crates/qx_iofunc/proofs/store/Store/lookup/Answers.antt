@@ -1,7 +1,7 @@
 use Rattle.std.proofs.Common.{◌≡◌, ◌∙◌, Ok, ap, subst, sym}
 use Rattle.qx_iofunc.proofs.OpenLemmas.{at_spot, missing_allowed}
 use Rattle.qx_iofunc.specs.declared.store.Store.TheInside.{Inside}
-use Rattle.qx_iofunc.specs.Lookups.{IsFree}
+use Rattle.qx_iofunc.specs.Lookups.{HasFreeName}
 use Rattle.qx_iofunc.specs.Makes.{may_make}
 use Rattle.qx_iofunc.specs.Store.{Store}
 use Rattle.qx_names.specs.Spots.{spot_of}
@@ -19,7 +19,7 @@ returns-in_ok-new-in-None-clause-allowed c =
     let free = at_spot inside.inodes.inodes inside.names inside.user.0 c.args.root c.args.rest.now ENOENT (spot_of inside.names at) c.in_ok-at.ensures.spot in
     let judged = subst (λ (store : Store). Ok new ≡ may_make store.stored.inodes store.stored.user at.parent c.args.flags) view c.in_ok-new-in-None.ensures.may in
     record {
-      free = subst (λ (store : Store). IsFree store.stored.names (Missing at new)) view (c.in_ok-at.ensures.parent, sym free ∙ c.in-None.is);
+      free = subst (λ (store : Store). HasFreeName store.stored.names (Missing at new)) view (c.in_ok-at.ensures.parent, sym free ∙ c.in-None.is);
       judged = sym judged;
-      opens = λ r coid kind mode moment. missing_allowed r stored coid (spot_of stored.names at) (record { flags = c.args.flags; kind = kind; mode = mode; moment = moment }) new (sym judged);
+      opens = λ r coid own mode moment. missing_allowed r stored coid (spot_of stored.names at) own (record { flags = c.args.flags; mode = mode; moment = moment }) new (sym judged);
     }

@@ -56,7 +56,7 @@ invariant_of-self-2 c =
     opened_fits inside.inodes.inodes c.opened.new.inodes.inodes c.args.inode c.opened.result c.args.wish.flags c.opened.ensures.opened inside.names inside.files (rw (← c.self-inside-2.view_is) at fits)
 
 pub returns-clause-opened : goal.returns-clause-opened
-returns-clause-opened c = λ r coid.
+returns-clause-opened c = λ r coid own.
     let wish = c.args.wish in
     let inode = c.args.inode in
     let stored = c.args.self.now.stored in
@@ -65,5 +65,5 @@ returns-clause-opened c = λ r coid.
     let after = ap (λ (inside : Inside). inside.tables.stored) c.self-inside-2.view_is ∙ emptied (goal.at.returns-clause-opened c).Joined-contains in
     let opened = subst (λ (stored : Stored). with_number now (Ok number) ≡ open_block stored.inodes inode wish.flags) after c.opened.ensures.opened in
     let may = all_allowed stored inode wish c.requires.allowed in
-    subst (λ (after : Stored). open_existing (with_stored r stored) coid inode wish ≡ Ok (given.open_given coid wish.kind (record { number = number; inode = inode; is_new = false }) (with_stored r (record after { inodes = now })))) (sym after)
-    (existing_done stored now number inode wish may opened r coid)
+    subst (λ (after : Stored). open_existing (with_stored r stored) coid inode wish ≡ Ok (given.open_given coid own (record { number = number; inode = inode; is_new = false }) (with_stored r (record after { inodes = now })))) (sym after)
+    (existing_done stored now number inode own wish may opened r coid)

@@ -39,12 +39,12 @@ make-requires-clause-empty c = (fresh (goal.at.make-requires-clause-empty c).In_
 
 -- what there is once it is made
 made : (c : In_ok-make) → let t = c.self-inside.inside.0.0 in
-    c.make.new.self.stored ≡ with_made (spot_of t.names c.args.at) c.args.new.inode c.args.new.parent c.args.wish.kind c.args.wish.mode c.args.wish.moment (record { user = t.user.0; inodes = t.inodes.inodes; names = t.names; files = t.files })
+    c.make.new.self.stored ≡ with_made (spot_of t.names c.args.at) c.args.new.inode c.args.new.parent c.args.own c.args.wish.mode c.args.wish.moment (record { user = t.user.0; inodes = t.inodes.inodes; names = t.names; files = t.files })
 made c =
     let t = c.self-inside.inside.0.0 in
     let wish = c.args.wish in
     ap (λ (store : Store). store.stored) c.in_ok-make.ensures.ok
-    ∙ ap (λ (reserve : Reserved). with_made (spot_of t.names c.args.at) c.args.new.inode c.args.new.parent wish.kind wish.mode wish.moment (record { user = t.user.0; inodes = reserve.inodes; names = t.names; files = t.files })) c.in_ok-reserve.ensures.ok
+    ∙ ap (λ (reserve : Reserved). with_made (spot_of t.names c.args.at) c.args.new.inode c.args.new.parent c.args.own wish.mode wish.moment (record { user = t.user.0; inodes = reserve.inodes; names = t.names; files = t.files })) c.in_ok-reserve.ensures.ok
 
 pub opened-requires-clause-there : goal.opened-requires-clause-there
 opened-requires-clause-there c =
@@ -53,7 +53,7 @@ opened-requires-clause-there c =
     let wish = c.args.wish in
     let before = (goal.at.opened-requires-clause-there c).In_ok-reserve in
     subst (λ (stored : Stored). IsSome (row_at stored.inodes.attributes new.inode)) (sym after)
-    (made_there (stored before) (spot_of (stored before).names c.args.at) new.inode new.parent wish.kind wish.mode wish.moment (makes before).number_is (makes before).parent_is (fits before))
+    (made_there (stored before) (spot_of (stored before).names c.args.at) new.inode new.parent c.args.own wish.mode wish.moment (makes before).number_is (makes before).parent_is (fits before))
 
 pub invariant_of-self-2 : goal.invariant_of-self-2
 invariant_of-self-2 c =
@@ -62,7 +62,7 @@ invariant_of-self-2 c =
     let new = c.args.new in
     let wish = c.args.wish in
     let before = (goal.at.invariant_of-self-2 c).In_ok-reserve in
-    let made_fit = made_fits (stored before) (spot_of (stored before).names c.args.at) new.inode new.parent wish.kind wish.mode wish.moment (makes before).number_is (makes before).parent_is (fits before) in
+    let made_fit = made_fits (stored before) (spot_of (stored before).names c.args.at) new.inode new.parent c.args.own wish.mode wish.moment (makes before).number_is (makes before).parent_is (fits before) in
     opened_fits inside.inodes.inodes c.opened.new.inodes.inodes new.inode c.opened.result wish.flags c.opened.ensures.opened inside.names inside.files (subst StoreFits (sym after) made_fit)
 
 pub returns-clause-opened : goal.returns-clause-opened
@@ -76,5 +76,5 @@ returns-clause-opened c =
     let now = c.opened.new.inodes.inodes in
     let opened = subst (λ (stored : Stored). with_number now (Ok number) ≡ open_block stored.inodes new.inode wish.flags) after c.opened.ensures.opened in
     rw (← c.self.view_is, ← c.self-inside.view_is) (λ r coid.
-    subst (λ (after : Stored). open_missing (with_stored r (stored before)) coid at wish ≡ Ok (given.open_given coid wish.kind (record { number = number; inode = new.inode; is_new = true }) (with_stored r (record after { inodes = now })))) (sym after)
-    (missing_done r (stored before) coid at wish new now number (judged before) opened))
+    subst (λ (after : Stored). open_missing c.args.own (with_stored r (stored before)) coid at wish ≡ Ok (given.open_given coid c.args.own (record { number = number; inode = new.inode; is_new = true }) (with_stored r (record after { inodes = now })))) (sym after)
+    (missing_done r (stored before) coid at c.args.own wish new now number (judged before) opened))

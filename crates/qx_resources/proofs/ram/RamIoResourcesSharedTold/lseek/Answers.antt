@@ -6,4 +6,4 @@ pub returns-clause-did : goal.returns-clause-did
 returns-clause-did c =
     rw (← to_z-of_z c.ranges.offset, c.in_ok-opened.was, ← c.state.view_is)
     (replied_alone c.state.inside.mounts c.state.inside.store c.seek.new.store c.args._waits.now [] c.seek.result c.map.result _
-    (λ r. c.seek.ensures.moved r c.args._moment) c.seek.ensures.user (search rules) (search rules))
+    c.seek.ensures.moved c.seek.ensures.user (search rules) (search rules))

@@ -6,4 +6,4 @@ pub returns-clause-did : goal.returns-clause-did
 returns-clause-did c =
     rw (c.in_ok-opened.was, ← c.state.view_is)
     (replied_alone c.state.inside.mounts c.state.inside.store c.read.new.store c.args._waits.now c.read.new.reply c.read.result c.map.result _
-    (λ r. c.read.ensures.read r c.args._moment) c.read.ensures.user (search rules) (search rules))
+    c.read.ensures.read c.read.ensures.user (search rules) (search rules))
