@@ -1,13 +1,24 @@
 -- What functions come to, by what the store and the pipes tell of them.
-use Rattle.std.proofs.Common.{◌≡◌, ◌∙◌, ℕ, List, [], Result, Ok, Err, IfOk, OnErr, MatchResult, refl, sym, ap, subst}
+use Rattle.std.proofs.Common.{◌≡◌, ◌∙◌, ℕ, Bool, true, false, List, [], Result, Ok, Err, IfOk, OnErr, MatchResult, refl, sym, ap, subst}
+use Rattle.std.specs.Prelude.{if◌then◌else◌}
+use Rattle.std.specs.Result.{result_map_both}
+use Rattle.std.proofs.lemmas.Bool.{cond_both}
 use Rattle.qx_types.specs.declared.errno.Errno.{Errno}
 use Rattle.qx_paths.specs.Prefixes.{MountPoint}
 use Rattle.qx_iofunc.specs.Given.{number_replied}
-use Rattle.qx_iofunc.specs.Store.{Store, Stored, with_stored}
+use Rattle.qx_iofunc.specs.Store.{Store, Stored, block_gone, files_without, unused_gone, with_stored}
 use Rattle.qx_machine.specs.declared.rows.Effect.{Effect}
-use Rattle.qx_machine.specs.declared.rows.Effect.TheVariants.{Keeps}
+use Rattle.qx_machine.specs.declared.rows.Effect.TheVariants.{Closes, Keeps}
+use Rattle.qx_machine.specs.declared.rows.Kind.TheVariants.{File}
+use Rattle.qx_machine.specs.declared.rows.Ocb.{Ocb}
+use Rattle.qx_machine.specs.declared.rows.Opened.{Opened}
+use Rattle.qx_machine.specs.Defaults.{close, closed, own_block, without_block, without_unused}
 use Rattle.qx_machine.specs.Functions.{Deed, reply_alone}
-use Rattle.qx_machine.specs.Resources.{Resources}
+use Rattle.qx_machine.specs.Inodes.{close_block, free_inode, is_unused}
+use Rattle.qx_machine.specs.Judgements.{◌>>=◌}
+use Rattle.qx_machine.specs.PipeManager.{unreplied}
+use Rattle.qx_machine.specs.Resources.{Resources, without_content}
+use Rattle.qx_machine.specs.Rows.{row_at}
 use Rattle.qx_pipes.proofs.PipesLemmas.{given-same}
 use Rattle.qx_pipes.specs.Pipes.{Follows, done_of, seen}
 use Rattle.qx_resmgr.specs.Deeds.{Did, reply_with}
@@ -77,3 +88,32 @@ module _ (mounts : List MountPoint) (old new : Store) (c : Shared) (bytes : List
   pub replied_alone : (given : Result ℕ Errno) (result : Result Done Errno) (meant : Resources → Result (Deed Resources) Errno) → ((r : Resources) → number_replied bytes (with_stored r new.stored) given ≡ meant r) → new.stored.user ≡ old.stored.user → OnErr given ((new ≡ old) × (bytes ≡ []))
       → MatchResult given (λ status. result ≡ Ok (Reply status Keeps)) (λ error. result ≡ Err error) → DidAlone result (meant first)
   replied_alone = told_alone (number_replied bytes) (λ status. status) (λ _ _. refl) (λ _ _. refl)
+
+-- ---- a close of a file
+
+module _ (s : Stored) (opened : Opened) (r : Resources) where
+  abbrev gone : ℕ → Stored
+  gone inode = unused_gone File inode (block_gone opened.number s)
+
+  -- what is left in the store is what the machine leaves
+  gone-same : (inode : ℕ) → with_stored r (gone inode) ≡ without_unused File inode (without_block opened.number (with_stored r s))
+  gone-same inode = by_use (is_unused (close_block s.inodes opened.number) inode (row_at s.inodes.attributes inode))
+    where
+      by_use : (unused : Bool) → with_stored r (if unused then record (block_gone opened.number s) { inodes = free_inode (close_block s.inodes opened.number) inode; files = files_without File inode s.files } else block_gone opened.number s)
+          ≡ (if unused then without_content File inode (record (without_block opened.number (with_stored r s)) { inodes = free_inode (close_block s.inodes opened.number) inode }) else without_block opened.number (with_stored r s))
+      by_use true = refl
+      by_use false = refl
+
+  pub file-closed : (inode : ℕ) → Ok inode ≡ result_map_both (λ (block : Ocb). block.inode) (λ error. error) (own_block s.inodes opened.number File)
+      → Ok (reply_alone 0 [] (Closes opened.coid) (with_stored r (gone inode))) ≡ close File (with_stored r s) opened
+  file-closed inode is = by_block (own_block s.inodes opened.number File) is
+    where
+      by_block : (block : Result Ocb Errno) → Ok inode ≡ result_map_both (λ (block : Ocb). block.inode) (λ error. error) block
+          → Ok (reply_alone 0 [] (Closes opened.coid) (with_stored r (gone inode))) ≡ (block >>= (λ block. Ok (closed File opened.coid block.inode (unreplied (without_block opened.number (with_stored r s))))))
+      by_block (Ok block) e =
+          let same : inode ≡ block.inode = cc in
+          ap (λ state. Ok (reply_alone 0 [] (Closes opened.coid) state)) (gone-same inode ∙ ap (λ inode. without_unused File inode (without_block opened.number (with_stored r s))) same)
+      by_block (Err error) e = absurd (cc)
+
+pub gone-user : (s : Stored) (number inode : ℕ) → (unused_gone File inode (block_gone number s)).user ≡ s.user
+gone-user s number inode = cond_both (is_unused (close_block s.inodes number) inode (row_at s.inodes.attributes inode)) _ _ (λ (left : Stored). left.user ≡ s.user) (λ _. refl) (λ _. refl)
