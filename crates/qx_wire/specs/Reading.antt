@@ -1,7 +1,7 @@
 -- What bytes mean, as a function. It need not be believed: the laws say that it is the table's meaning (Laws.antt).
 use Rattle.std.specs.Prelude.{ℕ, ◌==◌, ◌&&◌, nat_le, nat_lt, if◌then◌else◌, List, [], ◌∷◌, length, take, drop, Option, Some, None}
 use Rattle.std.specs.Int.{Width, w8, w16, w32, w64, byte_len, from_le_bytes, cast_signed}
-use Rattle.std.specs.Option.{option_and_then}
+use Rattle.qx_types.specs.Optional.{◌>>=◌}
 use Rattle.qx_types.specs.declared.fields.NotifyAction.{NotifyAction}
 use Rattle.qx_types.specs.declared.fields.NotifyAction.TheVariants as action
 use Rattle.qx_types.specs.declared.fields.Whence.{Whence}
@@ -13,10 +13,6 @@ use Rattle.qx_wire.specs.declared.message.Meaning.{Meaning}
 use Rattle.qx_wire.specs.declared.message.Meaning.TheVariants.{Known, Unknown, Malformed}
 use Rattle.qx_wire.specs.Rests.{components_of}
 use Rattle.qx_wire.specs.Table.{in_ranges}
-
-infixl 10 ◌>>=◌
-abbrev pub ◌>>=◌ : {A B : Type 0} → Option A → (A → Option B) → Option B
-known >>= next = option_and_then next known
 
 -- ---- one body
 
