@@ -3,8 +3,8 @@ use Rattle.std.specs.Prelude.{ℕ, List, [], ◌∷◌, Option, Some, None, if�
 use Rattle.std.specs.List.{join_with_byte}
 use Rattle.std.specs.Str.{bytes_eq}
 use Rattle.qx_types.specs.Configuration.{Configuration}
+use Rattle.qx_types.specs.Optional.{◌>>=◌}
 use Rattle.qx_words.specs.Kinds.{CanName, Kind, Value, value_of, value_text}
-use Rattle.qx_words.specs.Words.{◌>>=◌}
 
 -- the words after a line's first; the last of them may be one that can be left out
 infixr 10 ◌then◌

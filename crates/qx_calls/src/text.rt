@@ -17,6 +17,15 @@ use qx_words::text::{
 };
 use std::alloc::Global;
 
+/// What a notification is to do, on which conditions, and the code and the value of its pulse.
+#[derive(Clone, Copy)]
+struct Notification {
+    action: NotifyAction,
+    conds: Conds,
+    code: u8,
+    value: u32,
+}
+
 /// The line that makes a call.
 pub fn push_call(
     alloc: Global,
@@ -50,7 +59,15 @@ pub fn push_call(
             conds,
             code,
             value,
-        } => push_notify(text, config, thread, *coid, *action, *conds, *code, *value),
+        } => {
+            let notification = Notification {
+                action: *action,
+                conds: *conds,
+                code: *code,
+                value: *value,
+            };
+            push_notify(text, config, thread, *coid, notification)
+        }
         Request::Raw { coid, bytes } => push_raw(alloc, text, config, thread, *coid, bytes),
     }
 }
@@ -61,6 +78,14 @@ pub fn push_next_number(text: &mut Vec<u8>, number: u64) -> Result<(), NoMemory>
 {
     text.extend_from_slice(b" ")?;
     push_number(text, number)
+}
+
+/// A space and bytes.
+fn push_next_bytes(alloc: Global, text: &mut Vec<u8>, bytes: &Bytes) -> Result<(), NoMemory>
+    ensures ok { OnOk result (text.new.items ≡ text.old.items ++ codes " " ++ bytes_text bytes.now) }
+{
+    text.extend_from_slice(b" ")?;
+    push_bytes(alloc, text, bytes.as_slice())
 }
 
 /// A line's first word, a thread and a path.
@@ -94,23 +119,6 @@ fn push_over(
     text.extend_from_slice(b" ")?;
     push_thread(text, config, thread)?;
     push_next_number(text, coid.0 as u64)
-}
-
-/// A line's first word, a thread, its connection and bytes.
-fn push_over_with_bytes(
-    alloc: Global,
-    text: &mut Vec<u8>,
-    config: &Config,
-    name: &[u8],
-    thread: Thread,
-    coid: Coid,
-    bytes: &Bytes,
-) -> Result<(), NoMemory>
-    ensures ok { OnOk result (text.new.items ≡ text.old.items ++ name.now ++ codes " " ++ thread_text config.now thread ++ codes " " ++ decimal coid.0 ++ codes " " ++ bytes_text bytes.now) }
-{
-    push_over(text, config, name, thread, coid)?;
-    text.extend_from_slice(b" ")?;
-    push_bytes(alloc, text, bytes.as_slice())
 }
 
 #[tactic(auto, unfolding(crate::specs::Calls::call_text))]
@@ -195,7 +203,8 @@ fn push_write(
 ) -> Result<(), NoMemory>
     ensures ok { OnOk result (text.new.items ≡ text.old.items ++ call_text config.now thread (Request.Write coid bytes.now)) }
 {
-    push_over_with_bytes(alloc, text, config, b"write", thread, coid, bytes)
+    push_over(text, config, b"write", thread, coid)?;
+    push_next_bytes(alloc, text, bytes)
 }
 
 #[tactic(auto, unfolding(crate::specs::Calls::call_text))]
@@ -293,33 +302,24 @@ fn push_notify(
     config: &Config,
     thread: Thread,
     coid: Coid,
-    action: NotifyAction,
-    conds: Conds,
-    code: u8,
-    value: u32,
+    notification: Notification,
 ) -> Result<(), NoMemory>
-    ensures ok { OnOk result (text.new.items ≡ text.old.items ++ call_text config.now thread (Request.Notify coid action conds code value)) }
+    ensures ok { OnOk result (text.new.items ≡ text.old.items ++ call_text config.now thread (Request.Notify coid notification.action notification.conds notification.code notification.value)) }
 {
     push_over(text, config, b"notify", thread, coid)?;
     text.extend_from_slice(b" ")?;
-    push_wish(text, action, conds, code, value)
+    push_notification(text, notification)
 }
 
-/// What a notification is to do, on which conditions, and the code and the value of its pulse.
-fn push_wish(
-    text: &mut Vec<u8>,
-    action: NotifyAction,
-    conds: Conds,
-    code: u8,
-    value: u32,
-) -> Result<(), NoMemory>
-    ensures ok { OnOk result (text.new.items ≡ text.old.items ++ join_with_byte 32 (action_text action ∷ conditions_text conds ∷ decimal code ∷ decimal value ∷ [])) }
+/// A notification's words.
+fn push_notification(text: &mut Vec<u8>, notification: Notification) -> Result<(), NoMemory>
+    ensures ok { OnOk result (text.new.items ≡ text.old.items ++ join_with_byte 32 (action_text notification.action ∷ conditions_text notification.conds ∷ decimal notification.code ∷ decimal notification.value ∷ [])) }
 {
-    push_action(text, action)?;
+    push_action(text, notification.action)?;
     text.extend_from_slice(b" ")?;
-    push_conditions(text, conds)?;
-    push_next_number(text, code as u64)?;
-    push_next_number(text, value as u64)
+    push_conditions(text, notification.conds)?;
+    push_next_number(text, notification.code as u64)?;
+    push_next_number(text, notification.value as u64)
 }
 
 #[tactic(auto, unfolding(crate::specs::Calls::call_text))]
@@ -333,5 +333,6 @@ fn push_raw(
 ) -> Result<(), NoMemory>
     ensures ok { OnOk result (text.new.items ≡ text.old.items ++ call_text config.now thread (Request.Raw coid bytes.now)) }
 {
-    push_over_with_bytes(alloc, text, config, b"raw", thread, coid, bytes)
+    push_over(text, config, b"raw", thread, coid)?;
+    push_next_bytes(alloc, text, bytes)
 }

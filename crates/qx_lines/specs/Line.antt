@@ -28,8 +28,8 @@ module _ {T : Type 0} where
   IsInLine t line node = IsIn t line.list node
 
   -- the table with other nodes in the line
-  abbrev pub with_line : Table T → Line → List ℕ → Table T
-  with_line t line nodes = with_nodes t line.list nodes
+  abbrev pub with_nodes_in_line : Table T → Line → List ℕ → Table T
+  with_nodes_in_line t line nodes = with_nodes t line.list nodes
 
   -- the priority of a node's value
   abbrev pub rank_at : (T → ℕ) → Table T → ℕ → ℕ

@@ -10,7 +10,7 @@ ghost use Rattle.std.specs.FinMap as map;
 ghost use Rattle.qx_lists.specs.Table.{IsFree, without};
 ghost use Rattle.qx_lists.specs.inner.Table.{placed};
 ghost use Rattle.qx_machine.specs.Lines.{into};
-ghost use Rattle.qx_lines.specs.Line.{IsInLine, IsLineOf, IsOwn, SameElsewhere, item_count, nodes_in, rank_at, with_line};
+ghost use Rattle.qx_lines.specs.Line.{IsInLine, IsLineOf, IsOwn, SameElsewhere, item_count, nodes_in, rank_at, with_nodes_in_line};
 
 use qx_lists::Table;
 use qx_types::{Prio, Ranked};
@@ -102,7 +102,7 @@ impl Line {
     fn link<T: Ranked>(&self, table: &mut Table<T>, node: usize)
         requires of { IsLineOf T.rank table.old self.now }
         requires free { IsFree table.old node }
-        ensures { table.new ≡ with_line table.old self.now (into (rank_at T.rank table.old) (nodes_in table.old self.now) node) }
+        ensures { table.new ≡ with_nodes_in_line table.old self.now (into (rank_at T.rank table.old) (nodes_in table.old self.now) node) }
     {
         let prio = table.value(node).prio();
         let below = if self.ends_below(table, prio) {

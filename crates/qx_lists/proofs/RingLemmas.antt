@@ -4,7 +4,7 @@ use Rattle.std.proofs.lemmas.Bool.{cases_eq}
 use Rattle.std.proofs.lemmas.List.Sums.{sum_by-cons}
 use Rattle.std.proofs.lemmas.List.{get_or-set_other}
 use Rattle.slab.specs.Slab.{Slab, get, slab_len}
-use Rattle.qx_lists.specs.Rings.{changed_at, links_at, relinked, relinked_node, with_next, joined}
+use Rattle.qx_lists.specs.Rings.{changed_at, links_at, relinked, relinked_node, with_next, with_adjacent}
 use Rattle.qx_lists.specs.Shows.{ways}
 use Rattle.qx_lists.specs.declared.rings.Links.{Links}
 use Rattle.qx_lists.specs.declared.rings.Node.{Node}
@@ -127,44 +127,44 @@ module _ {T : Type 0} where
   capacity-relinked change r list (Some node) = refl
 
   module _ (r : Rings T) (list : ℕ) (a b : Option ℕ) where
-    pub next-joined : (other : ℕ) (s : Option ℕ) → IsElsewhere other s list a → (ways (joined r list a b) other).next s ≡ (ways r other).next s
-    unfolding joined
-    next-joined other s elsewhere = field-relinked (λ x. x.next) (λ x. record x { previous = a }) (λ _. refl) (with_next r list a b) list b other s
+    pub next-with_adjacent : (other : ℕ) (s : Option ℕ) → IsElsewhere other s list a → (ways (with_adjacent r list a b) other).next s ≡ (ways r other).next s
+    unfolding with_adjacent
+    next-with_adjacent other s elsewhere = field-relinked (λ x. x.next) (λ x. record x { previous = a }) (λ _. refl) (with_next r list a b) list b other s
         ∙ ap (option_map (λ x. x.next)) (links-relinked_other (λ x. record x { next = b }) r list a other s elsewhere)
 
-    pub previous-joined : (other : ℕ) (s : Option ℕ) → IsElsewhere other s list b → (ways (joined r list a b) other).previous s ≡ (ways r other).previous s
-    unfolding joined
-    previous-joined other s elsewhere = ap (option_map (λ x. x.previous)) (links-relinked_other (λ x. record x { previous = a }) (with_next r list a b) list b other s elsewhere)
+    pub previous-with_adjacent : (other : ℕ) (s : Option ℕ) → IsElsewhere other s list b → (ways (with_adjacent r list a b) other).previous s ≡ (ways r other).previous s
+    unfolding with_adjacent
+    previous-with_adjacent other s elsewhere = ap (option_map (λ x. x.previous)) (links-relinked_other (λ x. record x { previous = a }) (with_next r list a b) list b other s elsewhere)
         ∙ field-relinked (λ x. x.previous) (λ x. record x { next = b }) (λ _. refl) r list a other s
 
-    pub joined_joins : IsSome (links_at r list a) → IsSome (links_at r list b) → Joins (ways r list) (ways (joined r list a b) list) a b
-    unfolding joined
-    joined_joins there_a there_b = record {
+    pub with_adjacent_joins : IsSome (links_at r list a) → IsSome (links_at r list b) → Joins (ways r list) (ways (with_adjacent r list a b) list) a b
+    unfolding with_adjacent
+    with_adjacent_joins there_a there_b = record {
       next_is = field-relinked (λ x. x.next) (λ x. record x { previous = a }) (λ _. refl) (with_next r list a b) list b list a
           ∙ ap (option_map (λ x. x.next)) (links-relinked_same (λ x. record x { next = b }) r list a)
           ∙ changed_field (λ x. x.next) (λ x. record x { next = b }) b (λ _. refl) (links_at r list a) there_a;
-      next_kept = λ s differs. next-joined list s (elsewhere_in_list list s a differs);
+      next_kept = λ s differs. next-with_adjacent list s (elsewhere_in_list list s a differs);
       previous_is = ap (option_map (λ x. x.previous)) (links-relinked_same (λ x. record x { previous = a }) (with_next r list a b) list b)
           ∙ changed_field (λ x. x.previous) (λ x. record x { previous = a }) a (λ _. refl) _ (there_still (λ x. record x { next = b }) r list a list b there_b);
-      previous_kept = λ s differs. previous-joined list s (elsewhere_in_list list s b differs);
+      previous_kept = λ s differs. previous-with_adjacent list s (elsewhere_in_list list s b differs);
     }
 
-    pub there-joined : (other : ℕ) (s : Option ℕ) → IsSome (links_at r other s) → IsSome (links_at (joined r list a b) other s)
-    unfolding joined
-    there-joined other s there = there_still _ (with_next r list a b) list b other s (there_still _ r list a other s there)
+    pub there-with_adjacent : (other : ℕ) (s : Option ℕ) → IsSome (links_at r other s) → IsSome (links_at (with_adjacent r list a b) other s)
+    unfolding with_adjacent
+    there-with_adjacent other s there = there_still _ (with_next r list a b) list b other s (there_still _ r list a other s there)
 
-    pub is_some-list-joined : (other : ℕ) → is_some (get (joined r list a b).lists other) ≡ is_some (get r.lists other)
-    unfolding joined
-    is_some-list-joined other = is_some-list-relinked _ (with_next r list a b) list b other ∙ is_some-list-relinked _ r list a other
+    pub is_some-list-with_adjacent : (other : ℕ) → is_some (get (with_adjacent r list a b).lists other) ≡ is_some (get r.lists other)
+    unfolding with_adjacent
+    is_some-list-with_adjacent other = is_some-list-relinked _ (with_next r list a b) list b other ∙ is_some-list-relinked _ r list a other
 
-    pub value-joined : {V : Type 0} (value : Node T → V) → ((links : Links) (n : Node T) → value (record n { links = links }) ≡ value n) → (node : ℕ) → option_map value (get (joined r list a b).nodes node) ≡ option_map value (get r.nodes node)
-    unfolding joined
-    value-joined value keeps node = value-relinked value (λ x. record x { previous = a }) (λ n. keeps _ n) (with_next r list a b) list b node ∙ value-relinked value (λ x. record x { next = b }) (λ n. keeps _ n) r list a node
+    pub value-with_adjacent : {V : Type 0} (value : Node T → V) → ((links : Links) (n : Node T) → value (record n { links = links }) ≡ value n) → (node : ℕ) → option_map value (get (with_adjacent r list a b).nodes node) ≡ option_map value (get r.nodes node)
+    unfolding with_adjacent
+    value-with_adjacent value keeps node = value-relinked value (λ x. record x { previous = a }) (λ n. keeps _ n) (with_next r list a b) list b node ∙ value-relinked value (λ x. record x { next = b }) (λ n. keeps _ n) r list a node
 
-    pub slab_len-joined : slab_len (joined r list a b).nodes ≡ slab_len r.nodes
-    unfolding joined
-    slab_len-joined = slab_len-relinked _ (with_next r list a b) list b ∙ slab_len-relinked _ r list a
+    pub slab_len-with_adjacent : slab_len (with_adjacent r list a b).nodes ≡ slab_len r.nodes
+    unfolding with_adjacent
+    slab_len-with_adjacent = slab_len-relinked _ (with_next r list a b) list b ∙ slab_len-relinked _ r list a
 
-    pub capacity-joined : (joined r list a b).nodes.capacity ≡ r.nodes.capacity
-    unfolding joined
-    capacity-joined = capacity-relinked _ (with_next r list a b) list b ∙ capacity-relinked _ r list a
+    pub capacity-with_adjacent : (with_adjacent r list a b).nodes.capacity ≡ r.nodes.capacity
+    unfolding with_adjacent
+    capacity-with_adjacent = capacity-relinked _ (with_next r list a b) list b ∙ capacity-relinked _ r list a

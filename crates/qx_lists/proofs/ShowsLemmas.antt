@@ -6,8 +6,8 @@ use Rattle.std.proofs.lemmas.List.{append-nil, append_assoc}
 use Rattle.std.proofs.lemmas.List.Elements.{Contains-append_left, Contains-append_right, Contains-append_cases}
 use Rattle.slab.specs.Slab.{Slab, get, HasRoomFor, Updates}
 use Rattle.qx_lists.specs.Paths.{IsPath}
-use Rattle.qx_lists.specs.Rings.{links_at, joined}
-use Rattle.qx_lists.specs.Shows.{Lists, nodes_at, ways, node_values, Shows, shown_once, shown_lists}
+use Rattle.qx_lists.specs.Rings.{links_at, with_adjacent}
+use Rattle.qx_lists.specs.Shows.{Lists, nodes_at, ways, node_values, ShowsLists, shown_once, shown_lists}
 use Rattle.std.specs.Ordering.{nat_cmp}
 use Rattle.qx_lists.specs.Table.{Table, ContainsList, ContainsNode, IsFree, IsPlace, IsIn, nodes_of, with_nodes, without, put_before, next_after}
 use Rattle.qx_lists.specs.inner.Table.{placed}
@@ -17,7 +17,7 @@ use Rattle.qx_lists.specs.declared.rings.Rings.{Rings}
 use Rattle.qx_lists.proofs.ListLemmas.{split_at, avoids_from, contains_first, contains_later, contains_cases, contains-last, contains-first, contains_without, absent_without, without-split, put_before-split, next_after-split, none_first, stands_nowhere, nowhere_from}
 use Rattle.qx_lists.proofs.MapLemmas.{get-insert_same, get-insert_other, get-remove_same, get-remove_other, insert-there}
 use Rattle.qx_lists.proofs.PathLemmas.{AllPlaces, Avoids, IsApart, last_place, first_place, avoids_before, apart_back, path_apart, path_split, path_front, next-path, previous-path, next-last, previous-first, path_along, path_without, path_with}
-use Rattle.qx_lists.proofs.RingLemmas.{IsElsewhere, elsewhere_none, elsewhere_node, next-joined, previous-joined, joined_joins, there-joined, is_some-list-joined, value-joined, slab_len-joined, capacity-joined, is_some-option_map}
+use Rattle.qx_lists.proofs.RingLemmas.{IsElsewhere, elsewhere_none, elsewhere_node, next-with_adjacent, previous-with_adjacent, with_adjacent_joins, there-with_adjacent, is_some-list-with_adjacent, value-with_adjacent, slab_len-with_adjacent, capacity-with_adjacent, is_some-option_map}
 use Rattle.qx_lists.proofs.ValueLemmas.{get-node_values, node_values-kept}
 
 there_from : {X A : Type 0} (field : X → A) (o : Option X) (a : A) → option_map field o ≡ Some a → IsSome o
@@ -46,25 +46,25 @@ all_elsewhere other list place (x ∷ xs) avoids = (elsewhere_node other list x 
 
 module _ {T : Type 0} where
   -- the rings of other lists stay as they are
-  path_joined_other : (r : Rings T) (list : ℕ) (a b : Option ℕ) (other : ℕ) → other ≢ list → (xs : List ℕ) → Avoids a xs → Avoids b xs → IsPath (ways r other) None xs None → IsPath (ways (joined r list a b) other) None xs None
-  path_joined_other r list a b other differs xs avoids_a avoids_b path =
-      path_along (ways r other) (ways (joined r list a b) other) (λ s. IsElsewhere other s list a) (λ s. IsElsewhere other s list b)
-      (next-joined r list a b other) (previous-joined r list a b other) None xs None
+  path_with_adjacent_other : (r : Rings T) (list : ℕ) (a b : Option ℕ) (other : ℕ) → other ≢ list → (xs : List ℕ) → Avoids a xs → Avoids b xs → IsPath (ways r other) None xs None → IsPath (ways (with_adjacent r list a b) other) None xs None
+  path_with_adjacent_other r list a b other differs xs avoids_a avoids_b path =
+      path_along (ways r other) (ways (with_adjacent r list a b) other) (λ s. IsElsewhere other s list a) (λ s. IsElsewhere other s list b)
+      (next-with_adjacent r list a b other) (previous-with_adjacent r list a b other) None xs None
       (elsewhere_none other list a differs) (all_elsewhere other list a xs avoids_a) (all_elsewhere other list b xs avoids_b) (elsewhere_none other list b differs) path
 
 module _ {T : Type 0} (r : Rings T) where
-  module _ (lists : Lists) (shows : Shows r lists) where
+  module _ (lists : Lists) (shows : ShowsLists r lists) where
     pub ring : (list : ℕ) → IsSome (map.get lists list) → IsPath (ways r list) None (nodes_at lists list) None
     ring list there = shows.linked list (nodes_at lists list) (listed lists list there)
 
     -- one list has other nodes, which are in no other list
-    Shows-changed : (new : Rings T) (list : ℕ) (nodes : List ℕ) → IsSome (map.get lists list)
+    ShowsLists-changed : (new : Rings T) (list : ℕ) (nodes : List ℕ) → IsSome (map.get lists list)
         → ((other : ℕ) → is_some (get new.lists other) ≡ is_some (get r.lists other))
         → IsPath (ways new list) None nodes None
         → ((other : ℕ) → other ≢ list → (xs : List ℕ) → map.get lists other ≡ Some xs → IsPath (ways new other) None xs None)
         → ((other node : ℕ) → other ≢ list → Contains nodes node → Contains (nodes_at lists other) node → ⊥)
-        → Shows new (map.insert lists list nodes)
-    Shows-changed new list nodes there lists_kept path others members =
+        → ShowsLists new (map.insert lists list nodes)
+    ShowsLists-changed new list nodes there lists_kept path others members =
         record {
           there = λ other. elim (eqb_tells other list) [
             | inl same ↦ rw same.1 (ap is_some (get-insert_same lists list nodes) ∙ sym (lists_kept list ∙ sym (shows.there list) ∙ there))
@@ -166,20 +166,20 @@ module _ {T : Type 0} (r : Rings T) where
           let parts = around list node at in
           rw next_first (there_from (λ x. x.previous) _ _ (previous-first (ways r list) (Some node) parts.back None (path_split (ways r list) None parts.front node parts.back None parts.path).1))
 
-      pub Shows-unlink : Shows (joined r list links.previous links.next) (map.insert lists list (without node (nodes_at lists list)))
-      Shows-unlink =
+      pub ShowsLists-unlink : ShowsLists (with_adjacent r list links.previous links.next) (map.insert lists list (without node (nodes_at lists list)))
+      ShowsLists-unlink =
           let parts = around list node at in
           let there = list_there lists list node at in
           let left : without node (nodes_at lists list) ≡ parts.front ++ parts.back = ap (without node) parts.whole ∙ without-split node parts.front parts.back parts.before parts.behind in
-          let joins = joined_joins r list links.previous links.next previous_there next_there in
-          let path = path_without (ways r list) (ways (joined r list links.previous links.next) list) parts.front parts.back node (rw (← previous_last, ← next_first) joins) parts.path in
+          let joins = with_adjacent_joins r list links.previous links.next previous_there next_there in
+          let path = path_without (ways r list) (ways (with_adjacent r list links.previous links.next) list) parts.front parts.back node (rw (← previous_last, ← next_first) joins) parts.path in
           let after : nodes_at lists list ≡ (parts.front ++ node ∷ []) ++ parts.back = parts.whole ∙ sym (append_assoc parts.front (node ∷ []) parts.back) in
-          Shows-changed (joined r list links.previous links.next) list (without node (nodes_at lists list)) there
-          (is_some-list-joined r list links.previous links.next)
+          ShowsLists-changed (with_adjacent r list links.previous links.next) list (without node (nodes_at lists list)) there
+          (is_some-list-with_adjacent r list links.previous links.next)
           (rw left path)
           (λ other differs xs found.
           let same : nodes_at lists other ≡ xs = rw found refl in
-          path_joined_other r list links.previous links.next other differs xs
+          path_with_adjacent_other r list links.previous links.next other differs xs
           (rw previous_last (avoids_from _ xs (λ x in_xs. last_elsewhere list other differs parts.front (node ∷ parts.back) parts.whole x (rw same in_xs))))
           (rw next_first (avoids_from _ xs (λ x in_xs. first_elsewhere list other differs (parts.front ++ node ∷ []) parts.back after x (rw same in_xs))))
           (shows.linked other xs found))
@@ -199,27 +199,27 @@ module _ {T : Type 0} (r : Rings T) where
       pub link_previous_there : IsSome (links_at r list links.previous)
       link_previous_there = rw last_before (there_from (λ x. x.next) _ _ (next-last (ways r list) None front at path_to))
 
-      pub link_at_there : IsSome (links_at (joined r list links.previous (Some node)) list at)
-      link_at_there = there-joined r list links.previous (Some node) list at (rw linked refl)
+      pub link_at_there : IsSome (links_at (with_adjacent r list links.previous (Some node)) list at)
+      link_at_there = there-with_adjacent r list links.previous (Some node) list at (rw linked refl)
 
       avoids_node : (other : ℕ) → Avoids (Some node) (nodes_at lists other)
       avoids_node other = avoids_from (Some node) _ (λ x in_xs same. let equal : x ≡ node = cc in free other (rw equal at in_xs))
 
-      pub Shows-link : Shows (joined (joined r list links.previous (Some node)) list (Some node) at) (map.insert lists list (front ++ node ∷ back))
-      Shows-link =
-          let half = joined r list links.previous (Some node) in
-          let one = joined_joins r list links.previous (Some node) link_previous_there node_there in
-          let two = joined_joins half list (Some node) at (there-joined r list links.previous (Some node) list (Some node) node_there) link_at_there in
-          let path = path_with (ways r list) (ways half list) (ways (joined half list (Some node) at) list) front back node (rw (← last_before) one) (rw (← at_is) two) (rw whole at (avoids_node list)) path_before in
-          Shows-changed (joined half list (Some node) at) list (front ++ node ∷ back) there
-          (λ other. is_some-list-joined half list (Some node) at other ∙ is_some-list-joined r list links.previous (Some node) other)
+      pub ShowsLists-link : ShowsLists (with_adjacent (with_adjacent r list links.previous (Some node)) list (Some node) at) (map.insert lists list (front ++ node ∷ back))
+      ShowsLists-link =
+          let half = with_adjacent r list links.previous (Some node) in
+          let one = with_adjacent_joins r list links.previous (Some node) link_previous_there node_there in
+          let two = with_adjacent_joins half list (Some node) at (there-with_adjacent r list links.previous (Some node) list (Some node) node_there) link_at_there in
+          let path = path_with (ways r list) (ways half list) (ways (with_adjacent half list (Some node) at) list) front back node (rw (← last_before) one) (rw (← at_is) two) (rw whole at (avoids_node list)) path_before in
+          ShowsLists-changed (with_adjacent half list (Some node) at) list (front ++ node ∷ back) there
+          (λ other. is_some-list-with_adjacent half list (Some node) at other ∙ is_some-list-with_adjacent r list links.previous (Some node) other)
           path
           (λ other differs xs found.
           let same : nodes_at lists other ≡ xs = rw found refl in
           let apart_node : Avoids (Some node) xs = rw same at (avoids_node other) in
-          path_joined_other half list (Some node) at other differs xs apart_node
+          path_with_adjacent_other half list (Some node) at other differs xs apart_node
           (rw at_is (avoids_from _ xs (λ x in_xs. first_elsewhere list other differs front back whole x (rw same in_xs))))
-          (path_joined_other r list links.previous (Some node) other differs xs
+          (path_with_adjacent_other r list links.previous (Some node) other differs xs
           (rw last_before (avoids_from _ xs (λ x in_xs. last_elsewhere list other differs front back whole x (rw same in_xs))))
           apart_node (shows.linked other xs found)))
           (λ other x differs in_new in_other. elim (Contains-append_cases front (node ∷ back) x in_new) [
@@ -234,7 +234,7 @@ member_places : (P : Option ℕ → Type 0) (xs : List ℕ) → ((node : ℕ) �
 member_places P [] holds = tt
 member_places P (x ∷ xs) holds = (holds x (contains_first x xs), member_places P xs (λ node at. holds node (contains_later x node xs at)))
 
-module _ {T : Type 0} (old new : Rings T) (lists : Lists) (shows : Shows old lists) where
+module _ {T : Type 0} (old new : Rings T) (lists : Lists) (shows : ShowsLists old lists) where
   -- a ring stays where the links of its places stay
   ring_stays : (list : ℕ) (xs : List ℕ) → map.get lists list ≡ Some xs → get new.lists list ≡ get old.lists list → ((node : ℕ) → Contains xs node → links_at new list (Some node) ≡ links_at old list (Some node)) → IsPath (ways new list) None xs None
   ring_stays list xs found same_list same_nodes =
@@ -243,8 +243,8 @@ module _ {T : Type 0} (old new : Rings T) (lists : Lists) (shows : Shows old lis
       path_along (ways old list) (ways new list) P P (λ s is. ap (option_map (λ x. x.next)) is) (λ s is. ap (option_map (λ x. x.previous)) is) None xs None same_list members members same_list (shows.linked list xs found)
 
   -- the lists stay where the links of each list and of each node in one stay
-  pub Shows-kept : ((list : ℕ) → get new.lists list ≡ get old.lists list) → ((list node : ℕ) → Contains (nodes_at lists list) node → links_at new list (Some node) ≡ links_at old list (Some node)) → Shows new lists
-  Shows-kept same_lists same_nodes =
+  pub ShowsLists-kept : ((list : ℕ) → get new.lists list ≡ get old.lists list) → ((list node : ℕ) → Contains (nodes_at lists list) node → links_at new list (Some node) ≡ links_at old list (Some node)) → ShowsLists new lists
+  ShowsLists-kept same_lists same_nodes =
       record {
         there = λ list. shows.there list ∙ ap is_some (sym (same_lists list));
         linked = λ list xs found.
@@ -254,8 +254,8 @@ module _ {T : Type 0} (old new : Rings T) (lists : Lists) (shows : Shows old lis
       }
 
   -- a new list is empty
-  pub Shows-add : (list : ℕ) (alone : Links) → alone.next ≡ None → alone.previous ≡ None → Updates old.lists new.lists list (Some alone) → new.nodes ≡ old.nodes → Shows new (map.insert lists list [])
-  Shows-add list alone next_none previous_none updates same_nodes =
+  pub ShowsLists-add : (list : ℕ) (alone : Links) → alone.next ≡ None → alone.previous ≡ None → Updates old.lists new.lists list (Some alone) → new.nodes ≡ old.nodes → ShowsLists new (map.insert lists list [])
+  ShowsLists-add list alone next_none previous_none updates same_nodes =
       record {
         there = λ other. elim (eqb_tells other list) [
           | inl same ↦ rw same.1 (ap is_some (get-insert_same lists list []) ∙ sym (ap is_some updates.changed))
@@ -282,8 +282,8 @@ module _ {T : Type 0} (old new : Rings T) (lists : Lists) (shows : Shows old lis
       ]
 
   -- an empty list goes
-  pub Shows-free : (list : ℕ) → Updates old.lists new.lists list None → new.nodes ≡ old.nodes → Shows new (map.remove lists list)
-  Shows-free list updates same_nodes =
+  pub ShowsLists-free : (list : ℕ) → Updates old.lists new.lists list None → new.nodes ≡ old.nodes → ShowsLists new (map.remove lists list)
+  ShowsLists-free list updates same_nodes =
       record {
         there = λ other. elim (eqb_tells other list) [
           | inl same ↦ rw same.1 (ap is_some (get-remove_same lists list) ∙ sym (ap is_some updates.changed))
@@ -308,7 +308,7 @@ module _ {T : Type 0} (old new : Rings T) (lists : Lists) (shows : Shows old lis
         | inr differs ↦ rw (get-remove_other lists list one differs.1) at at
       ]
 
-pub no_list : {T : Type 0} (r : Rings T) → ((list : ℕ) → get r.lists list ≡ None) → Shows r map.empty
+pub no_list : {T : Type 0} (r : Rings T) → ((list : ℕ) → get r.lists list ≡ None) → ShowsLists r map.empty
 no_list r none =
     record {
       there = λ list. ap is_some (map.get-empty _ list) ∙ ap is_some (sym (none list));
@@ -317,22 +317,22 @@ no_list r none =
     }
 
 -- what a table shows, where its lists and its values are known
-module _ {T : Type 0} (r : Rings T) (kept : (lists : Lists) × Shows r lists) where
-  pub shown_shows : Shows r (shown_lists r kept)
+module _ {T : Type 0} (r : Rings T) (kept : (lists : Lists) × ShowsLists r lists) where
+  pub shown_shows : ShowsLists r (shown_lists r kept)
   unfolding shown_lists
   shown_shows = kept.1
 
-  pub contents_are : (room : ℕ) (lists : Lists) (values : map.FinMap nat_cmp T) → Shows r lists → node_values r.nodes ≡ values → ◌≡◌ {A = Table T} (record { lists = shown_lists r kept; values = node_values r.nodes; room = room }) (record { lists = lists; values = values; room = room })
+  pub contents_are : (room : ℕ) (lists : Lists) (values : map.FinMap nat_cmp T) → ShowsLists r lists → node_values r.nodes ≡ values → ◌≡◌ {A = Table T} (record { lists = shown_lists r kept; values = node_values r.nodes; room = room }) (record { lists = lists; values = values; room = room })
   unfolding shown_lists
   contents_are room lists values shows are =
       let same : kept.0 ≡ lists = ap (λ k. k.0) (shown_once r kept (lists, shows)) in
       λ i. record { lists = same i; values = are i; room = room }
 
-  pub free_in : (room : ℕ) (lists : Lists) (values : map.FinMap nat_cmp T) → Shows r lists → node_values r.nodes ≡ values → (node : ℕ) → IsFree (record { lists = lists; values = values; room = room }) node → IsFree (record { lists = shown_lists r kept; values = node_values r.nodes; room = room }) node
+  pub free_in : (room : ℕ) (lists : Lists) (values : map.FinMap nat_cmp T) → ShowsLists r lists → node_values r.nodes ≡ values → (node : ℕ) → IsFree (record { lists = lists; values = values; room = room }) node → IsFree (record { lists = shown_lists r kept; values = node_values r.nodes; room = room }) node
   free_in room lists values shows are node free = rw (contents_are room lists values shows are) free
 
 -- what a changed table keeps
-pub closed : {T : Type 0} (r : Rings T) (room : ℕ) (lists : Lists) → Shows r lists → HasRoomFor r.nodes room → ((x : Lists) × Shows r x) × (HasRoomFor r.nodes room × Unit {0})
+pub closed : {T : Type 0} (r : Rings T) (room : ℕ) (lists : Lists) → ShowsLists r lists → HasRoomFor r.nodes room → ((x : Lists) × ShowsLists r x) × (HasRoomFor r.nodes room × Unit {0})
 closed r room lists shows has_room = ((lists, shows), (has_room, tt))
 
 none_from : {X : Type 0} (o : Option X) → is_some o ≡ false → o ≡ None
@@ -340,21 +340,21 @@ none_from None is = refl
 none_from (Some x) is = let clash : true ≡ false = is in absurd (cc)
 
 -- a list or a node that the slabs lack is in no map
-pub list_absent : {T : Type 0} (r : Rings T) (lists : Lists) (list : ℕ) → Shows r lists → get r.lists list ≡ None → map.get lists list ≡ None
+pub list_absent : {T : Type 0} (r : Rings T) (lists : Lists) (list : ℕ) → ShowsLists r lists → get r.lists list ≡ None → map.get lists list ≡ None
 list_absent r lists list shows absent = none_from _ (shows.there list ∙ ap is_some absent)
 
 pub node_there : {T : Type 0} (nodes : Slab (Node T)) (node : ℕ) → IsSome (map.get (node_values nodes) node) → IsSome (get nodes node)
 node_there nodes node there = sym (is_some-option_map (λ n. n.value) (get nodes node)) ∙ sym (ap is_some (get-node_values nodes node)) ∙ there
 
-pub slot_there : {T : Type 0} (r : Rings T) (lists : Lists) (list : ℕ) → Shows r lists → IsSome (map.get lists list) → IsSome (get r.lists list)
+pub slot_there : {T : Type 0} (r : Rings T) (lists : Lists) (list : ℕ) → ShowsLists r lists → IsSome (map.get lists list) → IsSome (get r.lists list)
 slot_there r lists list shows there = sym (shows.there list) ∙ there
 
 module _ {T : Type 0} (r : Rings T) (list : ℕ) (a b : Option ℕ) where
-  pub joined_room : (room : ℕ) → HasRoomFor r.nodes room → HasRoomFor (joined r list a b).nodes room
-  joined_room room fits = omega (arith, fits, slab_len-joined r list a b, capacity-joined r list a b)
+  pub with_adjacent_room : (room : ℕ) → HasRoomFor r.nodes room → HasRoomFor (with_adjacent r list a b).nodes room
+  with_adjacent_room room fits = omega (arith, fits, slab_len-with_adjacent r list a b, capacity-with_adjacent r list a b)
 
-  pub joined_values : node_values (joined r list a b).nodes ≡ node_values r.nodes
-  joined_values = node_values-kept _ _ (value-joined r list a b (λ n. n.value) (λ _ _. refl))
+  pub with_adjacent_values : node_values (with_adjacent r list a b).nodes ≡ node_values r.nodes
+  with_adjacent_values = node_values-kept _ _ (value-with_adjacent r list a b (λ n. n.value) (λ _ _. refl))
 
 -- a node that left the list that it stood in is free
 pub free_without : {T : Type 0} (t : Table T) (list node : ℕ) → ContainsNode t node → IsIn t list node → ((one two : ℕ) → IsIn t one node → IsIn t two node → one ≡ two) → IsFree (with_nodes t list (without node (nodes_of t list))) node
@@ -371,7 +371,7 @@ free_without t list node there at apart = record {
 }
 
 -- the nodes of a list differ
-pub nodes_apart : {T : Type 0} (r : Rings T) (lists : Lists) (list : ℕ) → Shows r lists → IsApart (nodes_at lists list)
+pub nodes_apart : {T : Type 0} (r : Rings T) (lists : Lists) (list : ℕ) → ShowsLists r lists → IsApart (nodes_at lists list)
 nodes_apart r lists list shows = by_case (map.get lists list) refl
   where
     by_case : (o : Option (List ℕ)) → map.get lists list ≡ o → IsApart (nodes_at lists list)
@@ -379,7 +379,7 @@ nodes_apart r lists list shows = by_case (map.get lists list) refl
     by_case (Some nodes) is = rw is (path_apart (ways r list) None nodes (shows.linked list nodes is))
 
 -- a free node is put at a place of a list
-module _ {T : Type 0} (r : Rings T) (t : Table T) (shows : Shows r t.lists) (list : ℕ) (at : Option ℕ) (place : IsPlace t list at) where
+module _ {T : Type 0} (r : Rings T) (t : Table T) (shows : ShowsLists r t.lists) (list : ℕ) (at : Option ℕ) (place : IsPlace t list at) where
   -- the list before the place and behind it
   record Parts (node : ℕ) : Type 0 where
     pub front : List ℕ
@@ -420,24 +420,24 @@ module _ {T : Type 0} (r : Rings T) (t : Table T) (shows : Shows r t.lists) (lis
     pub before_there : IsSome (links_at r list links.previous)
     before_there = let p = parts node in link_previous_there r t.lists shows list node at p.front p.back links p.whole p.at_is p.there linked_node_there (stands_nowhere _ _ free.in_no_list) linked
 
-    pub node_there_still : IsSome (links_at (joined r list links.previous (Some node)) list (Some node))
-    node_there_still = there-joined r list links.previous (Some node) list (Some node) linked_node_there
+    pub node_there_still : IsSome (links_at (with_adjacent r list links.previous (Some node)) list (Some node))
+    node_there_still = there-with_adjacent r list links.previous (Some node) list (Some node) linked_node_there
 
-    pub at_there_still : IsSome (links_at (joined r list links.previous (Some node)) list at)
-    at_there_still = there-joined r list links.previous (Some node) list at place_there
+    pub at_there_still : IsSome (links_at (with_adjacent r list links.previous (Some node)) list at)
+    at_there_still = there-with_adjacent r list links.previous (Some node) list at place_there
 
-    pub Shows-placed : Shows (joined (joined r list links.previous (Some node)) list (Some node) at) (map.insert t.lists list (placed node at (nodes_at t.lists list)))
-    Shows-placed = let p = parts node in rw p.put (Shows-link r t.lists shows list node at p.front p.back links p.whole p.at_is p.there linked_node_there (stands_nowhere _ _ free.in_no_list) linked)
+    pub ShowsLists-placed : ShowsLists (with_adjacent (with_adjacent r list links.previous (Some node)) list (Some node) at) (map.insert t.lists list (placed node at (nodes_at t.lists list)))
+    ShowsLists-placed = let p = parts node in rw p.put (ShowsLists-link r t.lists shows list node at p.front p.back links p.whole p.at_is p.there linked_node_there (stands_nowhere _ _ free.in_no_list) linked)
 
 -- a node of a list has no vacant key
-pub member_differs : {T : Type 0} (r : Rings T) (lists : Lists) (list node key : ℕ) → Shows r lists → Contains (nodes_at lists list) node → get r.nodes key ≡ None → node ≢ key
+pub member_differs : {T : Type 0} (r : Rings T) (lists : Lists) (list node key : ℕ) → ShowsLists r lists → Contains (nodes_at lists list) node → get r.nodes key ≡ None → node ≢ key
 member_differs r lists list node key shows at vacant same =
     let there : IsSome (links_at r list (Some key)) = rw same at (member_there r lists shows list node at) in
     let clash : false ≡ true = ap (λ o. is_some (option_map (λ n. n.links) o)) (sym vacant) ∙ there in
     cc
 
 -- a new node is free
-pub free_new : {T : Type 0} (r : Rings T) (lists : Lists) (key : ℕ) (value : T) (room : ℕ) → Shows r lists → get r.nodes key ≡ None → IsFree (record { lists = lists; values = map.insert (node_values r.nodes) key value; room = room }) key
+pub free_new : {T : Type 0} (r : Rings T) (lists : Lists) (key : ℕ) (value : T) (room : ℕ) → ShowsLists r lists → get r.nodes key ≡ None → IsFree (record { lists = lists; values = map.insert (node_values r.nodes) key value; room = room }) key
 free_new r lists key value room shows vacant = record { there = ap is_some (get-insert_same (node_values r.nodes) key value); in_no_list = nowhere_from lists key (λ list at. member_differs r lists list key key shows at vacant refl) }
 
 -- a list without a first node is empty

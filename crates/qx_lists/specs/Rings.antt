@@ -30,5 +30,5 @@ module _ {T : Type 0} where
   with_previous r list place previous = relinked (λ links. record links { previous = previous }) r list place
 
   -- the rings where one place comes right after another
-  unfoldable pub joined : Rings T → ℕ → Option ℕ → Option ℕ → Rings T
-  joined r list before after = with_previous (with_next r list before after) list after before
+  unfoldable pub with_adjacent : Rings T → ℕ → Option ℕ → Option ℕ → Rings T
+  with_adjacent r list before after = with_previous (with_next r list before after) list after before

@@ -30,15 +30,15 @@ module _ {T : Type 0} where
   ways r list = record { next = λ place. option_map (λ links. links.next) (links_at r list place); previous = λ place. option_map (λ links. links.previous) (links_at r list place) }
 
   -- the rings are those of these lists
-  pub record Shows (r : Rings T) (lists : Lists) : Type 0 where
+  pub record ShowsLists (r : Rings T) (lists : Lists) : Type 0 where
     pub there : (list : ℕ) → map.contains_key lists list ≡ is_some (get r.lists list)
     pub linked : (list : ℕ) (nodes : List ℕ) → map.get lists list ≡ Some nodes → IsPath (ways r list) None nodes None
     pub apart : (one two node : ℕ) → Contains (nodes_at lists one) node → Contains (nodes_at lists two) node → one ≡ two
 
-  pub Shows-prop : (r : Rings T) (lists : Lists) → IsProp (Shows r lists)
-  Shows-prop r lists = hlevel (props, IsPath-prop)
+  pub ShowsLists-prop : (r : Rings T) (lists : Lists) → IsProp (ShowsLists r lists)
+  ShowsLists-prop r lists = hlevel (props, IsPath-prop)
 
-  same_lists : (r : Rings T) (m n : Lists) → Shows r m → Shows r n → m ≡ n
+  same_lists : (r : Rings T) (m n : Lists) → ShowsLists r m → ShowsLists r n → m ≡ n
   same_lists r m n a b = map.same_map nat_cmp_total map.nat_cmp-IsAntisymmetric m n (λ list. by_case list (map.get m list) (map.get n list) refl refl)
     where
       by_case : (list : ℕ) (x y : Option (List ℕ)) → map.get m list ≡ x → map.get n list ≡ y → x ≡ y
@@ -48,9 +48,9 @@ module _ {T : Type 0} where
       by_case list (Some xs) (Some ys) p q = ap Some (same_path (ways r list) None xs ys (a.linked list xs p) (b.linked list ys q))
 
   -- the links determine the lists
-  pub shown_once : (r : Rings T) → IsProp ((lists : Lists) × Shows r lists)
-  shown_once r a b = Σ_prop_path (Shows-prop r) (same_lists r a.0 b.0 a.1 b.1)
+  pub shown_once : (r : Rings T) → IsProp ((lists : Lists) × ShowsLists r lists)
+  shown_once r a b = Σ_prop_path (ShowsLists-prop r) (same_lists r a.0 b.0 a.1 b.1)
 
   -- the lists that a table keeps beside its rings
-  unfoldable pub shown_lists : (r : Rings T) → (lists : Lists) × Shows r lists → Lists
+  unfoldable pub shown_lists : (r : Rings T) → (lists : Lists) × ShowsLists r lists → Lists
   shown_lists r kept = kept.0

@@ -17,7 +17,7 @@ ghost use Rattle.std.specs.List.{IsDistinct};
 ghost use Rattle.std.specs.FinMap as map;
 ghost use Rattle.std.specs.Borrow.{sem};
 ghost use Rattle.slab.specs.Slab.{HasRoomFor};
-ghost use Rattle.qx_lists.specs.Shows.{Lists, Shows, shown_once};
+ghost use Rattle.qx_lists.specs.Shows.{Lists, ShowsLists, shown_once};
 ghost use Rattle.qx_lists.specs.Table.{ContainsList, ContainsNode, IsFree, IsIn, IsPlace, nodes_of, with_nodes, without, put_before, next_after};
 ghost use Rattle.qx_lists.specs.inner.Table.{placed};
 
@@ -34,7 +34,7 @@ pub struct Table<T> {
     rings: Rings<T>,
     // How many more nodes can be made with no memory.
     room: usize,
-    ghost kept: { (lists : Lists) × Shows rings lists } by { shown_once rings },
+    ghost kept: { (lists : Lists) × ShowsLists rings lists } by { shown_once rings },
     ghost has_room: { HasRoomFor rings.nodes room },
 }
 

@@ -2,7 +2,7 @@
 ghost use Rattle.std.specs.Prelude.{◌≡◌, Some, IsSome, option_map};
 ghost use Rattle.std.specs.Borrow.{sem};
 ghost use Rattle.slab.specs.Slab.{get, ContainsKey};
-ghost use Rattle.qx_lists.specs.Rings.{links_at, with_next, with_previous, joined};
+ghost use Rattle.qx_lists.specs.Rings.{links_at, with_next, with_previous, with_adjacent};
 
 use slab::Slab;
 
@@ -51,7 +51,7 @@ impl<T> Rings<T> {
     pub(crate) fn join(&mut self, list: usize, before: Option<usize>, after: Option<usize>)
         requires before { IsSome (links_at self.old list before) }
         requires after { IsSome (links_at self.old list after) }
-        ensures { self.new ≡ joined self.old list before after }
+        ensures { self.new ≡ with_adjacent self.old list before after }
     {
         self.set_next(list, before, after);
         self.set_previous(list, after, before);

@@ -11,6 +11,7 @@ use Rattle.std.proofs.lemmas.List.Elements.{All-head, All-tail}
 use Rattle.std.proofs.lemmas.List.Splits.{slice_split_at, slice_split_none}
 use Rattle.std.proofs.lemmas.Slice.Eq.{bytes_eq-Decides}
 use Rattle.qx_types.specs.Configuration.{Configuration, IsConfiguration, is_user_name}
+use Rattle.qx_types.specs.Optional.{◌>>=◌}
 use Rattle.qx_types.specs.declared.limits.TheConstants.Limits.{USERS, WORKERS}
 use Rattle.qx_types.specs.declared.step.Step.{Step}
 use Rattle.qx_script.specs.declared.command.Command.{Command}
@@ -21,7 +22,7 @@ use Rattle.qx_script.specs.Replay.{replay_lines, replay_text, user_said, workers
 use Rattle.qx_script.specs.Script.{Bad, Good, Reading, Script, after_line, after_words, is_new_user, script, script_from, unread, with_command, with_user, with_workers}
 use Rattle.qx_script.specs.StepText.{step_text}
 use Rattle.qx_words.specs.Kinds.{is_word, is_word_byte}
-use Rattle.qx_words.specs.Words.{greatest_byte, lines_of, ◌>>=◌}
+use Rattle.qx_words.specs.Words.{greatest_byte, lines_of}
 use Rattle.qx_words.proofs.PlainWords.{all_joined, all_weaker, and_true, both_true, none_passes}
 use Rattle.qx_script.proofs.ReadBack.{line_in_words, name_is_word, read_back}
 use Rattle.qx_calls.proofs.ReadForms.{are_words, line_again, text_in_words}

@@ -1,6 +1,7 @@
 -- The lines of a script.
 use Rattle.std.specs.Prelude.{ℕ, List, [], ◌∷◌, Option, Some, None, if◌then◌else◌, codes, option_map}
 use Rattle.std.specs.Str.{bytes_eq}
+use Rattle.qx_types.specs.Optional.{◌>>=◌}
 use Rattle.qx_types.specs.declared.names.Thread.{Thread}
 use Rattle.qx_types.specs.declared.request.Request.{Request}
 use Rattle.qx_types.specs.declared.step.Step.{Step}
@@ -10,7 +11,7 @@ use Rattle.qx_script.specs.declared.command.Command.TheVariants.{Take, Serve, Do
 use Rattle.qx_calls.specs.Calls.{call_in_line, call_said}
 use Rattle.qx_calls.specs.Forms.{◌then◌, end, Line, Saying, CanBeSaid, by, read_one_of}
 use Rattle.qx_words.specs.Kinds.{AName, AUser, AThread, AByte, AMoment, APath, AManager}
-use Rattle.qx_words.specs.Words.{◌>>=◌, moment_of}
+use Rattle.qx_words.specs.Words.{moment_of}
 
 -- who uses the system, and how many workers serve it
 

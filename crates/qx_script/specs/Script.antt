@@ -3,13 +3,14 @@ use Rattle.std.specs.Prelude.{ℕ, ◌+◌, ◌==◌, ◌&&◌, Bool, true, not,
 use Rattle.std.specs.List.{list_any}
 use Rattle.std.specs.Str.{bytes_eq}
 use Rattle.qx_types.specs.Configuration.{Configuration}
+use Rattle.qx_types.specs.Optional.{◌>>=◌}
 use Rattle.qx_types.specs.declared.limits.TheConstants.Limits.{USERS, WORKERS}
 use Rattle.qx_script.specs.declared.command.Command.{Command}
 use Rattle.qx_script.specs.declared.script.Script as code
 use Rattle.qx_script.specs.declared.script.Script.TheVariants as variant
 use Rattle.qx_calls.specs.Forms.{read_form}
 use Rattle.qx_script.specs.Lines.{command_of, user_line, workers_line}
-use Rattle.qx_words.specs.Words.{◌>>=◌, lines_of, words_of}
+use Rattle.qx_words.specs.Words.{lines_of, words_of}
 
 -- what the lines so far say
 pub record Reading : Type 0 where

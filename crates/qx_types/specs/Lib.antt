@@ -2,4 +2,5 @@ pub mod Configuration
 pub mod Errno
 pub mod Flags
 pub mod Managers
+pub mod Optional
 pub mod Step

@@ -17,27 +17,27 @@ use Rattle.qx_types.specs.declared.fields.NotifyAction.TheVariants as action
 use Rattle.qx_wire.specs.Rests.{joined, components_of, is_component, is_rest}
 use Rattle.qx_wire.specs.Table.{row, body, in_ranges, framed, spelling, Spells, IsOfNoKind}
 use Rattle.qx_wire.specs.Laws.{IfKnown}
-use Rattle.qx_wire.specs.Reading.{ended, open_at, mknod_at, read_at, dup_at, lseek_at, chmod_at, notify_at, known_or_malformed, Arm, arms, meaning_found, body_cut, Frame, frame_at, frame_cut, cut, judged, meaning}
+use Rattle.qx_wire.specs.Reading.{ended, open_at, mknod_at, read_at, dup_at, lseek_at, chmod_at, notify_at, known_or_malformed, Case, cases, meaning_found, body_cut, Frame, frame_at, frame_cut, cut, judged, meaning}
 use Rattle.qx_wire.proofs.FieldLemmas.{IsBytes, some_else_none, and_true, wide16, wide32, peel, put_back, number_again}
 use Rattle.qx_wire.proofs.ReadLemmas.{Has, Takes, open_takes, open_again, stat_takes, unlink_takes, rest_again, mknod_takes, mknod_again, read_takes, read_again, write_takes, list_takes, close_takes, fstat_takes, dup_takes, dup_again, lseek_takes, lseek_again, chmod_takes, chmod_again, notify_takes, notify_again}
 
--- ---- arms
+-- ---- cases
 
--- what an arm reads is of its type and subtype, and some message is of them
-pub record IsArm (bytes : List ℕ) (a : Arm) : Type 0 where
+-- what a case reads is of its type and subtype, and some message is of them
+pub record IsCase (bytes : List ℕ) (a : Case) : Type 0 where
   pub takes : Takes a.type a.subtype bytes a.cut
   pub kind : (m : Message) × ((row m).type ≡ a.type) × ((row m).subtype ≡ a.subtype)
 
 infixr 20 ◌⊗◌
-data AreArms (bytes : List ℕ) : List Arm → Type 0 where
-  none : AreArms bytes []
-  ◌⊗◌ : {a : Arm} {others : List Arm} → IsArm bytes a → AreArms bytes others → AreArms bytes (a ∷ others)
+data AreCases (bytes : List ℕ) : List Case → Type 0 where
+  none : AreCases bytes []
+  ◌⊗◌ : {a : Case} {others : List Case} → IsCase bytes a → AreCases bytes others → AreCases bytes (a ∷ others)
 
 no_flags : OFlags
 no_flags = record { 0 = 0 }
 
-are_arms : (bytes : List ℕ) → IsBytes bytes → AreArms bytes (arms bytes)
-are_arms bytes fits =
+are_cases : (bytes : List ℕ) → IsBytes bytes → AreCases bytes (cases bytes)
+are_cases bytes fits =
     record { takes = open_takes bytes fits; kind = (msg.Open no_flags 0 [], refl, refl) } ⊗
     record { takes = stat_takes bytes; kind = (msg.Stat [], refl, refl) } ⊗
     record { takes = unlink_takes bytes; kind = (msg.Unlink [], refl, refl) } ⊗
@@ -76,8 +76,8 @@ not_true : (b : Bool) → (b ≡ true → ⊥) → b ≡ false
 not_true true h = absurd (h refl)
 not_true false h = refl
 
--- a message that was found is the arm's of that type and subtype
-found_known : (t s : ℕ) (bytes : List ℕ) (list : List Arm) → AreArms bytes list → (m : Message) → meaning_found t s list ≡ Known m → Has t s bytes m
+-- a message that was found is the case's of that type and subtype
+found_known : (t s : ℕ) (bytes : List ℕ) (list : List Case) → AreCases bytes list → (m : Message) → meaning_found t s list ≡ Known m → Has t s bytes m
 found_known t s bytes [] none m e = absurd cc
 found_known t s bytes (a ∷ others) (is ⊗ are) m e =
     elim (chosen (eqb t a.type && eqb s a.subtype) (known_or_malformed a.cut) (meaning_found t s others) (Known m) e) [
@@ -89,36 +89,36 @@ found_known t s bytes (a ∷ others) (is ⊗ are) m e =
     ]
 
 -- nothing is found where no message is of that type and subtype
-not_found : (t s : ℕ) (bytes : List ℕ) (list : List Arm) → AreArms bytes list → ((m : Message) → (row m).type ≡ t → (row m).subtype ≡ s → ⊥) → meaning_found t s list ≡ Unknown
+not_found : (t s : ℕ) (bytes : List ℕ) (list : List Case) → AreCases bytes list → ((m : Message) → (row m).type ≡ t → (row m).subtype ≡ s → ⊥) → meaning_found t s list ≡ Unknown
 not_found t s bytes [] none absent = refl
 not_found t s bytes (a ∷ others) (is ⊗ are) absent =
     let k = is.kind in
     let other : (eqb t a.type && eqb s a.subtype) ≡ false = not_true (eqb t a.type && eqb s a.subtype) (λ h. let both = and_true (eqb t a.type) (eqb s a.subtype) h in absent k.0 (k.1 ∙ sym (eqb-true _ _ both.0)) (k.2 ∙ sym (eqb-true _ _ both.1))) in
     rw other (not_found t s bytes others are absent)
 
--- each message is of the type and subtype of an arm
-has_arm : (m : Message) (bytes : List ℕ) → meaning_found (row m).type (row m).subtype (arms bytes) ≡ Unknown → ⊥
-has_arm (msg.Open f mode rest) bytes e = cut_not_unknown (open_at bytes) e
-has_arm (msg.Stat rest) bytes e = cut_not_unknown (Some (msg.Stat (components_of bytes))) e
-has_arm (msg.Unlink rest) bytes e = cut_not_unknown (Some (msg.Unlink (components_of bytes))) e
-has_arm (msg.Mknod mode rest) bytes e = cut_not_unknown (mknod_at bytes) e
-has_arm (msg.Read n) bytes e = cut_not_unknown (read_at bytes) e
-has_arm (msg.Write payload) bytes e = cut_not_unknown (Some (msg.Write bytes)) e
-has_arm msg.Close bytes e = cut_not_unknown (ended bytes msg.Close) e
-has_arm (msg.Dup old) bytes e = cut_not_unknown (dup_at bytes) e
-has_arm (msg.Lseek whence.Set by) bytes e = cut_not_unknown (lseek_at whence.Set bytes) e
-has_arm (msg.Lseek whence.Current by) bytes e = cut_not_unknown (lseek_at whence.Current bytes) e
-has_arm (msg.Lseek whence.End by) bytes e = cut_not_unknown (lseek_at whence.End bytes) e
-has_arm msg.Fstat bytes e = cut_not_unknown (ended bytes msg.Fstat) e
-has_arm (msg.List after) bytes e = cut_not_unknown (Some (msg.List bytes)) e
-has_arm (msg.Chmod mode) bytes e = cut_not_unknown (chmod_at bytes) e
-has_arm (msg.Notify action.Poll c code value) bytes e = cut_not_unknown (notify_at action.Poll bytes) e
-has_arm (msg.Notify action.PollArm c code value) bytes e = cut_not_unknown (notify_at action.PollArm bytes) e
-has_arm (msg.Notify action.TranArm c code value) bytes e = cut_not_unknown (notify_at action.TranArm bytes) e
+-- each message is of the type and subtype of a case
+has_case : (m : Message) (bytes : List ℕ) → meaning_found (row m).type (row m).subtype (cases bytes) ≡ Unknown → ⊥
+has_case (msg.Open f mode rest) bytes e = cut_not_unknown (open_at bytes) e
+has_case (msg.Stat rest) bytes e = cut_not_unknown (Some (msg.Stat (components_of bytes))) e
+has_case (msg.Unlink rest) bytes e = cut_not_unknown (Some (msg.Unlink (components_of bytes))) e
+has_case (msg.Mknod mode rest) bytes e = cut_not_unknown (mknod_at bytes) e
+has_case (msg.Read n) bytes e = cut_not_unknown (read_at bytes) e
+has_case (msg.Write payload) bytes e = cut_not_unknown (Some (msg.Write bytes)) e
+has_case msg.Close bytes e = cut_not_unknown (ended bytes msg.Close) e
+has_case (msg.Dup old) bytes e = cut_not_unknown (dup_at bytes) e
+has_case (msg.Lseek whence.Set by) bytes e = cut_not_unknown (lseek_at whence.Set bytes) e
+has_case (msg.Lseek whence.Current by) bytes e = cut_not_unknown (lseek_at whence.Current bytes) e
+has_case (msg.Lseek whence.End by) bytes e = cut_not_unknown (lseek_at whence.End bytes) e
+has_case msg.Fstat bytes e = cut_not_unknown (ended bytes msg.Fstat) e
+has_case (msg.List after) bytes e = cut_not_unknown (Some (msg.List bytes)) e
+has_case (msg.Chmod mode) bytes e = cut_not_unknown (chmod_at bytes) e
+has_case (msg.Notify action.Poll c code value) bytes e = cut_not_unknown (notify_at action.Poll bytes) e
+has_case (msg.Notify action.PollArm c code value) bytes e = cut_not_unknown (notify_at action.PollArm bytes) e
+has_case (msg.Notify action.TranArm c code value) bytes e = cut_not_unknown (notify_at action.TranArm bytes) e
 
 -- a message in ranges, as its body is read
 pub record IsRead (m : Message) : Type 0 where
-  pub again : meaning_found (row m).type (row m).subtype (arms (body (row m).fields)) ≡ Known m
+  pub again : meaning_found (row m).type (row m).subtype (cases (body (row m).fields)) ≡ Known m
   pub type : (row m).type < 2 ^ 16
   pub subtype : (row m).subtype < 2 ^ 16
   pub short : length (body (row m).fields) ≤ BODY
@@ -222,7 +222,7 @@ unfolding cut body_cut spelling
 cut_spelling bytes m fits e =
     let f = in_frame (frame_at bytes) (Known m) e (λ h. cc) in
     let frame = frame_takes bytes f.0 fits f.1 in
-    let has = found_known f.0.type f.0.subtype f.0.body (arms f.0.body) (are_arms f.0.body frame.fits) m f.2 in
+    let has = found_known f.0.type f.0.subtype f.0.body (cases f.0.body) (are_cases f.0.body frame.fits) m f.2 in
     rw (has.type, has.subtype, has.body) frame.parts
 
 pub known_spells : (bytes : List ℕ) (m : Message) → IsBytes bytes → meaning bytes ≡ Known m → Spells m bytes
@@ -250,7 +250,7 @@ unknown_of_no_kind bytes fits e =
       frame = frame.parts;
       two_bytes = (frame.type, frame.subtype);
       fits = frame.short;
-      no_kind = λ m t s. has_arm m f.0.body (rw (t, s) f.2);
+      no_kind = λ m t s. has_case m f.0.body (rw (t, s) f.2);
     }
 
 pub of_no_kind_unknown : (bytes : List ℕ) → IsBytes bytes → IsOfNoKind bytes → meaning bytes ≡ Unknown
@@ -258,7 +258,7 @@ unfolding meaning cut body_cut
 of_no_kind_unknown bytes fits k =
     let again = frame_again k.type k.subtype k.body k.two_bytes.0 k.two_bytes.1 k.fits in
     let body_fits = (frame_takes bytes (record { type = k.type; subtype = k.subtype; body = k.body }) fits (ap frame_at k.frame ∙ again)).fits in
-    ap meaning k.frame ∙ ap judged (ap frame_cut again ∙ not_found k.type k.subtype k.body (arms k.body) (are_arms k.body body_fits) k.no_kind)
+    ap meaning k.frame ∙ ap judged (ap frame_cut again ∙ not_found k.type k.subtype k.body (cases k.body) (are_cases k.body body_fits) k.no_kind)
 
 -- bytes spell at most one message
 pub one_message : (bytes : List ℕ) (m n : Message) → Spells m bytes → Spells n bytes → m ≡ n

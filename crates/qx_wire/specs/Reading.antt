@@ -1,7 +1,7 @@
 -- What bytes mean, as a function. It need not be believed: the laws say that it is the table's meaning (Laws.antt).
 use Rattle.std.specs.Prelude.{ℕ, ◌==◌, ◌&&◌, nat_le, nat_lt, if◌then◌else◌, List, [], ◌∷◌, length, take, drop, Option, Some, None}
 use Rattle.std.specs.Int.{Width, w8, w16, w32, w64, byte_len, from_le_bytes, cast_signed}
-use Rattle.std.specs.Option.{option_and_then}
+use Rattle.qx_types.specs.Optional.{◌>>=◌}
 use Rattle.qx_types.specs.declared.fields.NotifyAction.{NotifyAction}
 use Rattle.qx_types.specs.declared.fields.NotifyAction.TheVariants as action
 use Rattle.qx_types.specs.declared.fields.Whence.{Whence}
@@ -13,10 +13,6 @@ use Rattle.qx_wire.specs.declared.message.Meaning.{Meaning}
 use Rattle.qx_wire.specs.declared.message.Meaning.TheVariants.{Known, Unknown, Malformed}
 use Rattle.qx_wire.specs.Rests.{components_of}
 use Rattle.qx_wire.specs.Table.{in_ranges}
-
-infixl 10 ◌>>=◌
-abbrev pub ◌>>=◌ : {A B : Type 0} → Option A → (A → Option B) → Option B
-known >>= next = option_and_then next known
 
 -- ---- one body
 
@@ -70,47 +66,47 @@ notify_at act body = do
 -- ---- bodies of all kinds
 
 -- what a body of that type and subtype is cut into
-pub record Arm : Type 0 where
+pub record Case : Type 0 where
   pub type : ℕ
   pub subtype : ℕ
   pub cut : Option Message
 
-abbrev pub arm : ℕ → ℕ → Option Message → Arm
-arm type subtype cut = record { type = type; subtype = subtype; cut = cut }
+abbrev pub case : ℕ → ℕ → Option Message → Case
+case type subtype cut = record { type = type; subtype = subtype; cut = cut }
 
-abbrev pub arms : List ℕ → List Arm
-arms body =
-    arm 256 1 (open_at body) ∷
-    arm 256 2 (Some (msg.Stat (components_of body))) ∷
-    arm 256 3 (Some (msg.Unlink (components_of body))) ∷
-    arm 256 4 (mknod_at body) ∷
-    arm 257 0 (read_at body) ∷
-    arm 258 0 (Some (msg.Write body)) ∷
-    arm 259 0 (ended body msg.Close) ∷
-    arm 260 0 (dup_at body) ∷
-    arm 261 0 (lseek_at whence.Set body) ∷
-    arm 261 1 (lseek_at whence.Current body) ∷
-    arm 261 2 (lseek_at whence.End body) ∷
-    arm 262 0 (ended body msg.Fstat) ∷
-    arm 263 0 (Some (msg.List body)) ∷
-    arm 264 0 (chmod_at body) ∷
-    arm 265 0 (notify_at action.Poll body) ∷
-    arm 265 1 (notify_at action.PollArm body) ∷
-    arm 265 2 (notify_at action.TranArm body) ∷
+abbrev pub cases : List ℕ → List Case
+cases body =
+    case 256 1 (open_at body) ∷
+    case 256 2 (Some (msg.Stat (components_of body))) ∷
+    case 256 3 (Some (msg.Unlink (components_of body))) ∷
+    case 256 4 (mknod_at body) ∷
+    case 257 0 (read_at body) ∷
+    case 258 0 (Some (msg.Write body)) ∷
+    case 259 0 (ended body msg.Close) ∷
+    case 260 0 (dup_at body) ∷
+    case 261 0 (lseek_at whence.Set body) ∷
+    case 261 1 (lseek_at whence.Current body) ∷
+    case 261 2 (lseek_at whence.End body) ∷
+    case 262 0 (ended body msg.Fstat) ∷
+    case 263 0 (Some (msg.List body)) ∷
+    case 264 0 (chmod_at body) ∷
+    case 265 0 (notify_at action.Poll body) ∷
+    case 265 1 (notify_at action.PollArm body) ∷
+    case 265 2 (notify_at action.TranArm body) ∷
     []
 
 abbrev pub known_or_malformed : Option Message → Meaning
 known_or_malformed None = Malformed
 known_or_malformed (Some m) = Known m
 
--- what the arm of that type and subtype gives; Unknown where there is none
-abbrev pub meaning_found : ℕ → ℕ → List Arm → Meaning
+-- what the case of that type and subtype gives; Unknown where there is none
+abbrev pub meaning_found : ℕ → ℕ → List Case → Meaning
 meaning_found type subtype [] = Unknown
 meaning_found type subtype (a ∷ others) = if type == a.type && subtype == a.subtype then known_or_malformed a.cut else meaning_found type subtype others
 
 -- what a body of that type and subtype is cut into
 unfoldable pub body_cut : ℕ → ℕ → List ℕ → Meaning
-body_cut type subtype body = meaning_found type subtype (arms body)
+body_cut type subtype body = meaning_found type subtype (cases body)
 
 -- ---- header and body
 

@@ -7,9 +7,10 @@ use Rattle.std.specs.Str.{bytes_eq}
 use Rattle.std.proofs.lemmas.List.Sums.{list_all-from_AllPass}
 use Rattle.hex.specs.Hex.{IsBytes, decode_of, decode_sized, encode_lower, encode_with, is_hex_digit, lower_digits}
 use Rattle.hex.proofs.HexLemmas.{decode_of-encode_lower, decode_of-ok, decode_sized-encode_lower, decode_sized-ok, decode_sized-twice, length-encode_with}
+use Rattle.qx_types.specs.Optional.{◌>>=◌}
 use Rattle.qx_words.specs.Kinds.{is_word, is_word_byte}
 use Rattle.qx_words.specs.WordText.{bytes_text}
-use Rattle.qx_words.specs.Words.{◌>>=◌, bytes_in_word, greatest_byte, hex_byte_of}
+use Rattle.qx_words.specs.Words.{bytes_in_word, greatest_byte, hex_byte_of}
 use Rattle.qx_words.proofs.PlainWords.{all_weaker, and_true, hex_digit_in_word}
 use Rattle.qx_words.proofs.ReadValues.{bind_some, of_some}
 use Rattle.qx_words.proofs.ReadWords.{some_length}

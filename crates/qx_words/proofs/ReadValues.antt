@@ -8,12 +8,13 @@ use Rattle.std.proofs.lemmas.Bool.Decides.{nat_tests}
 use Rattle.std.proofs.lemmas.List.Quantifiers.{position-Some}
 use Rattle.std.proofs.lemmas.Nat.{le_or_l, le_or_r, or_lt}
 use Rattle.std.proofs.lemmas.Option.{cond_some}
+use Rattle.qx_types.specs.Optional.{◌>>=◌}
 use Rattle.qx_types.specs.declared.flags.OFlags.{OFlags}
 use Rattle.qx_types.specs.declared.limits.TheConstants.Limits.{MODE}
 use Rattle.qx_types.specs.declared.names.Thread.{Thread}
 use Rattle.qx_types.specs.declared.names.User.{User}
 use Rattle.qx_words.specs.Kinds.{is_word, is_word_byte, CanNameUser, CanNameThread}
-use Rattle.qx_words.specs.Words.{◌>>=◌, around_dot, byte_of, flag_of, flags_after, flags_of, greatest_byte, is_numeral, lines_of, mode_of, number_of, numbered_user, octal_of, thread_in_word, three_of, user_in_word, with_flag, words_of}
+use Rattle.qx_words.specs.Words.{around_dot, byte_of, flag_of, flags_after, flags_of, greatest_byte, is_numeral, lines_of, mode_of, number_of, numbered_user, octal_of, thread_in_word, three_of, user_in_word, with_flag, words_of}
 use Rattle.qx_words.proofs.PlainWords.{and_true, both_true, all_weaker}
 
 pub bind_some : {A B : Type 0} (known : Option A) (next : A → Option B) (y : B) → (known >>= next) ≡ Some y → (x : A) × (known ≡ Some x) × (next x ≡ Some y)

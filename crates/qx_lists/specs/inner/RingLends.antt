@@ -6,8 +6,8 @@ use Rattle.qx_lists.specs.declared.rings.Rings.{Rings}
 use Rattle.qx_lists.specs.contracts.rings.Rings.{the_row}
 
 -- the rings with another value of one node
-abbrev pub with_value : {T : Type 0} → Rings T → ℕ → T → Rings T
-with_value r node value = record r { nodes = changed_at (λ n. record n { value = value }) r.nodes node }
+abbrev pub with_node_value : {T : Type 0} → Rings T → ℕ → T → Rings T
+with_node_value r node value = record r { nodes = changed_at (λ n. record n { value = value }) r.nodes node }
 
 abbrev pub lends_ring_value : (T : RattleType) → MutBor (Rings T.Denot) → ℕ → MutBor T.Denot → Fml
-lends_ring_value T s node r = Lends (the_row T) T s r (with_value s.now node)
+lends_ring_value T s node r = Lends (the_row T) T s r (with_node_value s.now node)

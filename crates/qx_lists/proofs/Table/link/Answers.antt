@@ -1,6 +1,6 @@
 use Rattle.std.proofs.Common.{◌∙◌, refl}
 use Rattle.qx_lists.specs.Shows.{shown_lists, node_values}
-use Rattle.qx_lists.proofs.ShowsLemmas.{place_there, before_there, linked_node_there, node_there_still, at_there_still, Shows-placed, joined_room, joined_values, shown_shows, contents_are, closed}
+use Rattle.qx_lists.proofs.ShowsLemmas.{place_there, before_there, linked_node_there, node_there_still, at_there_still, ShowsLists-placed, with_adjacent_room, with_adjacent_values, shown_shows, contents_are, closed}
 use Rattle.qx_lists.proofs.Table.link.Goals as goal
 
 pub links-before-requires : goal.links-before-requires
@@ -25,10 +25,10 @@ join-requires-2-clause-after g c =
 
 pub invariant_of-self-inside : goal.invariant_of-self-inside
 invariant_of-self-inside g c =
-    let shows = Shows-placed c.self.inside.rings (record { lists = shown_lists _ c.self.inside.kept; values = node_values c.self.inside.rings.nodes; room = c.self.inside.room }) (shown_shows _ c.self.inside.kept) c.args.list c.args.at (rw (← c.self.view_is) at c.requires.place) c.args.node (rw (← c.self.view_is) at c.requires.free) refl c.links-before.result c.links-before.ensures in
-    rw (c.join-2.ensures, c.join.ensures) (closed _ _ _ shows (joined_room _ _ _ _ _ (joined_room _ _ _ _ _ c.self.inside.has_room)))
+    let shows = ShowsLists-placed c.self.inside.rings (record { lists = shown_lists _ c.self.inside.kept; values = node_values c.self.inside.rings.nodes; room = c.self.inside.room }) (shown_shows _ c.self.inside.kept) c.args.list c.args.at (rw (← c.self.view_is) at c.requires.place) c.args.node (rw (← c.self.view_is) at c.requires.free) refl c.links-before.result c.links-before.ensures in
+    rw (c.join-2.ensures, c.join.ensures) (closed _ _ _ shows (with_adjacent_room _ _ _ _ _ (with_adjacent_room _ _ _ _ _ c.self.inside.has_room)))
 
 pub returns : goal.returns
 returns g c =
-    let shows = Shows-placed c.self.inside.rings (record { lists = shown_lists _ c.self.inside.kept; values = node_values c.self.inside.rings.nodes; room = c.self.inside.room }) (shown_shows _ c.self.inside.kept) c.args.list c.args.at (rw (← c.self.view_is) at c.requires.place) c.args.node (rw (← c.self.view_is) at c.requires.free) refl c.links-before.result c.links-before.ensures in
-    rw (← c.self.view_is) (contents_are _ _ c.self.inside.room _ (node_values c.self.inside.rings.nodes) (rw (c.join-2.ensures, c.join.ensures) shows) (rw (c.join-2.ensures, c.join.ensures) (joined_values _ _ _ _ ∙ joined_values _ _ _ _)))
+    let shows = ShowsLists-placed c.self.inside.rings (record { lists = shown_lists _ c.self.inside.kept; values = node_values c.self.inside.rings.nodes; room = c.self.inside.room }) (shown_shows _ c.self.inside.kept) c.args.list c.args.at (rw (← c.self.view_is) at c.requires.place) c.args.node (rw (← c.self.view_is) at c.requires.free) refl c.links-before.result c.links-before.ensures in
+    rw (← c.self.view_is) (contents_are _ _ c.self.inside.room _ (node_values c.self.inside.rings.nodes) (rw (c.join-2.ensures, c.join.ensures) shows) (rw (c.join-2.ensures, c.join.ensures) (with_adjacent_values _ _ _ _ ∙ with_adjacent_values _ _ _ _)))

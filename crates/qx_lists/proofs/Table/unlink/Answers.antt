@@ -1,5 +1,5 @@
 use Rattle.qx_lists.specs.Shows.{node_values}
-use Rattle.qx_lists.proofs.ShowsLemmas.{Shows-unlink, previous_there, next_there, member_there, member_value, joined_room, joined_values, free_without, free_in, shown_shows, contents_are, closed}
+use Rattle.qx_lists.proofs.ShowsLemmas.{ShowsLists-unlink, previous_there, next_there, member_there, member_value, with_adjacent_room, with_adjacent_values, free_without, free_in, shown_shows, contents_are, closed}
 use Rattle.qx_lists.proofs.Table.unlink.Goals as goal
 
 pub links-links-requires : goal.links-links-requires
@@ -14,19 +14,19 @@ join-requires-clause-after g c = next_there _ _ (shown_shows _ c.self.inside.kep
 pub invariant_of-self-inside : goal.invariant_of-self-inside
 invariant_of-self-inside g c =
     let at = rw (← c.self.view_is) at c.requires in
-    let shows = Shows-unlink _ _ (shown_shows _ c.self.inside.kept) c.args.list c.args.node c.links-links.result at c.links-links.ensures in
-    rw c.join.ensures (closed _ _ _ shows (joined_room _ _ _ _ _ c.self.inside.has_room))
+    let shows = ShowsLists-unlink _ _ (shown_shows _ c.self.inside.kept) c.args.list c.args.node c.links-links.result at c.links-links.ensures in
+    rw c.join.ensures (closed _ _ _ shows (with_adjacent_room _ _ _ _ _ c.self.inside.has_room))
 
 pub returns-clause-unlinked : goal.returns-clause-unlinked
 returns-clause-unlinked g c =
     let at = rw (← c.self.view_is) at c.requires in
-    let shows = Shows-unlink _ _ (shown_shows _ c.self.inside.kept) c.args.list c.args.node c.links-links.result at c.links-links.ensures in
-    rw (← c.self.view_is) (contents_are _ _ c.self.inside.room _ (node_values c.self.inside.rings.nodes) (rw c.join.ensures shows) (rw c.join.ensures (joined_values _ _ _ _)))
+    let shows = ShowsLists-unlink _ _ (shown_shows _ c.self.inside.kept) c.args.list c.args.node c.links-links.result at c.links-links.ensures in
+    rw (← c.self.view_is) (contents_are _ _ c.self.inside.room _ (node_values c.self.inside.rings.nodes) (rw c.join.ensures shows) (rw c.join.ensures (with_adjacent_values _ _ _ _)))
 
 pub returns-clause-freed : goal.returns-clause-freed
 returns-clause-freed g c =
     let at = rw (← c.self.view_is) at c.requires in
     let kept = shown_shows _ c.self.inside.kept in
-    let shows = Shows-unlink _ _ kept c.args.list c.args.node c.links-links.result at c.links-links.ensures in
-    free_in _ _ c.self.inside.room _ (node_values c.self.inside.rings.nodes) (rw c.join.ensures shows) (rw c.join.ensures (joined_values _ _ _ _)) c.args.node
+    let shows = ShowsLists-unlink _ _ kept c.args.list c.args.node c.links-links.result at c.links-links.ensures in
+    free_in _ _ c.self.inside.room _ (node_values c.self.inside.rings.nodes) (rw c.join.ensures shows) (rw c.join.ensures (with_adjacent_values _ _ _ _)) c.args.node
     (free_without _ c.args.list c.args.node (member_value _ _ kept c.args.list c.args.node at) at (λ one two. kept.apart one two c.args.node))
