@@ -94,6 +94,13 @@ serves-message part number thread moment process row sent there at is = rw (ther
 
 -- ---- the message is handed over
 
+-- its bytes are those that it had
+pub meaning-served : (users : Users) (thread : Thread) (process : Process) (bytes given : List ℕ) (means : Meaning) → Sends users thread process bytes → Some given ≡ taken_bytes (thread_row users thread) → means ≡ meaning given → means ≡ meaning bytes
+meaning-served users thread process bytes given means of read is =
+    let same : Some given ≡ Some bytes = read ∙ of.bytes_are in
+    let bytes_are : given ≡ bytes = cc in
+    is ∙ ap meaning bytes_are
+
 -- it comes to the same as before
 pub deed-served : (k : state.Kept) (queues : Shared) (users new : Users) (thread : Thread) (call : Call) (moment : ℕ) (process found : Process) (bytes given : List ℕ) (means : Meaning) → Sends users thread process bytes
     → new ≡ with_thread_row users thread served_thread → Some found ≡ process_of new thread.proc → Some given ≡ taken_bytes (thread_row users thread) → means ≡ meaning given
@@ -102,10 +109,8 @@ deed-served k queues users new thread call moment process found bytes given mean
     let here : process_of (with_thread_row users thread served_thread) thread.proc ≡ Some (with_thread thread.tid served_thread process) = process_of-same users thread.proc (with_thread thread.tid served_thread) ∙ ap (option_map (with_thread thread.tid served_thread)) of.there in
     let both : Some found ≡ Some (with_thread thread.tid served_thread process) = there ∙ ap (λ users. process_of users thread.proc) served ∙ here in
     let its : found ≡ with_thread thread.tid served_thread process = cc in
-    let same : Some given ≡ Some bytes = read ∙ of.bytes_are in
-    let bytes_are : given ≡ bytes = cc in
     ap (λ process. deed_of (told k queues) (context_of process (caller_of_call thread call) call.target moment) means) its
-    ∙ ap (deed_of (told k queues) (context_of process (caller_of_call thread call) call.target moment)) (is ∙ ap meaning bytes_are)
+    ∙ ap (deed_of (told k queues) (context_of process (caller_of_call thread call) call.target moment)) (meaning-served users thread process bytes given means of read is)
 
 -- ---- memory is refused
 

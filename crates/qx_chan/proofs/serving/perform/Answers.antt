@@ -1,17 +1,21 @@
 use Rattle.std.proofs.Common.{refl, subst, ◌∙◌}
-use Rattle.std.specs.Prelude.{IsTrue}
-use Rattle.qx_wire.specs.Reading.{meaning}
+use Rattle.std.specs.Prelude.{IsTrue, Result}
+use Rattle.qx_types.specs.declared.errno.Errno.{Errno}
+use Rattle.qx_wire.specs.declared.message.Meaning.{Meaning}
+use Rattle.qx_machine.specs.Functions.{Deed}
+use Rattle.qx_machine.specs.Resources.{Resources}
 use Rattle.qx_machine.specs.Wants.{bytes_want_memory}
 use Rattle.qx_resmgr.specs.Deeds.{Did}
 use Rattle.qx_resources.specs.State.{state, told}
-use Rattle.qx_chan.proofs.MessageLemmas.{deed-served, handed_back, room-there}
+use Rattle.qx_chan.specs.inner.Serving.{deed_in}
+use Rattle.qx_chan.proofs.MessageLemmas.{deed-served, handed_back, meaning-served, room-there}
 use Rattle.qx_chan.proofs.serving.perform.Goals as goal
 
 pub returns-in-Ok-clause-did : goal.returns-in-Ok-clause-did
 returns-in-Ok-clause-did c = λ process bytes sends.
-    subst (Did state c.args.resources.now c.args.queues.now c.perform-given.new.self c.perform-given.new.all c.perform-given.new.reply c.in-Ok.given)
-    (deed-served c.args.resources.now c.args.queues.now c.args.users.now c.hand_over-bytes.new.self c.args.message.thread c.args.message.call c.args.message.moment process c.in-Some.process.now bytes c.hand_over-bytes.result.0 c.meaning_of.result sends
-    c.hand_over-bytes.ensures.served c.in-Some.ensures.row c.hand_over-bytes.ensures.bytes c.meaning_of.ensures.meaning)
+    subst (Did state c.args.resources.now c.args.queues.now c.perform.new.self c.perform.new.all c.perform.new.reply c.in-Ok.given)
+    (deed-served c.args.resources.now c.args.queues.now c.args.users.now c.hand_over-bytes.new.self c.args.message.thread c.args.message.call c.args.message.moment process c.in-Some.process.now bytes c.hand_over-bytes.result.0 c.meaning_of-meaning.result sends
+    c.hand_over-bytes.ensures.served c.in-Some.ensures.row c.hand_over-bytes.ensures.bytes c.meaning_of-meaning.ensures.meaning)
     (rw (c.context_of-context.ensures.context, c.caller.ensures) at c.in-Ok.ensures.did)
 
 pub returns-in-Some-room-clause-err : goal.returns-in-Some-room-clause-err
@@ -23,10 +27,14 @@ returns-in-Some-room-clause-err c = (
 
 pub returns-in-Some-room-clause-wanted : goal.returns-in-Some-room-clause-wanted
 returns-in-Some-room-clause-wanted c = λ process bytes sends.
-    subst (λ deed. IsTrue (bytes_want_memory c.args.message.call.target.manager (told c.args.resources.now c.args.queues.now) (meaning bytes) deed))
-    (deed-served c.args.resources.now c.args.queues.now c.args.users.now c.hand_over-bytes.new.self c.args.message.thread c.args.message.call c.args.message.moment process c.in-Some.process.now bytes c.hand_over-bytes.result.0 c.meaning_of.result sends
-    c.hand_over-bytes.ensures.served c.in-Some.ensures.row c.hand_over-bytes.ensures.bytes c.meaning_of.ensures.meaning)
-    (rw (c.context_of-context.ensures.context, c.caller.ensures) at c.in-Err.ensures.wanted)
+    let wants = λ (means : Meaning) (deed : Result (Deed Resources) Errno). IsTrue (bytes_want_memory c.args.message.call.target.manager (told c.args.resources.now c.args.queues.now) means deed) in
+    let message = c.args.message in
+    subst (λ means. wants means (deed_in c.args.resources.now c.args.queues.now process message bytes))
+    (meaning-served c.args.users.now message.thread process bytes c.hand_over-bytes.result.0 c.meaning_of-meaning.result sends c.hand_over-bytes.ensures.bytes c.meaning_of-meaning.ensures.meaning)
+    (subst (wants c.meaning_of-meaning.result)
+    (deed-served c.args.resources.now c.args.queues.now c.args.users.now c.hand_over-bytes.new.self c.args.message.thread c.args.message.call c.args.message.moment process c.in-Some.process.now bytes c.hand_over-bytes.result.0 c.meaning_of-meaning.result sends
+    c.hand_over-bytes.ensures.served c.in-Some.ensures.row c.hand_over-bytes.ensures.bytes c.meaning_of-meaning.ensures.meaning)
+    (rw (c.context_of-context.ensures.context, c.caller.ensures) at c.in-Err.ensures.wanted))
 
 pub returns-in-Ok-clause-room : goal.returns-in-Ok-clause-room
 returns-in-Ok-clause-room c = room-there _ _ c.in-Ok.given refl c.in-Ok.ensures.room
