@@ -3,7 +3,6 @@ use Rattle.std.specs.Prelude.{⊤, ℕ, []}
 use Rattle.qx_types.specs.declared.names.Thread.{Thread}
 use Rattle.qx_types.specs.declared.outcome.Answer.TheVariants.{Reply}
 use Rattle.qx_queues.specs.Queues.{UsersAnswer, caller}
-use Rattle.qx_queues.specs.declared.waiting.Answered as taken
 use Rattle.qx_queues.specs.declared.waiting.Slot.{Slot}
 use Rattle.qx_queues.specs.declared.waiting.Slot.TheVariants as slot
 use Rattle.qx_queues.specs.Waiting.{Answered, ComesWithRoom, Load, Nothing, Waiting, Waits, addressed_by}
