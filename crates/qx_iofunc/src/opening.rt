@@ -98,7 +98,13 @@ impl Store {
     }
 
     // Makes what is missing, and opens it.
-    fn open_missing(&mut self, own: Kind, at: Spot<'_>, new: New, wish: Wish) -> Result<Opening, AllocError>
+    fn open_missing(
+        &mut self,
+        own: Kind,
+        at: Spot<'_>,
+        new: New,
+        wish: Wish,
+    ) -> Result<Opening, AllocError>
         requires parent { HasPath self.old.stored.names at.parent }
         requires missing { get self.old.stored.names (under (path_of self.old.stored.names at.parent) at.name.now) ≡ None }
         requires judged { may_make self.old.stored.inodes self.old.stored.user at.parent wish.flags ≡ Ok new }

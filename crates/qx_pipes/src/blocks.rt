@@ -112,11 +112,7 @@ pub fn seek(store: &Store, opened: Opened) -> Errno
 /// Takes an open control block of a user away (C Library Reference: `close`): the calls that wait over it are answered, and
 /// those whom that concerns; what was open with it goes, with its pipe, where nothing names that and nothing else has it
 /// open. EBADF without a block of a pipe or of a directory.
-pub fn close(
-    shared: &mut Shared,
-    store: &mut Store,
-    opened: Opened,
-) -> Result<(), Errno>
+pub fn close(shared: &mut Shared, store: &mut Store, opened: Opened) -> Result<(), Errno>
     requires user { store.old.stored.user < length shared.old.pipes }
     ensures user { store.new.stored.user ≡ store.old.stored.user }
     ensures done { (r : Resources) → result ≡ done_of (defaults.close kind.Pipe (seen r store.old.stored shared.old) opened) }

@@ -152,11 +152,7 @@ pub trait Io<S: State<W, T>, W, T> {
         ensures wanted { OnErr result (IsTrue (is_done_so wants (S.told state.old waits.old) (function_deed io.write opened (λ f o. f (S.told state.old waits.old) o bytes.now)))) };
 
     /// Takes a connection away, and its block with it.
-    fn close(
-        state: &mut S,
-        waits: &mut W,
-        opened: Result<Opened, Errno>,
-    ) -> Result<Done, Errno>
+    fn close(state: &mut S, waits: &mut W, opened: Result<Opened, Errno>) -> Result<Done, Errno>
         requires fits { S.fits state.old waits.old }
         ensures did { Did S.State state.old waits.old state.new waits.new [] result (function_deed io.close opened (λ f o. f (S.told state.old waits.old) o)) }
         ensures replied { IsReplied result };

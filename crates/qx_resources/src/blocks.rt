@@ -89,11 +89,7 @@ pub fn list(
 }
 
 /// Sets the mode of what is open (C Library Reference: `fchmod`).
-pub fn chmod(
-    state: &mut Resources,
-    opened: Result<Opened, Errno>,
-    mode: u16,
-) -> Result<Done, Errno>
+pub fn chmod(state: &mut Resources, opened: Result<Opened, Errno>, mode: u16) -> Result<Done, Errno>
     ensures did { (waits : Shared) → Did kept.state state.old waits state.new waits [] result (function_deed ram_io.chmod opened (λ f o. f (kept.told state.old waits) o mode)) }
     ensures replied { IsReplied result }
 {
