@@ -7,7 +7,7 @@ use Rattle.std.proofs.lemmas.Bool.{cases_eq, ltb-false, ltb-true, ne_eqb}
 use Rattle.std.proofs.lemmas.Bool.Decides.{nat_tests}
 use Rattle.std.proofs.lemmas.List.{get_or-set_same}
 use Rattle.std.proofs.lemmas.Option.{unwrap_or-slice_get}
-use Rattle.std.proofs.lemmas.List.Sums.{count_by-le-length, sum_by-append, sum_by-cons, sum_by-set}
+use Rattle.std.proofs.lemmas.List.Sums.{sum_by-append, sum_by-cons, sum_by-set}
 use Rattle.qx_types.specs.declared.flags.OFlags.{OFlags}
 use Rattle.qx_machine.specs.declared.rows.Ocb.{Ocb}
 use Rattle.qx_machine.specs.Inodes.{is_open, moved_to, reads, writes}
@@ -134,13 +134,6 @@ module _ (attrs : List (Option Attr)) (blocks : List (Option Ocb)) (n : ℕ) (bl
     readers_are = closed (λ attr. attr.readers) reads attrs blocks n block attr (uncounted block.flags attr) there are.readers_are is refl;
     writers_are = closed (λ attr. attr.writers) writes attrs blocks n block attr (uncounted block.flags attr) there are.writers_are is refl;
   }
-
--- there are no more of one kind than blocks
-pub count_few : (count : Attr → ℕ) (which : OFlags → Bool) (attrs : List (Option Attr)) (blocks : List (Option Ocb)) (inode : ℕ) (attr : Attr) → row_at attrs inode ≡ Some attr → IsCounted count which attrs blocks → count attr ≤ length blocks
-count_few count which attrs blocks inode attr is are =
-    let same : count attr ≡ count_by (is_open which inode) blocks = ap (count_in count) (sym is) ∙ are inode in
-    let few = count_by-le-length (is_open which inode) blocks in
-    omega (arith, same, few)
 
 -- what has no open control block has none of either kind
 none_of : (which : OFlags → Bool) (inode : ℕ) (blocks : List (Option Ocb)) → count_by (is_open which inode) blocks ≤ count_by (is_open (λ flags. true) inode) blocks

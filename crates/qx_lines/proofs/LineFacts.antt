@@ -89,10 +89,6 @@ pub IsLineOf-elsewhere : {T : Type 0} (rank : T → ℕ) (t new : Table T) (line
 IsLineOf-elsewhere rank t new line other stands same apart =
     IsLineOf-same rank t new line stands (λ list own. same.lists list (apart list own)) (λ node at. ap (λ values. unwrap_or (option_map rank (map.get values node)) 0) same.values)
 
--- a line keeps its nodes as another line changes
-pub nodes_in-elsewhere : {T : Type 0} (t new : Table T) (line other : Line) → SameElsewhere t new other → ((list : ℕ) → IsOwn line list → IsOwn other list → ⊥) → nodes_in new line ≡ nodes_in t line
-nodes_in-elsewhere t new line other same apart = ap (λ o. unwrap_or o []) (same.lists line.list (apart line.list refl))
-
 -- a new line has no list of one that was there
 pub apart_from_new : {T : Type 0} (rank : T → ℕ) (t : Table T) (line new : Line) → IsLineOf rank t line → ((list : ℕ) → IsOwn new list → map.get t.lists list ≡ None) → (list : ℕ) → IsOwn line list → IsOwn new list → ⊥
 apart_from_new rank t line new stands absent list own own_new =

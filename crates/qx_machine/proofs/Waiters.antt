@@ -42,8 +42,7 @@ use Rattle.qx_machine.specs.Inodes.{block_number, has, is_unused, new_attribute,
 use Rattle.qx_machine.specs.Judgements.{◌>>=◌, found, need}
 use Rattle.qx_machine.specs.Managers.{manager_deed}
 use Rattle.qx_machine.specs.Names.{Spot, is_directory, is_empty, names_in, spot}
-use Rattle.qx_machine.specs.Parts.{Part}
-use Rattle.qx_machine.specs.Performing.{Served, answered_changes, context_of, deed_of, opened_by, read_message, serve_pulse, with_answers}
+use Rattle.qx_machine.specs.Performing.{context_of, deed_of, opened_by, read_message}
 use Rattle.qx_machine.specs.PipeManager.{cancel_call, read_pipe, released, seek_pipe, deed_of_pipe, write_pipe}
 use Rattle.qx_machine.specs.Pipes.{PipeAfter, Pipe, all_answered, and_then, cancel, clean, clean_read, clean_write, dismissed, first_answered, fits, nobody_answered, one_answered, portion, read, readers_dismissed, readers_ended, release, removed, served, settle, waiting_unless, without_bytes, write, writers_dismissed, writers_ended}
 use Rattle.qx_machine.specs.Processes.{Process}
@@ -518,25 +517,3 @@ module _ (resources : Resources) (process : Process) (caller : Caller) (target :
   -- but not where it is replied to
   pub deed-keeps_replied : (P : WaitingCall → Type 0) → InPipes P resources.pipes → (reply : Reply) → deed.reply ≡ Some reply → InDeed P deed
   deed-keeps_replied P h reply replied = (deed-gives P h).keeps (λ none. absurd (cc))
-
--- ---- unblock pulses
-
--- what an unblock pulse does is what the cancelling gives
-pub record Pulsed (P : WaitingCall → Type 0) (part : Part) (process thread call moment : ℕ) (served : Served) : Type 0 where
-  pub deed : Deed Resources
-  pub gives : cancel_call part.resources process thread call moment ≡ Ok deed
-  pub keeps : InDeed P deed
-  pub part_is : served.part ≡ with_answers deed.answers (record part { resources = deed.state })
-  pub changes_are : served.changes ≡ answered_changes managers.Pipe deed.answers
-
-pub serve_pulse-keeps : (P : WaitingCall → Type 0) (part : Part) (process thread call moment : ℕ) (served : Served) → serve_pulse part process thread call moment ≡ Ok served → InPipes P part.resources.pipes
-    → Pulsed P part process thread call moment served
-serve_pulse-keeps P part process thread call moment served is h =
-    gives-value (Pulsed P part process thread call moment) _ served is
-    (gives_on _ (cancel_call part.resources process thread call moment) _ (λ deed cancels. gives_done _ _ (record {
-      deed = deed;
-      gives = cancels;
-      keeps = gives-value (InDeed P) _ deed cancels (cancel-gives P part.resources process thread call moment h);
-      part_is = refl;
-      changes_are = refl;
-    })))

@@ -8,8 +8,6 @@ pub mod ListingLemmas
 pub mod NamesLemmas
 -- paths that lead to an inode
 pub mod PathLemmas
--- walks, step by step
-pub mod WalkLemmas
 -- what the directories show, call by call
 pub mod ShowsLemmas
 -- the names in a directory

@@ -1,13 +1,11 @@
 -- The laws of settling.
-use Rattle.std.proofs.Common.{◌≡◌, inl, inr, ℕ, suc, ◌+◌, List, [], ◌∷◌, ◌++◌, length, take, drop, refl, sym, ap, ◌∙◌, append-nil, append_assoc}
-use Rattle.std.specs.Prelude.{map}
+use Rattle.std.proofs.Common.{inl, inr, ℕ, suc, ◌+◌, List, [], ◌∷◌, ◌++◌, length, take, drop, refl, sym, ap, ◌∙◌, append-nil, append_assoc}
 use Rattle.std.proofs.lemmas.Bool.Decides.{leb_tells}
 use Rattle.std.proofs.lemmas.List.{take-append-drop}
 use Rattle.qx_types.specs.declared.outcome.Answer.TheVariants.{Reply}
 use Rattle.qx_types.specs.declared.limits.TheConstants.Limits.{PIPE}
 use Rattle.qx_machine.specs.Pipes.{PipeAfter, Pipe, first_answered, nobody_answered, pipe_of, portion, served, settle}
 use Rattle.qx_pipe.specs.Laws.{Conserves, IsSettled, brought, handed_out}
-use Rattle.qx_pipe.specs.inner.Laws.{retold, retold_after}
 
 module _ {W : Type 0} (wanted : W → ℕ) (offered : W → List ℕ) where
   conserves-nobody : (p : Pipe W) → Conserves offered p (nobody_answered p)
@@ -70,25 +68,3 @@ module _ {W : Type 0} (wanted : W → ℕ) (offered : W → List ℕ) where
   pub is_settled : (p : Pipe W) → IsSettled offered (settle wanted offered p).pipe
   unfolding settle
   is_settled p = settled-served p.bytes p.readers p.writers
-
--- settling asks a message only what it wants and what it has
-module _ {W V : Type 0} (tell : W → V) (wanted : W → ℕ) (offered : W → List ℕ) (told_wanted : V → ℕ) (told_offered : V → List ℕ) (same_wanted : (who : W) → told_wanted (tell who) ≡ wanted who) (same_offered : (who : W) → told_offered (tell who) ≡ offered who) where
-  retold-served : (bytes : List ℕ) (readers writers : List W) → served told_wanted told_offered bytes (map tell readers) (map tell writers) ≡ retold_after tell (served wanted offered bytes readers writers)
-  retold-served (b ∷ bs) (reader ∷ readers) writers =
-      rw (same_wanted reader)
-      (ap (first_answered (tell reader) (Reply (portion wanted reader (b ∷ bs)) (take (portion wanted reader (b ∷ bs)) (b ∷ bs))))
-      (retold-served (drop (portion wanted reader (b ∷ bs)) (b ∷ bs)) readers writers))
-  retold-served [] readers (writer ∷ writers) = elim (leb_tells (0 + length (offered writer)) PIPE) [
-    | inl fits ↦ rw (same_offered writer, fits.0) (ap (first_answered (tell writer) (Reply (length (offered writer)) [])) (retold-served ([] ++ offered writer) readers writers))
-    | inr full ↦ rw (same_offered writer, full.0) refl
-  ]
-  retold-served (b ∷ bs) [] (writer ∷ writers) = elim (leb_tells (length (b ∷ bs) + length (offered writer)) PIPE) [
-    | inl fits ↦ rw (same_offered writer, fits.0) (ap (first_answered (tell writer) (Reply (length (offered writer)) [])) (retold-served ((b ∷ bs) ++ offered writer) [] writers))
-    | inr full ↦ rw (same_offered writer, full.0) refl
-  ]
-  retold-served [] readers [] = refl
-  retold-served (b ∷ bs) [] [] = refl
-
-  pub retold-settle : (p : Pipe W) → settle told_wanted told_offered (retold tell p) ≡ retold_after tell (settle wanted offered p)
-  unfolding settle
-  retold-settle p = retold-served p.bytes p.readers p.writers

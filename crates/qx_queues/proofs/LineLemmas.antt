@@ -268,11 +268,6 @@ module _ (first : Queued) (line : List Queued) (other : Thread) where
   pub stands-received : as_message first.item ≡ None → stands (first ∷ line) other ≡ stands line other
   stands-received none = ap (λ o. is_some (option_or o (first_field as_message other line))) (ap (λ o. if is_same_thread (sender first) other then o else None) none ∙ field-nothing (is_same_thread (sender first) other))
 
--- what was taken stands there no more
-pub gone-message : (it : OwnItem) (thread : Thread) (line : List Queued) → pulse_call it ≡ None → no_other it thread line → stands line thread ≡ false
-gone-message (item.Message process number) thread line none gone = gone
-gone-message (item.Unblock process number call) thread line none gone = cc
-
 pub gone-pulse : (it : OwnItem) (thread : Thread) (line : List Queued) → as_message it ≡ None → no_other it thread line → unblock_call line thread ≡ None
 gone-pulse (item.Message process number) thread line none gone = cc
 gone-pulse (item.Unblock process number call) thread line none gone = gone

@@ -17,7 +17,7 @@ use Rattle.qx_machine.specs.declared.rows.Queued.{Queued}
 use Rattle.qx_queues.specs.declared.nodes.ProcessNodes.{ProcessNodes}
 use Rattle.qx_queues.specs.declared.nodes.ThreadNodes.{ThreadNodes}
 use Rattle.qx_queues.specs.declared.nodes.UserNodes.{UserNodes}
-use Rattle.qx_queues.specs.Queues.{Queues, UsersAnswer, UsersCall, has_thread_nodes, is_same_thread, server_cmp, thread_cmp, with_process_nodes, with_server_node, with_thread_nodes, without_server_node}
+use Rattle.qx_queues.specs.Queues.{Queues, UsersAnswer, UsersCall, has_thread_nodes, is_same_thread, server_cmp, thread_cmp, with_process_nodes, with_server_node, without_server_node}
 use Rattle.qx_queues.specs.inner.Queues.{is_thread_of}
 use Rattle.qx_queues.specs.Nodes.{Asked, Disconnect, Message, Owner, Unblock, asked_in, disconnect_at, if_there, keys_in, no_nodes, no_process, no_process_nodes, node_of, nodes_of_thread, told_by_number, process_at, process_nodes_in, servers_of, threads_of, with_disconnect_at, with_nodes_at}
 use Rattle.qx_queues.proofs.EntryLemmas.{or_false}
@@ -207,11 +207,6 @@ module _ (lines : List (List Queued)) (nodes : List UserNodes) (room : ℕ) (pip
   server-lacked lacked =
       let absent : set.contains (servers_of nodes) (proc, number) ≡ false = servers-nodes nodes proc number ∙ lacked in
       same_queues refl refl (remove-absent server_total server_exact (servers_of nodes) (proc, number) absent) refl (sym (rw absent refl)) refl refl
-
--- the first threads of a process were added
-pub with_process-more : (c : Queues) (proc : Proc) (threads : ℕ) → (threads ≡ 0 → ⊥) → with_thread_nodes (with_process_nodes c proc (threads - 1)) (record { proc = proc; tid = threads }) ≡ with_process_nodes c proc threads
-with_process-more c proc zero some = absurd (some refl)
-with_process-more c proc (suc threads) some = let before : suc threads - 1 ≡ threads = omega arith in rw before refl
 
 -- a thread is none of those before it
 pub not_earlier : (proc : Proc) (threads : ℕ) → (threads ≡ 0 → ⊥) → is_thread_of proc (threads - 1) (record { proc = proc; tid = threads }) ≡ false

@@ -209,12 +209,6 @@ judged_unknown Unknown e = refl
 judged_unknown Malformed e = absurd cc
 judged_unknown (Known y) e = absurd (elim (in_ranges y) as (λ v. cond v (Known y) Malformed ≡ Unknown → ⊥) [ true ↦ λ h. cc | false ↦ λ h. cc ] e)
 
--- what is not Malformed is as it was cut
-pub judged_or_cut : (c : Meaning) → (judged c ≡ Malformed) ⊎ (judged c ≡ c)
-judged_or_cut Unknown = inr refl
-judged_or_cut Malformed = inr refl
-judged_or_cut (Known y) = elim (in_ranges y) as (λ v. (cond v (Known y) Malformed ≡ Malformed) ⊎ (cond v (Known y) Malformed ≡ Known y)) [ true ↦ inr refl | false ↦ inl refl ]
-
 -- ---- the laws
 
 cut_spelling : (bytes : List ℕ) (m : Message) → IsBytes bytes → cut bytes ≡ Known m → bytes ≡ spelling m
