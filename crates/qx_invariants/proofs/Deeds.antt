@@ -1,11 +1,10 @@
 -- What deeds do to a user's resources: a property that each change which may happen keeps, each deed and each cancelled call keep.
 use Rattle.std.proofs.Common.{◌≡◌, inl, inr, ℕ, zero, suc, ◌+◌, ◌≤◌, ◌==◌, List, [], ◌∷◌, ◌++◌, length, true, refl, sym, ap, ◌∙◌, subst, arith, Bool}
-use Rattle.std.specs.Prelude.{ℤ, ◌&&◌, Option, Some, None, Result, Ok, is_some, nat_le, not, option_map, position, slice_set}
+use Rattle.std.specs.Prelude.{ℤ, ◌&&◌, Option, Some, None, Ok, is_some, nat_le, not, option_map, position, slice_set}
 use Rattle.std.specs.FinMap.{get, insert, remove}
 use Rattle.std.specs.List.{count_by}
 use Rattle.std.proofs.lemmas.Option.{same_Some}
 use Rattle.std.proofs.lemmas.Bool.{and_parts, cases_eq, cond_both, eq-eqb, leb-true}
-use Rattle.qx_types.specs.declared.errno.Errno.{Errno}
 use Rattle.qx_types.specs.declared.errno.Errno.TheVariants.{EACCES, EBADF, EBUSY, EEXIST, EFBIG, EISDIR, ENOENT, ENOSPC, ENOTEMPTY, EPERM}
 use Rattle.qx_types.specs.declared.fields.Whence.{Whence}
 use Rattle.qx_types.specs.declared.flags.OFlags.{OFlags}

@@ -4,7 +4,7 @@ use Rattle.std.specs.Prelude.{Result, Ok, Err, Option, Some, None}
 use Rattle.std.proofs.lemmas.Bool.{cond_both, cases_eq}
 use Rattle.qx_types.specs.Configuration.{Configuration, name_bytes}
 use Rattle.qx_types.specs.declared.errno.Errno.{Errno}
-use Rattle.qx_types.specs.declared.errno.Errno.TheVariants.{EACCES, EBADF, EINVAL}
+use Rattle.qx_types.specs.declared.errno.Errno.TheVariants.{EACCES}
 use Rattle.qx_types.specs.declared.names.Manager.{Manager}
 use Rattle.qx_types.specs.declared.names.Thread.{Thread}
 use Rattle.qx_types.specs.declared.outcome.Answer.{Answer}
@@ -25,10 +25,7 @@ use Rattle.qx_machine.specs.declared.rows.State.{State}
 use Rattle.qx_machine.specs.declared.rows.Target.{Target}
 use Rattle.qx_machine.specs.declared.rows.WaitingCall.{WaitingCall}
 use Rattle.qx_machine.specs.Clients.{ClientStep, client_given, interrupt_in, mount, mount_by, or_unchanged}
-use Rattle.qx_machine.specs.declared.rows.Opened.{Opened}
-use Rattle.qx_machine.specs.Functions.{Deed, existing_coid}
-use Rattle.qx_machine.specs.Servers.{is_numbered}
-use Rattle.qx_types.specs.Managers.{manager_number}
+use Rattle.qx_machine.specs.Functions.{Deed}
 use Rattle.qx_machine.specs.Inodes.{inode_number}
 use Rattle.qx_machine.specs.Judgements.{found, need, or_refused}
 use Rattle.qx_machine.specs.Mounting.{new_mount}
@@ -47,7 +44,6 @@ use Rattle.std.proofs.lemmas.Option.{same_Some}
 use Rattle.qx_types.specs.Step.{actor_of, user_of}
 use Rattle.qx_types.specs.declared.names.Actor.{Actor}
 use Rattle.qx_machine.specs.declared.rows.Held.{Held}
-use Rattle.qx_machine.specs.declared.rows.Queued.{Queued}
 use Rattle.qx_machine.specs.Machine.{World, boot, boot_parts, client_step, own_held, performed_part, received_part, server_step, step, step_end, step_of, with_empty_hand, with_taken}
 use Rattle.qx_machine.specs.Runs.{run, world_after}
 use Rattle.qx_machine.proofs.Places.{row_at-set_cases, row_at-set_other}

@@ -1,5 +1,5 @@
 -- A write: by what it goes to, and by why it can't be.
-use Rattle.std.proofs.Common.{◌+◌, [], Ok, ap, arith, length, refl, sym, ◌∙◌}
+use Rattle.std.proofs.Common.{◌+◌, [], Ok, ap, arith, length, sym, ◌∙◌}
 use Rattle.std.proofs.lemmas.Result.{err_from_is_err_and}
 use Rattle.qx_iofunc.specs.Store.{with_stored}
 use Rattle.qx_machine.specs.RamManager.{moved}
