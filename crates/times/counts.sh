@@ -32,3 +32,5 @@ for at in '1 0' '16 0' '16 1' '16 100' '16 1000'; do script 200 beside $at; done
 for bytes in 1 4096; do for kind in place late; do script 1000 $kind $bytes; done; done
 for readers in 0 1 63; do for kind in settle portions; do script 100 $kind $readers; done; done
 for at in '0 0' '63 0' '0 15' '63 15' '0 255'; do script 1000 waiting $at; done
+for at in 'a 0' 'a 1' 'a 64' 'a 128' 'b 128'; do script 1000 events $at; done
+for kind in trigger untriggered notify poll; do for events in 1 64; do script 100 $kind $events; done; done

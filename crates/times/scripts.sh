@@ -142,4 +142,23 @@ waiting() {
   echo 'show a'; manager=pipe; ask fill 3 1 07; ask read 3 1
 }
 
+# Over EVENTS connections to the pipe `other` of a user events are armed, by processes from the second on.
+armed() {
+  local from i
+  for ((i = 0; i < $2; i++)); do
+    from=$1.$((i / 64 + 2)).1
+    first open "/$1/p/other" rwc 644; first notify $((i % 64 + 3)) pollarm i 5 7
+  done
+}
+# As `place 1`, beside EVENTS events over another pipe, of the same user or of another one.
+events() { crowd 2 1; armed "$1" "$2"; echo 'show a'; manager=pipe; ask fill 3 1 07; ask read 3 1; }
+# EVENTS events are armed over one pipe, and a byte is written, which makes all due; it is read, and the pulses are taken.
+arm_each() { for ((i = 3; i < $1 + 3; i++)); do ask notify $i pollarm i 5 7; done; }
+pipe_for() { crowd 1 2; for ((i = 1; i < $1; i++)); do first open /a/p/f rwc 644; done; echo 'show a'; manager=pipe; }
+trigger() { pipe_for "$1"; arm_each "$1"; from=a.2.1 ask fill 3 1 07; ask read 3 1; for ((i = 0; i < $1; i++)); do echo 'pulse a.1'; done; }
+# The same with no events armed, so that no pulses come; and arming, with the poll of each that takes the event away.
+untriggered() { pipe_for "$1"; from=a.2.1 ask fill 3 1 07; ask read 3 1; }
+notify() { pipe_for "$1"; arm_each "$1"; for ((i = 3; i < $1 + 3; i++)); do ask notify $i poll i 5 7; done; }
+poll() { pipe_for "$1"; for ((i = 3; i < $1 + 3; i++)); do ask notify $i poll i 5 7; done; }
+
 "$@"

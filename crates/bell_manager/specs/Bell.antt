@@ -1,11 +1,11 @@
 -- A bell: a read waits until somebody writes. Calls wait in a place under the number of an inode, as in a pipe that they read.
 use Rattle.std.specs.Prelude.{ℕ, ◌≡◌, ◌==◌, not, true, List, [], ◌∷◌, Option, Some, None, Result, Ok, length, slice_set}
 use Rattle.qx_types.specs.declared.errno.Errno.{Errno}
-use Rattle.qx_types.specs.declared.errno.Errno.TheVariants.{EBADF, EINTR}
+use Rattle.qx_types.specs.declared.errno.Errno.TheVariants.{EBADF, EINTR, ENOENT}
 use Rattle.qx_types.specs.declared.flags.OFlags.{OFlags}
 use Rattle.qx_types.specs.declared.outcome.Answer.{Answer}
 use Rattle.qx_types.specs.declared.outcome.Answer.TheVariants as answer
-use Rattle.qx_machine.specs.declared.rows.Effect.TheVariants.{Keeps, Closes}
+use Rattle.qx_machine.specs.declared.rows.Effect.TheVariants.{Keeps, Opens, Closes}
 use Rattle.qx_machine.specs.declared.rows.NewOpen.{NewOpen}
 use Rattle.qx_machine.specs.declared.rows.Opened.{Opened}
 use Rattle.qx_machine.specs.declared.rows.WaitingCall.{WaitingCall}
@@ -13,9 +13,9 @@ use Rattle.qx_machine.specs.Functions.{ConnectFunctions, Deed, IoFunctions, Repl
 use Rattle.qx_machine.specs.Judgements.{◌>>=◌, need}
 use Rattle.qx_machine.specs.Waiting.{waiting_call}
 use Rattle.qx_machine.specs.Pipes.{PipeAfter, Pipe, nobody_answered, readers_dismissed, with_reader}
+use Rattle.qx_machine.specs.Rows.{put_row}
 use Rattle.qx_shared.specs.Shared.{HasPipe, IsReceived, Shared, pipe_at, callers_thread, with_pipe_after}
-use Rattle.null_manager.specs.Null as null
-use Rattle.null_manager.specs.Null.{Blocks}
+use Rattle.null_manager.specs.Null.{Blocks, free_number}
 
 -- what the manager keeps for a user: which inode of the user its place is under, and the open control blocks, from 1
 pub record KeptBells : Type 0 where
@@ -57,11 +57,14 @@ CanWork k c opened = IsReceived c (callers_thread k.user opened.caller)
 abbrev pub comes_to : Option Reply → Blocks → PipeAfter WaitingCall → Result (Deed Bells) Errno
 comes_to reply blocks after = Ok (record { reply = reply; state = record { blocks = blocks; place = after.pipe }; answers = after.answers })
 
--- the null manager's open
-abbrev pub bell_open_deed : Bells → NewOpen → OFlags → List (List ℕ) → Result (Deed Bells) Errno
-bell_open_deed bells over flags rest = do
-  opened ← null.open_deed bells.blocks over flags rest
-  comes_to opened.reply opened.state (nobody_answered bells.place)
+-- as at the null manager (C Library Reference: open, ENOENT)
+abbrev pub open_deed : Bells → NewOpen → OFlags → List (List ℕ) → Result (Deed Bells) Errno
+open_deed bells over flags rest = do
+  there ← need (length rest == 0) ENOENT
+  number ← free_number bells.blocks
+  comes_to (Some (record { status = over.coid.0; bytes = []; effect = Opens over.coid number }))
+      (put_row bells.blocks number (record { inode = over.root; flags = flags; offset = 0 }))
+      (nobody_answered bells.place)
 
 -- who was asked to unblock does not wait (Writing a Resource Manager: the unblock pulse)
 abbrev pub read_deed : Bells → Opened → ℕ → Result (Deed Bells) Errno
@@ -82,7 +85,7 @@ close_deed bells opened =
     (readers_dismissed (λ call. call.block == opened.number) (answer.Failed EBADF) bells.place)
 
 abbrev pub bell_connect : ConnectFunctions Bells
-bell_connect = record no_connect { «open» = Some (λ bells over rest wish. bell_open_deed bells over wish.flags rest) }
+bell_connect = record no_connect { «open» = Some (λ bells over rest wish. open_deed bells over wish.flags rest) }
 
 abbrev pub bell_io : IoFunctions Bells
 bell_io = record no_io {

@@ -1,14 +1,13 @@
 ghost use Rattle.bell_manager.specs.Bell.{bell_connect, bell_io};
 
 use crate::bell::{Bell, Bells};
-use null_manager::Null;
 use qx_attr::Reply;
-use qx_machine::{NewOpen, Opened, Wish};
+use qx_machine::{Effect, NewOpen, Ocb, Opened, PulseWish, Wish};
 use qx_process::Room;
 use qx_queues::{Leaving, PipeCall};
 use qx_resmgr::{Connect, Done, Io, no_function};
 use qx_shared::{Shared, Side};
-use qx_types::{Errno, Whence};
+use qx_types::{Errno, NotifyAction, Whence};
 use qx_wire::Rest;
 use std::alloc::AllocError;
 
@@ -25,7 +24,30 @@ impl Connect<Bell, Shared, Bells> for Ringing {
         rest: &Rest<'_>,
         wish: Wish,
     ) -> Result<Result<Done, Errno>, AllocError> {
-        Null::open(&mut state.blocks, &mut (), over, rest, wish)
+        let over = match over {
+            Ok(over) => over,
+            Err(error) => return Ok(Err(error)),
+        };
+        if rest.components().next().is_some() {
+            return Ok(Err(Errno::ENOENT));
+        }
+        let number = match state.blocks.free_number() {
+            Ok(number) => number,
+            Err(error) => return Ok(Err(error)),
+        };
+        let block = Ocb {
+            inode: over.root,
+            flags: wish.flags,
+            offset: 0,
+        };
+        state.blocks.put(number, block)?;
+        Ok(Ok(Done::Reply {
+            status: over.coid.0 as u64,
+            effect: Effect::Opens {
+                coid: over.coid,
+                block: number,
+            },
+        }))
     }
 
     fn stat(
@@ -113,15 +135,19 @@ impl Io<Bell, Shared, Bells> for Ringing {
         waits: &mut Shared,
         opened: Result<Opened, Errno>,
     ) -> Result<Done, Errno> {
-        let over_it = Leaving::Block(opened?.number);
+        let opened = opened?;
+        state.blocks.free(opened.number);
         waits.dismiss(
             state.user,
             state.inode,
             Side::Reading,
-            over_it,
+            Leaving::Block(opened.number),
             Err(Errno::EBADF),
         );
-        Null::close(&mut state.blocks, &mut (), opened)
+        Ok(Done::Reply {
+            status: 0,
+            effect: Effect::Closes(opened.coid),
+        })
     }
 
     fn lseek(
@@ -160,5 +186,15 @@ impl Io<Bell, Shared, Bells> for Ringing {
         _mode: u16,
     ) -> Result<Done, Errno> {
         no_function()
+    }
+
+    fn notify(
+        _state: &mut Bell,
+        _waits: &mut Shared,
+        _opened: Result<Opened, Errno>,
+        _action: NotifyAction,
+        _wish: PulseWish,
+    ) -> Result<Result<Done, Errno>, AllocError> {
+        Ok(no_function())
     }
 }

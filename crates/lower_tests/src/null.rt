@@ -2,14 +2,16 @@
 //! it is gone.
 
 use all_memory::take_all_memory;
-use null_manager::{Blocks, Null};
+use null_manager::{Kept, Null, Told};
 use qx_attr::Reply;
 use qx_machine::{Caller, Context, Effect, Over, Target};
+use qx_notify::AllEvents;
 use qx_process::Room;
 use qx_resmgr::{Done, serve};
-use qx_types::{Coid, Errno, Manager, NoMemory, OFlags, Prio};
+use qx_types::{Coid, Conds, Errno, Manager, NoMemory, NotifyAction, OFlags, Prio, User};
 use qx_wire::{BorrowedBytes, Message, Rest, in_ranges};
 use std::alloc::{AllocError, Global};
+use std::marker::Model;
 use std::process::Abort;
 use std::test::Fail;
 
@@ -31,6 +33,7 @@ enum Ask {
     Read,
     Close,
     Fstat,
+    Notify(NotifyAction),
 }
 
 /// The status of a reply without bytes, and what becomes of the connection; or an error.
@@ -43,7 +46,7 @@ const OPENS: Effect = Effect::Opens {
 };
 
 /// Messages in turn over connection 3, and what each comes to.
-const MESSAGES: [(Over, Ask, Given); 9] = [
+const MESSAGES: [(Over, Ask, Given); 11] = [
     (Over::New(THREE), Ask::Open("name"), Err(Errno::ENOENT)),
     (Over::Existing(THREE), Ask::Open(""), Err(Errno::EINVAL)),
     (Over::Existing(THREE), Ask::Fstat, Err(Errno::ENOSYS)),
@@ -55,6 +58,16 @@ const MESSAGES: [(Over, Ask, Given); 9] = [
         Ok((3, Effect::Keeps)),
     ),
     (Over::Existing(THREE), Ask::Read, Ok((0, Effect::Keeps))),
+    (
+        Over::Existing(THREE),
+        Ask::Notify(NotifyAction::PollArm),
+        Ok((1, Effect::Keeps)),
+    ),
+    (
+        Over::Existing(THREE),
+        Ask::Notify(NotifyAction::TranArm),
+        Ok((0, Effect::Keeps)),
+    ),
     (
         Over::Existing(THREE),
         Ask::Close,
@@ -83,21 +96,41 @@ fn message(ask: Ask) -> Message<'static> {
         Ask::Read => Message::Read { count: 3 },
         Ask::Close => Message::Close,
         Ask::Fstat => Message::Fstat,
+        Ask::Notify(action) => Message::Notify {
+            action,
+            conditions: Conds::INPUT,
+            code: 7,
+            value: 9,
+        },
     }
 }
 
-/// The manager at work: what is open, the bytes of its reply, and the memory for a later one.
+/// The manager at work: what it keeps for the user 1, the events of all users, the bytes of its reply, and the memory for a
+/// later one.
 struct Bench {
-    blocks: Blocks,
+    kept: Kept,
+    events: AllEvents,
     reply: Reply,
     room: Option<Room>,
+}
+
+impl Model for Bench {
+    ghost use Rattle.null_manager.specs.Null.{HasUser, Kept};
+    ghost use Rattle.qx_notify.specs.Events.{AllEvents};
+
+    ghost Value = { Kept × AllEvents };
+
+    ghost view = { λ b. (b.kept, b.events) };
+
+    ghost invariant = { λ b. HasUser b.kept b.events };
 }
 
 /// As it would be derived; but what drops a bench at an exit is proved with one call there.
 impl Drop for Bench {
     fn drop(self) {
         let Bench {
-            blocks: _,
+            kept: _,
+            events: _,
             reply: _,
             room: _,
         } = self;
@@ -107,13 +140,15 @@ impl Drop for Bench {
 impl Bench {
     fn new(alloc: Global) -> Result<Bench, NoMemory> {
         Ok(Bench {
-            blocks: Blocks::new(alloc)?,
+            kept: Kept::new(alloc, User(1))?,
+            events: AllEvents::new(alloc, 1)?,
             reply: Reply::new(alloc)?,
             room: Some(Room::new(alloc)?),
         })
     }
 
     /// What a message comes to at a mount whose root is the inode 5, with the number of its reply's bytes.
+    #[tactic(auto, using(crate::proofs::NullLemmas::stays))]
     fn served(
         &mut self,
         rt: &impl Abort,
@@ -130,13 +165,13 @@ impl Bench {
         };
         let context = Context {
             target,
-            opened: self.blocks.opened(CALLER, THREE, 1, 7),
+            opened: self.kept.blocks.opened(CALLER, THREE, 1, 7),
             moment: 7,
         };
         self.reply.clear();
-        let given = serve::<Null, Blocks, (), Blocks>(
-            &mut self.blocks,
-            &mut (),
+        let given = serve::<Null, Kept, AllEvents, Told>(
+            &mut self.kept,
+            &mut self.events,
             context,
             message,
             &mut self.reply,

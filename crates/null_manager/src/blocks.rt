@@ -1,17 +1,17 @@
-ghost use Rattle.std.specs.Prelude.{◌≡◌, [], ◌∷◌, None, IfOk};
+ghost use Rattle.std.specs.Prelude.{◌≡◌, [], ◌∷◌, None, IfOk, OnErr, OnOk, is_some, slice_set};
+ghost use Rattle.qx_machine.specs.Rows.{put_row, row_at};
 ghost use Rattle.null_manager.specs.Null as null;
 
 use qx_machine::{Caller, Ocb, Opened};
 use qx_process::places;
-use qx_resmgr::State;
-use qx_types::{Coid, Errno, NoMemory};
-use std::alloc::Global;
+use qx_types::{Coid, Errno, Limits, NoMemory};
+use std::alloc::{AllocError, Global};
 use std::marker::Model;
 
-/// What the manager's functions work on: its open control blocks, from 1 to 256.
+/// A user's open control blocks, from 1 to 256.
 #[derive(Drop)]
 pub struct Blocks {
-    pub(crate) rows: Vec<Option<Ocb>>,
+    rows: Vec<Option<Ocb>>,
 }
 
 impl Model for Blocks {
@@ -22,11 +22,6 @@ impl Model for Blocks {
     ghost view = { λ b. b.rows.items };
 }
 
-/// The manager shares nothing among users, and lets no call wait.
-impl State<(), Blocks> for Blocks {
-    ghost told = { λ blocks _. blocks };
-}
-
 impl Blocks {
     /// Nothing is open.
     pub fn new(alloc: Global) -> Result<Self, NoMemory>
@@ -35,6 +30,13 @@ impl Blocks {
         Ok(Blocks {
             rows: places::empty(alloc)?,
         })
+    }
+
+    /// Whether there is a block of that number.
+    pub fn has(&self, number: u16) -> bool
+        ensures has { result ≡ is_some (row_at self.now number) }
+    {
+        places::row(self.rows.as_slice(), number as usize).is_some()
     }
 
     /// What a caller's connection with a block of that number has open; EBADF where there is no such block.
@@ -54,5 +56,31 @@ impl Blocks {
             number,
             moment,
         })
+    }
+
+    /// The number that a new block gets; ENFILE where there are too many.
+    pub fn free_number(&self) -> Result<u16, Errno>
+        ensures number { result ≡ null.free_number self.now }
+    {
+        let number = places::lowest_free(self.rows.as_slice(), 1);
+        if number > Limits::BLOCKS {
+            return Err(Errno::ENFILE);
+        }
+        Ok(number as u16)
+    }
+
+    /// Puts a block under a number. It may want memory.
+    pub fn put(&mut self, number: u16, block: Ocb) -> Result<(), AllocError>
+        ensures ok { OnOk result (self.new ≡ put_row self.old number block) }
+        ensures err { OnErr result (self.new ≡ self.old) }
+    {
+        places::put(&mut self.rows, number as usize, block)
+    }
+
+    /// Takes away the block of a number.
+    pub fn free(&mut self, number: u16)
+        ensures freed { self.new ≡ slice_set self.old number None }
+    {
+        places::free(&mut self.rows, number as usize);
     }
 }

@@ -1,23 +1,24 @@
 ghost use Rattle.null_manager.specs.Null.{null_connect, null_io};
 
-use crate::blocks::Blocks;
+use crate::kept::{Kept, Told};
 use qx_attr::Reply;
-use qx_machine::{Effect, NewOpen, Ocb, Opened, Wish};
-use qx_process::{Room, places};
+use qx_machine::{Conditions, Effect, Event, NewOpen, Ocb, Opened, PulseWish, Wish};
+use qx_notify::AllEvents;
+use qx_process::Room;
 use qx_resmgr::{Connect, Done, Io, no_function};
-use qx_types::{Errno, Limits, Whence};
+use qx_types::{Errno, NotifyAction, Whence};
 use qx_wire::Rest;
 use std::alloc::AllocError;
 
 /// The null manager.
 pub struct Null;
 
-impl Connect<Blocks, (), Blocks> for Null {
+impl Connect<Kept, AllEvents, Told> for Null {
     ghost connect = { null_connect };
 
     fn open(
-        state: &mut Blocks,
-        _waits: &mut (),
+        state: &mut Kept,
+        _waits: &mut AllEvents,
         over: Result<NewOpen, Errno>,
         rest: &Rest<'_>,
         wish: Wish,
@@ -29,28 +30,28 @@ impl Connect<Blocks, (), Blocks> for Null {
         if rest.components().next().is_some() {
             return Ok(Err(Errno::ENOENT));
         }
-        let number = places::lowest_free(state.rows.as_slice(), 1);
-        if number > Limits::BLOCKS {
-            return Ok(Err(Errno::ENFILE));
-        }
+        let number = match state.blocks.free_number() {
+            Ok(number) => number,
+            Err(error) => return Ok(Err(error)),
+        };
         let block = Ocb {
             inode: over.root,
             flags: wish.flags,
             offset: 0,
         };
-        places::put(&mut state.rows, number, block)?;
+        state.blocks.put(number, block)?;
         Ok(Ok(Done::Reply {
             status: over.coid.0 as u64,
             effect: Effect::Opens {
                 coid: over.coid,
-                block: number as u16,
+                block: number,
             },
         }))
     }
 
     fn stat(
-        _state: &mut Blocks,
-        _waits: &mut (),
+        _state: &mut Kept,
+        _waits: &mut AllEvents,
         _root: Result<u32, Errno>,
         _rest: &Rest<'_>,
         _moment: u64,
@@ -60,8 +61,8 @@ impl Connect<Blocks, (), Blocks> for Null {
     }
 
     fn unlink(
-        _state: &mut Blocks,
-        _waits: &mut (),
+        _state: &mut Kept,
+        _waits: &mut AllEvents,
         _root: Result<u32, Errno>,
         _rest: &Rest<'_>,
         _moment: u64,
@@ -70,8 +71,8 @@ impl Connect<Blocks, (), Blocks> for Null {
     }
 
     fn mknod(
-        _state: &mut Blocks,
-        _waits: &mut (),
+        _state: &mut Kept,
+        _waits: &mut AllEvents,
         _root: Result<u32, Errno>,
         _mode: u16,
         _rest: &Rest<'_>,
@@ -81,12 +82,18 @@ impl Connect<Blocks, (), Blocks> for Null {
     }
 }
 
-impl Io<Blocks, (), Blocks> for Null {
+impl Io<Kept, AllEvents, Told> for Null {
+    ghost use Rattle.null_manager.specs.Null.{MayArm, got_events};
+
     ghost io = { null_io };
 
+    ghost wants = { got_events };
+
+    ghost ready = { MayArm };
+
     fn read(
-        _state: &mut Blocks,
-        _waits: &mut (),
+        _state: &mut Kept,
+        _waits: &mut AllEvents,
         opened: Result<Opened, Errno>,
         _count: u32,
         _reply: &mut Reply,
@@ -97,8 +104,8 @@ impl Io<Blocks, (), Blocks> for Null {
     }
 
     fn write(
-        _state: &mut Blocks,
-        _waits: &mut (),
+        _state: &mut Kept,
+        _waits: &mut AllEvents,
         opened: Result<Opened, Errno>,
         bytes: &[u8],
         _room: &mut Option<Room>,
@@ -107,12 +114,13 @@ impl Io<Blocks, (), Blocks> for Null {
     }
 
     fn close(
-        state: &mut Blocks,
-        _waits: &mut (),
+        state: &mut Kept,
+        waits: &mut AllEvents,
         opened: Result<Opened, Errno>,
     ) -> Result<Done, Errno> {
         let opened = opened?;
-        places::free(&mut state.rows, opened.number as usize);
+        state.blocks.free(opened.number);
+        waits.disarm(state.user, opened.number);
         Ok(Done::Reply {
             status: 0,
             effect: Effect::Closes(opened.coid),
@@ -120,8 +128,8 @@ impl Io<Blocks, (), Blocks> for Null {
     }
 
     fn lseek(
-        _state: &mut Blocks,
-        _waits: &mut (),
+        _state: &mut Kept,
+        _waits: &mut AllEvents,
         _opened: Result<Opened, Errno>,
         _whence: Whence,
         _offset: i64,
@@ -130,8 +138,8 @@ impl Io<Blocks, (), Blocks> for Null {
     }
 
     fn fstat(
-        _state: &mut Blocks,
-        _waits: &mut (),
+        _state: &mut Kept,
+        _waits: &mut AllEvents,
         _opened: Result<Opened, Errno>,
         _reply: &mut Reply,
     ) -> Result<Done, Errno> {
@@ -139,8 +147,8 @@ impl Io<Blocks, (), Blocks> for Null {
     }
 
     fn list(
-        _state: &mut Blocks,
-        _waits: &mut (),
+        _state: &mut Kept,
+        _waits: &mut AllEvents,
         _opened: Result<Opened, Errno>,
         _after: &[u8],
         _reply: &mut Reply,
@@ -149,11 +157,40 @@ impl Io<Blocks, (), Blocks> for Null {
     }
 
     fn chmod(
-        _state: &mut Blocks,
-        _waits: &mut (),
+        _state: &mut Kept,
+        _waits: &mut AllEvents,
         _opened: Result<Opened, Errno>,
         _mode: u16,
     ) -> Result<Done, Errno> {
         no_function()
+    }
+
+    fn notify(
+        state: &mut Kept,
+        waits: &mut AllEvents,
+        opened: Result<Opened, Errno>,
+        action: NotifyAction,
+        wish: PulseWish,
+    ) -> Result<Result<Done, Errno>, AllocError> {
+        let opened = match opened {
+            Ok(opened) => opened,
+            Err(error) => return Ok(Err(error)),
+        };
+        if !state.blocks.has(opened.number) {
+            return Ok(Err(Errno::EBADF));
+        }
+        let event = Event {
+            process: opened.caller.process,
+            block: opened.number,
+            conditions: wish.conditions,
+            code: wish.code,
+            value: wish.value,
+        };
+        let holding = Conditions {
+            input: true,
+            output: true,
+        };
+        let given = waits.notify(state.user, action, event, holding)?;
+        Ok(given.map(Done::keeps))
     }
 }

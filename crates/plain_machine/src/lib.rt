@@ -4,11 +4,13 @@
 //!
 //! - `rows.rt`: the rows and the lines
 //! - `serving.rt`: what a performed message comes to
+//! - `events.rt`: notifications, and the pulses that processes take
 //! - `steps.rt`: the steps that are tried: numbers of a linear congruential generator (`steps/dice.rt`), the steps that
-//!   they choose (`steps/choice.rt`), and what these ask: `steps/requests.rt`, `steps/pipes.rt`, `steps/paths.rt`,
-//!   `steps/raws.rt`, `steps/texts.rt`
+//!   they choose (`steps/choice.rt`), and what these ask: `steps/requests.rt`, `steps/pipes.rt`, `steps/events.rt`,
+//!   `steps/paths.rt`, `steps/raws.rt`, `steps/texts.rt`
 #![tactic(auto)]
 
+mod events;
 mod rows;
 mod serving;
 pub mod steps;
@@ -95,8 +97,14 @@ impl Plain {
         })
     }
 
-    /// Takes a step.
+    /// Takes a step, after which the due events give their pulses.
     pub fn step(&mut self, step: &Step) -> Result<Outcome, AllocError> {
+        let outcome = self.act(step)?;
+        self.files.settle_events()?;
+        Ok(outcome)
+    }
+
+    fn act(&mut self, step: &Step) -> Result<Outcome, AllocError> {
         match step {
             Step::Spawn {
                 user,
@@ -105,6 +113,7 @@ impl Plain {
             } => self.spawn(*user, *threads, *prio),
             Step::Call { thread, request } => self.call(*thread, request),
             Step::TakeReply { thread } => Ok(self.take_reply(*thread)),
+            Step::TakePulse { proc } => Ok(self.take_pulse(*proc)),
             Step::SetPrio { thread, prio } => Ok(self.set_prio(*thread, *prio)),
             Step::Interrupt { thread } => self.interrupt(*thread),
             Step::Mount {

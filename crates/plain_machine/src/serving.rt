@@ -34,12 +34,12 @@ impl Plain {
         }
     }
 
-    /// Both managers have functions for all messages but dup and notify, and the pipe manager none for mknod.
+    /// Both managers have functions for all messages but dup, and the pipe manager none for mknod.
     fn served(&mut self, thread: Thread, sent: &Sent, moment: u64) -> Result<Option<Reply>, Fault> {
         let reading = read(sent.bytes.as_slice());
         match (sent.manager, reading) {
             (_, Reading::Malformed) => Err(Fault::Refused(Errno::EINVAL)),
-            (_, Reading::Unknown | Reading::Known(Kind::Dup | Kind::Notify))
+            (_, Reading::Unknown | Reading::Known(Kind::Dup))
             | (Manager::Pipe, Reading::Known(Kind::Mknod)) => Err(Fault::Refused(Errno::ENOSYS)),
             (Manager::Pipe, Reading::Known(kind @ (Kind::Read | Kind::Write))) => {
                 self.in_pipe(thread, sent, moment, kind)?;
@@ -176,6 +176,7 @@ impl Plain {
                 let status = self.files.fstat(user, block)?;
                 Ok((0, Vec::from_slice(self.alloc, &status)?))
             }
+            Kind::Notify => Ok((self.notify(proc, block, bytes)?, none)),
             _ => {
                 let answers = self.files.close(user, block, moment)?;
                 self.answer_all(answers);

@@ -2,6 +2,7 @@
 
 mod choice;
 mod dice;
+mod events;
 mod paths;
 mod pipes;
 mod raws;

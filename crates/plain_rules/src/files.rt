@@ -1,6 +1,7 @@
 //! The rules of files, directories and pipes once more, over plain vectors: a row for each path that leads somewhere,
 //! one for each inode and one for each open block, of all users.
 
+mod events;
 mod fault;
 mod opened;
 mod pipes;
@@ -8,4 +9,5 @@ mod rows;
 mod walk;
 
 pub use fault::Fault;
+pub use pipes::PipeLook;
 pub use rows::{Files, Place};

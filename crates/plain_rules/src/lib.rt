@@ -1,5 +1,5 @@
-//! The rules once more, plainly, for `plain_machine`: messages as bytes, paths and mounts, pipes, and files. Nothing is
-//! shared with the crates of the product but the types.
+//! The rules once more, plainly, for `plain_machine`: messages as bytes, paths and mounts, pipes, events, and files.
+//! Nothing is shared with the crates of the product but the types.
 //!
 //! - `messages.rt`: what bytes are to a manager (`read`); a request (`write`) or any header and body (`message`) as
 //!   bytes. It has no table in common with `qx_wire`.
@@ -7,12 +7,15 @@
 //!   mount fits where its text is the front of the path's
 //! - `pipes.rt`: what is done to one pipe, each giving who is answered what, in order (`Given`, in `pipes/given.rt`);
 //!   who waits to read and who to write are two vectors of calls
+//! - `events.rt`: the armed events of all users in one vector and their untaken pulses in another; each event keeps
+//!   which conditions held after the last step
 //! - `files.rt`: a row for each path that leads somewhere, by the path's text, one for each inode with its bytes or its
 //!   pipe, and one for each open block, of all users in three vectors (`files/rows.rt`); what is asked of paths
-//!   (`files/walk.rt`), of open blocks (`files/opened.rt`) and of pipes (`files/pipes.rt`); an error or want of memory
-//!   is a `Fault` (`files/fault.rt`)
+//!   (`files/walk.rt`), of open blocks (`files/opened.rt`), of pipes (`files/pipes.rt`) and by notifications
+//!   (`files/events.rt`); an error or want of memory is a `Fault` (`files/fault.rt`)
 #![tactic(auto)]
 
+pub mod events;
 pub mod files;
 pub mod messages;
 pub mod paths;

@@ -191,7 +191,7 @@ impl Pipe {
     }
 
     /// Whether so many bytes fit beside those that stand.
-    fn has_room(&self, count: usize) -> bool {
+    pub fn has_room(&self, count: usize) -> bool {
         self.bytes.len().saturating_add(count) <= PIPE
     }
 }

@@ -1,7 +1,7 @@
 //! What a step does beside its outcome, and what a performed message is answered.
 
 use plain_machine::{Plain, Post, Row, Sent, State};
-use plain_rules::messages::{Kind, Reading, read};
+use plain_rules::messages::{Kind, Reading, number_at, read};
 use qx_types::{Answer, Errno, Manager, Request, Step, Thread, Worker};
 
 /// What a step does, in two words.
@@ -14,8 +14,11 @@ pub fn deed(plain: &Plain, step: &Step) -> Option<Deed> {
         Step::Interrupt { thread } => Some(("interrupt", interrupt_word(plain.row(*thread)?))),
         Step::Mount { manager, .. } => Some(("mount", manager_word(*manager))),
         Step::Perform { worker, .. } => item_deed(plain, *worker),
-        Step::Spawn { .. } | Step::TakeReply { .. } | Step::SetPrio { .. } | Step::Receive { .. } =>
-            None,
+        Step::Spawn { .. }
+        | Step::TakeReply { .. }
+        | Step::TakePulse { .. }
+        | Step::SetPrio { .. }
+        | Step::Receive { .. } => None,
     }
 }
 
@@ -93,12 +96,13 @@ fn item_deed(plain: &Plain, worker: Worker) -> Option<Deed> {
     }
 }
 
-/// A message that a step is about to perform: whose it is, at which manager, and its kind.
+/// A message that a step is about to perform: whose it is, at which manager, its kind and its subtype.
 #[derive(Clone, Copy)]
 pub struct Served {
     pub thread: Thread,
     pub manager: Manager,
     pub kind: Kind,
+    pub subtype: u16,
 }
 
 /// The message that a step is about to perform.
@@ -117,33 +121,54 @@ pub fn performed(plain: &Plain, step: &Step) -> Option<Served> {
             thread,
             manager: sent.manager,
             kind,
+            subtype: number_at(sent.bytes.as_slice(), 2),
         }),
         Reading::Malformed | Reading::Unknown => None,
     }
 }
 
 /// How a message was answered, or that it waits. That there is no function for it is not told, and that its connection
-/// has no block is told for all kinds in one, but for a read and a write, where EBADF has another cause too.
+/// has no block is told for all kinds in one, but for a read and a write, where EBADF has another cause too, and for
+/// notifications.
 pub fn answer_deed(plain: &Plain, served: Served) -> Option<Deed> {
-    let Served {
-        thread,
-        manager,
-        kind,
-    } = served;
-    let word = match manager {
-        Manager::Ram => kind_word(kind),
-        Manager::Pipe => pipe_word(kind),
-    };
+    let Served { thread, kind, .. } = served;
+    let word = served_word(served);
     match &plain.row(thread)?.state {
         State::Answered(Answer::Reply(status, bytes)) => {
             Some((word, reply_word(kind, *status, bytes.as_slice())))
         }
         State::Answered(Answer::Failed(Errno::ENOSYS)) => None,
         State::Answered(Answer::Failed(Errno::EBADF))
-            if !matches!(kind, Kind::Read | Kind::Write) => { Some(("no block", "EBADF")) }
+            if !matches!(kind, Kind::Read | Kind::Write | Kind::Notify) => {
+            Some(("no block", "EBADF"))
+        }
         State::Answered(Answer::Failed(error)) => Some((word, error.name())),
         State::Waiting { .. } => Some((word, "waits")),
         State::Ready | State::Queued(_) | State::Taken(_) => None,
+    }
+}
+
+/// The kind of a message and its manager; of a notification its action.
+fn served_word(served: Served) -> &'static str {
+    match (served.manager, served.kind, served.subtype) {
+        (Manager::Ram, Kind::Notify, 0) => "poll",
+        (Manager::Ram, Kind::Notify, 1) => "pollarm",
+        (Manager::Ram, Kind::Notify, _) => "tranarm",
+        (Manager::Pipe, Kind::Notify, 0) => "pipe poll",
+        (Manager::Pipe, Kind::Notify, 1) => "pipe pollarm",
+        (Manager::Pipe, Kind::Notify, _) => "pipe tranarm",
+        (Manager::Ram, kind, _) => kind_word(kind),
+        (Manager::Pipe, kind, _) => pipe_word(kind),
+    }
+}
+
+/// What made so many events due, if any: the message that was performed. That it were several is told of all kinds in one.
+pub fn due_deed(served: Option<Served>, count: usize) -> Option<Deed> {
+    match (count, served) {
+        (0, _) => None,
+        (1, Some(served)) => Some(("due", served_word(served))),
+        (1, None) => Some(("due", "no message")),
+        (_, _) => Some(("due", "several")),
     }
 }
 
@@ -186,7 +211,18 @@ fn reply_word(kind: Kind, status: u64, bytes: &[u8]) -> &'static str {
             if status == 0 { "nothing" } else { "something" }
         }
         Kind::Stat | Kind::Fstat => status_word(bytes),
+        Kind::Notify => conditions_word(status),
         _ => "done",
+    }
+}
+
+/// Which conditions are told.
+fn conditions_word(status: u64) -> &'static str {
+    match status {
+        0 => "of nothing",
+        1 => "of input",
+        2 => "of output",
+        _ => "of both",
     }
 }
 

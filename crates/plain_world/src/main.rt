@@ -2,16 +2,16 @@
 //!
 //! Each step is taken in both. The program ends in an error, with status 1, at the first difference; at an outcome, a
 //! deed or an answer that is none of those that have to come (`tally.rt`); and where one of these did not come or the
-//! line stayed short. What a step is about to do, and how a message and a call that waited were answered, is told in
-//! `deeds.rt`. A perform is tried first with other work, which has to be stale. What is printed doesn't change with the
-//! rules.
+//! line stayed short. What a step is about to do, how a message and a call that waited were answered, and what made
+//! events due, is told in `deeds.rt`. A perform is tried first with other work, which has to be stale. What is printed
+//! doesn't change with the rules.
 #![tactic(auto)]
 
 mod deeds;
 mod tally;
 
 use anyhow::bail;
-use deeds::{answer_deed, deed, performed, waited_deed};
+use deeds::{Served, answer_deed, deed, due_deed, performed, waited_deed};
 use plain_machine::steps::{Dice, next_step};
 use plain_machine::{Held, Plain, State};
 use qx_types::{
@@ -29,7 +29,7 @@ const ROUND: u32 = 2_400;
 const BUSY: u32 = 800;
 
 /// With this seed the steps come to all that has to come.
-const SEED: u64 = 226;
+const SEED: u64 = 2;
 
 /// So many items have to stand in the line at some time.
 const LONG: usize = 100;
@@ -78,7 +78,7 @@ fn take_steps(
     for number in 0..count {
         let step = next_step(alloc, &mut dice, plain, number % ROUND < BUSY)?;
         let (done, message) = (deed(plain, &step), performed(plain, &step));
-        let waiting = waiting_threads(alloc, plain)?;
+        let (waiting, pulses) = (waiting_threads(alloc, plain)?, plain.pulses());
         let outcome = take_both(alloc, world, plain, &step)?;
         if !tally.mark(&outcome, done, plain.waiting(Manager::Ram)) {
             bail!("{step:?}: {outcome:?}");
@@ -90,6 +90,7 @@ fn take_steps(
             bail!("{step:?}: {answer:?}");
         }
         mark_woken(plain, tally, waiting.as_slice())?;
+        mark_due(tally, message, plain.pulses().saturating_sub(pulses))?;
     }
     if !no_others(world, plain) {
         bail!("a thread is there that was not started");
@@ -116,6 +117,16 @@ fn mark_woken(plain: &Plain, tally: &mut Tally, waited: &[Thread]) -> anyhow::Re
         {
             bail!("{thread:?}: {answer:?}");
         }
+    }
+    Ok(())
+}
+
+/// Marks what made so many events due, if any.
+fn mark_due(tally: &mut Tally, message: Option<Served>, count: usize) -> anyhow::Result<()> {
+    if let Some(due) = due_deed(message, count)
+        && !tally.mark_answer(due)
+    {
+        bail!("{due:?}");
     }
     Ok(())
 }
@@ -163,6 +174,7 @@ fn take(world: &mut World, plain: &Plain, step: &Step) -> anyhow::Result<Outcome
         } => Ok(world.spawn(*user, *threads, *prio)?),
         Step::Call { thread, request } => taken(world.call(*thread, request)),
         Step::TakeReply { thread } => Ok(world.take_reply(*thread)),
+        Step::TakePulse { proc } => Ok(world.take_pulse(*proc)),
         Step::SetPrio { thread, prio } => Ok(world.set_prio(*thread, *prio)),
         Step::Interrupt { thread } => Ok(world.interrupt(*thread)),
         Step::Mount {

@@ -4,7 +4,7 @@ use crate::deeds::Deed;
 use qx_types::{Item, Outcome};
 
 /// Each outcome that the steps have to come to, and its error. None other may come.
-const OUTCOMES: [(&str, &str); 39] = [
+const OUTCOMES: [(&str, &str); 43] = [
     ("spawned", ""),
     ("refused", "EINVAL"),
     ("refused", "ENAMETOOLONG"),
@@ -19,6 +19,10 @@ const OUTCOMES: [(&str, &str); 39] = [
     ("sent", ""),
     ("reply", ""),
     ("reply with bytes", ""),
+    ("pulse of input", ""),
+    ("pulse of output", ""),
+    ("pulse of both", ""),
+    ("no pulse", ""),
     ("error", "EINVAL"),
     ("error", "ENOSYS"),
     ("error", "EBADF"),
@@ -98,8 +102,9 @@ const DEEDS: [(&str, &str); 48] = [
     ("pulse", "a later call in a pipe"),
 ];
 
-/// Each answer that has to come, by the manager and the kind of its message, and to those who waited. None other may.
-const ANSWERS: [(&str, &str); 98] = [
+/// Each answer that has to come, by the manager and the kind of its message, and to those who waited; and which messages
+/// make one event due or several. None other may.
+const ANSWERS: [(&str, &str); 127] = [
     ("no block", "EBADF"),
     ("open", "done"),
     ("open", "EINVAL"),
@@ -148,6 +153,17 @@ const ANSWERS: [(&str, &str); 98] = [
     ("list", "ENOTDIR"),
     ("chmod", "done"),
     ("chmod", "EPERM"),
+    ("poll", "of input"),
+    ("poll", "of output"),
+    ("poll", "of both"),
+    ("poll", "EBADF"),
+    ("pollarm", "of input"),
+    ("pollarm", "of output"),
+    ("pollarm", "of both"),
+    ("pollarm", "EBADF"),
+    ("tranarm", "of nothing"),
+    ("tranarm", "EBADF"),
+    ("tranarm", "EAGAIN"),
     ("pipe open", "done"),
     ("pipe open", "EINVAL"),
     ("pipe open", "ENOENT"),
@@ -192,6 +208,24 @@ const ANSWERS: [(&str, &str); 98] = [
     ("pipe list", "nothing"),
     ("pipe list", "ENOTDIR"),
     ("pipe chmod", "done"),
+    ("pipe poll", "of nothing"),
+    ("pipe poll", "of input"),
+    ("pipe poll", "of output"),
+    ("pipe poll", "of both"),
+    ("pipe poll", "EBADF"),
+    ("pipe pollarm", "of nothing"),
+    ("pipe pollarm", "of input"),
+    ("pipe pollarm", "of output"),
+    ("pipe pollarm", "of both"),
+    ("pipe pollarm", "EBADF"),
+    ("pipe pollarm", "EAGAIN"),
+    ("pipe tranarm", "of nothing"),
+    ("pipe tranarm", "EBADF"),
+    ("pipe tranarm", "EAGAIN"),
+    ("due", "pipe read"),
+    ("due", "pipe write"),
+    ("due", "pipe close"),
+    ("due", "several"),
     ("waited", "read something"),
     ("waited", "read the end"),
     ("waited", "wrote something"),
@@ -203,18 +237,18 @@ const ANSWERS: [(&str, &str); 98] = [
 /// Which of the outcomes, deeds and answers came, and how long the line was.
 #[derive(Drop)]
 pub struct Tally {
-    outcomes: [bool; 39],
+    outcomes: [bool; 43],
     deeds: [bool; 48],
-    answers: [bool; 98],
+    answers: [bool; 127],
     longest: usize,
 }
 
 impl Tally {
     pub fn new() -> Tally {
         Tally {
-            outcomes: [false; 39],
+            outcomes: [false; 43],
             deeds: [false; 48],
-            answers: [false; 98],
+            answers: [false; 127],
             longest: 0,
         }
     }
@@ -288,7 +322,7 @@ fn outcome_word(outcome: &Outcome) -> &'static str {
             }
         }
         Outcome::Failed(_) => "error",
-        Outcome::Pulse(..) => "pulse",
+        Outcome::Pulse(_, value) => pulse_word(*value),
         Outcome::NoPulse => "no pulse",
         Outcome::WrongState => "wrongstate",
         Outcome::Took(Item::Message(_)) => "took a message",
@@ -298,6 +332,16 @@ fn outcome_word(outcome: &Outcome) -> &'static str {
         Outcome::Busy => "busy",
         Outcome::Handled => "handled",
         Outcome::Nothing => "nothing",
+    }
+}
+
+/// Which conditions the value of a pulse tells of, by its bits 28 and 29.
+fn pulse_word(value: u32) -> &'static str {
+    match value >> 28 {
+        1 => "pulse of input",
+        2 => "pulse of output",
+        3 => "pulse of both",
+        _ => "pulse of nothing",
     }
 }
 

@@ -1,4 +1,4 @@
-ghost use Rattle.std.specs.Prelude.{◌≡◌, ◌+◌, ◌-◌, ◌<◌, ◌≤◌, Bool, None, Some, IfOk, IfSome, OnOk, OnErr, IsOk, IsSome, length, max, option_map, slice_set};
+ghost use Rattle.std.specs.Prelude.{◌≡◌, ℕ, ◌+◌, ◌-◌, ◌<◌, ◌≤◌, Bool, None, Some, IfOk, IfSome, OnOk, OnErr, IsOk, IsSome, length, max, option_map, slice_set};
 ghost use Rattle.std.specs.Option.{option_copied};
 ghost use Rattle.qx_attr.specs.Counts.{with_number};
 ghost use Rattle.qx_attr.specs.Flags.{block_for};
@@ -75,6 +75,13 @@ impl Inodes {
     /// Tells that inodes are numbered up to 1,024.
     pub fn numbered(&self)
         ensures few { length self.now.inodes.attributes ≤ INODES + 1 }
+    {
+        let _count = self.attrs.len();
+    }
+
+    /// Tells that the inode of each open control block is there.
+    pub fn opened(&self)
+        ensures there { (number : ℕ) (block : Ocb) → row_at self.now.inodes.blocks number ≡ Some block → IsSome (row_at self.now.inodes.attributes block.inode) }
     {
         let _count = self.attrs.len();
     }

@@ -16,6 +16,8 @@ mod PulseLemmas
 mod MessageLemmas
 -- what bytes mean has its values in their ranges
 mod MeaningLemmas
+-- a process takes its first pulse
+mod TakePulseLemmas
 -- one process among all users'
 pub mod ProcessLemmas
 -- a message is received
@@ -34,6 +36,8 @@ mod OutcomeLemmas
 mod ServeLemmas
 -- a message is served, as in the machine
 mod ServedLemmas
+-- what was done, once due events have given their pulses
+mod SettledLemmas
 -- disconnect nodes are settled
 mod SettleLemmas
 -- a process starts, and no process is there

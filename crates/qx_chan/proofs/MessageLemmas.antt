@@ -1,17 +1,23 @@
 -- A received message is performed: what its thread's row and the queues tell before, and what comes of that, as in the machine.
-use Rattle.std.proofs.Common.{◌≡◌, inl, inr, ℕ, List, Option, Some, None, Ok, Err, refl, sym, ◌∙◌, ap}
-use Rattle.std.specs.Prelude.{[], IsSome, Result, option_map}
+use Rattle.std.proofs.Common.{◌≡◌, ◌≤◌, inl, inr, Bool, true, false, ℕ, List, Option, Some, None, Ok, Err, refl, sym, ◌∙◌, ap}
+use Rattle.std.specs.Prelude.{[], IfOk, IsSome, Result, option_map}
+use Rattle.qx_types.specs.Managers.{manager_number}
 use Rattle.qx_types.specs.declared.errno.Errno.{Errno}
+use Rattle.qx_types.specs.declared.errno.Errno.TheVariants.{EBADF, EINVAL}
+use Rattle.qx_types.specs.declared.limits.TheConstants.Limits.{PROCESSES}
 use Rattle.qx_types.specs.declared.names.Thread.{Thread}
 use Rattle.qx_wire.specs.declared.message.Meaning.{Meaning}
 use Rattle.qx_wire.specs.Reading.{meaning}
 use Rattle.qx_machine.specs.declared.rows.Sent.{Sent}
 use Rattle.qx_machine.specs.declared.rows.State.TheVariants.{Taken}
 use Rattle.qx_machine.specs.declared.rows.ThreadRow.{ThreadRow}
+use Rattle.qx_machine.specs.Functions.{existing_coid}
+use Rattle.qx_machine.specs.Judgements.{◌>>=◌, found, need}
 use Rattle.qx_machine.specs.Parts.{Part, thread_at, thread_of}
-use Rattle.qx_machine.specs.Performing.{caller_of, context_of, deed_of, or_kept, serve_message, served_by, taken_in}
+use Rattle.qx_machine.specs.Performing.{caller_of, context_of, deed_of, opened_by, or_kept, serve_message, served_by, taken_in}
 use Rattle.qx_machine.specs.Processes.{Process, served_state, served_thread, with_thread}
 use Rattle.qx_machine.specs.Rows.{row_at}
+use Rattle.qx_machine.specs.Servers.{is_numbered}
 use Rattle.qx_machine.specs.Wants.{bytes_want_memory, thread_wants_memory}
 use Rattle.qx_process.specs.Reads.{unserved_state, unserved_thread}
 use Rattle.qx_queues.specs.Queues.{caller, has_answer_among}
@@ -20,11 +26,13 @@ use Rattle.qx_resmgr.specs.Deeds.{HasRoomAfter, IsReplied}
 use Rattle.qx_resmgr.specs.declared.functions.Done.{Done}
 use Rattle.qx_resmgr.specs.declared.functions.Done.TheVariants.{NoReply, Reply}
 use Rattle.qx_resources.specs.State as state
+use Rattle.qx_resources.specs.inner.State.{IsCallerReceived}
 use Rattle.qx_resources.specs.State.{told}
+use Rattle.qx_resources.specs.declared.waits.Waits.{Waits as AllWaits}
 use Rattle.qx_chan.specs.inner.Calls.{taken_bytes, taken_call}
 use Rattle.qx_chan.specs.inner.Kept.{StandTogether}
 use Rattle.qx_chan.specs.inner.Serving.{Sends, caller_of_call, deed_in}
-use Rattle.qx_chan.specs.Serving.{Serves, part_in}
+use Rattle.qx_chan.specs.Serving.{Serves, part_in, settled}
 use Rattle.qx_chan.specs.Users.{Users, process_of_user, process_of, thread_row, with_thread_row}
 use Rattle.qx_chan.specs.declared.call.Call.{Call}
 use Rattle.qx_chan.proofs.AnswerLemmas.{taken-stands, taken-unwaiting}
@@ -46,6 +54,25 @@ received-alone users queues thread call is kept = record {
     answered = ap (λ answers. has_answer_among answers thread) kept.answered;
   };
 }
+
+-- where a judgement finds something, it goes on with that
+module _ {B E : Type 0} (P : B → Type 0) where
+  if_found : {A : Type 0} (o : Option A) (error : E) (next : A → Result B E) → ((a : A) → IfOk (next a) P) → IfOk (found o error >>= next) P
+  if_found None error next each = tt
+  if_found (Some a) error next each = each a
+
+  if_need : (test : Bool) (error : E) (next : Bool → Result B E) → IfOk (next true) P → IfOk (need test error >>= next) P
+  if_need true error next goes = goes
+  if_need false error next goes = tt
+
+-- so the caller of what it works on is of a process that may be, and its message was received
+pub caller-received : (k : state.Kept) (w : AllWaits) (thread : Thread) (call : Call) (process : Process) (moment : ℕ) → k.user ≡ thread.proc.user.0 → thread.proc.num ≤ PROCESSES → IsReceived w.shared thread
+    → IfOk (opened_by process (caller_of_call thread call) call.target moment) (λ o. IsCallerReceived k w o)
+caller-received k w thread call process moment of few is =
+    if_found (IsCallerReceived k w) (existing_coid call.target.over) EINVAL _ (λ coid.
+    if_found (IsCallerReceived k w) (row_at process.connections coid.0) EBADF _ (λ connection.
+    if_need (IsCallerReceived k w) (is_numbered (manager_number call.target.manager) connection.manager) EBADF _ (
+    if_found (IsCallerReceived k w) connection.block EBADF _ (λ number. record { process = few; received = rw of is }))))
 
 -- what is read of a received message
 pub record Received (users : Users) (thread : Thread) (call : Call) : Type 0 where
@@ -102,15 +129,15 @@ meaning-served users thread process bytes given means of read is =
     is ∙ ap meaning bytes_are
 
 -- it comes to the same as before
-pub deed-served : (k : state.Kept) (queues : Shared) (users new : Users) (thread : Thread) (call : Call) (moment : ℕ) (process found : Process) (bytes given : List ℕ) (means : Meaning) → Sends users thread process bytes
+pub deed-served : (k : state.Kept) (w : AllWaits) (users new : Users) (thread : Thread) (call : Call) (moment : ℕ) (process found : Process) (bytes given : List ℕ) (means : Meaning) → Sends users thread process bytes
     → new ≡ with_thread_row users thread served_thread → Some found ≡ process_of new thread.proc → Some given ≡ taken_bytes (thread_row users thread) → means ≡ meaning given
-    → deed_of (told k queues) (context_of found (caller_of_call thread call) call.target moment) means ≡ deed_in k queues process (record { thread = thread; call = call; moment = moment }) bytes
-deed-served k queues users new thread call moment process found bytes given means of served there read is =
+    → deed_of (told k w) (context_of found (caller_of_call thread call) call.target moment) means ≡ deed_in k w process (record { thread = thread; call = call; moment = moment }) bytes
+deed-served k w users new thread call moment process found bytes given means of served there read is =
     let here : process_of (with_thread_row users thread served_thread) thread.proc ≡ Some (with_thread thread.tid served_thread process) = process_of-same users thread.proc (with_thread thread.tid served_thread) ∙ ap (option_map (with_thread thread.tid served_thread)) of.there in
     let both : Some found ≡ Some (with_thread thread.tid served_thread process) = there ∙ ap (λ users. process_of users thread.proc) served ∙ here in
     let its : found ≡ with_thread thread.tid served_thread process = cc in
-    ap (λ process. deed_of (told k queues) (context_of process (caller_of_call thread call) call.target moment) means) its
-    ∙ ap (deed_of (told k queues) (context_of process (caller_of_call thread call) call.target moment)) (meaning-served users thread process bytes given means of read is)
+    ap (λ process. deed_of (told k w) (context_of process (caller_of_call thread call) call.target moment) means) its
+    ∙ ap (deed_of (told k w) (context_of process (caller_of_call thread call) call.target moment)) (meaning-served users thread process bytes given means of read is)
 
 -- ---- memory is refused
 
@@ -150,18 +177,18 @@ module _ (thread : Thread) (moment : ℕ) where
     ]
   ]
 
-  pub Serves-untaken : (users : Users) (queues : Shared) (k : state.Kept) → k.user ≡ thread.proc.user.0 → taken_call (thread_row users thread) ≡ None
-      → Serves (shown users queues) (shown users queues) k k (λ part. or_kept part (serve_message part thread.proc.num thread.tid moment))
-  Serves-untaken users queues k of none = Serves-nothing users queues k (λ part. or_kept part (serve_message part thread.proc.num thread.tid moment)) (λ processes there.
+  pub Serves-untaken : (users : Users) (w : AllWaits) (k : state.Kept) → k.user ≡ thread.proc.user.0 → taken_call (thread_row users thread) ≡ None
+      → Serves (shown users w.shared w.events.events) (shown users w.shared w.events.events) k k (λ part. settled part (or_kept part (serve_message part thread.proc.num thread.tid moment)))
+  Serves-untaken users w k of none = Serves-nothing users w k (λ part. or_kept part (serve_message part thread.proc.num thread.tid moment)) (λ processes there.
       let idle : taken_call (thread_of thread.tid (process_of_user thread.proc.num (Some processes))) ≡ None = ap (λ rows. taken_call (thread_of thread.tid (process_of_user thread.proc.num rows))) (sym there ∙ ap (row_at users) of) ∙ none in
-      untaken (record { processes = processes; resources = told k queues }) idle)
+      untaken (record { processes = processes; resources = told k w }) idle)
 
 -- whether doing a received message may want memory is told by its call
-pub received-wants : (users : Users) (queues : Shared) (k : state.Kept) (thread : Thread) (call : Call) (its : Received users thread call) → k.user ≡ thread.proc.user.0 → (moment : ℕ)
-    → thread_wants_memory (part_in (shown users queues) k) thread.proc.num thread.tid moment ≡ bytes_want_memory call.target.manager (told k queues) (meaning its.sent.bytes) (deed_in k queues its.process (record { thread = thread; call = call; moment = moment }) its.sent.bytes)
-received-wants users queues k thread call its of moment =
+pub received-wants : (users : Users) (w : AllWaits) (k : state.Kept) (thread : Thread) (call : Call) (its : Received users thread call) → k.user ≡ thread.proc.user.0 → (moment : ℕ)
+    → thread_wants_memory (part_in (shown users w.shared w.events.events) k) thread.proc.num thread.tid moment ≡ bytes_want_memory call.target.manager (told k w) (meaning its.sent.bytes) (deed_in k w its.process (record { thread = thread; call = call; moment = moment }) its.sent.bytes)
+received-wants users w k thread call its of moment =
     rw (ap (row_at users) of ∙ its.user, its.there, its.at, ap taken_in its.is)
-    (ap (λ (call : Call). bytes_want_memory call.target.manager (told k queues) (meaning its.sent.bytes) (deed_in k queues its.process (record { thread = thread; call = call; moment = moment }) its.sent.bytes)) its.call_is)
+    (ap (λ (call : Call). bytes_want_memory call.target.manager (told k w) (meaning its.sent.bytes) (deed_in k w its.process (record { thread = thread; call = call; moment = moment }) its.sent.bytes)) its.call_is)
 
 -- the room for a reply is there still, where there is a reply
 pub room-there : {R : Type 0} (before room : Option R) (given : Result Done Errno) → IsSome before → HasRoomAfter before room given → IsReplied given → IsSome room

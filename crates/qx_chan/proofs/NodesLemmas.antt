@@ -1,5 +1,5 @@
 -- The room for nodes: disconnect nodes come out of it and go back to it, so room and nodes together stay as many.
-use Rattle.std.proofs.Common.{◌≡◌, ◌≤◌, ◌+◌, ◌-◌, ℕ, ◌∷◌, [], ◌||◌, ◌&&◌, not, Bool, true, false, List, Option, Result, Ok, Err, arith, ap, ap₂, refl, ◌∙◌}
+use Rattle.std.proofs.Common.{◌≡◌, ◌≤◌, ◌+◌, ◌-◌, ℕ, ◌∷◌, [], ◌||◌, ◌&&◌, not, Bool, true, false, List, Option, Result, Ok, Err, length, arith, ap, ap₂, refl, ◌∙◌}
 use Rattle.std.specs.Prelude.{count_by, if◌then◌else◌}
 use Rattle.std.proofs.lemmas.Bool.{cond_both}
 use Rattle.qx_types.specs.Managers.{manager_number, managers}
@@ -14,6 +14,7 @@ use Rattle.qx_machine.specs.declared.rows.OwnItem.TheVariants as item
 use Rattle.qx_machine.specs.declared.rows.Queued.{Queued}
 use Rattle.qx_machine.specs.declared.rows.Sent.{Sent}
 use Rattle.qx_machine.specs.declared.rows.Target.{Target}
+use Rattle.qx_machine.specs.Events.{Events}
 use Rattle.qx_machine.specs.Functions.{Deed}
 use Rattle.qx_machine.specs.Lines.{into, with_line}
 use Rattle.qx_machine.specs.Machine.{line_without, rank}
@@ -23,13 +24,14 @@ use Rattle.qx_machine.specs.Servers.{is_numbered}
 use Rattle.qx_queues.proofs.SetLemmas.{has-removed}
 use Rattle.qx_queues.specs.Queues.{message_of}
 use Rattle.qx_shared.specs.Shared.{Shared, has_disconnect_node, shared_after, with_shared_line, with_shared_server, without_shared_server}
-use Rattle.qx_resmgr.specs.Deeds.{Did}
 use Rattle.qx_resmgr.specs.declared.functions.Done.{Done}
 use Rattle.qx_resmgr.specs.declared.functions.Done.TheVariants.{NoReply, Reply}
-use Rattle.qx_resources.specs.State as state
+use Rattle.qx_resources.specs.State.{Kept}
+use Rattle.qx_resources.specs.declared.waits.Waits.{Waits}
 use Rattle.qx_chan.specs.inner.Answers.{answered_queues}
-use Rattle.qx_chan.specs.Channel.{after_send}
+use Rattle.qx_chan.specs.Channel.{Channel, after_send}
 use Rattle.qx_chan.specs.inner.Kept.{StandTogether, servers_settled, settled_at, with_attached, with_room}
+use Rattle.qx_chan.specs.inner.Serving.{Comes}
 use Rattle.qx_chan.specs.Nodes.{attached_at, attaches, disconnect_nodes, room_for, room_settled}
 use Rattle.qx_chan.specs.Users.{IsThreadReady, Users, process_of, thread_row, with_process_of}
 use Rattle.qx_chan.specs.declared.call.Call.{Call}
@@ -148,8 +150,8 @@ module _ (users : Users) (queues : Shared) (thread : Thread) (sent : Sent) (read
       held-attached thread.proc (process_of sent_users thread.proc) sent.target with_message (λ does. rw does (omega arith))
       ∙ cond_both {A = Shared} (attaches over) _ _ (λ d. d.room + held d thread.proc ≡ room_for over queues.room + held queues thread.proc) (λ does. rw does refl) (λ not_attaching. rw not_attaching refl)
 
-  pub shown-sent : shown sent_users sent_queues ≡ after_send (shown users queues) thread sent
-  shown-sent = λ i. record { users = sent_users; lines = lines i; pipes = pipes i; room = room i }
+  pub shown-sent : (events : List Events) → shown sent_users sent_queues events ≡ after_send (shown users queues events) thread sent
+  shown-sent events = λ i. record { users = sent_users; lines = lines i; pipes = pipes i; events = events; room = room i }
     where
       lines : sent_queues.lines ≡ with_line queues.lines (manager_number sent.target.manager) change
       lines = sent-fields (λ c. c.lines) (λ c number. refl) (λ c number. refl)
@@ -163,13 +165,17 @@ module _ (users : Users) (queues : Shared) (thread : Thread) (sent : Sent) (read
       room = room-told users sent_users queues sent_queues thread.proc (room_for over queues.room) kept
           (Kept-sent users (with_room over queues) thread sent ready (Kept-with_room users queues over kept)) nodes_kept
 
+  pub places-sent : length sent_queues.pipes ≡ length queues.pipes
+  places-sent = ap (λ (c : Channel). length c.pipes) (shown-sent [])
+
 -- a process has the disconnect nodes of what it has attached then
-pub shown-settled : (users after : Users) (queues : Shared) (proc : Proc) (number : ℕ) (change : List Queued → List Queued) → StandTogether users queues
+pub shown-settled : (users after : Users) (queues : Shared) (events : List Events) (proc : Proc) (number : ℕ) (change : List Queued → List Queued) → StandTogether users queues
     → StandTogether after (servers_settled proc (process_of after proc) managers (with_shared_line queues number change))
-    → shown after (servers_settled proc (process_of after proc) managers (with_shared_line queues number change))
-    ≡ record { users = after; lines = with_line queues.lines number change; pipes = queues.pipes; room = room_settled queues.room (process_of users proc) (process_of after proc) }
-shown-settled users after queues proc number change kept stay = λ i. record {
+    → shown after (servers_settled proc (process_of after proc) managers (with_shared_line queues number change)) events
+    ≡ record { users = after; lines = with_line queues.lines number change; pipes = queues.pipes; events = events; room = room_settled queues.room (process_of users proc) (process_of after proc) }
+shown-settled users after queues events proc number change kept stay = λ i. record {
   users = after;
+  events = events;
   lines = settled-fields proc (process_of after proc) (λ c. c.lines) (λ c number. refl) managers (with_shared_line queues number change) i;
   pipes = settled-fields proc (process_of after proc) (λ c. c.pipes) (λ c number. refl) managers (with_shared_line queues number change) i;
   room = room-told users after queues (servers_settled proc (process_of after proc) managers (with_shared_line queues number change)) proc queues.room kept stay (held-settled proc (process_of after proc) managers (with_shared_line queues number change)) i;
@@ -183,11 +189,11 @@ held-answered queues users thread call (Ok (Reply status effect)) = held-settled
 held-answered queues users thread call (Err error) = held-settled thread.proc (process_of users thread.proc) managers (with_shared_line queues (manager_number call.target.manager) (line_without thread.proc.user.0 (item.Unblock thread.proc.num thread.tid call.number)))
 
 -- what a function did to a user's resources made and freed no node
-pub held-did : (k l : state.Kept) (queues d : Shared) (bytes : List ℕ) (proc : Proc) (given : Result Done Errno) (r : Result (Deed Resources) Errno) → Did state.state k queues l d bytes given r → d.room + held d proc ≡ queues.room + held queues proc
-held-did k l queues d bytes proc (Ok done) (Ok deed) did = ap (λ (q : Shared). q.room + held q proc) did.2
-held-did k l queues d bytes proc (Err error) (Err refused) did = ap (λ (q : Shared). q.room + held q proc) did.2
-held-did k l queues d bytes proc (Ok done) (Err refused) did = absurd did
-held-did k l queues d bytes proc (Err error) (Ok deed) did = absurd did
+pub held-did : (k l : Kept) (w v : Waits) (bytes : List ℕ) (proc : Proc) (given : Result Done Errno) (r : Result (Deed Resources) Errno) → Comes k w l v bytes given r → v.shared.room + held v.shared proc ≡ w.shared.room + held w.shared proc
+held-did k l w v bytes proc (Ok done) (Ok deed) did = ap (λ (q : Shared). q.room + held q proc) did.1.shared
+held-did k l w v bytes proc (Err error) (Err refused) did = ap (λ (w : Waits). w.shared.room + held w.shared proc) did.2
+held-did k l w v bytes proc (Ok done) (Err refused) did = absurd did
+held-did k l w v bytes proc (Err error) (Ok deed) did = absurd did
 
 -- nor did an unblock pulse
 pub room-cancelled : (queues : Shared) (user : ℕ) (r : Result (Deed Resources) Outcome) → (shared_after queues user r).room ≡ queues.room

@@ -17,6 +17,7 @@ use Rattle.qx_machine.specs.declared.rows.Queued as queued
 use Rattle.qx_machine.specs.declared.rows.State.{State}
 use Rattle.qx_machine.specs.declared.rows.State.TheVariants.{Answered, Queued, Ready, Taken, Waiting}
 use Rattle.qx_machine.specs.declared.rows.ThreadRow.{ThreadRow}
+use Rattle.qx_machine.specs.Events.{Events}
 use Rattle.qx_machine.specs.Functions.{Deed, Reply}
 use Rattle.qx_machine.specs.Lines.{line_at, with_line}
 use Rattle.qx_machine.specs.Machine.{line_without, lines_after}
@@ -28,24 +29,25 @@ use Rattle.qx_machine.specs.Rows.{with_row}
 use Rattle.qx_machine.proofs.Waiters.{InDeed, IsAlone, alone-answers, alone-replied, deed-keeps, deed-keeps_replied, ram_deed-alone}
 use Rattle.qx_queues.specs.Queues.{unblock_call}
 use Rattle.qx_shared.specs.Shared.{Shared, users_given, with_shared_line, without_shared_server}
-use Rattle.qx_resmgr.specs.Deeds.{Did, IsReplied}
+use Rattle.qx_resmgr.specs.Deeds.{IsReplied}
 use Rattle.qx_resmgr.specs.declared.functions.Done.{Done}
 use Rattle.qx_resmgr.specs.declared.functions.Done.TheVariants as done
 use Rattle.qx_resources.specs.State as state
 use Rattle.qx_resources.specs.State.{told}
+use Rattle.qx_resources.specs.declared.waits.Waits.{Waits as AllWaits}
 use Rattle.qx_chan.specs.inner.Answers.{answered_queues, answered_users, given_lines, given_users, without_pulse}
 use Rattle.qx_chan.specs.inner.Calls.{taken_call}
 use Rattle.qx_chan.specs.Channel.{failed}
 use Rattle.qx_chan.specs.inner.Channel.{process_replied}
 use Rattle.qx_chan.specs.inner.Kept.{Answering, StandTogether, asked_call, is_asked_at, is_queued_at, is_waiting_for, stands_at, waits_for}
-use Rattle.qx_chan.specs.Serving.{Serves}
-use Rattle.qx_chan.specs.inner.Serving.{caller_of_call, deed_in}
+use Rattle.qx_chan.specs.Serving.{Serves, settled}
+use Rattle.qx_chan.specs.inner.Serving.{Comes, Leaves, caller_of_call, deed_in}
 use Rattle.qx_chan.specs.Users.{Users, process_of_user, process_of, thread_row, with_process_of, with_thread_row}
 use Rattle.qx_chan.specs.declared.call.Call.{Call}
 use Rattle.qx_chan.proofs.AnswerLemmas.{IsAnswer, fail_served, fails, replies, reply_served}
 use Rattle.qx_chan.proofs.GivenLemmas.{resources-machine}
 use Rattle.qx_chan.proofs.MessageLemmas.{Received, received, serves-message}
-use Rattle.qx_chan.proofs.ServeLemmas.{Answering-left, Left, Serves-given, Waits, given_all, left-same, nothing_done, shown, waits-before}
+use Rattle.qx_chan.proofs.ServeLemmas.{Answering-left, Serves-given, Waits, given_all, left-same, nothing_done, shown, waits-before}
 use Rattle.qx_chan.proofs.ServedLemmas.{Answering-answered, lines-done, lines-others, users-done, users-refused}
 use Rattle.qx_chan.proofs.SettleLemmas.{settled-fields}
 use Rattle.qx_chan.proofs.ThreadLemmas.{Kept-thread, one_thread}
@@ -89,7 +91,7 @@ pipe_or_ram : (manager : Manager) → (manager ≡ Pipe) ⊎ (manager ≡ Ram)
 pipe_or_ram Pipe = inl refl
 pipe_or_ram Ram = inr refl
 
-module _ (users : Users) (queues : Shared) (thread : Thread) (call : Call) (taken : Some call ≡ taken_call (thread_row users thread)) (kept : StandTogether users queues) where
+module _ (users : Users) (w : AllWaits) (thread : Thread) (call : Call) (taken : Some call ≡ taken_call (thread_row users thread)) (kept : StandTogether users w.shared) where
   abbrev its : Received users thread call
   its = received users thread call taken
 
@@ -111,8 +113,8 @@ module _ (users : Users) (queues : Shared) (thread : Thread) (call : Call) (take
   abbrev served_users : Users
   served_users = with_thread_row users thread served_thread
 
-  Kept-served : StandTogether served_users queues
-  Kept-served = Kept-thread users queues thread served_thread kept (λ at. served-stands at (thread_row users thread)) (λ at call. served-asked at call (thread_row users thread)) (λ call. served-waits call (thread_row users thread))
+  Kept-served : StandTogether served_users w.shared
+  Kept-served = Kept-thread users w.shared thread served_thread kept (λ at. served-stands at (thread_row users thread)) (λ at call. served-asked at call (thread_row users thread)) (λ call. served-waits call (thread_row users thread))
 
   -- the thread waits for the answer to its call at the pipe manager
   own-waits : manager ≡ Pipe → waits_for call.number (thread_row served_users thread) ≡ true
@@ -126,15 +128,15 @@ module _ (users : Users) (queues : Shared) (thread : Thread) (call : Call) (take
 
   -- ---- what it comes to
 
-  abbrev After : Users → Shared → state.Kept → state.Kept → (Part → Served) → Type 0
-  After rows after k l served = Answering rows after × Serves (shown users queues) (given_all rows after) k l served
+  abbrev After : Users → Shared → List Events → state.Kept → state.Kept → (Part → Served) → Type 0
+  After rows after events k l served = Answering rows after × Serves (shown users w.shared w.events.events) (given_all rows after events) k l (λ part. settled part (served part))
 
-  module _ (k l : state.Kept) (d : Shared) (of : k.user ≡ user) (moment : ℕ) where
+  module _ (k l : state.Kept) (v : AllWaits) (of : k.user ≡ user) (moment : ℕ) where
     abbrev part : Part
-    part = record { processes = its.processes; resources = told k queues }
+    part = record { processes = its.processes; resources = told k w }
 
     abbrev meant : Result (Deed Resources) Errno
-    meant = deed_in k queues its.process (record { thread = thread; call = call; moment = moment }) its.sent.bytes
+    meant = deed_in k w its.process (record { thread = thread; call = call; moment = moment }) its.sent.bytes
 
     abbrev served : Part → Served
     served part = or_kept part (serve_message part thread.proc.num thread.tid moment)
@@ -145,105 +147,104 @@ module _ (users : Users) (queues : Shared) (thread : Thread) (call : Call) (take
 
     served_is : served part ≡ served_by meant
     served_is = subst (λ (c : Call). served part ≡ record {
-      part = after_answer part thread.proc.num thread.tid c.target.over (deed_in k queues its.process (record { thread = thread; call = c; moment = moment }) its.sent.bytes);
-      changes = served_changes c.target.manager (caller_of_call thread c) (deed_in k queues its.process (record { thread = thread; call = c; moment = moment }) its.sent.bytes);
+      part = after_answer part thread.proc.num thread.tid c.target.over (deed_in k w its.process (record { thread = thread; call = c; moment = moment }) its.sent.bytes);
+      changes = served_changes c.target.manager (caller_of_call thread c) (deed_in k w its.process (record { thread = thread; call = c; moment = moment }) its.sent.bytes);
     }) its.call_is
         (ap (or_kept part) (serves-message part thread.proc.num thread.tid moment its.process its.row its.sent its.there its.at (ap taken_in its.is)))
 
     -- the RAM manager replies to it, and answers no other
-    alone : (deed : Deed Resources) → meant ≡ Ok deed → manager ≡ Ram → IsAlone (told k queues) deed
-    alone deed is ram = ram_deed-alone (told k queues) its.process (caller_of_call thread call) call.target moment (meaning its.sent.bytes) deed is ram
+    alone : (deed : Deed Resources) → meant ≡ Ok deed → manager ≡ Ram → IsAlone (told k w) deed
+    alone deed is ram = ram_deed-alone (told k w) its.process (caller_of_call thread call) call.target moment (meaning its.sent.bytes) deed is ram
 
     only : (deed : Deed Resources) → meant ≡ Ok deed → (manager ≡ Pipe) ⊎ (deed.answers ≡ [])
     only deed is = elim (pipe_or_ram manager) [
       | inl pipe ↦ inl pipe
-      | inr ram ↦ inr (alone-answers (told k queues) deed (alone deed is ram))
+      | inr ram ↦ inr (alone-answers (told k w) deed (alone deed is ram))
     ]
 
     -- what is left without a reply, the pipe manager served
     piped : (deed : Deed Resources) → meant ≡ Ok deed → None ≡ deed.reply → manager ≡ Pipe
     piped deed is reply_is = elim (pipe_or_ram manager) [
       | inl pipe ↦ pipe
-      | inr ram ↦ let clash : false ≡ true = ap is_some reply_is ∙ alone-replied (told k queues) deed (alone deed is ram) in absurd (cc)
+      | inr ram ↦ let clash : false ≡ true = ap is_some reply_is ∙ alone-replied (told k w) deed (alone deed is ram) in absurd (cc)
     ]
 
-    module _ (deed : Deed Resources) (left : Left k queues l d deed) (r : Result (Deed Resources) Errno) (is : meant ≡ r) (resources_are : (served_by r).part.resources ≡ deed.state) where
+    module _ (deed : Deed Resources) (left : Leaves k w l v deed) (r : Result (Deed Resources) Errno) (is : meant ≡ r) (resources_are : (served_by r).part.resources ≡ deed.state) where
       -- once the answers are given, all is as in the machine
-      serves : (rows : Users) (after : Shared) → after.answered ≡ d.answered → after.pipes ≡ d.pipes
+      serves : (rows : Users) (after : Shared) → after.answered ≡ v.shared.answered → after.pipes ≡ v.shared.pipes
           → given_users rows (map (users_given user) deed.answers) ≡ with_row users user (λ _. (served_by r).part.processes)
-          → given_lines after.lines (map (users_given user) deed.answers) ≡ lines_after user queues.lines (served_by r).changes
-          → Serves (shown users queues) (given_all rows after) k l served
-      serves = Serves-given users queues k served kept l d deed left user of its.processes its.user (served_by r) (served_is ∙ ap served_by is) resources_are
+          → given_lines after.lines (map (users_given user) deed.answers) ≡ lines_after user w.shared.lines (served_by r).changes
+          → Serves (shown users w.shared w.events.events) (given_all rows after v.events.events) k l (λ part. settled part (served part))
+      serves = Serves-given users w k served kept l v deed left user of its.processes its.user (served_by r) (served_is ∙ ap served_by is) resources_are
 
       -- the thread is answered too
-      answered : (f : Process → Process) (given : Answer) → IsAnswer thread.tid given f → InDeed (Waits users k.user) deed → Gone d
+      answered : (f : Process → Process) (given : Answer) → IsAnswer thread.tid given f → InDeed (Waits users k.user) deed → Gone v.shared
           → given_users (with_process_of users thread.proc f) (map (users_given user) deed.answers) ≡ with_row users user (λ _. (served_by r).part.processes)
-          → given_lines (with_line queues.lines (manager_number manager) drop_pulse) (map (users_given user) deed.answers) ≡ lines_after user queues.lines (served_by r).changes
-          → After (with_process_of users thread.proc f) (without_pulse d (with_process_of users thread.proc f) thread call) k l served
+          → given_lines (with_line w.shared.lines (manager_number manager) drop_pulse) (map (users_given user) deed.answers) ≡ lines_after user w.shared.lines (served_by r).changes
+          → After (with_process_of users thread.proc f) (without_pulse v.shared (with_process_of users thread.proc f) thread call) v.events.events k l served
       answered f given answers keeps gone rows_are lines_are = (
-        Answering-answered users d thread call taken (Answering-left users k.user queues d deed kept left.shared keeps) f given answers gone,
-        serves rows (without_pulse d rows thread call) (same (λ c. c.answered) (λ c number. refl)) (same (λ c. c.pipes) (λ c number. refl)) rows_are
+        Answering-answered users v.shared thread call taken (Answering-left users k.user w.shared v.shared deed kept left.shared keeps) f given answers gone,
+        serves rows (without_pulse v.shared rows thread call) (same (λ c. c.answered) (λ c number. refl)) (same (λ c. c.pipes) (λ c number. refl)) rows_are
             (ap (λ lines. given_lines lines (map (users_given user) deed.answers)) (same (λ c. c.lines) (λ c number. refl) ∙ ap (λ q. with_line q.lines (manager_number manager) drop_pulse) left.shared) ∙ lines_are),
       )
         where
           rows : Users
           rows = with_process_of users thread.proc f
 
-          same : {A : Type 0} (read : Shared → A) → ((c : Shared) (number : ℕ) → read (without_shared_server c thread.proc number) ≡ read c) → read (without_pulse d rows thread call) ≡ read (with_shared_line d (manager_number manager) drop_pulse)
-          same read alike = settled-fields thread.proc (process_of rows thread.proc) read alike managers (with_shared_line d (manager_number manager) drop_pulse)
+          same : {A : Type 0} (read : Shared → A) → ((c : Shared) (number : ℕ) → read (without_shared_server c thread.proc number) ≡ read c) → read (without_pulse v.shared rows thread call) ≡ read (with_shared_line v.shared (manager_number manager) drop_pulse)
+          same read alike = settled-fields thread.proc (process_of rows thread.proc) read alike managers (with_shared_line v.shared (manager_number manager) drop_pulse)
 
-    module _ (deed : Deed Resources) (left : Left k queues l d deed) (is : meant ≡ Ok deed) where
+    module _ (deed : Deed Resources) (left : Leaves k w l v deed) (is : meant ≡ Ok deed) where
       -- the rows and the lines, by the reply
       rows_by : (reply : Option Reply) → reply ≡ deed.reply → given_users (with_process_of users thread.proc (after_serving thread.tid call.target.over reply)) (map (users_given user) deed.answers) ≡ with_row users user (λ _. (served_by (Ok deed)).part.processes)
       rows_by reply reply_is = ap (λ r. given_users (with_process_of users thread.proc (after_serving thread.tid call.target.over r)) (map (users_given user) deed.answers)) reply_is ∙ users-done users thread.proc thread.tid call.target.over part its.user deed
 
-      lines_by : (reply : Option Reply) → reply ≡ deed.reply → lines_after user queues.lines ((if is_some reply then own_change manager (caller_of_call thread call) ∷ [] else []) ++ answered_changes manager deed.answers) ≡ lines_after user queues.lines (served_by (Ok deed)).changes
-      lines_by reply reply_is = ap (λ r. lines_after user queues.lines ((if is_some r then own_change manager (caller_of_call thread call) ∷ [] else []) ++ answered_changes manager deed.answers)) reply_is
+      lines_by : (reply : Option Reply) → reply ≡ deed.reply → lines_after user w.shared.lines ((if is_some reply then own_change manager (caller_of_call thread call) ∷ [] else []) ++ answered_changes manager deed.answers) ≡ lines_after user w.shared.lines (served_by (Ok deed)).changes
+      lines_by reply reply_is = ap (λ r. lines_after user w.shared.lines ((if is_some r then own_change manager (caller_of_call thread call) ∷ [] else []) ++ answered_changes manager deed.answers)) reply_is
 
-      reply_after : (status : ℕ) (bytes : List ℕ) (effect : Effect) → Some (record { status = status; bytes = bytes; effect = effect }) ≡ deed.reply → Gone d
-          → After (with_process_of users thread.proc (process_replied thread.tid effect status bytes call.target.over)) (without_pulse d (with_process_of users thread.proc (process_replied thread.tid effect status bytes call.target.over)) thread call) k l served
+      reply_after : (status : ℕ) (bytes : List ℕ) (effect : Effect) → Some (record { status = status; bytes = bytes; effect = effect }) ≡ deed.reply → Gone v.shared
+          → After (with_process_of users thread.proc (process_replied thread.tid effect status bytes call.target.over)) (without_pulse v.shared (with_process_of users thread.proc (process_replied thread.tid effect status bytes call.target.over)) thread call) v.events.events k l served
       reply_after status bytes effect reply_is gone =
           let reply : Reply = record { status = status; bytes = bytes; effect = effect } in
           answered deed left (Ok deed) is (resources-machine deed.answers _) (process_replied thread.tid effect status bytes call.target.over) (answer.Reply status bytes) (replies thread.tid effect status bytes call.target.over)
-          (deed-keeps_replied (told k queues) its.process (caller_of_call thread call) call.target moment (meaning its.sent.bytes) deed is (Waits users k.user) (waits-before users k.user queues kept.waits) reply (sym reply_is))
-          gone (rows_by (Some reply) reply_is) (lines-done user manager deed.answers (only deed is) queues.lines (caller_of_call thread call) ∙ lines_by (Some reply) reply_is)
+          (deed-keeps_replied (told k w) its.process (caller_of_call thread call) call.target moment (meaning its.sent.bytes) deed is (Waits users k.user) (waits-before users k.user w.shared kept.waits) reply (sym reply_is))
+          gone (rows_by (Some reply) reply_is) (lines-done user manager deed.answers (only deed is) w.shared.lines (caller_of_call thread call) ∙ lines_by (Some reply) reply_is)
 
       -- where it is left without a reply, its own call waits or is answered
-      waiting_after : None ≡ deed.reply → After served_users d k l served
+      waiting_after : None ≡ deed.reply → After served_users v.shared v.events.events k l served
       waiting_after reply_is = (
-        Answering-left served_users k.user queues d deed Kept-served left.shared
-            (deed-keeps (told k queues) its.process (caller_of_call thread call) call.target moment (meaning its.sent.bytes) deed is (Waits served_users k.user) (waits-before served_users k.user queues Kept-served.waits)
+        Answering-left served_users k.user w.shared v.shared deed Kept-served left.shared
+            (deed-keeps (told k w) its.process (caller_of_call thread call) call.target moment (meaning its.sent.bytes) deed is (Waits served_users k.user) (waits-before served_users k.user w.shared Kept-served.waits)
             (λ block wanted bytes. ap (λ u. waits_for call.number (thread_row served_users (record { proc = record { user = record { 0 = u }; num = thread.proc.num }; tid = thread.tid }))) of ∙ own-waits (piped deed is reply_is))),
-        serves deed left (Ok deed) is (resources-machine deed.answers _) served_users d refl refl (rows_by None reply_is)
-            (ap (λ q. given_lines q.lines (map (users_given user) deed.answers)) left.shared ∙ lines-others user manager deed.answers (only deed is) queues.lines ∙ lines_by None reply_is),
+        serves deed left (Ok deed) is (resources-machine deed.answers _) served_users v.shared refl refl (rows_by None reply_is)
+            (ap (λ q. given_lines q.lines (map (users_given user) deed.answers)) left.shared ∙ lines-others user manager deed.answers (only deed is) w.shared.lines ∙ lines_by None reply_is),
       )
 
-  -- it is refused, and nothing of the resources or the queues is different
-  error_after : (k : state.Kept) (of : k.user ≡ user) (moment : ℕ) (error : Errno) → meant k k queues of moment ≡ Err error → Gone queues
-      → After (with_process_of users thread.proc (failed thread.tid error call.target.over)) (without_pulse queues (with_process_of users thread.proc (failed thread.tid error call.target.over)) thread call) k k (served k k queues of moment)
+  -- it is refused, and nothing of the resources or what is shared is different
+  error_after : (k : state.Kept) (of : k.user ≡ user) (moment : ℕ) (error : Errno) → meant k k w of moment ≡ Err error → Gone w.shared
+      → After (with_process_of users thread.proc (failed thread.tid error call.target.over)) (without_pulse w.shared (with_process_of users thread.proc (failed thread.tid error call.target.over)) thread call) w.events.events k k (served k k w of moment)
   error_after k of moment error is gone =
-      answered k k queues of moment (nothing_done (told k queues)) (left-same k queues) (Err error) is refl (failed thread.tid error call.target.over) (answer.Failed error) (fails thread.tid error call.target.over)
-      (record { pipes = waits-before users k.user queues kept.waits; answers = tt })
-      gone (users-refused users thread.proc thread.tid call.target.over (part k k queues of moment) its.user error) (lines-done user manager [] (inr refl) queues.lines (caller_of_call thread call))
+      answered k k w of moment (nothing_done (told k w)) (left-same k w) (Err error) is refl (failed thread.tid error call.target.over) (answer.Failed error) (fails thread.tid error call.target.over)
+      (record { pipes = waits-before users k.user w.shared kept.waits; answers = tt })
+      gone (users-refused users thread.proc thread.tid call.target.over (part k k w of moment) its.user error) (lines-done user manager [] (inr refl) w.shared.lines (caller_of_call thread call))
 
-  -- the rows and the queues once the message is answered, unless it is left without a reply
-  abbrev Outcome : state.Kept → state.Kept → Shared → ℕ → List ℕ → Result Done Errno → Type 0
-  Outcome k l d moment bytes given =
-      After (answered_users served_users thread call.target.over bytes given) (answered_queues d (answered_users served_users thread call.target.over bytes given) thread call given) k l
+  -- the rows and what is shared once the message is answered, unless it is left without a reply
+  abbrev Outcome : state.Kept → state.Kept → AllWaits → ℕ → List ℕ → Result Done Errno → Type 0
+  Outcome k l v moment bytes given =
+      After (answered_users served_users thread call.target.over bytes given) (answered_queues v.shared (answered_users served_users thread call.target.over bytes given) thread call given) v.events.events k l
       (λ part. or_kept part (serve_message part thread.proc.num thread.tid moment))
 
-  pub outcome : (k l : state.Kept) (d : Shared) (of : k.user ≡ thread.proc.user.0) (moment : ℕ) (bytes : List ℕ) (given : Result Done Errno) (r : Result (Deed Resources) Errno) → meant k l d of moment ≡ r
-      → Did state.state k queues l d bytes given r → (IsReplied given → Gone d) → Outcome k l d moment bytes given
-  outcome k l d of moment bytes (Ok (done.Reply status effect)) (Ok deed) is did gone =
-      subst (λ rows. After rows (without_pulse d rows thread call) k l (served k l d of moment)) (sym (reply_served users thread effect status bytes call.target.over))
-      (reply_after k l d of moment deed (record { told_is = did.1; shared = did.2; user = did.3 }) is status bytes effect did.0 (gone tt))
-  outcome k l d of moment bytes (Ok done.NoReply) (Ok deed) is did gone =
-      waiting_after k l d of moment deed (record { told_is = did.1; shared = did.2; user = did.3 }) is did.0
-  outcome k l d of moment bytes (Err error) (Err refused) is did gone =
-      subst (λ (l : state.Kept). Outcome k l d moment bytes (Err error)) (sym did.1)
-      (subst (λ d. Outcome k k d moment bytes (Err error)) (sym did.2)
-      (subst (λ rows. After rows (without_pulse queues rows thread call) k k (served k k queues of moment)) (sym (fail_served users thread error call.target.over))
-      (error_after k of moment error (is ∙ ap Err (sym did.0)) (subst Gone did.2 (gone tt)))))
-  outcome k l d of moment bytes (Ok (done.Reply status effect)) (Err error) is did gone = absurd did
-  outcome k l d of moment bytes (Ok done.NoReply) (Err error) is did gone = absurd did
-  outcome k l d of moment bytes (Err error) (Ok deed) is did gone = absurd did
+  pub outcome : (k l : state.Kept) (v : AllWaits) (of : k.user ≡ thread.proc.user.0) (moment : ℕ) (bytes : List ℕ) (given : Result Done Errno) (r : Result (Deed Resources) Errno) → meant k l v of moment ≡ r
+      → Comes k w l v bytes given r → (IsReplied given → Gone v.shared) → Outcome k l v moment bytes given
+  outcome k l v of moment bytes (Ok (done.Reply status effect)) (Ok deed) is did gone =
+      subst (λ rows. After rows (without_pulse v.shared rows thread call) v.events.events k l (served k l v of moment)) (sym (reply_served users thread effect status bytes call.target.over))
+      (reply_after k l v of moment deed did.1 is status bytes effect did.0 (gone tt))
+  outcome k l v of moment bytes (Ok done.NoReply) (Ok deed) is did gone = waiting_after k l v of moment deed did.1 is did.0
+  outcome k l v of moment bytes (Err error) (Err refused) is did gone =
+      subst (λ (l : state.Kept). Outcome k l v moment bytes (Err error)) (sym did.1)
+      (subst (λ v. Outcome k k v moment bytes (Err error)) (sym did.2)
+      (subst (λ rows. After rows (without_pulse w.shared rows thread call) w.events.events k k (served k k w of moment)) (sym (fail_served users thread error call.target.over))
+      (error_after k of moment error (is ∙ ap Err (sym did.0)) (subst (λ (v : AllWaits). Gone v.shared) did.2 (gone tt)))))
+  outcome k l v of moment bytes (Ok (done.Reply status effect)) (Err error) is did gone = absurd did
+  outcome k l v of moment bytes (Ok done.NoReply) (Err error) is did gone = absurd did
+  outcome k l v of moment bytes (Err error) (Ok deed) is did gone = absurd did

@@ -8,6 +8,7 @@ use Rattle.qx_machine.specs.declared.rows.State.{State}
 use Rattle.qx_machine.specs.declared.rows.State.TheVariants.{Answered, Queued, Ready, Taken, Waiting}
 use Rattle.qx_machine.specs.declared.rows.ThreadRow.{ThreadRow}
 use Rattle.qx_machine.specs.Clients.{answer_in, is_prio}
+use Rattle.qx_machine.specs.Events.{Events}
 use Rattle.qx_machine.specs.Processes.{Process, ranked_thread, ready_thread, with_thread}
 use Rattle.qx_machine.specs.Rows.{row_at, with_row}
 use Rattle.qx_process.proofs.RowLemmas.{set-row}
@@ -60,11 +61,11 @@ module _ (users : Users) (queues : Shared) (thread : Thread) (row after : Thread
   Kept-answer (Some given) is same = readies given is same
 
 -- the channel's value then
-pub after_answer : (users : Users) (lines : List (List Item)) (pipes : List Pipes) (room : ℕ) (thread : Thread) (row after : ThreadRow) (result : Option Answer) → Some row ≡ thread_row users thread → result ≡ answer_in row.state → MatchOption result (after ≡ row) (λ _. after ≡ ready_thread row)
-    → ◌≡◌ {A = Channel} (record { users = with_thread_row users thread (λ _. after); lines = lines; pipes = pipes; room = room }) (after_taking (record { users = users; lines = lines; pipes = pipes; room = room }) thread)
-after_answer users lines pipes room thread row after None there is same =
+pub after_answer : (users : Users) (lines : List (List Item)) (pipes : List Pipes) (events : List Events) (room : ℕ) (thread : Thread) (row after : ThreadRow) (result : Option Answer) → Some row ≡ thread_row users thread → result ≡ answer_in row.state → MatchOption result (after ≡ row) (λ _. after ≡ ready_thread row)
+    → ◌≡◌ {A = Channel} (record { users = with_thread_row users thread (λ _. after); lines = lines; pipes = pipes; events = events; room = room }) (after_taking (record { users = users; lines = lines; pipes = pipes; events = events; room = room }) thread)
+after_answer users lines pipes events room thread row after None there is same =
     rw (same, with_thread-same users thread row (sym there), ← there, ← is) refl
-after_answer users lines pipes room thread row after (Some given) there is same =
+after_answer users lines pipes events room thread row after (Some given) there is same =
     rw (same, with_thread-put users thread ready_thread row (sym there), ← there, ← is) refl
 
 -- another priority changes one row or none

@@ -1,6 +1,6 @@
 -- An unblock pulse is performed: who waits is answered, as in the machine.
 use Rattle.std.proofs.Common.{◌≡◌, subst, ℕ, List, Option, Some, Ok, Err, map, refl, ◌∙◌, ap, rules}
-use Rattle.std.specs.Prelude.{IfOk, Result}
+use Rattle.std.specs.Prelude.{◌<◌, IfOk, Result, length}
 use Rattle.qx_types.specs.declared.names.Manager.TheVariants.{Pipe}
 use Rattle.qx_types.specs.declared.outcome.Outcome.{Outcome}
 use Rattle.qx_machine.specs.Functions.{Deed}
@@ -12,28 +12,36 @@ use Rattle.qx_machine.specs.Processes.{Process}
 use Rattle.qx_machine.specs.Resources.{Resources}
 use Rattle.qx_machine.specs.Rows.{row_at}
 use Rattle.qx_machine.proofs.Waiters.{InDeed, cancel-gives}
-use Rattle.qx_shared.specs.Shared.{Shared, shared_after, state_after, users_given}
+use Rattle.qx_shared.specs.Shared.{shared_after, state_after, users_given}
 use Rattle.qx_resources.specs.State as state
 use Rattle.qx_resources.specs.State.{HasUser, told}
+use Rattle.qx_resources.specs.Watching.{watched_call}
+use Rattle.qx_resources.specs.declared.waits.Waits.{Waits as AllWaits}
+use Rattle.qx_resources.specs.declared.watching.Watched.{Watched}
 use Rattle.qx_chan.specs.inner.Answers.{given_lines}
-use Rattle.qx_chan.specs.inner.Kept.{Answering, StandTogether}
-use Rattle.qx_chan.specs.Serving.{Serves}
+use Rattle.qx_chan.specs.inner.Kept.{AllStandTogether, Answering, StandTogether}
+use Rattle.qx_chan.specs.Serving.{Serves, settled}
+use Rattle.qx_chan.specs.inner.Serving.{Leaves}
 use Rattle.qx_chan.specs.Users.{Users}
 use Rattle.qx_chan.proofs.GivenLemmas.{lines-machine, resources-machine, users-machine}
 use Rattle.qx_chan.proofs.RowReads.{row_within}
-use Rattle.qx_chan.proofs.ServeLemmas.{Answering-left, Left, Serves-given, Waits, given_all, left-same, nothing_done, shown, waits-before}
+use Rattle.qx_chan.proofs.ServeLemmas.{Answering-left, Serves-given, Waits, given_all, nothing_done, shown, waits-before}
+use Rattle.qx_chan.proofs.SettledLemmas.{Cancelled, cancelled, fits-cancelled, triggered_in}
 
 -- a user who has processes is one of those who share
-pub user-fits : (users : Users) (queues : Shared) (k : state.Kept) (processes : List (Option Process)) → row_at users k.user ≡ Some processes → StandTogether users queues → HasUser k queues
-user-fits users queues k processes there kept = rw kept.users (row_within users k.user processes there)
+pub user-fits : (users : Users) (w : AllWaits) (k : state.Kept) (processes : List (Option Process)) → row_at users k.user ≡ Some processes → AllStandTogether users w → HasUser k w
+user-fits users w k processes there kept = record { pipes = few; events = rw kept.events few }
+  where
+    few : k.user < length w.shared.pipes
+    few = rw kept.shared.users (row_within users k.user processes there)
 
 -- the resources are the user's still
 cancel-user : (r : Resources) (process thread call moment : ℕ) → IfOk (cancel_call r process thread call moment) (λ deed. deed.state.user ≡ r.user)
 cancel-user r process thread call moment = search rules
 
-module _ (users : Users) (queues : Shared) (k l : state.Kept) (d : Shared) (processes : List (Option Process)) (there : row_at users k.user ≡ Some processes) (kept : StandTogether users queues) (process thread call moment : ℕ) where
+module _ (users : Users) (w : AllWaits) (k l : state.Kept) (v : AllWaits) (processes : List (Option Process)) (there : row_at users k.user ≡ Some processes) (kept : StandTogether users w.shared) (process thread call moment : ℕ) where
   abbrev part : Part
-  part = record { processes = processes; resources = told k queues }
+  part = record { processes = processes; resources = told k w }
 
   abbrev served : Part → Served
   served part = or_kept part (serve_pulse part process thread call moment)
@@ -46,26 +54,28 @@ module _ (users : Users) (queues : Shared) (k l : state.Kept) (d : Shared) (proc
   served_from r = or_kept part (r >>= (λ deed. Ok (served_by deed)))
 
   abbrev Pulsed : Type 0
-  Pulsed = Answering users d × Serves (shown users queues) (given_all users d) k l served
+  Pulsed = Answering users v.shared × Serves (shown users w.shared w.events.events) (given_all users v.shared v.events.events) k l (λ part. settled part (served part))
 
-  by_deed : (deed : Deed Resources) → served part ≡ served_by deed → InDeed (Waits users k.user) deed → Left k queues l d deed → Pulsed
+  by_deed : (deed : Deed Resources) → served part ≡ served_by deed → InDeed (Waits users k.user) deed → Leaves k w l v deed → Pulsed
   by_deed deed is keeps left = (
-    Answering-left users k.user queues d deed kept left.shared keeps,
-    Serves-given users queues k served kept l d deed left k.user refl processes there (served_by deed) is (resources-machine deed.answers (record part { resources = deed.state })) users d refl refl
+    Answering-left users k.user w.shared v.shared deed kept left.shared keeps,
+    Serves-given users w k served kept l v deed left k.user refl processes there (served_by deed) is (resources-machine deed.answers (record part { resources = deed.state })) users v.shared refl refl
         (users-machine users k.user deed.answers (record part { resources = deed.state }) there)
-        (ap (λ q. given_lines q.lines (map (users_given k.user) deed.answers)) left.shared ∙ lines-machine k.user queues.lines deed.answers),
+        (ap (λ q. given_lines q.lines (map (users_given k.user) deed.answers)) left.shared ∙ lines-machine k.user w.shared.lines deed.answers),
   )
 
-  pub pulsed : (r : Result (Deed Resources) Outcome) → cancel_call (told k queues) process thread call moment ≡ r → told l d ≡ state_after (told k queues) r → d ≡ shared_after queues k.user r → Pulsed
-  pulsed (Ok deed) is told_is shared =
-      by_deed deed (ap served_from is) (subst (λ r. IfOk r (InDeed (Waits users k.user))) is (cancel-gives (Waits users k.user) (told k queues) process thread call moment (waits-before users k.user queues kept.waits)).gives) (record {
-        told_is = told_is;
-        shared = shared;
-        user = ap (λ r. r.user) told_is ∙ subst (λ r. IfOk r (λ (deed : Deed Resources). deed.state.user ≡ k.user)) is (cancel-user (told k queues) process thread call moment);
-      })
-  pulsed (Err outcome) is told_is shared =
-      by_deed (nothing_done (told k queues)) (ap served_from is) (record { pipes = waits-before users k.user queues kept.waits; answers = tt }) (record {
-        told_is = told_is;
-        shared = shared ∙ (left-same k queues).shared;
-        user = ap (λ r. r.user) told_is;
-      })
+  pub pulsed : (r : Result (Deed Resources) Outcome) → cancel_call (told k w) process thread call moment ≡ r → Cancelled k w l v r → Pulsed
+  pulsed (Ok deed) is left =
+      by_deed deed (ap served_from is) (subst (λ r. IfOk r (InDeed (Waits users k.user))) is (cancel-gives (Waits users k.user) (told k w) process thread call moment (waits-before users k.user w.shared kept.waits)).gives) left
+  pulsed (Err outcome) is left =
+      by_deed (nothing_done (told k w)) (ap served_from is) (record { pipes = waits-before users k.user w.shared kept.waits; answers = tt }) left
+
+-- and once the events that are due by it have given their pulses
+pub performed : (users : Users) (w v now : AllWaits) (k l : state.Kept) (processes : List (Option Process)) → row_at users k.user ≡ Some processes → AllStandTogether users w → (process thread call moment : ℕ) (watched : Option Watched)
+    → l.user ≡ k.user → told l v ≡ state_after (told k w) (cancel_call (told k w) process thread call moment) → v ≡ record w { shared = shared_after w.shared k.user (cancel_call (told k w) process thread call moment) }
+    → watched ≡ watched_call (told k w) process thread call → now ≡ triggered_in l v watched
+    → Answering users now.shared × Serves (shown users w.shared w.events.events) (given_all users now.shared now.events.events) k l (λ part. settled part (or_kept part (serve_pulse part process thread call moment)))
+performed users w v now k l processes there kept process thread call moment watched user told_is shared watches triggers =
+    let fits = fits-cancelled k l w v (cancel_call (told k w) process thread call moment) (user-fits users w k processes there kept) user shared in
+    pulsed users w k l now processes there kept.shared process thread call moment (cancel_call (told k w) process thread call moment) refl
+    (cancelled k l w v now process thread call moment watched fits user watches triggers (cancel_call (told k w) process thread call moment) refl told_is shared)

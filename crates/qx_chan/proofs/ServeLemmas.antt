@@ -7,9 +7,11 @@ use Rattle.std.proofs.lemmas.List.{append-nil, length-set, set-get_or}
 use Rattle.std.proofs.lemmas.Option.{same_Some}
 use Rattle.qx_types.specs.Managers.{manager_number}
 use Rattle.qx_machine.specs.declared.rows.WaitingCall.{WaitingCall}
+use Rattle.qx_machine.specs.Events.{Events, no_events}
 use Rattle.qx_machine.specs.Functions.{Deed}
 use Rattle.qx_machine.specs.Lines.{line_at}
 use Rattle.qx_machine.specs.Machine.{lines_after}
+use Rattle.qx_machine.specs.Notification.{events_settled}
 use Rattle.qx_machine.specs.Parts.{Part}
 use Rattle.qx_machine.specs.Performing.{Served}
 use Rattle.qx_machine.specs.Pipes.{Pipe}
@@ -17,17 +19,20 @@ use Rattle.qx_machine.specs.Processes.{Process}
 use Rattle.qx_machine.specs.Resources.{Resources}
 use Rattle.qx_machine.specs.Rows.{row_at, with_row}
 use Rattle.qx_machine.specs.Waiting.{Pipes, no_pipes}
+use Rattle.qx_machine.proofs.NotifyLemmas.{settled-unchanged}
 use Rattle.qx_machine.proofs.Waiters.{InDeed, InPipe, InPipes}
+use Rattle.qx_notify.specs.Events.{events_of}
 use Rattle.qx_queues.specs.Queues.{stands, unblock_call}
 use Rattle.qx_queues.specs.Waits.{users_call}
 use Rattle.qx_shared.specs.Shared.{Shared, calls_at, has_disconnect_node, has_thread, nothing_shared, pipes_of, users_given, waiting_calls, waiting_in, with_pipes}
 use Rattle.qx_resources.specs.State as state
 use Rattle.qx_resources.specs.State.{told}
+use Rattle.qx_resources.specs.declared.waits.Waits.{Waits as AllWaits}
 use Rattle.qx_chan.specs.inner.Answers.{given_lines, given_users}
 use Rattle.qx_chan.specs.Channel.{Channel, lists}
 use Rattle.qx_chan.specs.inner.Kept.{Answering, IsAwaited, IsWaiting, StandTogether}
-use Rattle.qx_chan.specs.Serving.{PartServed}
-use Rattle.qx_chan.specs.Serving.{Serves, part_in}
+use Rattle.qx_chan.specs.Serving.{PartServed, Serves, part_in, settled}
+use Rattle.qx_chan.specs.inner.Serving.{Leaves}
 use Rattle.qx_chan.specs.Users.{Users}
 use Rattle.qx_chan.proofs.RowReads.{with_row-fixed}
 
@@ -111,80 +116,106 @@ module _ (users : Users) (user : ℕ) where
 -- ---- the channel
 
 -- that of these
-abbrev pub shown : Users → Shared → Channel
-shown users queues = record { users = users; lines = queues.lines; pipes = queues.pipes; room = queues.room }
+abbrev pub shown : Users → Shared → List Events → Channel
+shown users queues events = record { users = users; lines = queues.lines; pipes = queues.pipes; events = events; room = queues.room }
 
 -- once answers that are on their way are given
-abbrev pub given_all : Users → Shared → Channel
-given_all users queues = record { users = given_users users queues.answered; lines = given_lines queues.lines queues.answered; pipes = queues.pipes; room = queues.room }
-
--- a deed was done to a user's resources, and its answers are on their way
-pub record Left (k : state.Kept) (c : Shared) (l : state.Kept) (d : Shared) (deed : Deed Resources) : Type 0 where
-  pub told_is : told l d ≡ deed.state
-  pub shared : d ≡ with_pipes c k.user deed.state.pipes deed.answers
-  pub user : l.user ≡ k.user
+abbrev pub given_all : Users → Shared → List Events → Channel
+given_all users queues events = record { users = given_users users queues.answered; lines = given_lines queues.lines queues.answered; pipes = queues.pipes; events = events; room = queues.room }
 
 -- nothing was done, and nobody is answered
 abbrev pub nothing_done : Resources → Deed Resources
 nothing_done resources = record { reply = None; state = resources; answers = [] }
 
--- what a user's pipes are is what they are set to
+-- what a user's pipes and events are is what they are set to
 same_pipes : (c : Shared) (user : ℕ) → c.pipes ≡ slice_set c.pipes user (pipes_of c user)
 same_pipes c user = sym (set-get_or c.pipes user no_pipes)
 
-pub left-same : (k : state.Kept) (c : Shared) → Left k c k c (nothing_done (told k c))
-left-same k c = record {
-  told_is = refl;
-  shared = λ i. record c { pipes = same_pipes c k.user i; answered = sym (append-nil c.answered) i };
+same_events : (w : AllWaits) (user : ℕ) → w.events.events ≡ slice_set w.events.events user (events_of w.events user)
+same_events w user = sym (set-get_or w.events.events user no_events)
+
+pub left-same : (k : state.Kept) (w : AllWaits) → Leaves k w k w (nothing_done (told k w))
+left-same k w = record {
+  told_is = ap (λ (e : Events). record (told k w) { events = e }) (sym none_due);
+  shared = λ i. record w.shared { pipes = same_pipes w.shared k.user i; answered = sym (append-nil w.shared.answered) i };
+  events = same_events w k.user ∙ ap (slice_set w.events.events k.user) (sym none_due);
   user = refl;
 }
+  where
+    none_due : events_settled (told k w) (told k w) ≡ events_of w.events k.user
+    none_due = settled-unchanged (told k w) (told k w) refl refl
 
-module _ (users : Users) (queues : Shared) (k : state.Kept) (served : Part → Served) where
+-- no event is due where nothing is done
+settled-nothing : (part : Part) (given : Served) → given ≡ record { part = part; changes = [] } → settled part given ≡ record { part = part; changes = [] }
+settled-nothing part given is =
+    ap (settled part) is ∙ ap (λ (e : Events). record { part = record part { resources = record part.resources { events = e } }; changes = [] }) (settled-unchanged part.resources part.resources refl refl)
+
+module _ (users : Users) (w : AllWaits) (k : state.Kept) (served : Part → Served) where
   abbrev part_of : List (Option Process) → Part
-  part_of processes = record { processes = processes; resources = told k queues }
+  part_of processes = record { processes = processes; resources = told k w }
+
+  abbrev done : Part → Served
+  done part = settled part (served part)
+
+  abbrev before : Channel
+  before = shown users w.shared w.events.events
 
   module _ (c : Channel) (l : state.Kept) where
     abbrev DidAll : Served → Type 0
     DidAll s =
-        (c ≡ record { users = with_row users k.user (λ _. s.part.processes); lines = lines_after k.user queues.lines s.changes; pipes = slice_set queues.pipes k.user s.part.resources.pipes; room = c.room })
+        (c ≡ record {
+          users = with_row users k.user (λ _. s.part.processes);
+          lines = lines_after k.user w.shared.lines s.changes;
+          pipes = slice_set w.shared.pipes k.user s.part.resources.pipes;
+          events = slice_set w.events.events k.user s.part.resources.events;
+          room = c.room;
+        })
         × (told l (lists c) ≡ s.part.resources)
 
-    part-served : (processes : List (Option Process)) → row_at users k.user ≡ Some processes → DidAll (served (part_of processes)) → PartServed (shown users queues) c k l served (part_in (shown users queues) k)
-    part-served processes there did = subst (λ row. PartServed (shown users queues) c k l served (option_map part_of row)) (sym there) did
+    part-served : (processes : List (Option Process)) → row_at users k.user ≡ Some processes → DidAll (done (part_of processes)) → PartServed before c k l done (part_in before k)
+    part-served processes there did = subst (λ row. PartServed before c k l done (option_map part_of row)) (sym there) did
 
   -- where nothing happens to the user's part, nothing does
-  pub Serves-nothing : ((processes : List (Option Process)) → row_at users k.user ≡ Some processes → served (record { processes = processes; resources = told k queues }) ≡ record { part = record { processes = processes; resources = told k queues }; changes = [] })
-      → Serves (shown users queues) (shown users queues) k k served
+  pub Serves-nothing : ((processes : List (Option Process)) → row_at users k.user ≡ Some processes → served (record { processes = processes; resources = told k w }) ≡ record { part = record { processes = processes; resources = told k w }; changes = [] })
+      → Serves (shown users w.shared w.events.events) (shown users w.shared w.events.events) k k (λ part. settled part (served part))
   Serves-nothing same = record { did = by_row (row_at users k.user) refl; user = refl }
     where
-      by_row : (row : Option (List (Option Process))) → row_at users k.user ≡ row → PartServed (shown users queues) (shown users queues) k k served (option_map part_of row)
+      by_row : (row : Option (List (Option Process))) → row_at users k.user ≡ row → PartServed before before k k done (option_map part_of row)
       by_row None none = (refl, refl)
       by_row (Some processes) there =
           let users_are : users ≡ with_row users k.user (λ _. processes) = sym (with_row-fixed users k.user (λ _. processes) processes there refl) in
-          subst (DidAll (shown users queues) k) (sym (same processes there)) (λ i. record { users = users_are i; lines = queues.lines; pipes = same_pipes queues k.user i; room = queues.room }, refl)
+          subst (DidAll before k) (sym (settled-nothing (part_of processes) (served (part_of processes)) (same processes there)))
+          (λ i. record { users = users_are i; lines = w.shared.lines; pipes = same_pipes w.shared k.user i; events = same_events w k.user i; room = w.shared.room }, refl)
 
   -- once a deed is done, and the answers are given
-  module _ (kept : StandTogether users queues) (l : state.Kept) (d : Shared) (deed : Deed Resources) (left : Left k queues l d deed) (user : ℕ) (of : k.user ≡ user) (processes : List (Option Process)) (there : row_at users user ≡ Some processes) where
-    answered_are : d.answered ≡ map (users_given user) deed.answers
+  module _ (kept : StandTogether users w.shared) (l : state.Kept) (v : AllWaits) (deed : Deed Resources) (left : Leaves k w l v deed) (user : ℕ) (of : k.user ≡ user) (processes : List (Option Process)) (there : row_at users user ≡ Some processes) where
+    answered_are : v.shared.answered ≡ map (users_given user) deed.answers
     answered_are = ap (λ q. q.answered) left.shared ∙ ap (λ before. before ++ map (users_given k.user) deed.answers) kept.answered ∙ ap (λ user. map (users_given user) deed.answers) of
 
-    pub Serves-given : (s : Served) → served (record { processes = processes; resources = told k queues }) ≡ s → s.part.resources ≡ deed.state → (rows : Users) (after : Shared) → after.answered ≡ d.answered → after.pipes ≡ d.pipes
+    pub Serves-given : (s : Served) → served (record { processes = processes; resources = told k w }) ≡ s → s.part.resources ≡ deed.state → (rows : Users) (after : Shared) → after.answered ≡ v.shared.answered → after.pipes ≡ v.shared.pipes
         → given_users rows (map (users_given user) deed.answers) ≡ with_row users user (λ _. s.part.processes)
-        → given_lines after.lines (map (users_given user) deed.answers) ≡ lines_after user queues.lines s.changes
-        → Serves (shown users queues) (given_all rows after) k l served
+        → given_lines after.lines (map (users_given user) deed.answers) ≡ lines_after user w.shared.lines s.changes
+        → Serves (shown users w.shared w.events.events) (given_all rows after v.events.events) k l (λ part. settled part (served part))
     Serves-given s is resources_are rows after answered pipes rows_are lines_are = record {
-      did = part-served (given_all rows after) l processes (ap (row_at users) of ∙ there) (subst (DidAll (given_all rows after) l) (sym is) (λ i. record { users = users_here i; lines = lines_here i; pipes = pipes_here i; room = after.room }, resources_here));
+      did = part-served now l processes (ap (row_at users) of ∙ there) (subst (DidAll now l) (ap (settled (part_of processes)) (sym is)) (λ i. record { users = users_here i; lines = lines_here i; pipes = pipes_here i; events = events_here i; room = after.room }, resources_here));
       user = left.user;
     }
       where
+        now : Channel
+        now = given_all rows after v.events.events
+
         users_here : given_users rows after.answered ≡ with_row users k.user (λ _. s.part.processes)
         users_here = ap (given_users rows) (answered ∙ answered_are) ∙ rows_are ∙ ap (λ user. with_row users user (λ _. s.part.processes)) (sym of)
 
-        lines_here : given_lines after.lines after.answered ≡ lines_after k.user queues.lines s.changes
-        lines_here = ap (given_lines after.lines) (answered ∙ answered_are) ∙ lines_are ∙ ap (λ user. lines_after user queues.lines s.changes) (sym of)
+        lines_here : given_lines after.lines after.answered ≡ lines_after k.user w.shared.lines s.changes
+        lines_here = ap (given_lines after.lines) (answered ∙ answered_are) ∙ lines_are ∙ ap (λ user. lines_after user w.shared.lines s.changes) (sym of)
 
-        pipes_here : after.pipes ≡ slice_set queues.pipes k.user s.part.resources.pipes
-        pipes_here = pipes ∙ ap (λ q. q.pipes) left.shared ∙ ap (λ (r : Resources). slice_set queues.pipes k.user r.pipes) (sym resources_are)
+        pipes_here : after.pipes ≡ slice_set w.shared.pipes k.user s.part.resources.pipes
+        pipes_here = pipes ∙ ap (λ q. q.pipes) left.shared ∙ ap (λ (r : Resources). slice_set w.shared.pipes k.user r.pipes) (sym resources_are)
 
-        resources_here : told l (lists (given_all rows after)) ≡ s.part.resources
-        resources_here = ap (λ pipes. told l (record (nothing_shared 0) { pipes = pipes })) pipes ∙ left.told_is ∙ sym resources_are
+        events_here : v.events.events ≡ slice_set w.events.events k.user (events_settled (told k w) s.part.resources)
+        events_here = left.events ∙ ap (λ (r : Resources). slice_set w.events.events k.user (events_settled (told k w) r)) (sym resources_are)
+
+        resources_here : told l (lists (given_all rows after v.events.events)) ≡ record s.part.resources { events = events_settled (told k w) s.part.resources }
+        resources_here = ap (λ pipes. told l (record { shared = record (nothing_shared 0) { pipes = pipes }; events = record { events = v.events.events; room = 0 } })) pipes
+            ∙ left.told_is ∙ ap (λ (r : Resources). record r { events = events_settled (told k w) r }) (sym resources_are)

@@ -17,6 +17,7 @@ use Rattle.qx_types.specs.declared.outcome.Outcome.{Outcome}
 use Rattle.qx_types.specs.declared.outcome.Outcome.TheVariants.{Refused, WrongState}
 use Rattle.qx_machine.specs.declared.rows.ThreadRow.{ThreadRow}
 use Rattle.qx_machine.specs.Clients.{is_prio, spawn_number}
+use Rattle.qx_machine.specs.Events.{no_events}
 use Rattle.qx_machine.specs.Lines.{line_at}
 use Rattle.qx_machine.specs.Parts.{thread_of}
 use Rattle.qx_machine.specs.Processes.{Process, new_process, new_thread}
@@ -264,6 +265,10 @@ no_calls (suc n) = no_calls n
 
 none_waits : (n user : ℕ) → users_waiting (replicate n no_pipes) user ≡ []
 none_waits n user = ap (λ pipes. map (λ (call : WaitingCall). record { user = user; call = call }) (waiting_calls pipes)) (get_same n user no_pipes) ∙ ap (map (λ (call : WaitingCall). record { user = user; call = call })) (no_calls (INODES + 1))
+
+-- each has a place for events too
+pub same-places : (users : ℕ) → length (replicate (users + 1) no_events) ≡ length (replicate (users + 1) no_pipes)
+same-places users = length-replicate (users + 1) no_events ∙ sym (length-replicate (users + 1) no_pipes)
 
 pub Kept-empty : (users : ℕ) → StandTogether (no_processes users) (nothing_shared users)
 Kept-empty users = record {

@@ -1,5 +1,5 @@
 -- What contracts see of a channel, and what its calls make of it.
-use Rattle.std.specs.Prelude.{⊤, ℕ, ◌+◌, [], List, Option, Some, None, drop, replicate, slice_get}
+use Rattle.std.specs.Prelude.{⊤, ℕ, ◌+◌, [], List, Option, Some, None, drop, get_or, replicate, slice_get, slice_set}
 use Rattle.qx_types.specs.Managers.{manager_number}
 use Rattle.qx_types.specs.declared.errno.Errno.{Errno}
 use Rattle.qx_types.specs.declared.errno.Errno.TheVariants.{EINTR}
@@ -9,13 +9,17 @@ use Rattle.qx_types.specs.declared.names.TheConstants.Manager.{COUNT}
 use Rattle.qx_types.specs.declared.names.Thread.{Thread}
 use Rattle.qx_types.specs.declared.outcome.Answer.{Answer}
 use Rattle.qx_types.specs.declared.outcome.Answer.TheVariants.{Failed}
+use Rattle.qx_types.specs.declared.outcome.Outcome.{Outcome}
+use Rattle.qx_types.specs.declared.outcome.Outcome.TheVariants.{NoPulse, WrongState, Pulse as PulseGiven}
 use Rattle.qx_machine.specs.declared.rows.Over.{Over}
 use Rattle.qx_machine.specs.declared.rows.Over.TheVariants.{Existing}
 use Rattle.qx_machine.specs.declared.rows.OwnItem.{OwnItem}
 use Rattle.qx_machine.specs.declared.rows.OwnItem.TheVariants as item
+use Rattle.qx_machine.specs.declared.rows.Pulse.{Pulse}
 use Rattle.qx_machine.specs.declared.rows.Queued.{Queued}
 use Rattle.qx_machine.specs.declared.rows.Sent.{Sent}
 use Rattle.qx_machine.specs.Clients.{spawn_number}
+use Rattle.qx_machine.specs.Events.{Events, first_pulse, no_events, without_first_pulse}
 use Rattle.qx_machine.specs.Lines.{into, line_at, with_line}
 use Rattle.qx_machine.specs.Machine.{line_without, rank}
 use Rattle.qx_machine.specs.Processes.{Process, after_error, answered_thread, asked_thread, ready_thread, taken_thread, with_queued, with_thread}
@@ -23,31 +27,37 @@ use Rattle.qx_machine.specs.Waiting.{Pipes, no_pipes}
 use Rattle.qx_machine.specs.Rows.{row_at, with_row}
 use Rattle.qx_procs.specs.Calls.{after_or, spawned, with_prio}
 use Rattle.qx_queues.specs.Queues.{message_of, sender, unblock_of}
-use Rattle.qx_shared.specs.Shared.{Shared, nothing_shared}
+use Rattle.qx_resources.specs.declared.waits.Waits.{Waits}
+use Rattle.qx_shared.specs.Shared.{nothing_shared}
 use Rattle.qx_chan.specs.Calls.{answer_of, queued_call, unasked_call}
 use Rattle.qx_chan.specs.declared.call.Call.{Call}
 use Rattle.qx_chan.specs.Nodes.{room_for, room_settled, room_started}
 use Rattle.qx_chan.specs.Users.{Users, no_processes, process_of, spawn_number_in, thread_row, with_process_of, with_thread_row}
 
--- the processes of all users, both numbered from 1, the lines under their managers' numbers, the pipes of each user, and how many more nodes
--- can be made with no memory
+-- the processes of all users, both numbered from 1, the lines under their managers' numbers, the pipes and the events of each user, and how
+-- many more nodes can be made with no memory
 pub record Channel : Type 0 where
   pub users : Users
   pub lines : List (List Queued)
   pub pipes : List Pipes
+  pub events : List Events
   pub room : ℕ
 
--- a share with the channel's pipes, and nothing else
-abbrev pub lists : Channel → Shared
-lists c = record (nothing_shared 0) { pipes = c.pipes }
+-- a share with the channel's pipes and events, and nothing else
+abbrev pub lists : Channel → Waits
+lists c = record { shared = record (nothing_shared 0) { pipes = c.pipes }; events = record { events = c.events; room = 0 } }
 
--- users from 1 to this many with no process, empty lines, and no pipe
+-- users from 1 to this many with no process, empty lines, no pipe, and no events
 abbrev pub empty_channel : ℕ → Channel
-empty_channel users = record { users = no_processes users; lines = replicate COUNT []; pipes = replicate (users + 1) no_pipes; room = 0 }
+empty_channel users = record { users = no_processes users; lines = replicate COUNT []; pipes = replicate (users + 1) no_pipes; events = replicate (users + 1) no_events; room = 0 }
 
 -- a manager's line
 abbrev pub channel_line : Channel → Manager → List Queued
 channel_line c manager = line_at c.lines (manager_number manager)
+
+-- a user's events
+abbrev pub channel_events : Channel → ℕ → Events
+channel_events c user = get_or c.events user no_events
 
 -- a message goes over a connection that is there
 abbrev pub IsExisting : Over → Type 0
@@ -124,6 +134,20 @@ readied c thread (Some answer) = record c { users = with_thread_row c.users thre
 -- once a thread has taken its answer
 abbrev pub after_taking : Channel → Thread → Channel
 after_taking c thread = readied c thread (answer_of (thread_row c.users thread))
+
+-- the outcome for a process that is to take its first pulse
+abbrev pub pulse_outcome : Option Process → Option Pulse → Outcome
+pulse_outcome None first = WrongState
+pulse_outcome (Some process) None = NoPulse
+pulse_outcome (Some process) (Some first) = PulseGiven first.code first.value
+
+abbrev pub with_pulse_taken : Channel → Proc → Option Process → Option Pulse → Channel
+with_pulse_taken c proc (Some process) (Some first) = record c { events = slice_set c.events proc.user.0 (without_first_pulse proc.num (channel_events c proc.user.0)) }
+with_pulse_taken c proc _ _ = c
+
+-- once a process that is there has taken its first pulse, if it has one
+abbrev pub after_pulse : Channel → Proc → Channel
+after_pulse c proc = with_pulse_taken c proc (process_of c.users proc) (first_pulse proc.num (channel_events c proc.user.0))
 
 -- once a thread has another priority, if that is not refused
 abbrev pub after_ranking : Channel → Thread → ℕ → Channel

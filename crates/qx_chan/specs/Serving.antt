@@ -2,6 +2,7 @@
 use Rattle.std.specs.Prelude.{◌≡◌, ⊤, ℕ, List, Option, Some, None, option_map, slice_set}
 use Rattle.qx_machine.specs.declared.rows.Sent.{Sent}
 use Rattle.qx_machine.specs.Machine.{lines_after}
+use Rattle.qx_machine.specs.Notification.{events_settled}
 use Rattle.qx_machine.specs.Parts.{Part}
 use Rattle.qx_machine.specs.Performing.{Served}
 use Rattle.qx_machine.specs.Rows.{row_at, with_row}
@@ -17,6 +18,10 @@ IsReadOf _ _ = ⊤
 abbrev pub part_in : Channel → Kept → Option Part
 part_in c k = option_map (λ processes. record { processes = processes; resources = told k (lists c) }) (row_at c.users k.user)
 
+-- what is served, once the user's events that are due by it have given their pulses
+abbrev pub settled : Part → Served → Served
+settled before given = record given { part = record given.part { resources = record given.part.resources { events = events_settled before.resources given.part.resources } } }
+
 module _ (c d : Channel) (k l : Kept) (served : Part → Served) where
   -- the user's part and the lines became that, and nothing else is different but the room for nodes
   abbrev pub PartServed : Option Part → Type 0
@@ -26,6 +31,7 @@ module _ (c d : Channel) (k l : Kept) (served : Part → Served) where
         users = with_row c.users k.user (λ _. (served part).part.processes);
         lines = lines_after k.user c.lines (served part).changes;
         pipes = slice_set c.pipes k.user (served part).part.resources.pipes;
+        events = slice_set c.events k.user (served part).part.resources.events;
         room = d.room;
       })
       × (told l (lists d) ≡ (served part).part.resources)

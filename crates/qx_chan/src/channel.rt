@@ -1,14 +1,16 @@
-//! The processes of all users, and the managers' lines in which their messages wait. Each call is that of message passing:
-//! what stands beside a thread's message, the room for its reply, and its place in a line change together.
+//! The processes of all users, and what waits: their messages in the managers' lines, and their events. Each call is that
+//! of message passing: what stands beside a thread's message, the room for its reply, and its place in a line change
+//! together.
 
 ghost use Rattle.std.specs.Prelude.{◌≡◌, ◌*◌, ◌<◌, ◌≤◌, Ok, length, max, slice_get, IfOk, IfSome, IsErr, IsOk, IsTrue, OnOk, OnErr};
 ghost use Rattle.std.specs.Option.{option_copied};
+ghost use Rattle.qx_machine.specs.Events.{first_pulse};
 ghost use Rattle.qx_machine.specs.Rows.{row_at};
 ghost use Rattle.qx_process.specs.Reads.{CanCall, CanGo, IsPriority, IsRanked};
 ghost use Rattle.qx_procs.specs.Calls.{spawn_outcome};
 ghost use Rattle.qx_chan.specs.Calls.{answer_of, queued_call, unasked_call};
 ghost use Rattle.qx_chan.specs.inner.Calls.{taken_call};
-ghost use Rattle.qx_chan.specs.Channel.{IsExisting, after_asking, after_ranking, after_receive, after_send, after_spawn, after_taking, after_withdrawing, channel_line, empty_channel};
+ghost use Rattle.qx_chan.specs.Channel.{IsExisting, after_asking, after_pulse, after_ranking, after_receive, after_send, after_spawn, after_taking, after_withdrawing, channel_events, channel_line, empty_channel, pulse_outcome};
 ghost use Rattle.qx_chan.specs.Nodes.{room_for};
 ghost use Rattle.qx_chan.specs.Users.{IsThreadReady, prio_outcome_in, process_of, spawn_number_in, thread_row};
 
@@ -18,42 +20,42 @@ use crate::users::Users;
 use qx_machine::{OwnItem, Queued, Sent, ThreadRow};
 use qx_process::Process;
 use qx_procs::Processes;
-use qx_shared::Shared;
+use qx_resources::Waits;
 use qx_types::{Answer, Errno, Manager, Outcome, Prio, Proc, Thread, User};
 use std::alloc::{AllocError, Global};
 use std::marker::Model;
 
-/// The processes of all users, with what their threads send and are answered, and the managers' lines in which the
-/// messages wait.
+/// The processes of all users, with what their threads send and are answered, the managers' lines in which the messages
+/// wait, and the events.
 #[derive(Drop)]
 pub struct Channel {
     pub(crate) users: Users,
-    pub(crate) queues: Shared,
+    pub(crate) waits: Waits,
 }
 
 impl Model for Channel {
     ghost use Rattle.std.specs.Coded.{codes};
     ghost use Rattle.qx_chan.specs.Channel as words;
-    ghost use Rattle.qx_chan.specs.inner.Kept.{StandTogether};
+    ghost use Rattle.qx_chan.specs.inner.Kept.{AllStandTogether};
 
     ghost Value = { words.Channel };
 
     ghost coded = { Prim.hlevel codes };
 
-    ghost view = { λ c. record { users = c.users; lines = c.queues.lines; pipes = c.queues.pipes; room = c.queues.room } };
+    ghost view = { λ c. record { users = c.users; lines = c.waits.shared.lines; pipes = c.waits.shared.pipes; events = c.waits.events.events; room = c.waits.shared.room } };
 
-    ghost invariant = { λ c. StandTogether c.users c.queues };
+    ghost invariant = { λ c. AllStandTogether c.users c.waits };
 }
 
 impl Channel {
-    /// Users from 1 to this many with no process, and empty lines.
+    /// Users from 1 to this many with no process, empty lines, and no events.
     pub fn new(alloc: Global, users: usize) -> Result<Self, AllocError>
         requires few { users < 256 }
         ensures empty { IfOk result (λ channel. channel ≡ empty_channel users) }
     {
-        let queues = Shared::new(alloc, users)?;
+        let waits = Waits::new(alloc, users)?;
         let users = Users::new(alloc, users)?;
-        Ok(Channel { users, queues })
+        Ok(Channel { users, waits })
     }
 
     /// The processes of a user; none where the user is not there.
@@ -82,14 +84,14 @@ impl Channel {
     pub fn first(&self, manager: Manager) -> Option<Queued>
         ensures first { result ≡ slice_get (channel_line self.now manager) 0 }
     {
-        self.queues.first(manager)
+        self.waits.shared.first(manager)
     }
 
     /// How many items stand in a manager's line.
     pub fn len(&self, manager: Manager) -> usize
         ensures count { result ≡ length (channel_line self.now manager) }
     {
-        self.queues.len(manager)
+        self.waits.shared.len(manager)
     }
 
     /// Starts a process of 1 to 4 ready threads of a priority from 1 to 63, under the lowest free number (C Library
@@ -128,9 +130,9 @@ impl Channel {
         ensures err { OnErr result (self.new ≡ record self.old { room = self.new.room }) }
         ensures spare { self.new.room ≤ max self.old.room (2 * threads) }
     {
-        self.queues.reserve(threads)?;
+        self.waits.shared.reserve(threads)?;
         self.users.spawn(proc.user, threads, prio)?;
-        self.queues.add_process(proc, threads, prio);
+        self.waits.shared.add_process(proc, threads, prio);
         Ok(())
     }
 
@@ -147,10 +149,10 @@ impl Channel {
         ensures spare { OnErr result (self.new.room ≤ room_for sent.target.over self.old.room) }
     {
         let target = sent.target;
-        servers::reserve(&mut self.queues, target.over)?;
+        servers::reserve(&mut self.waits.shared, target.over)?;
         self.users.send(alloc, thread, sent)?;
-        self.queues.send(target.manager, thread, target.prio);
-        servers::attach(&mut self.queues, &self.users, thread.proc, target);
+        self.waits.shared.send(target.manager, thread, target.prio);
+        servers::attach(&mut self.waits.shared, &self.users, thread.proc, target);
         Ok(())
     }
 
@@ -160,7 +162,7 @@ impl Channel {
         ensures first { result ≡ slice_get (channel_line self.old manager) 0 }
         ensures rest { self.new ≡ after_receive self.old manager }
     {
-        let first = self.queues.receive(manager)?;
+        let first = self.waits.shared.receive(manager)?;
         match first.item {
             OwnItem::Message { process, thread } => self.users.take(Thread {
                 proc: Proc {
@@ -184,7 +186,8 @@ impl Channel {
             return;
         };
         let target = call.target;
-        self.queues
+        self.waits
+            .shared
             .ask_unblock(target.manager, thread, call.number, target.prio);
         self.users.ask_unblock(thread);
     }
@@ -197,10 +200,10 @@ impl Channel {
         let Some(call) = self.queued(thread) else {
             return;
         };
-        self.queues.withdraw(call.target.manager, thread);
+        self.waits.shared.withdraw(call.target.manager, thread);
         self.users
             .fail(thread, call.target.over, Errno::EINTR, None);
-        servers::settle(&mut self.queues, &self.users, thread.proc);
+        servers::settle(&mut self.waits.shared, &self.users, thread.proc);
     }
 
     /// A thread takes its answer and is ready (C Library Reference: what `MsgSend` returns). None where it is not there or
@@ -213,6 +216,21 @@ impl Channel {
             return None;
         };
         cell.take_answer()
+    }
+
+    /// A process takes its first untaken pulse, which is gone then (C Library Reference: `MsgReceivePulse`). `WrongState` where
+    /// the process is not there, then `NoPulse` where it has none.
+    pub fn take_pulse(&mut self, proc: Proc) -> Outcome
+        ensures outcome { result ≡ pulse_outcome (process_of self.old.users proc) (first_pulse proc.num (channel_events self.old proc.user.0)) }
+        ensures taken { self.new ≡ after_pulse self.old proc }
+    {
+        let Some(_) = self.users.process(proc) else {
+            return Outcome::WrongState;
+        };
+        match self.waits.events.take_pulse(proc) {
+            Some(pulse) => Outcome::Pulse(pulse.code, pulse.value),
+            None => Outcome::NoPulse,
+        }
     }
 
     /// A thread gets another priority, from 1 to 63; a message that it sent keeps its own (C Library Reference: `SchedSet`).

@@ -14,15 +14,15 @@ ghost use Rattle.qx_machine.specs.declared.rows.OwnItem.TheVariants as item;
 ghost use Rattle.qx_process.specs.Reads.{is_waiting};
 ghost use Rattle.qx_queues.specs.Queues.{unblock_call};
 ghost use Rattle.qx_shared.specs.Shared.{IsReceived, shared_line};
-ghost use Rattle.qx_resmgr.specs.Deeds.{Did, IsReplied};
+ghost use Rattle.qx_resmgr.specs.Deeds.{IsReplied};
 ghost use Rattle.qx_resources.specs.Ranges.{IsInRanges};
-ghost use Rattle.qx_resources.specs.State.{HasUser, state, told};
+ghost use Rattle.qx_resources.specs.State.{HasUser, told};
 ghost use Rattle.qx_chan.specs.inner.Answers.{answered_queues, answered_users};
 ghost use Rattle.qx_chan.specs.inner.Calls.{taken_call};
 ghost use Rattle.qx_chan.specs.Calls.{taken_of};
 ghost use Rattle.qx_chan.specs.Nodes.{room_settled};
-ghost use Rattle.qx_chan.specs.Serving.{IsReadOf, Serves, part_in};
-ghost use Rattle.qx_chan.specs.inner.Serving.{Sends, caller_of_call, deed_in};
+ghost use Rattle.qx_chan.specs.Serving.{IsReadOf, Serves, part_in, settled};
+ghost use Rattle.qx_chan.specs.inner.Serving.{Comes, Sends, caller_of_call, deed_in};
 ghost use Rattle.qx_chan.specs.Users.{process_of, thread_row, with_thread_row};
 
 use crate::answers::give_answers;
@@ -35,7 +35,7 @@ use qx_machine::Caller;
 use qx_process::Room;
 use qx_process::room::reply_bytes;
 use qx_resmgr::Done;
-use qx_resources::{Resources, context_of};
+use qx_resources::{Resources, Waits, context_of};
 use qx_shared::Shared;
 use qx_types::{Errno, MessageBytes, Thread};
 use qx_wire::{Meaning, Parsed, meaning};
@@ -44,8 +44,9 @@ use std::alloc::AllocError;
 impl Channel {
     /// The message of a thread, which was received, is served by its manager at a moment, and answered, unless its call is to
     /// wait; so are the calls that waited and can be answered then (Writing a Resource Manager: `dispatch_handler`; C Library
-    /// Reference: `MsgReply`, `MsgError`). An unblock pulse of a call that is answered is in its line no more. Nothing happens
-    /// to a thread with no such message. The bytes may have been read before.
+    /// Reference: `MsgReply`, `MsgError`). An unblock pulse of a call that is answered is in its line no more, and the user's
+    /// events that are due give their pulses (`iofunc_notify_trigger`). Nothing happens to a thread with no such message. The
+    /// bytes may have been read before.
     pub fn serve(
         &mut self,
         resources: &mut Resources,
@@ -56,7 +57,7 @@ impl Channel {
     ) -> Result<(), AllocError>
         requires user { resources.old.user ≡ thread.proc.user.0 }
         requires read { IsReadOf (option_copied read) (taken_of (thread_row self.old.users thread)) }
-        ensures ok { OnOk result (Serves self.old self.new resources.old resources.new (λ part. or_kept part (serve_message part thread.proc.num thread.tid moment))) }
+        ensures ok { OnOk result (Serves self.old self.new resources.old resources.new (λ part. settled part (or_kept part (serve_message part thread.proc.num thread.tid moment)))) }
         ensures room { OnOk result (self.new.room ≡ room_settled self.old.room (process_of self.old.users thread.proc) (process_of self.new.users thread.proc)) }
         ensures err { OnErr result ((self.new ≡ self.old) × (resources.new ≡ resources.old)) }
         ensures sure { IsFalse (thread_wants_memory (part_in self.old resources.old) thread.proc.num thread.tid moment) → IsOk result }
@@ -69,48 +70,54 @@ impl Channel {
             call,
             moment,
         };
-        let (users, queues) = (&mut self.users, &mut self.queues);
-        let (given, room) = perform(users, queues, resources, message, read, reply)?;
+        let (users, waits) = (&mut self.users, &mut self.waits);
+        let (given, room) = perform(users, waits, resources, message, read, reply)?;
+        let queues = &mut waits.shared;
         answer(users, queues, message, given, reply.as_slice(), room);
         give_answers(users, queues);
         Ok(())
     }
 
     /// A call of a thread is asked to unblock by the pulse that a worker performs: if it waits in a pipe, it is answered, and
-    /// so are others that can be then (Writing a Resource Manager: the unblock pulse).
+    /// so are others that can be then (Writing a Resource Manager: the unblock pulse). The user's events that are due give
+    /// their pulses.
     pub fn cancel(&mut self, resources: &mut Resources, thread: Thread, call: u64, moment: u64)
         requires user { resources.old.user ≡ thread.proc.user.0 }
-        ensures cancelled { Serves self.old self.new resources.old resources.new (λ part. or_kept part (serve_pulse part thread.proc.num thread.tid call moment)) }
+        ensures cancelled { Serves self.old self.new resources.old resources.new (λ part. settled part (or_kept part (serve_pulse part thread.proc.num thread.tid call moment))) }
         ensures room { self.new.room ≡ self.old.room }
     {
         let Some(_) = self.users.processes(thread.proc.user) else {
             return;
         };
-        resources.cancel(&mut self.queues, thread, call, moment);
-        give_answers(&mut self.users, &mut self.queues);
+        let waits = &mut self.waits;
+        let watched = resources.watch_call(waits, thread, call);
+        resources.cancel(waits, thread, call, moment);
+        resources.trigger(waits, watched);
+        give_answers(&mut self.users, &mut waits.shared);
     }
 }
 
-/// Does what a message asks its manager for, which was received and is served by that; the room for the reply goes with a
-/// message that is left without one. Where memory is refused, the message is received as before.
+/// Does what a message asks its manager for, which was received and is served by that, and events that are due give their
+/// pulses; the room for the reply goes with a message that is left without one. Where memory is refused, the message is
+/// received as before.
 fn perform(
     users: &mut Users,
-    queues: &mut Shared,
+    waits: &mut Waits,
     resources: &mut Resources,
     message: TakenMessage,
     read: Option<&Parsed>,
     reply: &mut Reply,
 ) -> Result<(Result<Done, Errno>, Option<Room>), AllocError>
     requires user { resources.old.user ≡ message.thread.proc.user.0 }
-    requires fits { HasUser resources.old queues.old }
+    requires fits { HasUser resources.old waits.old }
     requires taken { Some message.call ≡ taken_call (thread_row users.old message.thread) }
-    requires received { IsReceived queues.old message.thread }
+    requires received { IsReceived waits.old.shared message.thread }
     requires read { IsReadOf (option_copied read) (taken_of (thread_row users.old message.thread)) }
     ensures served { OnOk result (users.new ≡ with_thread_row users.old message.thread served_thread) }
-    ensures did { (process : machine.Process) (bytes : List ℕ) → Sends users.old message.thread process bytes → IfOk result (λ given. Did state resources.old queues.old resources.new queues.new reply.new given.0 (deed_in resources.old queues.old process message bytes)) }
+    ensures did { (process : machine.Process) (bytes : List ℕ) → Sends users.old message.thread process bytes → IfOk result (λ given. Comes resources.old waits.old resources.new waits.new reply.new given.0 (deed_in resources.old waits.old process message bytes)) }
     ensures room { IfOk result (λ given. IsReplied given.0 → IsSome given.1) }
-    ensures err { OnErr result ((users.new ≡ users.old) × (queues.new ≡ queues.old) × (resources.new ≡ resources.old)) }
-    ensures wanted { (process : machine.Process) (bytes : List ℕ) → Sends users.old message.thread process bytes → OnErr result (IsTrue (bytes_want_memory message.call.target.manager (told resources.old queues.old) (reading.meaning bytes) (deed_in resources.old queues.old process message bytes))) }
+    ensures err { OnErr result ((users.new ≡ users.old) × (waits.new ≡ waits.old) × (resources.new ≡ resources.old)) }
+    ensures wanted { (process : machine.Process) (bytes : List ℕ) → Sends users.old message.thread process bytes → OnErr result (IsTrue (bytes_want_memory message.call.target.manager (told resources.old waits.old) (reading.meaning bytes) (deed_in resources.old waits.old process message bytes))) }
 {
     let TakenMessage {
         thread,
@@ -124,8 +131,12 @@ fn perform(
     };
     let context = context_of(process, caller(thread, call), call.target, moment);
     let meaning = meaning_of(&bytes, read);
-    match resources.perform(queues, context, meaning, reply, &mut room) {
-        Ok(given) => Ok((given, room)),
+    let watched = resources.watch_message(waits, &meaning, context.opened);
+    match resources.perform(waits, context, meaning, reply, &mut room) {
+        Ok(given) => {
+            resources.trigger(waits, watched);
+            Ok((given, room))
+        }
         Err(error) => {
             let Some(room) = room else {
                 unreachable!();

@@ -1,8 +1,9 @@
 //! The processes of all users, from 1: a place for each number.
 
-ghost use Rattle.std.specs.Prelude.{◌≡◌, IfOk, IfSome, IsOk, IsSome, IsTrue, OnOk, OnErr, Some};
+ghost use Rattle.std.specs.Prelude.{◌≡◌, ◌≤◌, IfOk, IfSome, IsOk, IsSome, IsTrue, OnOk, OnErr, OnSome, Some};
 ghost use Rattle.std.specs.Option.{option_copied, option_copied_mut};
 ghost use Rattle.std.specs.Borrow.{sem};
+ghost use Rattle.qx_types.specs.declared.limits.TheConstants.Limits.{PROCESSES};
 ghost use Rattle.qx_types.specs.declared.outcome.Answer.TheVariants.{Failed, Reply};
 ghost use Rattle.qx_machine.specs.Clients.{spawn_number};
 ghost use Rattle.qx_machine.specs.Processes.{after_effect, answered_thread, asked_thread, served_thread, taken_thread, with_queued};
@@ -70,6 +71,7 @@ impl Users {
     /// A process.
     pub fn process(&self, proc: Proc) -> Option<&Process>
         ensures row { option_copied result ≡ process_of self.now proc }
+        ensures within { OnSome result (proc.num ≤ PROCESSES) }
     {
         self.processes(proc.user)?.process(proc.num)
     }

@@ -6,6 +6,7 @@ use Rattle.std.specs.List.{count_by}
 use Rattle.std.proofs.lemmas.Option.{same_Some}
 use Rattle.std.proofs.lemmas.Bool.{and_parts, cases_eq, cond_both, eq-eqb, leb-true}
 use Rattle.qx_types.specs.declared.errno.Errno.TheVariants.{EACCES, EBADF, EBUSY, EEXIST, EFBIG, EISDIR, ENOENT, ENOSPC, ENOTEMPTY, EPERM}
+use Rattle.qx_types.specs.declared.fields.NotifyAction.{NotifyAction}
 use Rattle.qx_types.specs.declared.fields.Whence.{Whence}
 use Rattle.qx_types.specs.declared.flags.OFlags.{OFlags}
 use Rattle.qx_types.specs.declared.flags.TheConstants.OFlags.{CREAT, EXCL, TRUNC}
@@ -28,16 +29,19 @@ use Rattle.qx_machine.specs.declared.rows.Kind.TheVariants.{Directory, File}
 use Rattle.qx_machine.specs.declared.rows.NewOpen.{NewOpen}
 use Rattle.qx_machine.specs.declared.rows.Ocb.{Ocb}
 use Rattle.qx_machine.specs.declared.rows.Opened.{Opened}
+use Rattle.qx_machine.specs.declared.rows.PulseWish.{PulseWish}
 use Rattle.qx_machine.specs.declared.rows.WaitingCall.{WaitingCall}
 use Rattle.qx_machine.specs.declared.rows.Wish.{Wish}
 use Rattle.qx_machine.specs.Attributes.{top_inode}
-use Rattle.qx_machine.specs.Defaults.{MadeInode, allows, with_entries_changed as written_to, chmod_block, close, is_own, list_block, made_at, make_directory, open_spot, open_existing, open_missing, open_path, opened, own_block, pipe_in, stat_block, stat_path, unlink_path, unnamed, without_block, without_name, without_unused, writable}
+use Rattle.qx_machine.specs.Defaults.{MadeInode, allows, with_entries_changed as written_to, chmod_block, close, close_with_event, is_own, list_block, made_at, make_directory, open_spot, open_existing, open_missing, open_path, opened, own_block, pipe_in, stat_block, stat_path, unlink_path, unnamed, without_block, without_name, without_unused, writable}
+use Rattle.qx_machine.specs.Events.{Notified, disarmed, notified}
 use Rattle.qx_machine.specs.Files.{put, total_size}
 use Rattle.qx_machine.specs.Functions.{Deed, Reply, reply_alone, new_open, side_root}
 use Rattle.qx_machine.specs.Inodes.{Inodes, Numbered, is_open, block_number, has, inode_number, may, new_attribute, new_inode, open_block, readers_of, reads, with_attribute, with_offset, writers_of, writes}
 use Rattle.qx_machine.specs.Judgements.{found, need}
 use Rattle.qx_machine.specs.Managers.{manager_deed}
 use Rattle.qx_machine.specs.Names.{Spot, is_directory, is_empty, names_in, spot, under}
+use Rattle.qx_machine.specs.Notification.{conditions_at, event_of, notify_block}
 use Rattle.qx_machine.specs.PipeManager.{cancel_call, filled, read_pipe, released, seek_pipe, deed_of_pipe, write_pipe}
 use Rattle.qx_machine.specs.Pipes.{PipeAfter, Pipe, cancel, read, release, write}
 use Rattle.qx_machine.specs.RamManager.{emptied, read_file, seek_file, with_bytes, write_file, written_at}
@@ -45,14 +49,15 @@ use Rattle.qx_machine.specs.Resources.{Resources, with_empty}
 use Rattle.qx_machine.specs.Rows.{put_row, row_at}
 use Rattle.qx_machine.specs.Waiting.{Pipes, holds, is_call, is_gone, is_over, manner_of, offered, sides_of, waiting_call, wanted}
 use Rattle.qx_machine.proofs.Places.{row_at-set_other}
-use Rattle.qx_invariants.specs.Changes.{ResourceChange, Closes, Comes, Fills, IsOwnInode, IsPipeSettled, MayHappen, Moves, Opens, Touches, Unlinks, Writes, with_change, touched, without_link, with_named}
+use Rattle.qx_invariants.specs.Changes.{AreKept, ResourceChange, Closes, Comes, Fills, IsOwnInode, IsPipeSettled, MayHappen, Moves, Notifies, Opens, Touches, Unlinks, Writes, with_change, touched, without_link, with_named}
 use Rattle.qx_invariants.specs.Waits.{count_answers_to, is_astray, count_waiting_in, count_waiting_of}
-use Rattle.qx_invariants.proofs.Gives.{Gives, found-row, gives_by, gives_done, gives_error, gives_on, need-true}
+use Rattle.qx_machine.proofs.Gives.{Gives, found-row, gives_by, gives_done, gives_error, gives_on, need-true}
 use Rattle.qx_attr.proofs.CountLemmas.{within_table}
 use Rattle.qx_iofunc.proofs.PlaceLemmas.{put_at, set_at}
 use Rattle.qx_iofunc.proofs.OpenLemmas.{none_in}
 use Rattle.qx_pipe.proofs.CallLemmas.{cancel_settled, read_settled, release_settled, write_settled}
 use Rattle.qx_invariants.proofs.Calls.{cancel_once, cancel_short, no_one, put_short, read_once, read_short, release_none, release_once, release_short, rests, write_once, write_short}
+use Rattle.qx_invariants.proofs.Events.{disarmed-kept, notified-kept}
 use Rattle.qx_invariants.proofs.Rows.{IsNew, filled-kind, with_row-some_at, inode_is_new, put_there, some-is, the-some, with_row-at, with_row-some}
 use Rattle.qx_invariants.proofs.Spots.{AreComponents, IsSpot, spot-gives}
 
@@ -378,6 +383,16 @@ module _ (K : Resources → Told → Type 0) (keeps : (change : ResourceChange) 
         gives_by (IsOwnBlock own over.number) _ (own_block r.inodes over.number own) _ (own_block-gives own over.number) (λ block is.
         gives_done _ _ (record { came = []; kept = closed-keeps own over.number over.moment block is.0 is.1 (pipe_in own r block.inode) refl; own = refl }))
 
+    -- the event of the block goes with it
+    close_with_event-gives : (own : Kind) (over : Opened) → Gives Kept (close_with_event own r over)
+    close_with_event-gives own over =
+        gives_by Kept _ (close own r over) _ (close-gives own over) (λ deed closed.
+        gives_done _ _ (record {
+          came = closed.came;
+          kept = keeps (Notifies (disarmed over.number deed.state.events)) deed.state (record { answers = deed.answers; came = closed.came }) (disarmed-kept over.number deed.state.events) closed.kept;
+          own = closed.own;
+        }))
+
     -- ---- what tells, and what moves
 
     stat_path-gives : (root : ℕ) (rest : List (List ℕ)) (moment : ℕ) → Gives Kept (stat_path r root rest moment)
@@ -421,6 +436,14 @@ module _ (K : Resources → Told → Type 0) (keeps : (change : ResourceChange) 
         gives_on _ (found (row_at r.files block.inode) EBADF) _ (λ bytes here.
         cond_both (length new == 0) _ _ (Gives Kept) (λ none. gives_done _ _ (alone _ _ _ _ h)) (λ some. written-gives over.number block.inode bytes _ new over.moment (found-row _ _ bytes here)))))
 
+    -- ---- a notification
+
+    notify-gives : (over : Opened) (action : NotifyAction) (wish : PulseWish) → Gives Kept (notify_block r over action wish)
+    notify-gives over action wish =
+        gives_on _ (found (row_at r.inodes.blocks over.number) EBADF) _ (λ block opened.
+        gives_by (λ (given : Notified). AreKept r.events given.events) _ (notified action (event_of over wish) (conditions_at r (Some block)) r.events) _ (notified-kept action (event_of over wish) (conditions_at r (Some block)) r.events) (λ given is.
+        gives_done _ _ (alone _ _ _ _ (keeps (Notifies given.events) r nothing is h))))
+
     -- ---- the managers
 
     module _ (context : Context) (callers : (over : Opened) → context.opened ≡ Ok over → over.caller ≡ caller) where
@@ -431,10 +454,11 @@ module _ (K : Resources → Told → Type 0) (keeps : (change : ResourceChange) 
       ram-gives (msg.Mknod mode rest) names = gives_on _ (side_root context.target) _ (λ root is. directory-gives root mode rest context.moment names)
       ram-gives (msg.Read count) names = gives_on _ context.opened _ (λ over is. read_file-gives over count)
       ram-gives (msg.Write bytes) names = gives_on _ context.opened _ (λ over is. write_file-gives over bytes)
-      ram-gives msg.Close names = gives_on _ context.opened _ (λ over is. close-gives File over)
+      ram-gives msg.Close names = gives_on _ context.opened _ (λ over is. close_with_event-gives File over)
       ram-gives (msg.Lseek whence offset) names = gives_on _ context.opened _ (λ over is. seek_file-gives over whence offset)
       ram-gives msg.Fstat names = gives_on _ context.opened _ (λ over is. stat_block-gives over)
       ram-gives (msg.List after) names = gives_on _ context.opened _ (λ over is. list-gives over after)
+      ram-gives (msg.Notify action conditions code value) names = gives_on _ context.opened _ (λ over is. notify-gives over action _)
       ram-gives (msg.Chmod mode) names = gives_on _ context.opened _ (λ over is. chmod-gives over mode)
       ram-gives _ names = gives_error _ _
 
@@ -445,10 +469,11 @@ module _ (K : Resources → Told → Type 0) (keeps : (change : ResourceChange) 
       pipe-gives (msg.Mknod mode rest) names = gives_error _ _
       pipe-gives (msg.Read count) names = gives_on _ context.opened _ (λ over is. read-gives over count (callers over is))
       pipe-gives (msg.Write bytes) names = gives_on _ context.opened _ (λ over is. write-gives over bytes (callers over is))
-      pipe-gives msg.Close names = gives_on _ context.opened _ (λ over is. close-gives kind.Pipe over)
+      pipe-gives msg.Close names = gives_on _ context.opened _ (λ over is. close_with_event-gives kind.Pipe over)
       pipe-gives (msg.Lseek whence offset) names = gives_on _ context.opened _ (λ over is. seek_pipe-gives over whence offset)
       pipe-gives msg.Fstat names = gives_on _ context.opened _ (λ over is. stat_block-gives over)
       pipe-gives (msg.List after) names = gives_on _ context.opened _ (λ over is. list-gives over after)
+      pipe-gives (msg.Notify action conditions code value) names = gives_on _ context.opened _ (λ over is. notify-gives over action _)
       pipe-gives (msg.Chmod mode) names = gives_on _ context.opened _ (λ over is. chmod-gives over mode)
       pipe-gives _ names = gives_error _ _
 

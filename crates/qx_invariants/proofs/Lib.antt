@@ -1,11 +1,11 @@
--- judgements
-pub mod Gives
 -- rows under numbers, and what is left of them
 pub mod Rows
 -- what calls leave in pipes
 pub mod Calls
 -- where a path leads
 pub mod Spots
+-- how many events a user has
+pub mod Events
 -- what deeds do to a user's resources
 pub mod Deeds
 -- the messages that bytes mean

@@ -20,7 +20,7 @@ use Rattle.qx_machine.specs.PipeManager.{filled}
 use Rattle.qx_machine.specs.Resources.{Resources, resized}
 use Rattle.qx_machine.specs.Rows.{put_row, row_at, with_row}
 use Rattle.qx_machine.proofs.Places.{row_at-set_cases, row_at-set_other}
-use Rattle.qx_invariants.specs.Changes.{ResourceChange, Closes, Comes, Fills, MayHappen, Mounts, Moves, Opens, Touches, Unlinks, Writes, with_change, touched, without_link, with_changed, with_named, with_unlinked}
+use Rattle.qx_invariants.specs.Changes.{ResourceChange, Closes, Comes, Fills, MayHappen, Mounts, Moves, Notifies, Opens, Touches, Unlinks, Writes, with_change, touched, without_link, with_changed, with_named, with_unlinked}
 use Rattle.qx_invariants.specs.Holds.{HasNames, HasRoom, IsNamed, IsUnnamed}
 use Rattle.qx_iofunc.proofs.PlaceLemmas.{put_at, row-freed}
 use Rattle.qx_invariants.proofs.Rows.{IsNew, content_cases, empty_cases, freed, more_blocks, block_is_new, inode_is_new, not_open, other_blocks, put_other, same_blocks, unused_cases, with_row-at, with_row-other, filled-same, put_cases, with_row-some_at, with_row-was}
@@ -268,3 +268,4 @@ names-keep (Writes inode moment bytes) r may room h = same_but_content _ (slice_
 names-keep (Fills inode moment after came) r may room h = same_but_content _ r.files (slice_set r.pipes inode (Some after.pipe)) (same_names r h inode (filled moment after) (λ a. filled-same moment after a (λ (b : Attribute). b.links) refl refl))
 names-keep (Unlinks own directory name inode mtime ctime) r may room h = unused_names own inode (with_unlinked inode (under directory name) mtime ctime r) (unlink_names r h inode (under directory name) mtime ctime may.0)
 names-keep (Closes own number block) r may room h = unused_names own block.inode (without_block number r) (close_names r h number block may.0)
+names-keep (Notifies events) r may room h = record { leads = h.leads; single = h.single; roots = h.roots; links = h.links; used = h.used; opened = h.opened }

@@ -17,7 +17,7 @@ use Rattle.qx_types.specs.declared.outcome.Answer.TheVariants as answer
 use Rattle.qx_types.specs.declared.outcome.Outcome.TheVariants.{Refused, WrongState}
 use Rattle.qx_types.specs.declared.request.Request.{Request}
 use Rattle.qx_types.specs.declared.step.Step.{Step}
-use Rattle.qx_types.specs.declared.step.Step.TheVariants.{Spawn, Call, TakeReply, SetPrio, Interrupt, Mount}
+use Rattle.qx_types.specs.declared.step.Step.TheVariants.{Spawn, Call, TakeReply, TakePulse, SetPrio, Interrupt, Mount}
 use Rattle.qx_paths.specs.Prefixes.{MountPoint}
 use Rattle.qx_machine.specs.declared.rows.Addressed.{Addressed}
 use Rattle.qx_machine.specs.declared.rows.Caller.{Caller}
@@ -27,13 +27,15 @@ use Rattle.qx_machine.specs.declared.rows.Over.{Over}
 use Rattle.qx_machine.specs.declared.rows.Over.TheVariants.{New, Existing, Side}
 use Rattle.qx_machine.specs.declared.rows.OwnItem.{OwnItem}
 use Rattle.qx_machine.specs.declared.rows.OwnItem.TheVariants as item
+use Rattle.qx_machine.specs.declared.rows.Pulse.{Pulse}
 use Rattle.qx_machine.specs.declared.rows.Sent.{Sent}
 use Rattle.qx_machine.specs.declared.rows.State.{State}
 use Rattle.qx_machine.specs.declared.rows.State.TheVariants as state
 use Rattle.qx_machine.specs.declared.rows.ThreadRow.{ThreadRow}
 use Rattle.qx_machine.specs.declared.rows.WaitingCall.{WaitingCall}
 use Rattle.qx_machine.specs.Calls.{address, bytes_of, content_of, request_in_ranges, is_ready, may_call, target_at}
-use Rattle.qx_machine.specs.Clients.{ClientStep, answer_in, call, client_given, interrupt_in, is_prio, mount_by, set_prio, spawn, spawn_number, take_reply, target_by}
+use Rattle.qx_machine.specs.Clients.{ClientStep, answer_in, call, client_given, interrupt_in, is_prio, mount_by, pulse_taken, set_prio, spawn, spawn_number, take_reply, target_by}
+use Rattle.qx_machine.specs.Events.{first_pulse}
 use Rattle.qx_machine.specs.Functions.{Deed, Reply}
 use Rattle.qx_machine.specs.Judgements.{found, need}
 use Rattle.qx_machine.specs.Mounting.{with_mount}
@@ -45,15 +47,15 @@ use Rattle.qx_machine.specs.Resources.{Resources}
 use Rattle.qx_machine.specs.Rows.{lowest_from, put_row, row_at}
 use Rattle.qx_machine.specs.Pipes.{Pipe}
 use Rattle.qx_machine.specs.Waiting.{is_call}
-use Rattle.qx_machine.specs.Users.{boot_part, client, serve, take}
+use Rattle.qx_machine.specs.Users.{boot_part, client, serve, settle_part, take}
 use Rattle.qx_machine.proofs.Places.{lowest_from_free}
 use Rattle.qx_invariants.specs.Holds.{WaitsOnce}
 use Rattle.qx_invariants.specs.Waits.{count_answers_to, is_of, count_waiting, count_waiting_in, waits, count_state_waiting}
 use Rattle.qx_attr.specs.inner.Counts.{one}
 use Rattle.qx_invariants.proofs.Balances.{Balanced, balanced-keeps, ChangesThread, after_answers, after_spawn, is_its, thread_changed, thread_other, thread_same, waits_few}
 use Rattle.qx_invariants.proofs.Deeds.{CameWith, Kept, cancel-gives}
-use Rattle.qx_invariants.proofs.Gives.{Gives, found-row, gives_by, gives_done, gives_error, gives_on, gives-value, need-true}
-use Rattle.qx_invariants.proofs.Steps.{answers-resources, client-keeps, deed_kept, kept-keeps, serve-keeps, take-keeps, unchanged-keeps, IsKept}
+use Rattle.qx_machine.proofs.Gives.{Gives, found-row, gives_by, gives_done, gives_error, gives_on, gives-value, need-true}
+use Rattle.qx_invariants.proofs.Steps.{answers-resources, client-keeps, deed_kept, kept-keeps, serve-keeps, settle-keeps, take-keeps, unchanged-keeps, IsKept}
 use Rattle.qx_invariants.proofs.Together.{Holds, boot_holds, holds-keep}
 
 -- the threads of a user's part that wait are the same, and as many calls wait in the pipes
@@ -204,6 +206,10 @@ take_once part (item.Message process thread) h =
     same_once part (with_process process (with_thread thread taken_thread) part) h refl (thread_same part process thread taken_thread (with_thread thread taken_thread) (λ row. refl) (λ row is. taken_same row.state))
 take_once part (item.Unblock process thread number) h = h
 
+pub settle_once : (before : Part) (held : List OwnItem) (after : Part) → WaitsOnce after → WaitsOnce (settle_part before held after)
+unfolding settle_part
+settle_once before held after h = record { once = h.once }
+
 -- ---- what a client does
 
 -- a thread is there, and ready
@@ -279,10 +285,15 @@ module _ (part : Part) (h : WaitsOnce part) where
   interrupt_in-once thread number row there (state.Waiting sent) is = cond_both sent.is_asked _ _ Gave (λ asked. h) (λ first. asked_once thread)
   interrupt_in-once thread number row there _ is = h
 
+  pulse_taken-once : (process : ℕ) (first : Option Pulse) → Gave (pulse_taken part process first)
+  pulse_taken-once process None = h
+  pulse_taken-once process (Some first) = record { once = h.once }
+
   client_given-once : (config : Configuration) (user : ℕ) (held : List OwnItem) (e : Step) → Gives Gave (client_given config user held part e)
   client_given-once config user held (Spawn of_user threads prio) = spawn_once threads prio.0
   client_given-once config user held (Call thread asked) = call_once config user thread asked
   client_given-once config user held (TakeReply thread) = reply_once thread
+  client_given-once config user held (TakePulse proc) = gives_on _ (found (row_at part.processes proc.num) WrongState) _ (λ process is. gives_done _ _ (pulse_taken-once proc.num (first_pulse proc.num part.resources.events)))
   client_given-once config user held (SetPrio thread prio) = prio_once thread prio.0
   client_given-once config user held (Interrupt thread) = gives_on _ (found (thread_at part thread.proc.num thread.tid) WrongState) _ (λ row is. gives_done _ _ (interrupt_in-once thread row.calls row (found-row _ _ row is) row.state refl))
   client_given-once config user held (Mount thread path manager) =
@@ -300,6 +311,7 @@ stands_kept = record {
   client_step = λ config user held part e h. record { holds = client-keeps Holds holds-keep config user held part e h.holds; waits_once = client_once part h.waits_once config user held e };
   taking = λ user part own h. record { holds = take-keeps Holds holds-keep part own h.holds; waits_once = take_once part own h.waits_once };
   serving = λ config user held part own moment h. record { holds = serve-keeps Holds holds-keep config user held part own moment h.holds; waits_once = serve_once config user held part own moment h };
+  settling = λ user before held after h. record { holds = settle-keeps Holds holds-keep before held after h.holds; waits_once = settle_once before held after h.waits_once };
 }
 
 none_wait : (which : WaitingCall → Bool) (places : ℕ) → count_waiting which (replicate places None) ≡ 0

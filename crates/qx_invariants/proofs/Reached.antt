@@ -20,7 +20,7 @@ use Rattle.qx_machine.specs.Rows.{row_at}
 use Rattle.qx_machine.specs.Runs.{run}
 use Rattle.qx_invariants.specs.Changes.{Become, ResourceChange, MayHappen, with_change}
 use Rattle.qx_machine.proofs.Listings.{listed_end, listed_to_end}
-use Rattle.qx_invariants.proofs.Steps.{client-keeps, serve-keeps, take-keeps, IsKept, run-holds}
+use Rattle.qx_invariants.proofs.Steps.{client-keeps, serve-keeps, settle-keeps, take-keeps, IsKept, run-holds}
 use Rattle.qx_machine.specs.Users.{boot_part}
 use Rattle.qx_invariants.proofs.Together.{Holds, boot_holds, boot_owned}
 use Rattle.qx_invariants.proofs.Rooms.{owner-keeps, room-keeps}
@@ -82,6 +82,7 @@ resources_kept K keeps = record {
   client_step = λ config user held part e h. client-keeps (K user) (keeps user) config user held part e h;
   taking = λ user part own h. take-keeps (K user) (keeps user) part own h;
   serving = λ config user held part own moment h. serve-keeps (K user) (keeps user) config user held part own moment h;
+  settling = λ user before held after h. settle-keeps (K user) (keeps user) before held after h;
 }
 
 pub run_becomes : (config : Configuration) (steps : List Step) (user : ℕ) (part : Part) → row_at (run config steps).world.parts user ≡ Some part → Become (new_resources user (name_bytes config user)) part.resources

@@ -11,7 +11,7 @@ use Rattle.qx_machine.specs.Pipes.{Pipe}
 use Rattle.qx_machine.specs.Resources.{Resources, resized}
 use Rattle.qx_machine.specs.Rows.{put_row, row_at, with_row}
 use Rattle.qx_machine.proofs.Places.{row_at-set_cases}
-use Rattle.qx_invariants.specs.Changes.{ResourceChange, Closes, Comes, Fills, MayHappen, Mounts, Moves, Opens, Touches, Unlinks, Writes, with_change, touched, without_link, with_changed, with_named, with_unlinked}
+use Rattle.qx_invariants.specs.Changes.{ResourceChange, Closes, Comes, Fills, MayHappen, Mounts, Moves, Notifies, Opens, Touches, Unlinks, Writes, with_change, touched, without_link, with_changed, with_named, with_unlinked}
 use Rattle.qx_invariants.specs.Holds.{HasRoom, IsOwnedBy}
 use Rattle.qx_iofunc.proofs.PlaceLemmas.{put_differ}
 use Rattle.qx_invariants.proofs.Rows.{IsNew, content_cases, empty_cases, freed, block_is_new, inode_is_new, unused_cases, put_cases, with_row-was, filled-same}
@@ -95,6 +95,7 @@ parts-keep (Unlinks own directory name inode mtime ctime) r may h =
     let with_names = with_inodes r _ (changed_numbered INODES r.inodes.attributes h.inodes inode _) h.blocks h in
     unused_parts own inode _ (record { inodes = with_names.inodes; blocks = with_names.blocks; files = with_names.files; pipes = with_names.pipes })
 parts-keep (Closes own number block) r may h = unused_parts own block.inode _ (with_inodes r _ h.inodes (freed_numbered BLOCKS r.inodes.blocks h.blocks number) h)
+parts-keep (Notifies events) r may h = record { inodes = h.inodes; blocks = h.blocks; files = h.files; pipes = h.pipes }
 
 pub room-keeps : (change : ResourceChange) (r : Resources) → MayHappen change r → HasRoom r → HasRoom (with_change change r)
 room-keeps change r may h = whole (with_change change r) (parts-keep change r may (parts r h))

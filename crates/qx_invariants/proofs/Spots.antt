@@ -12,7 +12,7 @@ use Rattle.qx_machine.specs.Names.{Key, Spot, is_directory, root_key, search, sp
 use Rattle.qx_machine.specs.Resources.{Resources}
 use Rattle.qx_machine.specs.Rows.{row_at}
 use Rattle.qx_invariants.specs.Changes.{IsDirectoryAt}
-use Rattle.qx_invariants.proofs.Gives.{Gives, found-row, gives_done, gives_error, gives_on, gives-value, need-true}
+use Rattle.qx_machine.proofs.Gives.{Gives, found-row, gives_done, gives_error, gives_on, gives-value, need-true}
 
 -- each name is a component
 abbrev pub AreComponents : List (List ℕ) → Type 0

@@ -11,7 +11,7 @@ use Rattle.qx_types.specs.declared.outcome.Answer.{Answer}
 use Rattle.qx_types.specs.declared.outcome.Outcome.{Outcome}
 use Rattle.qx_types.specs.declared.outcome.Outcome.TheVariants.{WrongState}
 use Rattle.qx_types.specs.declared.step.Step.{Step}
-use Rattle.qx_types.specs.declared.step.Step.TheVariants.{Spawn, Call, TakeReply, SetPrio, Interrupt, Mount}
+use Rattle.qx_types.specs.declared.step.Step.TheVariants.{Spawn, Call, TakeReply, TakePulse, SetPrio, Interrupt, Mount}
 use Rattle.qx_wire.specs.declared.message.Meaning.{Meaning}
 use Rattle.qx_wire.specs.declared.message.Meaning.TheVariants.{Known, Unknown, Malformed}
 use Rattle.qx_wire.specs.Reading.{meaning}
@@ -20,15 +20,18 @@ use Rattle.qx_paths.specs.Paths.{read_path, unless}
 use Rattle.qx_paths.specs.Prefixes.{MountPoint, is_under}
 use Rattle.qx_machine.specs.declared.rows.Caller.{Caller}
 use Rattle.qx_machine.specs.declared.rows.OwnItem.{OwnItem}
+use Rattle.qx_machine.specs.declared.rows.Pulse.{Pulse}
 use Rattle.qx_machine.specs.declared.rows.Over.{Over}
 use Rattle.qx_machine.specs.declared.rows.State.{State}
 use Rattle.qx_machine.specs.declared.rows.Target.{Target}
 use Rattle.qx_machine.specs.declared.rows.WaitingCall.{WaitingCall}
-use Rattle.qx_machine.specs.Clients.{ClientStep, client_given, interrupt_in, mount, mount_by, or_unchanged}
+use Rattle.qx_machine.specs.Clients.{ClientStep, client_given, interrupt_in, mount, mount_by, or_unchanged, pulse_taken}
+use Rattle.qx_machine.specs.Events.{first_pulse, without_first_pulse}
 use Rattle.qx_machine.specs.Functions.{Deed}
 use Rattle.qx_machine.specs.Inodes.{inode_number}
 use Rattle.qx_machine.specs.Judgements.{found, need, or_refused}
 use Rattle.qx_machine.specs.Mounting.{new_mount}
+use Rattle.qx_machine.specs.Notification.{block_conditions, events_settled}
 use Rattle.qx_machine.specs.Parts.{Part, thread_at, Change as LineChange}
 use Rattle.qx_machine.specs.Performing.{Served, after_answer, context_of, deed_of, or_kept, read_message, serve_message, serve_pulse, taken_in, with_answers}
 use Rattle.qx_machine.specs.PipeManager.{cancel_call}
@@ -36,9 +39,10 @@ use Rattle.qx_machine.specs.Processes.{Process}
 use Rattle.qx_machine.specs.Resources.{Resources}
 use Rattle.qx_machine.specs.Rows.{row_at}
 use Rattle.qx_machine.specs.Users.{client, serve, take, boot_part, settle_part}
-use Rattle.qx_invariants.specs.Changes.{ResourceChange, MayHappen, Mounts, with_change}
+use Rattle.qx_invariants.specs.Changes.{ResourceChange, MayHappen, Mounts, Notifies, with_change}
 use Rattle.qx_invariants.proofs.Deeds.{Kept, NamesComponents, Told, cancel-gives, manager-gives, nothing, told_by}
-use Rattle.qx_invariants.proofs.Gives.{Gives, gives_by, gives_done, gives_error, gives_more, gives_on, gives-value}
+use Rattle.qx_invariants.proofs.Events.{taken-kept, triggered-kept}
+use Rattle.qx_machine.proofs.Gives.{Gives, gives_by, gives_done, gives_error, gives_more, gives_on, gives-value}
 use Rattle.qx_invariants.proofs.Messages.{meaning-components}
 use Rattle.std.proofs.lemmas.Option.{same_Some}
 use Rattle.qx_types.specs.Step.{actor_of, user_of}
@@ -113,6 +117,13 @@ module _ (K : Resources → Type 0) (keeps : (change : ResourceChange) (r : Reso
   take-keeps part (item.Message process thread) h = h
   take-keeps part (item.Unblock process thread number) h = h
 
+  -- ---- what the end of a step settles
+
+  pub settle-keeps : (before : Part) (held : List OwnItem) (after : Part) → Keeps after → Keeps (settle_part before held after)
+  unfolding settle_part
+  settle-keeps before held after h =
+      keeps (Notifies (events_settled before.resources after.resources)) after.resources (triggered-kept (block_conditions before.resources) (block_conditions after.resources) after.resources.events) h
+
   -- ---- what a client does
 
   abbrev Gave : ClientStep → Type 0
@@ -123,6 +134,10 @@ module _ (K : Resources → Type 0) (keeps : (change : ResourceChange) (r : Reso
   interrupt-keeps part thread number (state.Taken sent) h = cond_both sent.is_asked _ _ Gave (λ is. h) (λ is. h)
   interrupt-keeps part thread number (state.Waiting sent) h = cond_both sent.is_asked _ _ Gave (λ is. h) (λ is. h)
   interrupt-keeps part thread number _ h = h
+
+  pulse-keeps : (part : Part) (process : ℕ) (first : Option Pulse) → Keeps part → Gave (pulse_taken part process first)
+  pulse-keeps part process None h = h
+  pulse-keeps part process (Some first) h = keeps (Notifies (without_first_pulse process part.resources.events)) part.resources (taken-kept process part.resources.events) h
 
   refused-gives : (r : Resources) (given : Result MountPoint Errno) → Gives (λ (mount : MountPoint). inode_number r.inodes ≡ Ok mount.root) given → Gives (λ (mount : MountPoint). inode_number r.inodes ≡ Ok mount.root) (or_refused given)
   refused-gives r (Ok mount) h = gives_done _ _ (gives-value _ (Ok mount) mount refl h)
@@ -146,6 +161,7 @@ module _ (K : Resources → Type 0) (keeps : (change : ResourceChange) (r : Reso
   client-gives config user held part (Spawn of_user threads prio) h = search (gives_on, gives_done, h)
   client-gives config user held part (Call thread request) h = search (gives_on, gives_done, h)
   client-gives config user held part (TakeReply thread) h = search (gives_on, gives_done, h)
+  client-gives config user held part (TakePulse proc) h = gives_on _ (found (row_at part.processes proc.num) WrongState) _ (λ process is. gives_done _ _ (pulse-keeps part proc.num (first_pulse proc.num part.resources.events) h))
   client-gives config user held part (SetPrio thread prio) h = search (gives_on, gives_done, h)
   client-gives config user held part (Interrupt thread) h = gives_on _ (found (thread_at part thread.proc.num thread.tid) WrongState) _ (λ row is. gives_done _ _ (interrupt-keeps part thread row.calls row.state h))
   client-gives config user held part (Mount thread path manager) h = mount-gives config user part thread path manager h
@@ -162,20 +178,22 @@ pub record IsKept (P : ℕ → Part → Type 0) : Type 0 where
   pub client_step : (config : Configuration) (user : ℕ) (held : List OwnItem) (part : Part) (e : Step) → P user part → P user (client config user held part e).part
   pub taking : (user : ℕ) (part : Part) (own : OwnItem) → P user part → P user (take part own)
   pub serving : (config : Configuration) (user : ℕ) (held : List OwnItem) (part : Part) (own : OwnItem) (moment : ℕ) → P user part → P user (serve config user held part own moment).part
+  pub settling : (user : ℕ) (before : Part) (held : List OwnItem) (after : Part) → P user after → P user (settle_part before held after)
 
 module _ (P : ℕ → Part → Type 0) (keeps : IsKept P) where
   abbrev pub HoldsIn : List (Option Part) → Type 0
   HoldsIn parts = (user : ℕ) (part : Part) → row_at parts user ≡ Some part → P user part
 
   end-holds : (user : ℕ) (before after : Part) (changes : List LineChange) (w : World) → HoldsIn w.parts → P user after → HoldsIn (step_end user before after changes w).parts
-  unfolding settle_part
-  end-holds user before after changes w h own other part there = elim (cases_eq other user) [
-    | inl same ↦ elim (row_at-set_cases w.parts user other (Some after) part there) [
-      | inl was ↦ h other part was
-      | inr put ↦ let is : after ≡ part = same_Some _ _ put in subst (λ number. P number part) (sym same) (subst (P user) is own)
-    ]
-    | inr apart ↦ h other part (sym (row_at-set_other w.parts user other (Some after) apart) ∙ there)
-  ]
+  end-holds user before after changes w h own other part there =
+      let settled = settle_part before (own_held user w.hands) after in
+      elim (cases_eq other user) [
+        | inl same ↦ elim (row_at-set_cases w.parts user other (Some settled) part there) [
+          | inl was ↦ h other part was
+          | inr put ↦ let is : settled ≡ part = same_Some _ _ put in subst (λ number. P number part) (sym same) (subst (P user) is (keeps.settling user before (own_held user w.hands) after own))
+        ]
+        | inr apart ↦ h other part (sym (row_at-set_other w.parts user other (Some settled) apart) ∙ there)
+      ]
 
   client-holds : (w : World) (user : ℕ) (e : Step) (row : Option Part) → row_at w.parts user ≡ row → HoldsIn w.parts → HoldsIn (client_step w user e row).world.parts
   client-holds w user e None is h = h

@@ -1,13 +1,14 @@
 -- All that holds of a user's resources, at boot and whatever happens.
 use Rattle.std.proofs.Common.{◌≡◌, inl, inr, ℕ, zero, suc, ◌+◌, false, List, [], ◌∷◌, refl, sym, ap, ◌∙◌, arith}
-use Rattle.std.specs.Prelude.{Option, Some, None, is_some, option_map, replicate}
+use Rattle.std.specs.Prelude.{Option, Some, None, is_some, length, option_map, replicate}
 use Rattle.std.specs.FinMap.{empty, get, get-empty}
 use Rattle.std.proofs.lemmas.List.{length-replicate}
 use Rattle.std.proofs.lemmas.Option.{same_Some}
-use Rattle.qx_types.specs.declared.limits.TheConstants.Limits.{INODES}
+use Rattle.qx_types.specs.declared.limits.TheConstants.Limits.{INODES, PROCESSES}
 use Rattle.qx_machine.specs.declared.rows.Attribute.{Attribute}
 use Rattle.qx_machine.specs.declared.rows.Kind.{Kind}
 use Rattle.qx_machine.specs.declared.rows.Kind.TheVariants as kind
+use Rattle.qx_machine.specs.declared.rows.Pulse.{Pulse}
 use Rattle.qx_machine.specs.declared.rows.WaitingCall.{WaitingCall}
 use Rattle.qx_machine.specs.Attributes.{root_attribute}
 use Rattle.qx_machine.specs.Mounting.{new_resources}
@@ -22,6 +23,7 @@ use Rattle.qx_iofunc.proofs.StoreLemmas.{row_at-none}
 use Rattle.qx_invariants.specs.Changes.{IsDirectoryAt, ResourceChange, MayHappen, with_change}
 use Rattle.qx_invariants.specs.Holds.{HasContents, HasLimits, HasMounts, HasNames, HasOpenWaiters, HasRoom, HasSettledPipes, HasTree, IsOwnedBy, size_if}
 use Rattle.qx_invariants.proofs.Contents.{contents-keep, settled-keep, limits-keep}
+use Rattle.qx_invariants.proofs.Events.{HasEvents, events-keep}
 use Rattle.qx_invariants.proofs.Keys.{insert-at, insert-cases, not_root}
 use Rattle.qx_invariants.proofs.Named.{names-keep}
 use Rattle.qx_invariants.proofs.Rooms.{room-keeps}
@@ -117,6 +119,12 @@ module _ (user : ℕ) (name : List ℕ) where
     pipe = λ inode pipe is. let none : None ≡ Some pipe = sym (row_at-none (INODES + 1) inode) ∙ is in absurd (cc);
   }
 
+  boot_events : HasEvents start
+  boot_events = record {
+    few = let none = sum_by-replicate {X = List Pulse} length (PROCESSES + 1) [] in omega (arith, none);
+    queues = length-replicate {A = List Pulse} (PROCESSES + 1) [];
+  }
+
 -- ---- all of it
 
 pub record Holds (r : Resources) : Type 0 where
@@ -128,9 +136,10 @@ pub record Holds (r : Resources) : Type 0 where
   pub waiters : HasOpenWaiters r
   pub mounts : HasMounts r
   pub limits : HasLimits r
+  pub events : HasEvents r
 
 pub holds-keep : (change : ResourceChange) (r : Resources) → MayHappen change r → Holds r → Holds (with_change change r)
-holds-keep change r may h = record { room = room-keeps change r may h.room; contents = contents-keep change r may h.room h.contents; settled = settled-keep change r may h.settled; names = names-keep change r may h.room h.names; tree = tree-keeps change r may h.room h.names h.tree; waiters = astray-keeps change r may h.room h.contents h.waiters; mounts = mounts-keep change r may h.room h.names h.mounts; limits = limits-keep change r may h.limits }
+holds-keep change r may h = record { room = room-keeps change r may h.room; contents = contents-keep change r may h.room h.contents; settled = settled-keep change r may h.settled; names = names-keep change r may h.room h.names; tree = tree-keeps change r may h.room h.names h.tree; waiters = astray-keeps change r may h.room h.contents h.waiters; mounts = mounts-keep change r may h.room h.names h.mounts; limits = limits-keep change r may h.limits; events = events-keep change r may h.events }
 
 pub boot_holds : (user : ℕ) (name : List ℕ) → Holds (new_resources user name)
-boot_holds user name = record { room = boot_room user name; contents = boot_contents user name; settled = boot_settled user name; names = boot_names user name; tree = boot_tree user name; waiters = boot_waiters user name; mounts = boot_rooted user name; limits = boot_limits user name }
+boot_holds user name = record { room = boot_room user name; contents = boot_contents user name; settled = boot_settled user name; names = boot_names user name; tree = boot_tree user name; waiters = boot_waiters user name; mounts = boot_rooted user name; limits = boot_limits user name; events = boot_events user name }

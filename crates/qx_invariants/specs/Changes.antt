@@ -2,7 +2,7 @@
 use Rattle.std.specs.Prelude.{◌+◌, ◌≡◌, ◌≤◌, ◌⊎◌, length, slice_set, ℕ, Bool, true, List, [], ◌∷◌, Some, None, Ok, is_some}
 use Rattle.std.specs.List.{count_by}
 use Rattle.std.specs.FinMap.{get, insert, remove}
-use Rattle.qx_types.specs.declared.limits.TheConstants.Limits.{FILE, FILES, PIPE}
+use Rattle.qx_types.specs.declared.limits.TheConstants.Limits.{EVENTS, FILE, FILES, PIPE}
 use Rattle.qx_machine.specs.Files.{total_size}
 use Rattle.qx_wire.specs.Rests.{is_component}
 use Rattle.qx_paths.specs.Prefixes.{MountPoint}
@@ -11,6 +11,7 @@ use Rattle.qx_machine.specs.declared.rows.Kind.{Kind}
 use Rattle.qx_machine.specs.declared.rows.Ocb.{Ocb}
 use Rattle.qx_machine.specs.declared.rows.WaitingCall.{WaitingCall}
 use Rattle.qx_machine.specs.Defaults.{is_own, pipe_in, without_block, without_unused}
+use Rattle.qx_machine.specs.Events.{Events, event_count}
 use Rattle.qx_machine.specs.Inodes.{block_number, inode_number, new_attribute, with_offset}
 use Rattle.qx_machine.specs.Mounting.{with_mount}
 use Rattle.qx_machine.specs.Names.{Key, is_directory, names_in, under}
@@ -42,6 +43,8 @@ pub data ResourceChange : Type 0 where
   Unlinks : (own : Kind) (directory : Key) (name : List ℕ) (inode mtime ctime : ℕ) → ResourceChange
   -- an open control block goes, and what it had open, unless that is named or open still
   Closes : (own : Kind) (number : ℕ) (block : Ocb) → ResourceChange
+  -- events are armed or go, or pulses come or go
+  Notifies : (events : Events) → ResourceChange
 
 -- ---- what there is afterwards
 
@@ -76,6 +79,7 @@ with_change (Writes inode moment bytes) r = with_bytes inode moment bytes r
 with_change (Fills inode moment after came) r = (deed_of_pipe r inode moment after).state
 with_change (Unlinks own directory name inode mtime ctime) r = without_unused own inode (with_unlinked inode (under directory name) mtime ctime r)
 with_change (Closes own number block) r = without_unused own block.inode (without_block number r)
+with_change (Notifies events) r = record r { events = events }
 
 -- ---- when it can happen
 
@@ -119,8 +123,16 @@ pub record IsDone (r : Resources) (inode : ℕ) (after : PipeAfter WaitingCall) 
   -- no more bytes stand than may
   pub short : length pipe.bytes ≤ PIPE → length after.pipe.bytes ≤ PIPE
 
+-- these are a user's events once some came or went
+pub record AreKept (before events : Events) : Type 0 where
+  -- armed events and untaken pulses together are no more than before, or than may be
+  pub few : (event_count events ≤ event_count before) ⊎ (event_count events ≤ EVENTS)
+  -- each process has a queue still
+  pub queues : length events.pulses ≡ length before.pulses
+
 -- an inode comes under the lowest free number, with a name that is a component and not there yet, into a directory; a name goes that leads to
--- an inode in which no names are; only what is there is opened, written, closed or unnamed; and nobody waits over what is closed
+-- an inode in which no names are; only what is there is opened, written, closed or unnamed; nobody waits over what is closed; and events do
+-- not come to be too many
 abbrev pub MayHappen : ResourceChange → Resources → Type 0
 MayHappen (Mounts mount) r = inode_number r.inodes ≡ Ok mount.root
 MayHappen (Comes inode directory name kind mode moment) r = (inode_number r.inodes ≡ Ok inode) × IsDirectoryAt r directory × (get r.names (under directory name) ≡ None) × (is_component name ≡ true)
@@ -131,6 +143,7 @@ MayHappen (Writes inode moment bytes) r = IsRewritten r inode bytes
 MayHappen (Fills inode moment after came) r = IsDone r inode after came
 MayHappen (Unlinks own directory name inode mtime ctime) r = (get r.names (under directory name) ≡ Some inode) × (names_in r.names inode ≡ []) × IsOwnInode own r inode
 MayHappen (Closes own number block) r = (row_at r.inodes.blocks number ≡ Some block) × IsOwnInode own r block.inode × (count_waiting_in (is_over number) (pipe_in own r block.inode) ≡ 0)
+MayHappen (Notifies events) r = AreKept r.events events
 
 -- ---- one after another
 

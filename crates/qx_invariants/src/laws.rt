@@ -1,11 +1,14 @@
 //! What holds of each user's resources in every world that a run reaches.
 
-ghost use Rattle.std.specs.Prelude.{◌≡◌, ℕ, ◌≤◌, List, [], Some, length};
+ghost use Rattle.std.specs.Prelude.{◌≡◌, ℕ, ◌+◌, ◌≤◌, List, [], Some, length};
 ghost use Rattle.std.specs.Cmp.Lexicographic.{slice_cmp};
 ghost use Rattle.std.specs.List.Sorted.{IsStrictlySortedBy};
 ghost use Rattle.std.specs.Ordering.{nat_cmp};
 ghost use Rattle.qx_types.specs.Configuration.{Configuration, name_bytes};
+ghost use Rattle.qx_types.specs.declared.limits.TheConstants.Limits.{EVENTS, PROCESSES};
 ghost use Rattle.qx_types.specs.declared.step.Step.{Step};
+ghost use Rattle.qx_machine.specs.declared.rows.Conditions.{Conditions};
+ghost use Rattle.qx_machine.specs.Events.{Events, event_count, triggered};
 ghost use Rattle.qx_machine.specs.Listings.{listed_by, listed_next};
 ghost use Rattle.qx_machine.specs.Names.{listed, listing, names_in};
 ghost use Rattle.qx_machine.specs.Mounting.{new_resources};
@@ -44,6 +47,19 @@ pub fn sizes_tell_contents()
 /// pipe.
 pub fn bytes_are_within_limits()
     ensures { HoldsInRuns HasLimits }
+{}
+
+/// A user's armed events and untaken pulses, those of all processes together, are no more than 128, and there is a queue for
+/// the pulses of each process, under its number.
+pub fn events_are_within_the_limit()
+    ensures limit { HoldsInRuns (λ r. event_count r.events ≤ EVENTS) }
+    ensures queues { HoldsInRuns (λ r. length r.events.pulses ≡ PROCESSES + 1) }
+{}
+
+/// An armed event gives one pulse at most: of the armed events and the untaken pulses together there are no more after a
+/// step's end than before, whatever became due.
+pub fn an_event_gives_one_pulse()
+    ensures { (before after : ℕ → Conditions) (events : Events) → event_count (triggered before after events) ≤ event_count events }
 {}
 
 /// Nobody waits in a pipe who could be served: to settle it changes nothing and answers nobody.

@@ -19,6 +19,7 @@ use Rattle.qx_machine.specs.declared.rows.Wish.{Wish}
 use Rattle.qx_machine.specs.Defaults.{allows, open_existing, opened, open_missing, writable}
 use Rattle.qx_machine.specs.Files.{Files}
 use Rattle.qx_machine.specs.Functions.{Deed, reply_alone}
+use Rattle.qx_machine.specs.Events.{no_events}
 use Rattle.qx_machine.specs.Inodes.{Inodes, Numbered, block_number, has, open_block, writes, inode_number, may}
 use Rattle.qx_machine.specs.Judgements.{◌>>=◌, found, need}
 use Rattle.qx_machine.specs.Names.{Names, is_directory, Spot, Key, is_empty, root_key, search, spot, start, under, walk}
@@ -150,7 +151,7 @@ module _ (r : Resources) (coid : Coid) (inode : ℕ) (wish : Wish) where
 
 -- whatever managers have beside a store
 beside : Stored → Resources
-beside s = record { user = s.user; mounts = []; inodes = s.inodes; names = s.names; files = s.files; pipes = [] }
+beside s = record { user = s.user; mounts = []; inodes = s.inodes; names = s.names; files = s.files; pipes = []; events = no_events }
 
 pub all_allowed : (s : Stored) (inode : ℕ) (wish : Wish) → ((r : Resources) (coid : Coid) → IsOk (open_existing (with_stored r s) coid inode wish)) → may_open s.inodes s.user inode wish.flags ≡ Ok done
 all_allowed s inode wish allowed = allowed_may (with_stored (beside s) s) (record { 0 = 0 }) inode wish (allowed (beside s) (record { 0 = 0 }))

@@ -20,7 +20,13 @@ pub mod Runs
 pub mod Steps
 -- the end of a step, and a client's step, in a view
 pub mod Views
+-- what a judgement gives, if it gives anything
+pub mod Gives
 -- who waits in pipes, and who is answered
 pub mod Waiters
 -- a worker's step, by the item that it takes or does
 pub mod Workers
+-- which events are due, by the conditions of their blocks alone
+pub mod EventFacts
+-- nothing is due where nothing changed, and what is taken away is not there
+pub mod NotifyLemmas

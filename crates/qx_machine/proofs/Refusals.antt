@@ -9,8 +9,9 @@ use Rattle.qx_types.specs.declared.outcome.Answer.{Answer}
 use Rattle.qx_types.specs.declared.outcome.Answer.TheVariants as answer
 use Rattle.qx_types.specs.declared.outcome.Outcome.{Outcome}
 use Rattle.qx_types.specs.declared.step.Step.{Step}
-use Rattle.qx_types.specs.declared.step.Step.TheVariants.{Spawn, Call, TakeReply, SetPrio, Interrupt, Mount}
+use Rattle.qx_types.specs.declared.step.Step.TheVariants.{Spawn, Call, TakeReply, TakePulse, SetPrio, Interrupt, Mount}
 use Rattle.qx_machine.specs.declared.rows.OwnItem.{OwnItem}
+use Rattle.qx_machine.specs.declared.rows.Pulse.{Pulse}
 use Rattle.qx_machine.specs.declared.rows.State.{State}
 use Rattle.qx_machine.specs.declared.rows.State.TheVariants.{Queued as queued, Taken, Waiting}
 use Rattle.qx_machine.specs.Judgements.{◌>>=◌}
@@ -18,9 +19,10 @@ use Rattle.qx_machine.specs.Laws.{is_refusal}
 use Rattle.qx_machine.specs.Machine.{World, step_end, client_step, own_held, step, step_of}
 use Rattle.qx_types.specs.Step.{actor_of, user_of}
 use Rattle.qx_machine.specs.Rows.{row_at}
-use Rattle.qx_machine.specs.Clients.{ClientStep, client_given, interrupt_in, or_unchanged, outcome_of}
+use Rattle.qx_machine.specs.Clients.{ClientStep, client_given, interrupt_in, or_unchanged, outcome_of, pulse_taken}
 use Rattle.qx_machine.specs.Parts.{Part}
 use Rattle.qx_machine.specs.Users.{client, settle_part}
+use Rattle.qx_machine.proofs.NotifyLemmas.{settled-unchanged}
 use Rattle.qx_machine.proofs.Places.{set-row_at}
 use Rattle.qx_machine.proofs.Workers.{server_same}
 
@@ -49,10 +51,15 @@ interrupt_goes part thread call (Taken sent) = cond_both {A = ClientStep} sent.i
 interrupt_goes part thread call (Waiting sent) = cond_both {A = ClientStep} sent.is_asked _ _ (λ given. Goes (Ok given)) (λ asked. record { goes = refl }) (λ unasked. record { goes = refl })
 interrupt_goes part thread call _ = record { goes = refl }
 
+pulse_goes : (part : Part) (process : ℕ) (first : Option Pulse) → Goes (Ok (pulse_taken part process first))
+pulse_goes part process None = record { goes = refl }
+pulse_goes part process (Some first) = record { goes = refl }
+
 given_goes : (config : Configuration) (user : ℕ) (held : List OwnItem) (part : Part) (e : Step) → Goes (client_given config user held part e)
 given_goes config user held part (Spawn of threads prio) = search (goes_on, done_goes)
 given_goes config user held part (Call thread request) = search (goes_on, done_goes)
 given_goes config user held part (TakeReply thread) = search (goes_on, done_goes, answer_goes)
+given_goes config user held part (TakePulse proc) = search (goes_on, pulse_goes)
 given_goes config user held part (SetPrio thread prio) = search (goes_on, done_goes)
 given_goes config user held part (Interrupt thread) = search (goes_on, interrupt_goes)
 given_goes config user held part (Mount thread path manager) = search (goes_on, done_goes)
@@ -67,10 +74,17 @@ client_stays : (config : Configuration) (user : ℕ) (held : List OwnItem) (part
 unfolding client
 client_stays config user held part e refused = unchanged_stays part (client_given config user held part e) (given_goes config user held part e) refused
 
+-- nothing is due where nothing changed
+settled_same : (part : Part) (held : List OwnItem) → settle_part part held part ≡ part
+unfolding settle_part
+settled_same part held =
+    ap (λ events. record part { resources = record part.resources { events = events } })
+    (settled-unchanged part.resources part.resources refl refl)
+
 -- rows that stay are put back where they were
 acted_same : (w : World) (user : ℕ) (part : Part) → row_at w.parts user ≡ Some part → step_end user part part [] w ≡ w
-unfolding settle_part
-acted_same w user part here = ap (λ parts. record w { parts = parts }) (ap (slice_set w.parts user) (sym here) ∙ set-row_at w.parts user)
+acted_same w user part here =
+    ap (λ parts. record w { parts = parts }) (ap (λ settled. slice_set w.parts user (Some settled)) (settled_same part (own_held user w.hands)) ∙ ap (slice_set w.parts user) (sym here) ∙ set-row_at w.parts user)
 
 client_same : (w : World) (user : ℕ) (e : Step) (row : Option Part) → row_at w.parts user ≡ row → is_refusal (client_step w user e row).outcome ≡ true → (client_step w user e row).world ≡ w
 client_same w user e None here refused = refl

@@ -1,12 +1,12 @@
 -- Who waits in a pipe afterwards, or is answered, waited there before or made the call: a property that all of those have, these have.
 use Rattle.std.proofs.Common.{◌≡◌, inl, inr, ℕ, ◌==◌, List, [], ◌∷◌, ◌++◌, length, drop, map, Bool, true, false, refl, sym, subst}
-use Rattle.std.specs.Prelude.{ℤ, ◌&&◌, ◌||◌, Option, Some, None, Result, Ok, Err, IfOk, filter, is_some, nat_le, not, position, slice_set, if◌then◌else◌}
+use Rattle.std.specs.Prelude.{ℤ, ◌&&◌, ◌||◌, Option, Some, None, Result, Ok, Err, filter, is_some, nat_le, not, position, slice_set, if◌then◌else◌}
 use Rattle.std.specs.List.{AllByRecursion}
 use Rattle.std.proofs.lemmas.Bool.{cond_both}
 use Rattle.std.proofs.lemmas.Option.{same_Some}
-use Rattle.std.proofs.lemmas.Result.{IfOk-at_ok, IfOk-weaker}
 use Rattle.qx_types.specs.declared.errno.Errno.{Errno}
 use Rattle.qx_types.specs.declared.errno.Errno.TheVariants.{EACCES, EBADF, EBUSY, EEXIST, EINVAL, EISDIR, ENOENT, ENOTEMPTY, EPIPE}
+use Rattle.qx_types.specs.declared.fields.NotifyAction.{NotifyAction}
 use Rattle.qx_types.specs.declared.fields.Whence.{Whence}
 use Rattle.qx_types.specs.declared.flags.OFlags.{OFlags}
 use Rattle.qx_types.specs.declared.flags.TheConstants.OFlags.{CREAT, EXCL, TRUNC}
@@ -31,17 +31,20 @@ use Rattle.qx_machine.specs.declared.rows.Kind.TheVariants.{Directory, File}
 use Rattle.qx_machine.specs.declared.rows.Manner.{Manner}
 use Rattle.qx_machine.specs.declared.rows.NewOpen.{NewOpen}
 use Rattle.qx_machine.specs.declared.rows.Opened.{Opened}
+use Rattle.qx_machine.specs.declared.rows.PulseWish.{PulseWish}
 use Rattle.qx_machine.specs.declared.rows.Sides.{Sides}
 use Rattle.qx_machine.specs.declared.rows.Target.{Target}
 use Rattle.qx_machine.specs.declared.rows.WaitingCall.{WaitingCall}
 use Rattle.qx_machine.specs.declared.rows.Wish.{Wish}
 use Rattle.qx_machine.specs.Defaults.{MadeInode, allows, chmod_block, close, is_own, list_block, made_at, make_directory, open_spot, open_existing, open_missing, open_path, opened, own_block, stat_block, stat_path, unlink_path, without_block, without_name, without_unused, writable}
+use Rattle.qx_machine.specs.Events.{notified}
 use Rattle.qx_machine.specs.Files.{base, moved_by}
 use Rattle.qx_machine.specs.Functions.{Deed, Reply, existing_coid, new_open, reply_alone, side_root}
 use Rattle.qx_machine.specs.Inodes.{block_number, has, is_unused, new_attribute, new_inode, open_block, reads, writes}
-use Rattle.qx_machine.specs.Judgements.{◌>>=◌, found, need}
+use Rattle.qx_machine.specs.Judgements.{found, need}
 use Rattle.qx_machine.specs.Managers.{manager_deed}
 use Rattle.qx_machine.specs.Names.{Spot, is_directory, is_empty, names_in, spot}
+use Rattle.qx_machine.specs.Notification.{conditions_at, event_of, notify_block}
 use Rattle.qx_machine.specs.Performing.{context_of, deed_of, opened_by, read_message}
 use Rattle.qx_machine.specs.PipeManager.{cancel_call, read_pipe, released, seek_pipe, deed_of_pipe, write_pipe}
 use Rattle.qx_machine.specs.Pipes.{PipeAfter, Pipe, all_answered, and_then, cancel, clean, clean_read, clean_write, dismissed, first_answered, fits, nobody_answered, one_answered, portion, read, readers_dismissed, readers_ended, release, removed, served, settle, waiting_unless, without_bytes, write, writers_dismissed, writers_ended}
@@ -51,6 +54,7 @@ use Rattle.qx_machine.specs.Resources.{Resources, with_empty, without_content}
 use Rattle.qx_machine.specs.Rows.{row_at}
 use Rattle.qx_machine.specs.Servers.{is_numbered}
 use Rattle.qx_machine.specs.Waiting.{Pipes, holds, is_call, is_gone, offered, waiting_call, wanted}
+use Rattle.qx_machine.proofs.Gives.{Gives, found-row, gives_by, gives_done, gives_error, gives_more, gives_on, gives-value}
 use Rattle.qx_machine.proofs.Places.{row_at-set_cases}
 
 module _ {A : Type 0} (P : A → Type 0) where
@@ -194,36 +198,6 @@ module _ {W : Type 0} (P : W → Type 0) where
       then-keeps _ _ (then-keeps _ _ (then-keeps _ _ (then-keeps _ _ (then-keeps _ _ (clean-keeps wanted offered gone p h) (dismissed-keeps is_on_it _)) (readers_ended-keeps sides)) (writers_ended-keeps sides))
       (settle-keeps wanted offered)) (without_bytes-keeps sides)
 
--- ---- judgements
-
--- what a judgement gives, if it gives anything, has the property
-pub record Gives {A E : Type 0} (Q : A → Type 0) (given : Result A E) : Type 0 where
-  pub gives : IfOk given Q
-
-gives_on : {A B E : Type 0} (Q : B → Type 0) (first : Result A E) (next : A → Result B E) → ((value : A) → first ≡ Ok value → Gives Q (next value)) → Gives Q (first >>= next)
-gives_on Q (Ok value) next h = h value refl
-gives_on Q (Err error) next h = record { gives = tt }
-
-gives_done : {A E : Type 0} (Q : A → Type 0) (value : A) → Q value → Gives {E = E} Q (Ok value)
-gives_done Q value h = record { gives = h }
-
-gives_error : {A E : Type 0} (Q : A → Type 0) (error : E) → Gives Q (Err error)
-gives_error Q error = record { gives = tt }
-
-gives_more : {A E : Type 0} (Q R : A → Type 0) (given : Result A E) → ((value : A) → Q value → R value) → Gives Q given → Gives R given
-gives_more Q R given more h = record { gives = IfOk-weaker given Q R more h.gives }
-
-gives-value : {A E : Type 0} (Q : A → Type 0) (given : Result A E) (value : A) → given ≡ Ok value → Gives Q given → Q value
-gives-value Q given value is h = IfOk-at_ok Q is h.gives
-
-found-row : {A E : Type 0} (row : Option A) (error : E) (value : A) → found row error ≡ Ok value → row ≡ Some value
-found-row None error value is = absurd (cc)
-found-row (Some there) error value is = cc
-
--- a judgement whose first part gives what has a property
-gives_by : {A B E : Type 0} (Q : A → Type 0) (R : B → Type 0) (first : Result A E) (next : A → Result B E) → Gives Q first → ((value : A) → Q value → Gives R (next value)) → Gives R (first >>= next)
-gives_by Q R first next h each = gives_on R first next (λ value is. each value (gives-value Q first value is h))
-
 -- ---- the pipes of a user
 
 module _ (P : WaitingCall → Type 0) where
@@ -366,6 +340,11 @@ module _ (K : Pipes → Type 0) where
   chmod-gives : (r : Resources) (over : Opened) (mode : ℕ) → K r.pipes → Gives (Quiet K) (chmod_block r over mode)
   chmod-gives r over mode h = search (gives_on, gives_done, reply-quiet, h)
 
+  notify-gives : (r : Resources) (over : Opened) (action : NotifyAction) (wish : PulseWish) → K r.pipes → Gives (Quiet K) (notify_block r over action wish)
+  notify-gives r over action wish h =
+      gives_on _ (found (row_at r.inodes.blocks over.number) EBADF) _ (λ block opened.
+      gives_on _ (notified action (event_of over wish) (conditions_at r (Some block)) r.events) _ (λ given is. gives_done _ _ (reply-quiet _ _ _ _ h)))
+
   seek_pipe-gives : (r : Resources) (over : Opened) (whence : Whence) (by : ℤ) → Gives (Quiet K) (seek_pipe r over whence by)
   seek_pipe-gives r over whence by = search (gives_on, gives_error)
 
@@ -421,10 +400,11 @@ module _ (resources : Resources) (context : Context) where
   ram-gives (msg.Mknod mode rest) = gives_on _ (side_root context.target) _ (λ root is. directory-gives Same resources root mode rest context.moment refl)
   ram-gives (msg.Read count) = gives_on _ context.opened _ (λ over is. read_file-gives Same resources over count refl)
   ram-gives (msg.Write bytes) = gives_on _ context.opened _ (λ over is. write_file-gives Same resources over bytes refl)
-  ram-gives msg.Close = gives_on _ context.opened _ (λ over is. file-closed over)
+  ram-gives msg.Close = gives_on _ context.opened _ (λ over is. gives_by (Quiet Same) _ (close File resources over) _ (file-closed over) (λ deed quiet. gives_done _ _ (record { replied = quiet.replied; pipes = quiet.pipes; answers = quiet.answers })))
   ram-gives (msg.Lseek whence offset) = gives_on _ context.opened _ (λ over is. seek_file-gives Same resources over whence offset refl)
   ram-gives msg.Fstat = gives_on _ context.opened _ (λ over is. stat_block-gives Same resources over refl)
   ram-gives (msg.List after) = gives_on _ context.opened _ (λ over is. list-gives Same resources over after refl)
+  ram-gives (msg.Notify action conditions code value) = gives_on _ context.opened _ (λ over is. notify-gives Same resources over action _ refl)
   ram-gives (msg.Chmod mode) = gives_on _ context.opened _ (λ over is. chmod-gives Same resources over mode refl)
   ram-gives _ = gives_error _ _
 
@@ -478,10 +458,11 @@ module _ (P : WaitingCall → Type 0) (caller : Caller) where
     pipe-gives (msg.Mknod mode rest) = gives_error _ _
     pipe-gives (msg.Read count) = gives_on _ context.opened _ (λ over is. read-own over count (callers over is))
     pipe-gives (msg.Write bytes) = gives_on _ context.opened _ (λ over is. write-own over bytes (callers over is))
-    pipe-gives msg.Close = gives_on _ context.opened _ (λ over is. pipe-closed over)
+    pipe-gives msg.Close = gives_on _ context.opened _ (λ over is. gives_by DeedKeeps _ (close kind.Pipe resources over) _ (pipe-closed over) (λ deed kept. gives_done _ _ (record { keeps = λ own. let left = kept.keeps own in record { pipes = left.pipes; answers = left.answers } })))
     pipe-gives (msg.Lseek whence offset) = gives_on _ context.opened _ (λ over is. quiet-gives _ (seek_pipe-gives (InPipes P) resources over whence offset))
     pipe-gives msg.Fstat = gives_on _ context.opened _ (λ over is. quiet-gives _ (stat_block-gives (InPipes P) resources over h))
     pipe-gives (msg.List after) = gives_on _ context.opened _ (λ over is. quiet-gives _ (list-gives (InPipes P) resources over after h))
+    pipe-gives (msg.Notify action conditions code value) = gives_on _ context.opened _ (λ over is. quiet-gives _ (notify-gives (InPipes P) resources over action _ h))
     pipe-gives (msg.Chmod mode) = gives_on _ context.opened _ (λ over is. quiet-gives _ (chmod-gives (InPipes P) resources over mode h))
     pipe-gives _ = gives_error _ _
 

@@ -4,23 +4,26 @@ use Rattle.qx_types.specs.Configuration.{Configuration, name_bytes}
 use Rattle.qx_types.specs.declared.errno.Errno.TheVariants.{EAGAIN, EINTR, EINVAL}
 use Rattle.qx_types.specs.declared.limits.TheConstants.Limits.{PRIORITY, PROCESSES, THREADS}
 use Rattle.qx_types.specs.declared.names.Manager.{Manager}
+use Rattle.qx_types.specs.declared.names.Proc.{Proc}
 use Rattle.qx_types.specs.declared.names.Thread.{Thread}
 use Rattle.qx_types.specs.declared.outcome.Answer.{Answer}
 use Rattle.qx_types.specs.declared.outcome.Answer.TheVariants as answer
 use Rattle.qx_types.specs.declared.outcome.Outcome.{Outcome}
 use Rattle.qx_types.specs.declared.outcome.Outcome.TheVariants as outcome
-use Rattle.qx_types.specs.declared.outcome.Outcome.TheVariants.{Spawned, Refused, Done, Reply, Failed, WrongState}
+use Rattle.qx_types.specs.declared.outcome.Outcome.TheVariants.{Spawned, Refused, Done, Reply, Failed, NoPulse, WrongState, Pulse as PulseGiven}
 use Rattle.qx_types.specs.declared.request.Request.{Request}
 use Rattle.qx_types.specs.declared.step.Step.{Step}
-use Rattle.qx_types.specs.declared.step.Step.TheVariants.{Spawn, Call, TakeReply, SetPrio, Interrupt, Mount}
+use Rattle.qx_types.specs.declared.step.Step.TheVariants.{Spawn, Call, TakeReply, TakePulse, SetPrio, Interrupt, Mount}
 use Rattle.qx_paths.specs.Prefixes.{MountPoint}
 use Rattle.qx_machine.specs.declared.rows.Addressed.{Addressed}
 use Rattle.qx_machine.specs.declared.rows.OwnItem.{OwnItem}
 use Rattle.qx_machine.specs.declared.rows.OwnItem.TheVariants as item
+use Rattle.qx_machine.specs.declared.rows.Pulse.{Pulse}
 use Rattle.qx_machine.specs.declared.rows.Sent.{Sent}
 use Rattle.qx_machine.specs.declared.rows.State.{State}
 use Rattle.qx_machine.specs.declared.rows.State.TheVariants.{Answered, Queued, Taken, Waiting}
 use Rattle.qx_machine.specs.Calls.{address, bytes_of, content_of, is_ready, may_call, target_at}
+use Rattle.qx_machine.specs.Events.{first_pulse, without_first_pulse}
 use Rattle.qx_machine.specs.Judgements.{◌>>=◌, found, need, or_refused}
 use Rattle.qx_machine.specs.Mounting.{new_mount, with_mount}
 use Rattle.qx_machine.specs.Parts.{Part, Change, Put, Remove, thread_at, with_process, with_thread_of}
@@ -83,6 +86,21 @@ take_reply part thread = do
   given ← found (answer_in row.state) WrongState
   Ok (record { outcome = outcome_of given; part = with_thread_of thread ready_thread part; changes = [] })
 
+-- of a process with these events: the first pulse, and what is left, or that there is none
+abbrev pub pulse_taken : Part → ℕ → Option Pulse → ClientStep
+pulse_taken part process None = record { outcome = NoPulse; part = part; changes = [] }
+pulse_taken part process (Some first) = record {
+  outcome = PulseGiven first.code first.value;
+  part = record part { resources = record part.resources { events = without_first_pulse process part.resources.events } };
+  changes = [];
+}
+
+-- a process takes its first pulse (C Library Reference: MsgReceivePulse)
+abbrev pub take_pulse : Part → Proc → Result ClientStep Outcome
+take_pulse part proc = do
+  process ← found (row_at part.processes proc.num) WrongState
+  Ok (pulse_taken part proc.num (first_pulse proc.num part.resources.events))
+
 -- a thread gets another priority
 abbrev pub set_prio : Part → Thread → ℕ → Result ClientStep Outcome
 set_prio part thread prio = do
@@ -142,6 +160,7 @@ abbrev pub client_given : Configuration → ℕ → List OwnItem → Part → St
 client_given config user held part (Spawn of_user threads prio) = spawn part threads prio.0
 client_given config user held part (Call thread request) = call config user part thread request
 client_given config user held part (TakeReply thread) = take_reply part thread
+client_given config user held part (TakePulse proc) = take_pulse part proc
 client_given config user held part (SetPrio thread prio) = set_prio part thread prio.0
 client_given config user held part (Interrupt thread) = interrupt part thread
 client_given config user held part (Mount thread path manager) = mount config user part thread path manager

@@ -19,6 +19,7 @@ use Rattle.qx_machine.specs.declared.rows.Opened.{Opened}
 use Rattle.qx_machine.specs.declared.rows.Wish.{Wish}
 use Rattle.qx_machine.specs.declared.rows.WaitingCall.{WaitingCall}
 use Rattle.qx_machine.specs.Attributes.{stat_bytes, top_inode}
+use Rattle.qx_machine.specs.Events.{disarmed}
 use Rattle.qx_machine.specs.Functions.{Deed, reply_alone}
 use Rattle.qx_machine.specs.Inodes.{Inodes, block_number, close_block, free_inode, has, is_unused, may, new_attribute, new_inode, open_block, reads, with_attribute, writes}
 use Rattle.qx_machine.specs.Judgements.{◌>>=◌, found, need}
@@ -183,6 +184,12 @@ abbrev pub close : Kind → Resources → Opened → Result (Deed Resources) Err
 close own r opened = do
   block ← own_block r.inodes opened.number own
   Ok (closed own opened.coid block.inode (released (without_block opened.number r) opened.number block.inode opened.moment (pipe_in own r block.inode)))
+
+-- the event of a block goes with it (Writing a Resource Manager: iofunc_notify_remove)
+abbrev pub close_with_event : Kind → Resources → Opened → Result (Deed Resources) Errno
+close_with_event own r opened = do
+  deed ← close own r opened
+  Ok (record deed { state = record deed.state { events = disarmed opened.number deed.state.events } })
 
 -- ---- other messages over what is open
 

@@ -3,6 +3,7 @@
 use Rattle.std.specs.Prelude.{ℕ, ℤ, Bool, true, false, List, [], Option, Some, None, Result, Ok, Err}
 use Rattle.qx_types.specs.declared.errno.Errno.{Errno}
 use Rattle.qx_types.specs.declared.errno.Errno.TheVariants.{EINVAL, ENOSYS}
+use Rattle.qx_types.specs.declared.fields.NotifyAction.{NotifyAction}
 use Rattle.qx_types.specs.declared.fields.Whence.{Whence}
 use Rattle.qx_types.specs.declared.names.Coid.{Coid}
 use Rattle.qx_types.specs.declared.outcome.Answer.{Answer}
@@ -14,6 +15,7 @@ use Rattle.qx_machine.specs.declared.rows.NewOpen.{NewOpen}
 use Rattle.qx_machine.specs.declared.rows.Opened.{Opened}
 use Rattle.qx_machine.specs.declared.rows.Over.{Over}
 use Rattle.qx_machine.specs.declared.rows.Over.TheVariants.{New, Existing, Side}
+use Rattle.qx_machine.specs.declared.rows.PulseWish.{PulseWish}
 use Rattle.qx_machine.specs.declared.rows.Target.{Target}
 use Rattle.qx_machine.specs.declared.rows.WaitingCall.{WaitingCall}
 use Rattle.qx_machine.specs.declared.rows.Wish.{Wish}
@@ -52,13 +54,14 @@ pub record IoFunctions (S : Type 0) : Type 0 where
   pub fstat : Option (S → Opened → Result (Deed S) Errno)
   pub list : Option (S → Opened → List ℕ → Result (Deed S) Errno)
   pub chmod : Option (S → Opened → ℕ → Result (Deed S) Errno)
+  pub notify : Option (S → Opened → NotifyAction → PulseWish → Result (Deed S) Errno)
 
 -- the tables of a manager that has no function
 abbrev pub no_connect : {S : Type 0} → ConnectFunctions S
 no_connect = record { «open» = None; stat = None; unlink = None; mknod = None }
 
 abbrev pub no_io : {S : Type 0} → IoFunctions S
-no_io = record { read = None; write = None; close = None; lseek = None; fstat = None; list = None; chmod = None }
+no_io = record { read = None; write = None; close = None; lseek = None; fstat = None; list = None; chmod = None; notify = None }
 
 -- ---- what a message came over
 
@@ -110,5 +113,7 @@ message_deed connect io state context msg.Close = function_deed io.close context
 message_deed connect io state context (msg.Lseek whence offset) = function_deed io.lseek context.opened (λ f opened. f state opened whence offset)
 message_deed connect io state context msg.Fstat = function_deed io.fstat context.opened (λ f opened. f state opened)
 message_deed connect io state context (msg.List after) = function_deed io.list context.opened (λ f opened. f state opened after)
+message_deed connect io state context (msg.Notify action conditions code value) =
+    function_deed io.notify context.opened (λ f opened. f state opened action (record { conditions = conditions; code = code; value = value }))
 message_deed connect io state context (msg.Chmod mode) = function_deed io.chmod context.opened (λ f opened. f state opened mode)
 message_deed connect io state context _ = Err ENOSYS

@@ -15,6 +15,7 @@ pub mod Machine
 pub mod Managers
 pub mod Mounting
 pub mod Names
+pub mod Notification
 pub mod Parts
 pub mod Performing
 pub mod PipeManager

@@ -8,6 +8,7 @@ use Rattle.qx_paths.specs.Mounts.{boot_mounts, mount_fault, mounted}
 use Rattle.qx_paths.specs.Paths.{read_path, unless}
 use Rattle.qx_paths.specs.Prefixes.{MountPoint, is_under}
 use Rattle.qx_machine.specs.Attributes.{root_attribute, top_inode}
+use Rattle.qx_machine.specs.Events.{no_events}
 use Rattle.qx_machine.specs.Files.{no_files}
 use Rattle.qx_machine.specs.Inodes.{inode_number}
 use Rattle.qx_machine.specs.Judgements.{◌>>=◌, need}
@@ -25,6 +26,7 @@ new_resources user name = record {
   names = with_root empty top_inode;
   files = no_files;
   pipes = no_pipes;
+  events = no_events;
 }
 
 -- a manager's mount at a path of a user of that name: at the name or below it, where no mount is, with a root of its own (C Library

@@ -4,14 +4,15 @@ use Rattle.qx_paths.specs.Prefixes.{MountPoint}
 use Rattle.qx_machine.specs.declared.rows.Attribute.{Attribute}
 use Rattle.qx_machine.specs.declared.rows.Kind.{Kind}
 use Rattle.qx_machine.specs.declared.rows.Kind.TheVariants.{Directory, File, Pipe}
+use Rattle.qx_machine.specs.Events.{Events}
 use Rattle.qx_machine.specs.Files.{Files}
 use Rattle.qx_machine.specs.Inodes.{Inodes}
 use Rattle.qx_machine.specs.Names.{Names}
 use Rattle.qx_machine.specs.Pipes.{pipe_of}
 use Rattle.qx_machine.specs.Waiting.{Pipes}
 
--- where the managers are attached, inodes and open control blocks, the names in all mounts, and under the numbers of inodes the bytes of
--- files, and pipes
+-- where the managers are attached, inodes and open control blocks, the names in all mounts, under the numbers of inodes the bytes of
+-- files, and pipes, and armed events with untaken pulses
 pub record Resources : Type 0 where
   pub user : ℕ
   pub mounts : List MountPoint
@@ -19,6 +20,7 @@ pub record Resources : Type 0 where
   pub names : Names
   pub files : Files
   pub pipes : Pipes
+  pub events : Events
 
 -- ---- what is in an inode; the names in a directory stand among all names
 

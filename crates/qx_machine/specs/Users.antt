@@ -6,6 +6,7 @@ use Rattle.qx_machine.specs.declared.rows.OwnItem.{OwnItem}
 use Rattle.qx_machine.specs.declared.rows.OwnItem.TheVariants.{Message, Unblock}
 use Rattle.qx_machine.specs.Clients.{ClientStep, client_given, or_unchanged}
 use Rattle.qx_machine.specs.Mounting.{new_resources}
+use Rattle.qx_machine.specs.Notification.{events_settled}
 use Rattle.qx_machine.specs.Parts.{Part, with_process}
 use Rattle.qx_machine.specs.Performing.{Served, or_kept, serve_message, serve_pulse}
 use Rattle.qx_machine.specs.Processes.{taken_thread, with_thread}
@@ -28,6 +29,6 @@ unfoldable pub serve : Configuration → ℕ → List OwnItem → Part → OwnIt
 serve config user held part (Message process thread) moment = or_kept part (serve_message part process thread moment)
 serve config user held part (Unblock process thread call) moment = or_kept part (serve_pulse part process thread call moment)
 
--- what the end of each step of a user settles, from the rows before it; nothing is left to settle yet
+-- what the end of each step of a user settles, from the rows before it: due events give their pulses
 unfoldable pub settle_part : Part → List OwnItem → Part → Part
-settle_part before held after = after
+settle_part before held after = record after { resources = record after.resources { events = events_settled before.resources after.resources } }

@@ -1,5 +1,5 @@
 -- Which steps may be refused for want of memory.
-use Rattle.std.specs.Prelude.{ℕ, not, Bool, true, false, Option, Result, Ok, Err, nat_lt}
+use Rattle.std.specs.Prelude.{ℕ, ◌||◌, not, Bool, true, false, Option, Result, Ok, Err, nat_lt}
 use Rattle.qx_types.specs.declared.errno.Errno.{Errno}
 use Rattle.qx_types.specs.declared.names.Manager.{Manager}
 use Rattle.qx_types.specs.declared.names.Manager.TheVariants.{Ram, Pipe}
@@ -9,10 +9,11 @@ use Rattle.qx_types.specs.declared.step.Step.TheVariants.{Spawn, Call, Mount, Pe
 use Rattle.qx_wire.specs.declared.message.Meaning.{Meaning}
 use Rattle.qx_wire.specs.declared.message.Meaning.TheVariants.{Known}
 use Rattle.qx_wire.specs.declared.message.Message.{Message}
-use Rattle.qx_wire.specs.declared.message.Message.TheVariants.{Open, Mknod, Write}
+use Rattle.qx_wire.specs.declared.message.Message.TheVariants.{Open, Mknod, Write, Notify}
 use Rattle.qx_wire.specs.Reading.{meaning}
 use Rattle.qx_machine.specs.declared.rows.OwnItem.{OwnItem}
 use Rattle.qx_machine.specs.declared.rows.OwnItem.TheVariants as item
+use Rattle.qx_machine.specs.Events.{event_count}
 use Rattle.qx_machine.specs.Files.{total_size}
 use Rattle.qx_machine.specs.Functions.{Deed}
 use Rattle.qx_machine.specs.Judgements.{◌>>=◌, found, or_false}
@@ -23,19 +24,20 @@ use Rattle.qx_machine.specs.Performing.{caller_of, context_of, deed_of, taken_in
 use Rattle.qx_machine.specs.Resources.{Resources}
 use Rattle.qx_machine.specs.Rows.{row_at}
 
--- what a message asks for may want memory, of a manager whose writes may or may not
+-- what a message asks for may want memory, where a write or a notification that makes such a difference may or may not
 abbrev pub message_wants_memory : Bool → Message → Bool
-message_wants_memory writes (Open flags mode rest) = true
-message_wants_memory writes (Mknod mode rest) = true
-message_wants_memory writes (Write bytes) = writes
-message_wants_memory writes _ = false
+message_wants_memory differs (Open flags mode rest) = true
+message_wants_memory differs (Mknod mode rest) = true
+message_wants_memory differs (Write bytes) = differs
+message_wants_memory differs (Notify action conditions code value) = differs
+message_wants_memory differs _ = false
 
 -- that is done, and makes such a difference to what the functions work on
 abbrev pub is_done_so : {S : Type 0} → (S → S → Bool) → S → Result (Deed S) Errno → Bool
 is_done_so so state (Ok deed) = so state deed.state
 is_done_so so state (Err error) = false
 
--- a message that comes to this may want memory, of a manager of whose writes those may that make such a difference
+-- a message that comes to this may want memory, of a manager of whose writes and notifications those may that make such a difference
 abbrev pub deed_wants_memory : {S : Type 0} → (S → S → Bool) → S → Message → Result (Deed S) Errno → Bool
 deed_wants_memory writes state message deed = is_done_so (λ before after. message_wants_memory (writes before after) message) state deed
 
@@ -43,14 +45,18 @@ deed_wants_memory writes state message deed = is_done_so (λ before after. messa
 abbrev pub got_longer : Resources → Resources → Bool
 got_longer before after = nat_lt (total_size before.files) (total_size after.files)
 
--- of the writes, those to the RAM manager that make a file longer
-abbrev pub write_wants_memory : Manager → Resources → Resources → Bool
-write_wants_memory Ram before after = got_longer before after
-write_wants_memory Pipe before after = false
+-- and there are more events
+abbrev pub got_events : Resources → Resources → Bool
+got_events before after = nat_lt (event_count before.events) (event_count after.events)
+
+-- of the writes, those to the RAM manager that make a file longer; of the notifications, those that arm an event where there was none
+abbrev pub difference_wants_memory : Manager → Resources → Resources → Bool
+difference_wants_memory Ram before after = got_longer before after || got_events before after
+difference_wants_memory Pipe before after = got_events before after
 
 -- bytes with this meaning that come to this may want memory
 abbrev pub bytes_want_memory : Manager → Resources → Meaning → Result (Deed Resources) Errno → Bool
-bytes_want_memory manager resources (Known message) deed = deed_wants_memory (write_wants_memory manager) resources message deed
+bytes_want_memory manager resources (Known message) deed = deed_wants_memory (difference_wants_memory manager) resources message deed
 bytes_want_memory manager resources _ deed = false
 
 -- performing the message of a thread at a moment may want memory, where these are its user's rows: the message was received, and what

@@ -1,6 +1,6 @@
 //! The laws of the machine, each a theorem over every configuration, every list of steps and every user number.
 
-ghost use Rattle.std.specs.Prelude.{◌≡◌, ◌≢◌, ℕ, ◌<◌, ◌≤◌, false, true, All, length, slice_get, List, [], Option, Some, None};
+ghost use Rattle.std.specs.Prelude.{◌≡◌, ◌≢◌, ℕ, ◌<◌, ◌≤◌, false, true, All, filter, length, slice_get, List, [], Option, Some, None};
 ghost use Rattle.std.specs.Cmp.Lexicographic.{slice_cmp};
 ghost use Rattle.std.specs.List.Sorted.{IsStrictlySortedBy};
 ghost use Rattle.std.specs.Ordering.{nat_cmp};
@@ -9,10 +9,15 @@ ghost use Rattle.qx_types.specs.Managers.{manager_number, managers};
 ghost use Rattle.qx_types.specs.declared.names.TheConstants.Manager.{COUNT};
 ghost use Rattle.qx_types.specs.declared.names.Manager.{Manager};
 ghost use Rattle.qx_types.specs.declared.step.Step.{Step};
+ghost use Rattle.qx_machine.specs.declared.rows.Conditions.{Conditions};
+ghost use Rattle.qx_machine.specs.declared.rows.Event.{Event};
+ghost use Rattle.qx_machine.specs.Events.{Events, is_due, is_on, polled, triggered};
 ghost use Rattle.qx_machine.specs.Laws.{HoldsOfOwnSteps, IsInOrder, is_refusal, own_entries};
 ghost use Rattle.qx_machine.specs.Listings.{HasAtMostOnePath, HasSizedNames, IsZeroFree, listed_by, listed_next};
 ghost use Rattle.qx_machine.specs.Machine.{World, boot, line_of, owner, rank, step, view};
 ghost use Rattle.qx_machine.specs.Names.{Names, listing, names_in};
+ghost use Rattle.qx_machine.specs.Notification.{events_settled};
+ghost use Rattle.qx_machine.specs.Resources.{Resources};
 ghost use Rattle.qx_machine.specs.Rows.{lowest_from, row_at};
 ghost use Rattle.qx_machine.specs.Runs.{erase, is_owner, received, run};
 
@@ -61,6 +66,21 @@ pub fn nobody_idle()
 /// A step that is refused changes nothing.
 pub fn refusal_changes_nothing()
     ensures { (w : World) (e : Step) → is_refusal (step w e).outcome ≡ true → (step w e).world ≡ w }
+{}
+
+/// Nothing is due in a step that leaves all pipes and open control blocks as they were.
+pub fn unchanged_conditions_trigger_nothing()
+    ensures { (before after : Resources) → after.inodes ≡ before.inodes → after.pipes ≡ before.pipes → events_settled before after ≡ after.events }
+{}
+
+/// A poll leaves nothing armed on its block (Writing a Resource Manager: `iofunc_notify`).
+pub fn poll_disarms()
+    ensures { (event : Event) (holding : Conditions) (events : Events) → filter (is_on event.block) (polled event holding events).events.armed ≡ [] }
+{}
+
+/// An event that is due is armed no more.
+pub fn due_events_are_unarmed()
+    ensures { (before after : ℕ → Conditions) (events : Events) → filter (is_due before after) (triggered before after events).armed ≡ [] }
 {}
 
 /// Each line is in order of priority.

@@ -5,7 +5,8 @@
 //! - `Rows.antt`, `Lines.antt`: rows under small numbers; priority lines
 //! - `Attributes.antt`, `Inodes.antt`, `Names.antt`, `Listings.antt`, `Files.antt`, `Pipes.antt`, `Waiting.antt`,
 //!   `Resources.antt`: what the managers keep for a user
-//! - `Events.antt`: the armed events and untaken pulses of a user; no step speaks of them yet, `qx_notify` does
+//! - `Events.antt`: the armed events and untaken pulses of a user; `Notification.antt`: which conditions hold of what is
+//!   open, and what a notification does
 //! - `Servers.antt`, `Processes.antt`: processes; `Parts.antt`: all rows of a user, and what a step changes in the lines
 //! - `Judgements.antt`, `Calls.antt`, `Mounting.antt`, `Clients.antt`: the six steps of clients
 //! - `Functions.antt`, `RamManager.antt`, `PipeManager.antt`, `Defaults.antt`, `Managers.antt`: what managers do
@@ -26,6 +27,6 @@ pub mod rows;
 
 pub use rows::{
     Access, Addressed, Attribute, Caller, Conditions, Connection, Content, Context, Effect, Entry,
-    Event, Held, Kind, Manner, NewOpen, Ocb, Opened, Over, OwnItem, Pulse, Queued, Seen, Sent,
-    ServerConnection, Sides, State, Target, ThreadRow, WaitingCall, Wish,
+    Event, Held, Kind, Manner, NewOpen, Ocb, Opened, Over, OwnItem, Pulse, PulseWish, Queued, Seen,
+    Sent, ServerConnection, Sides, State, Target, ThreadRow, WaitingCall, Wish,
 };

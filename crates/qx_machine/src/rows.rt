@@ -211,6 +211,15 @@ pub struct Sides {
     pub for_writing: bool,
 }
 
+/// What a notification asks for: which conditions are wanted, and the code and the value of the pulse (C Library Reference:
+/// `ionotify`, `struct sigevent`).
+#[derive(Clone, Copy, Debug, PartialEq, Eq)]
+pub struct PulseWish {
+    pub conditions: Conds,
+    pub code: u8,
+    pub value: u32,
+}
+
 /// Which conditions hold of what an open control block has open (C Library Reference: `ionotify`).
 #[derive(Clone, Copy, Debug, PartialEq, Eq)]
 pub struct Conditions {

@@ -154,8 +154,8 @@ pub fn cancel(
     true
 }
 
-// The inode of the pipe in which a call of a thread waits; that which its block has open is looked at before all others.
-fn holder(shared: &Shared, inodes: &Inodes, thread: Thread, call: u64) -> Option<u32>
+/// The inode of the pipe in which a call of a thread waits; that which its block has open is looked at before all others.
+pub fn holder(shared: &Shared, inodes: &Inodes, thread: Thread, call: u64) -> Option<u32>
     ensures { result ≡ position (holds (is_call thread.proc.num thread.tid call)) (pipes_of shared.now thread.proc.user.0) }
 {
     let number = shared.waits(thread, call)?;

@@ -8,5 +8,5 @@
 pub mod blocks;
 pub mod paths;
 
-pub use blocks::{cancel, close, read, seek, write};
+pub use blocks::{cancel, close, holder, read, seek, write};
 pub use paths::{open, unlink};

@@ -1,9 +1,10 @@
 //! The processes of a user, from 1: a place for each number.
 
-ghost use Rattle.std.specs.Prelude.{◌≡◌, ◌∷◌, ◌<◌, [], None, length, count_by, IsErr, IsOk, IfSome, IfOk, OnOk, OnErr};
+ghost use Rattle.std.specs.Prelude.{◌≡◌, ◌∷◌, ◌<◌, ◌≤◌, [], None, length, count_by, IsErr, IsOk, IfSome, IfOk, OnOk, OnErr, OnSome};
 ghost use Rattle.std.specs.Option.{option_copied, option_copied_mut};
 ghost use Rattle.std.specs.Borrow.{sem};
 ghost use Rattle.qx_types.specs.Managers.{manager_number};
+ghost use Rattle.qx_types.specs.declared.limits.TheConstants.Limits.{PROCESSES};
 ghost use Rattle.qx_machine.specs.Calls as calls;
 ghost use Rattle.qx_machine.specs.Clients as clients;
 ghost use Rattle.qx_machine.specs.Processes.{with_connection, without_connection, with_side};
@@ -25,14 +26,15 @@ pub struct Processes {
 }
 
 impl Model for Processes {
-    ghost use Rattle.std.specs.Prelude.{◌<◌, List, Option, length};
+    ghost use Rattle.std.specs.Prelude.{◌+◌, ◌<◌, ◌≤◌, List, Option, length};
+    ghost use Rattle.qx_types.specs.declared.limits.TheConstants.Limits.{PROCESSES};
     ghost use Rattle.qx_machine.specs.Processes as machine;
 
     ghost Value = { List (Option machine.Process) };
 
     ghost view = { λ p. p.rows.items };
 
-    ghost invariant = { λ p. 0 < length p.rows.items };
+    ghost invariant = { λ p. (0 < length p.rows.items) × (length p.rows.items ≤ PROCESSES + 1) };
 }
 
 impl Processes {
@@ -50,6 +52,7 @@ impl Processes {
     /// A process; none where it is not there.
     pub fn process(&self, process: u8) -> Option<&Process>
         ensures row { option_copied result ≡ row_at self.now process }
+        ensures within { OnSome result (process ≤ PROCESSES) }
     {
         places::row(self.rows.as_slice(), process as usize)
     }

@@ -9,9 +9,9 @@ ghost use Rattle.qx_resmgr.specs.Deeds.{Did, HasRoomAfter, IsReplied};
 
 use crate::state::State;
 use qx_attr::Reply;
-use qx_machine::{Effect, NewOpen, Opened, Wish};
+use qx_machine::{Effect, NewOpen, Opened, PulseWish, Wish};
 use qx_process::Room;
-use qx_types::{Errno, Whence};
+use qx_types::{Errno, NotifyAction, Whence};
 use qx_wire::Rest;
 use std::alloc::AllocError;
 
@@ -111,10 +111,11 @@ pub trait Io<S: State<W, T>, W, T> {
     /// What they mean. A function that is left out is `no_function()`.
     ghost io: { IoFunctions T } = { no_io };
 
-    /// Which difference a write makes to what the functions work on that may want memory. Most managers' writes want none.
+    /// Which difference a write or a notification makes to what the functions work on that may want memory. Most managers'
+    /// want none.
     ghost wants: { T → T → Bool } = { λ _ _. false };
 
-    /// What a read or a write needs of the thread whose message it is. Most managers ask nothing.
+    /// What a read, a write or a notification needs of the thread whose message it is. Most managers ask nothing.
     ghost ready: { S → W → Opened → Type 0 } = { λ _ _ _. Unit {0} };
 
     /// Reads at most `count` bytes.
@@ -204,6 +205,21 @@ pub trait Io<S: State<W, T>, W, T> {
         requires fits { S.fits state.old waits.old }
         ensures did { Did S.State state.old waits.old state.new waits.new [] result (function_deed io.chmod opened (λ f o. f (S.told state.old waits.old) o mode)) }
         ensures replied { IsReplied result };
+
+    /// Tells which conditions hold of what is open, and arms an event or takes away what its block had armed (`io_notify`).
+    fn notify(
+        state: &mut S,
+        waits: &mut W,
+        opened: Result<Opened, Errno>,
+        action: NotifyAction,
+        wish: PulseWish,
+    ) -> Result<Result<Done, Errno>, AllocError>
+        requires fits { S.fits state.old waits.old }
+        requires ready { IfOk opened (λ o. ready state.old waits.old o) }
+        ensures did { IfOk result (λ given. Did S.State state.old waits.old state.new waits.new [] given (function_deed io.notify opened (λ f o. f (S.told state.old waits.old) o action wish))) }
+        ensures replied { IfOk result IsReplied }
+        ensures err { OnErr result ((state.new ≡ state.old) × (waits.new ≡ waits.old)) }
+        ensures wanted { OnErr result (IsTrue (is_done_so wants (S.told state.old waits.old) (function_deed io.notify opened (λ f o. f (S.told state.old waits.old) o action wish)))) };
 }
 
 /// The answer of a function that a manager leaves out: ENOSYS.

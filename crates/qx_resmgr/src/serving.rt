@@ -8,7 +8,7 @@ ghost use Rattle.qx_resmgr.specs.Deeds.{Did, HasRoomAfter};
 use crate::functions::{Connect, Done, Io, no_function};
 use crate::state::State;
 use qx_attr::Reply;
-use qx_machine::{Context, NewOpen, Over, Target, Wish};
+use qx_machine::{Context, NewOpen, Over, PulseWish, Target, Wish};
 use qx_process::Room;
 use qx_types::Errno;
 use qx_wire::Message;
@@ -19,7 +19,7 @@ use std::alloc::AllocError;
 /// another message to a path not over a side connection; the error of the context's `opened`, for a message over what is
 /// open; then the function's own errors. An error changes nothing. The bytes of the reply are then in `reply`, none after
 /// an error; a message that is left without one took `room` along, and else that is as it was. Only an open, a mknod and,
-/// of some managers, a write may want memory, and only where they would be done.
+/// of some managers, a write or a notification may want memory, and only where they would be done.
 pub fn serve<M: Connect<S, W, T> + Io<S, W, T>, S: State<W, T>, W, T>(
     state: &mut S,
     waits: &mut W,
@@ -57,6 +57,19 @@ pub fn serve<M: Connect<S, W, T> + Io<S, W, T>, S: State<W, T>, W, T>(
         }
         Message::Write { bytes } => {
             return M::write(state, waits, opened, bytes.as_slice(), room);
+        }
+        Message::Notify {
+            action,
+            conditions,
+            code,
+            value,
+        } => {
+            let wish = PulseWish {
+                conditions,
+                code,
+                value,
+            };
+            return M::notify(state, waits, opened, action, wish);
         }
         Message::Stat { rest } => M::stat(state, waits, side_root(target), &rest, moment, reply),
         Message::Unlink { rest } => M::unlink(state, waits, side_root(target), &rest, moment),

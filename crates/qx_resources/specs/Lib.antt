@@ -3,4 +3,5 @@ pub mod Lends
 pub mod Mounts
 pub mod Ranges
 pub mod State
+pub mod Watching
 pub mod inner

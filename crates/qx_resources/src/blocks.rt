@@ -1,21 +1,28 @@
 //! What both managers do alike with what is open, and with what a path leads to.
 
-ghost use Rattle.std.specs.Prelude.{◌≡◌, ℕ, [], OnErr};
+ghost use Rattle.std.specs.Prelude.{◌≡◌, ◌<◌, ℕ, [], IfOk, IsTrue, OnErr, length};
 ghost use Rattle.qx_iofunc.specs.Given as given;
+ghost use Rattle.qx_machine.specs.Events.{disarmed};
 ghost use Rattle.qx_machine.specs.Functions.{function_deed};
 ghost use Rattle.qx_machine.specs.Managers.{ram_connect, ram_io};
 ghost use Rattle.qx_machine.specs.Resources as machine;
+ghost use Rattle.qx_machine.specs.Wants.{got_events, is_done_so};
 ghost use Rattle.qx_machine.specs.declared.rows.Effect.TheVariants.{Closes, Opens};
 ghost use Rattle.qx_resmgr.specs.Deeds.{Did, IsReplied};
+ghost use Rattle.qx_notify.specs.Events.{events_of, with_events};
 ghost use Rattle.qx_resources.specs.State as kept;
-ghost use Rattle.qx_shared.specs.Shared.{Shared};
+ghost use Rattle.qx_resources.specs.State.{HasUser};
+ghost use Rattle.qx_resources.specs.inner.State.{IsCallerReceived};
+ghost use Rattle.qx_resources.specs.declared.waits.Waits.{Waits as AllWaits};
 
 use crate::resources::Resources;
+use crate::waits::Waits;
 use qx_attr::{Reply, Status};
-use qx_machine::{Effect, Opened};
+use qx_machine::{Effect, Event, Opened, PulseWish};
 use qx_resmgr::Done;
-use qx_types::{Coid, Errno};
+use qx_types::{Coid, Errno, NotifyAction};
 use qx_wire::Rest;
+use std::alloc::AllocError;
 
 /// What an open came to: its connection has the block (C Library Reference: `open`).
 pub fn opened(coid: Coid, block: u16) -> Done
@@ -27,13 +34,17 @@ pub fn opened(coid: Coid, block: u16) -> Done
     }
 }
 
-/// What a close came to: its connection goes (C Library Reference: `close`).
-pub fn closed(coid: Coid) -> Done
-    ensures { result ≡ Done.Reply 0 (Closes coid) }
+/// What a close came to: the event of the block that is gone goes, and so does the connection (C Library Reference: `close`;
+/// `iofunc_notify_remove`).
+pub fn closed(state: &Resources, waits: &mut Waits, opened: Opened) -> Done
+    requires user { state.now.user < length waits.old.events.events }
+    ensures done { result ≡ Done.Reply 0 (Closes opened.coid) }
+    ensures events { waits.new ≡ record waits.old { events = with_events waits.old.events state.now.user (disarmed opened.number (events_of waits.old.events state.now.user)) } }
 {
+    waits.events.disarm(state.store.user(), opened.number);
     Done::Reply {
         status: 0,
-        effect: Effect::Closes(coid),
+        effect: Effect::Closes(opened.coid),
     }
 }
 
@@ -55,7 +66,7 @@ pub fn stat(
     reply: &mut Reply,
 ) -> Result<Done, Errno>
     requires empty { reply.old ≡ [] }
-    ensures did { (waits : Shared) (moment : ℕ) → Did kept.state state.now waits state.now waits reply.new result (function_deed ram_connect.stat root (λ f root. f (kept.told state.now waits) root rest.now moment)) }
+    ensures did { (waits : AllWaits) (moment : ℕ) → Did kept.state state.now waits state.now waits reply.new result (function_deed ram_connect.stat root (λ f root. f (kept.told state.now waits) root rest.now moment)) }
     ensures replied { IsReplied result }
 {
     tell(state.store.stat(root?, rest), reply).map(Done::keeps)
@@ -68,7 +79,7 @@ pub fn fstat(
     reply: &mut Reply,
 ) -> Result<Done, Errno>
     requires empty { reply.old ≡ [] }
-    ensures did { (waits : Shared) → Did kept.state state.now waits state.now waits reply.new result (function_deed ram_io.fstat opened (λ f o. f (kept.told state.now waits) o)) }
+    ensures did { (waits : AllWaits) → Did kept.state state.now waits state.now waits reply.new result (function_deed ram_io.fstat opened (λ f o. f (kept.told state.now waits) o)) }
     ensures replied { IsReplied result }
 {
     tell(state.store.fstat(opened?), reply).map(Done::keeps)
@@ -82,7 +93,7 @@ pub fn list(
     reply: &mut Reply,
 ) -> Result<Done, Errno>
     requires empty { reply.old ≡ [] }
-    ensures did { (waits : Shared) → Did kept.state state.now waits state.now waits reply.new result (function_deed ram_io.list opened (λ f o. f (kept.told state.now waits) o after.now)) }
+    ensures did { (waits : AllWaits) → Did kept.state state.now waits state.now waits reply.new result (function_deed ram_io.list opened (λ f o. f (kept.told state.now waits) o after.now)) }
     ensures replied { IsReplied result }
 {
     state.store.list(opened?, after, reply).map(Done::keeps)
@@ -90,8 +101,45 @@ pub fn list(
 
 /// Sets the mode of what is open (C Library Reference: `fchmod`).
 pub fn chmod(state: &mut Resources, opened: Result<Opened, Errno>, mode: u16) -> Result<Done, Errno>
-    ensures did { (waits : Shared) → Did kept.state state.old waits state.new waits [] result (function_deed ram_io.chmod opened (λ f o. f (kept.told state.old waits) o mode)) }
+    ensures did { (waits : AllWaits) → Did kept.state state.old waits state.new waits [] result (function_deed ram_io.chmod opened (λ f o. f (kept.told state.old waits) o mode)) }
     ensures replied { IsReplied result }
 {
     state.store.chmod(opened?, mode).map(|_| Done::keeps(0))
+}
+
+/// Tells which wanted conditions hold of what is open, and arms an event or takes away what its block had armed (C Library
+/// Reference: `ionotify`; `iofunc_notify`).
+pub fn notify(
+    state: &Resources,
+    waits: &mut Waits,
+    opened: Result<Opened, Errno>,
+    action: NotifyAction,
+    wish: PulseWish,
+) -> Result<Result<Done, Errno>, AllocError>
+    requires fits { HasUser state.now waits.old }
+    requires ready { IfOk opened (λ o. IsCallerReceived state.now waits.old o) }
+    ensures did { IfOk result (λ given. Did kept.state state.now waits.old state.now waits.new [] given (function_deed ram_io.notify opened (λ f o. f (kept.told state.now waits.old) o action wish))) }
+    ensures replied { IfOk result IsReplied }
+    ensures err { OnErr result (waits.new ≡ waits.old) }
+    ensures wanted { OnErr result (IsTrue (is_done_so got_events (kept.told state.now waits.old) (function_deed ram_io.notify opened (λ f o. f (kept.told state.now waits.old) o action wish)))) }
+{
+    let opened = match opened {
+        Ok(opened) => opened,
+        Err(error) => return Ok(Err(error)),
+    };
+    let Some(block) = state.store.inodes().block(opened.number) else {
+        return Ok(Err(Errno::EBADF));
+    };
+    let holding = state.conditions(waits, block.inode);
+    let event = Event {
+        process: opened.caller.process,
+        block: opened.number,
+        conditions: wish.conditions,
+        code: wish.code,
+        value: wish.value,
+    };
+    let told = waits
+        .events
+        .notify(state.store.user(), action, event, holding)?;
+    Ok(told.map(Done::keeps))
 }

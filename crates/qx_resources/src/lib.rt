@@ -4,11 +4,14 @@
 //!   manager does what, and an unblock
 //! - `ram.rt`, `pipe.rt`: the RAM manager and the pipe manager, each as its functions
 //! - `blocks.rt`: what both do alike: status, listing and mode, and what an open and a close come to
-//! - `state.rt`: the same resources, as the managers' tables see them with the user's pipes
+//! - `waits.rt`: what all users share, in which calls and events wait
+//! - `watching.rt`: which pipe is watched while a message or an unblock pulse is done, and the pulses that come of it
+//! - `state.rt`: the same resources, as the managers' tables see them with the user's pipes and events
 //! - `all.rt`: what is kept for all users; a row that is lent
 //!
-//! `State.antt` says how these and the user's pipes are the machine's resources (`told`), what all users share once a
-//! function is done (`shared`), and how the two stand together (`HasUser`).
+//! `State.antt` says how these and the user's pipes and events are the machine's resources (`told`), what all users share
+//! once a function is done (`shared`), and how the two stand together (`HasUser`); `Watching.antt`, which events are due by
+//! what was done to one pipe.
 #![tactic(auto)]
 
 pub mod all;
@@ -17,6 +20,10 @@ mod pipe;
 mod ram;
 pub mod resources;
 pub mod state;
+pub mod waits;
+pub mod watching;
 
 pub use all::AllResources;
 pub use resources::{NewMount, Resources, context_of};
+pub use waits::Waits;
+pub use watching::Watched;

@@ -1,26 +1,28 @@
 ghost use Rattle.qx_machine.specs.Managers.{pipe_connect, pipe_io};
+ghost use Rattle.qx_machine.specs.Wants.{difference_wants_memory};
+ghost use Rattle.qx_types.specs.declared.names.Manager.TheVariants as manager;
 
 use crate::blocks;
 use crate::resources::Resources;
 use crate::state::Told;
+use crate::waits::Waits;
 use qx_attr::Reply;
-use qx_machine::{NewOpen, Opened, Wish};
+use qx_machine::{NewOpen, Opened, PulseWish, Wish};
 use qx_process::Room;
 use qx_resmgr::{Connect, Done, Io, no_function};
-use qx_shared::Shared;
-use qx_types::{Errno, Whence};
+use qx_types::{Errno, NotifyAction, Whence};
 use qx_wire::Rest;
 use std::alloc::AllocError;
 
 /// The pipe manager.
 pub struct Pipe;
 
-impl Connect<Resources, Shared, Told> for Pipe {
+impl Connect<Resources, Waits, Told> for Pipe {
     ghost connect = { pipe_connect };
 
     fn open(
         state: &mut Resources,
-        waits: &mut Shared,
+        waits: &mut Waits,
         over: Result<NewOpen, Errno>,
         rest: &Rest<'_>,
         wish: Wish,
@@ -29,13 +31,13 @@ impl Connect<Resources, Shared, Told> for Pipe {
             Ok(over) => over,
             Err(error) => return Ok(Err(error)),
         };
-        let opened = qx_pipes::open(waits, &mut state.store, over.root, rest, wish)?;
+        let opened = qx_pipes::open(&mut waits.shared, &mut state.store, over.root, rest, wish)?;
         Ok(opened.map(|block| blocks::opened(over.coid, block)))
     }
 
     fn stat(
         state: &mut Resources,
-        _waits: &mut Shared,
+        _waits: &mut Waits,
         root: Result<u32, Errno>,
         rest: &Rest<'_>,
         _moment: u64,
@@ -46,18 +48,18 @@ impl Connect<Resources, Shared, Told> for Pipe {
 
     fn unlink(
         state: &mut Resources,
-        waits: &mut Shared,
+        waits: &mut Waits,
         root: Result<u32, Errno>,
         rest: &Rest<'_>,
         moment: u64,
     ) -> Result<Done, Errno> {
-        let unlinked = qx_pipes::unlink(waits, &mut state.store, root?, rest, moment);
+        let unlinked = qx_pipes::unlink(&mut waits.shared, &mut state.store, root?, rest, moment);
         unlinked.map(|_| Done::keeps(0))
     }
 
     fn mknod(
         _state: &mut Resources,
-        _waits: &mut Shared,
+        _waits: &mut Waits,
         _root: Result<u32, Errno>,
         _mode: u16,
         _rest: &Rest<'_>,
@@ -67,28 +69,30 @@ impl Connect<Resources, Shared, Told> for Pipe {
     }
 }
 
-impl Io<Resources, Shared, Told> for Pipe {
+impl Io<Resources, Waits, Told> for Pipe {
     ghost use Rattle.qx_resources.specs.inner.State.{IsCallerReceived};
 
     ghost io = { pipe_io };
+
+    ghost wants = { difference_wants_memory manager.Pipe };
 
     ghost ready = { IsCallerReceived };
 
     fn read(
         state: &mut Resources,
-        waits: &mut Shared,
+        waits: &mut Waits,
         opened: Result<Opened, Errno>,
         count: u32,
         _reply: &mut Reply,
         room: &mut Option<Room>,
     ) -> Result<Done, Errno> {
-        let read = qx_pipes::read(waits, &mut state.store, opened?, count, room);
+        let read = qx_pipes::read(&mut waits.shared, &mut state.store, opened?, count, room);
         read.map(|_| Done::NoReply)
     }
 
     fn write(
         state: &mut Resources,
-        waits: &mut Shared,
+        waits: &mut Waits,
         opened: Result<Opened, Errno>,
         bytes: &[u8],
         room: &mut Option<Room>,
@@ -97,23 +101,23 @@ impl Io<Resources, Shared, Told> for Pipe {
             Ok(opened) => opened,
             Err(error) => return Ok(Err(error)),
         };
-        let written = qx_pipes::write(waits, &mut state.store, opened, bytes, room);
+        let written = qx_pipes::write(&mut waits.shared, &mut state.store, opened, bytes, room);
         Ok(written.map(|_| Done::NoReply))
     }
 
     fn close(
         state: &mut Resources,
-        waits: &mut Shared,
+        waits: &mut Waits,
         opened: Result<Opened, Errno>,
     ) -> Result<Done, Errno> {
         let opened = opened?;
-        let closed = qx_pipes::close(waits, &mut state.store, opened);
-        closed.map(|_| blocks::closed(opened.coid))
+        qx_pipes::close(&mut waits.shared, &mut state.store, opened)?;
+        Ok(blocks::closed(state, waits, opened))
     }
 
     fn lseek(
         state: &mut Resources,
-        _waits: &mut Shared,
+        _waits: &mut Waits,
         opened: Result<Opened, Errno>,
         _whence: Whence,
         _offset: i64,
@@ -123,7 +127,7 @@ impl Io<Resources, Shared, Told> for Pipe {
 
     fn fstat(
         state: &mut Resources,
-        _waits: &mut Shared,
+        _waits: &mut Waits,
         opened: Result<Opened, Errno>,
         reply: &mut Reply,
     ) -> Result<Done, Errno> {
@@ -132,7 +136,7 @@ impl Io<Resources, Shared, Told> for Pipe {
 
     fn list(
         state: &mut Resources,
-        _waits: &mut Shared,
+        _waits: &mut Waits,
         opened: Result<Opened, Errno>,
         after: &[u8],
         reply: &mut Reply,
@@ -142,10 +146,20 @@ impl Io<Resources, Shared, Told> for Pipe {
 
     fn chmod(
         state: &mut Resources,
-        _waits: &mut Shared,
+        _waits: &mut Waits,
         opened: Result<Opened, Errno>,
         mode: u16,
     ) -> Result<Done, Errno> {
         blocks::chmod(state, opened, mode)
+    }
+
+    fn notify(
+        state: &mut Resources,
+        waits: &mut Waits,
+        opened: Result<Opened, Errno>,
+        action: NotifyAction,
+        wish: PulseWish,
+    ) -> Result<Result<Done, Errno>, AllocError> {
+        blocks::notify(state, waits, opened, action, wish)
     }
 }

@@ -1,27 +1,28 @@
 ghost use Rattle.qx_machine.specs.Managers.{ram_connect, ram_io};
-ghost use Rattle.qx_machine.specs.Wants.{got_longer};
+ghost use Rattle.qx_machine.specs.Wants.{difference_wants_memory};
+ghost use Rattle.qx_types.specs.declared.names.Manager.TheVariants as manager;
 
 use crate::blocks;
 use crate::resources::Resources;
 use crate::state::Told;
+use crate::waits::Waits;
 use qx_attr::Reply;
-use qx_machine::{Kind, NewOpen, Opened, Wish};
+use qx_machine::{Kind, NewOpen, Opened, PulseWish, Wish};
 use qx_process::Room;
 use qx_resmgr::{Connect, Done, Io};
-use qx_shared::Shared;
-use qx_types::{Errno, Whence};
+use qx_types::{Errno, NotifyAction, Whence};
 use qx_wire::Rest;
 use std::alloc::AllocError;
 
 /// The RAM manager.
 pub struct Ram;
 
-impl Connect<Resources, Shared, Told> for Ram {
+impl Connect<Resources, Waits, Told> for Ram {
     ghost connect = { ram_connect };
 
     fn open(
         state: &mut Resources,
-        _waits: &mut Shared,
+        _waits: &mut Waits,
         over: Result<NewOpen, Errno>,
         rest: &Rest<'_>,
         wish: Wish,
@@ -40,7 +41,7 @@ impl Connect<Resources, Shared, Told> for Ram {
 
     fn stat(
         state: &mut Resources,
-        _waits: &mut Shared,
+        _waits: &mut Waits,
         root: Result<u32, Errno>,
         rest: &Rest<'_>,
         _moment: u64,
@@ -51,7 +52,7 @@ impl Connect<Resources, Shared, Told> for Ram {
 
     fn unlink(
         state: &mut Resources,
-        _waits: &mut Shared,
+        _waits: &mut Waits,
         root: Result<u32, Errno>,
         rest: &Rest<'_>,
         moment: u64,
@@ -62,7 +63,7 @@ impl Connect<Resources, Shared, Told> for Ram {
 
     fn mknod(
         state: &mut Resources,
-        _waits: &mut Shared,
+        _waits: &mut Waits,
         root: Result<u32, Errno>,
         mode: u16,
         rest: &Rest<'_>,
@@ -77,14 +78,18 @@ impl Connect<Resources, Shared, Told> for Ram {
     }
 }
 
-impl Io<Resources, Shared, Told> for Ram {
+impl Io<Resources, Waits, Told> for Ram {
+    ghost use Rattle.qx_resources.specs.inner.State.{IsCallerReceived};
+
     ghost io = { ram_io };
 
-    ghost wants = { got_longer };
+    ghost wants = { difference_wants_memory manager.Ram };
+
+    ghost ready = { IsCallerReceived };
 
     fn read(
         state: &mut Resources,
-        _waits: &mut Shared,
+        _waits: &mut Waits,
         opened: Result<Opened, Errno>,
         count: u32,
         reply: &mut Reply,
@@ -95,7 +100,7 @@ impl Io<Resources, Shared, Told> for Ram {
 
     fn write(
         state: &mut Resources,
-        _waits: &mut Shared,
+        _waits: &mut Waits,
         opened: Result<Opened, Errno>,
         bytes: &[u8],
         _room: &mut Option<Room>,
@@ -110,17 +115,17 @@ impl Io<Resources, Shared, Told> for Ram {
 
     fn close(
         state: &mut Resources,
-        _waits: &mut Shared,
+        waits: &mut Waits,
         opened: Result<Opened, Errno>,
     ) -> Result<Done, Errno> {
         let opened = opened?;
         state.store.close(Kind::File, opened.number)?;
-        Ok(blocks::closed(opened.coid))
+        Ok(blocks::closed(state, waits, opened))
     }
 
     fn lseek(
         state: &mut Resources,
-        _waits: &mut Shared,
+        _waits: &mut Waits,
         opened: Result<Opened, Errno>,
         whence: Whence,
         offset: i64,
@@ -130,7 +135,7 @@ impl Io<Resources, Shared, Told> for Ram {
 
     fn fstat(
         state: &mut Resources,
-        _waits: &mut Shared,
+        _waits: &mut Waits,
         opened: Result<Opened, Errno>,
         reply: &mut Reply,
     ) -> Result<Done, Errno> {
@@ -139,7 +144,7 @@ impl Io<Resources, Shared, Told> for Ram {
 
     fn list(
         state: &mut Resources,
-        _waits: &mut Shared,
+        _waits: &mut Waits,
         opened: Result<Opened, Errno>,
         after: &[u8],
         reply: &mut Reply,
@@ -149,10 +154,20 @@ impl Io<Resources, Shared, Told> for Ram {
 
     fn chmod(
         state: &mut Resources,
-        _waits: &mut Shared,
+        _waits: &mut Waits,
         opened: Result<Opened, Errno>,
         mode: u16,
     ) -> Result<Done, Errno> {
         blocks::chmod(state, opened, mode)
+    }
+
+    fn notify(
+        state: &mut Resources,
+        waits: &mut Waits,
+        opened: Result<Opened, Errno>,
+        action: NotifyAction,
+        wish: PulseWish,
+    ) -> Result<Result<Done, Errno>, AllocError> {
+        blocks::notify(state, waits, opened, action, wish)
     }
 }

@@ -7,24 +7,25 @@ ghost use Rattle.qx_machine.specs.Performing.{deed_of};
 ghost use Rattle.qx_machine.specs.PipeManager.{cancel_call};
 ghost use Rattle.qx_machine.specs.Users.{boot_part};
 ghost use Rattle.qx_machine.specs.Wants.{bytes_want_memory};
-ghost use Rattle.qx_shared.specs.Shared.{callers_thread};
 ghost use Rattle.qx_resmgr.specs.Deeds.{Did, HasRoomAfter};
 ghost use Rattle.qx_resources.specs.Boot.{without_pipes};
 ghost use Rattle.qx_resources.specs.Mounts.{IsNextMount, with_new_mount};
 ghost use Rattle.qx_resources.specs.Ranges.{IsInRanges};
 ghost use Rattle.qx_resources.specs.State.{HasUser, state, told};
-ghost use Rattle.qx_shared.specs.Shared.{IsReceived, Shared, shared_after, state_after};
+ghost use Rattle.qx_resources.specs.inner.State.{IsCallerReceived};
+ghost use Rattle.qx_resources.specs.declared.waits.Waits.{Waits as AllWaits};
+ghost use Rattle.qx_shared.specs.Shared.{IsReceived, shared_after, state_after};
 
 use crate::pipe::Pipe;
 use crate::ram::Ram;
 use crate::state::Told;
+use crate::waits::Waits;
 use qx_attr::Reply;
 use qx_iofunc::Store;
 use qx_machine::{Caller, Context, Opened, Over, Target};
 use qx_paths::{MountFault, Mounts, Path, read_path};
 use qx_process::{Process, Room};
 use qx_resmgr::{Done, serve};
-use qx_shared::Shared;
 use qx_types::{Config, Errno, Manager, NoMemory, Thread, User};
 use qx_wire::Meaning;
 use std::alloc::{AllocError, Global};
@@ -97,7 +98,7 @@ impl Resources {
         manager: Manager,
     ) -> Result<NewMount<'a>, Errno>
         ensures can { IfOk result (λ mount. IsNextMount self.now mount) }
-        ensures mount { (all : Shared) → result ≡ mounting.new_mount name.now path.now manager (told self.now all) }
+        ensures mount { (all : AllWaits) → result ≡ mounting.new_mount name.now path.now manager (told self.now all) }
     {
         let path = read_path(path)?;
         if !path.is_under(name) {
@@ -136,11 +137,11 @@ impl Resources {
     }
 
     /// Does what bytes that were sent to a manager ask it for, by what they mean; the bytes of the reply are then in `reply`,
-    /// none after an error, and a call that waits took `room` along. Only an open, a mknod and a write that makes a file
-    /// longer may want memory, and only where they would be done.
+    /// none after an error, and a call that waits took `room` along. Only an open, a mknod, a write that makes a
+    /// file longer and a notification that arms may want memory, and only where they would be done.
     pub fn perform(
         &mut self,
-        all: &mut Shared,
+        all: &mut Waits,
         context: Context,
         meaning: Meaning<'_>,
         reply: &mut Reply,
@@ -148,7 +149,7 @@ impl Resources {
     ) -> Result<Result<Done, Errno>, AllocError>
         requires ranges { IsInRanges meaning }
         requires fits { HasUser self.old all.old }
-        requires received { IfOk context.opened (λ o. IsReceived all.old (callers_thread self.old.user o.caller)) }
+        requires received { IfOk context.opened (λ o. IsCallerReceived self.old all.old o) }
         requires room { IsSome room.old }
         ensures did { IfOk result (λ given. Did state self.old all.old self.new all.new reply.new given (deed_of (told self.old all.old) context meaning.entry)) }
         ensures room { IfOk result (λ given. HasRoomAfter room.old room.new given) }
@@ -163,25 +164,25 @@ impl Resources {
         };
         match context.target.manager {
             Manager::Ram => {
-                serve::<Ram, Resources, Shared, Told>(self, all, context, message, reply, room)
+                serve::<Ram, Resources, Waits, Told>(self, all, context, message, reply, room)
             }
             Manager::Pipe => {
-                serve::<Pipe, Resources, Shared, Told>(self, all, context, message, reply, room)
+                serve::<Pipe, Resources, Waits, Told>(self, all, context, message, reply, room)
             }
         }
     }
 
     /// A thread's call is asked to unblock: if it waits in a pipe, it is answered EINTR, unless it is served as the pipe is
     /// cleaned before, and others may be served then (Writing a Resource Manager: the unblock pulse). Tells whether it waited.
-    pub fn cancel(&mut self, all: &mut Shared, thread: Thread, call: u64, moment: u64) -> bool
+    pub fn cancel(&mut self, all: &mut Waits, thread: Thread, call: u64, moment: u64) -> bool
         requires user { self.old.user ≡ thread.proc.user.0 }
         requires fits { HasUser self.old all.old }
         ensures user { self.new.user ≡ self.old.user }
         ensures waited { result ≡ is_ok (cancel_call (told self.old all.old) thread.proc.num thread.tid call moment) }
         ensures state { told self.new all.new ≡ state_after (told self.old all.old) (cancel_call (told self.old all.old) thread.proc.num thread.tid call moment) }
-        ensures shared { all.new ≡ shared_after all.old self.old.user (cancel_call (told self.old all.old) thread.proc.num thread.tid call moment) }
+        ensures shared { all.new ≡ record all.old { shared = shared_after all.old.shared self.old.user (cancel_call (told self.old all.old) thread.proc.num thread.tid call moment) } }
     {
-        qx_pipes::cancel(all, &mut self.store, thread, call, moment)
+        qx_pipes::cancel(&mut all.shared, &mut self.store, thread, call, moment)
     }
 }
 

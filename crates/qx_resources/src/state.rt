@@ -1,8 +1,8 @@
 //! What the managers keep for a user, as their tables of functions see it.
 
 use crate::resources::Resources;
+use crate::waits::Waits;
 use qx_resmgr::State;
-use qx_shared::Shared;
 use std::marker::Model;
 
 /// A user's resources as the machine has them: what the managers' tables of functions work on. It stands in contracts alone.
@@ -22,7 +22,7 @@ impl Model for Told {
     ghost view = { λ _. new_resources 0 [] };
 }
 
-impl State<Shared, Told> for Resources {
+impl State<Waits, Told> for Resources {
     ghost use Rattle.qx_resources.specs.State as state;
 
     ghost told = { state.told };

@@ -5,12 +5,12 @@ use Rattle.qx_types.specs.Optional.{◌>>=◌}
 use Rattle.qx_types.specs.declared.names.Thread.{Thread}
 use Rattle.qx_types.specs.declared.request.Request.{Request}
 use Rattle.qx_types.specs.declared.step.Step.{Step}
-use Rattle.qx_types.specs.declared.step.Step.TheVariants.{Spawn, Call, TakeReply, SetPrio, Interrupt, Mount, Receive, Perform}
+use Rattle.qx_types.specs.declared.step.Step.TheVariants.{Spawn, Call, TakeReply, TakePulse, SetPrio, Interrupt, Mount, Receive, Perform}
 use Rattle.qx_script.specs.declared.command.Command.{Command}
 use Rattle.qx_script.specs.declared.command.Command.TheVariants.{Take, Serve, Do, Show, Trace}
 use Rattle.qx_calls.specs.Calls.{call_in_line, call_said}
 use Rattle.qx_calls.specs.Forms.{◌then◌, end, Line, Saying, CanBeSaid, by, read_one_of}
-use Rattle.qx_words.specs.Kinds.{AName, AUser, AThread, AByte, AMoment, APath, AManager}
+use Rattle.qx_words.specs.Kinds.{AName, AUser, AProcess, AThread, AByte, AMoment, APath, AManager}
 use Rattle.qx_words.specs.Words.{moment_of}
 
 -- who uses the system, and how many workers serve it
@@ -29,6 +29,9 @@ spawn_line = record { name = codes "spawn"; form = AUser then AByte then AByte t
 abbrev pub reply_line : Line Step
 reply_line = record { name = codes "reply"; form = AThread then end; made = λ thread. TakeReply thread }
 
+abbrev pub pulse_line : Line Step
+pulse_line = record { name = codes "pulse"; form = AProcess then end; made = λ process. TakePulse process }
+
 abbrev pub prio_line : Line Step
 prio_line = record { name = codes "prio"; form = AThread then AByte then end; made = λ thread prio. SetPrio thread (record { 0 = prio }) }
 
@@ -45,13 +48,14 @@ abbrev pub perform_line : Line Step
 perform_line = record { name = codes "perform"; form = AByte then AMoment then end; made = λ worker moment. Perform (record { 0 = worker }) moment }
 
 abbrev pub step_lines : List (Line Step)
-step_lines = spawn_line ∷ reply_line ∷ prio_line ∷ interrupt_line ∷ mount_line ∷ line_of_receive ∷ perform_line ∷ []
+step_lines = spawn_line ∷ reply_line ∷ pulse_line ∷ prio_line ∷ interrupt_line ∷ mount_line ∷ line_of_receive ∷ perform_line ∷ []
 
 -- the line that takes the step
 abbrev pub step_said : Step → Saying
 step_said (Spawn user threads prio) = by spawn_line (user, (threads, (prio.0, tt)))
 step_said (Call thread request) = call_said thread request
 step_said (TakeReply thread) = by reply_line (thread, tt)
+step_said (TakePulse process) = by pulse_line (process, tt)
 step_said (SetPrio thread prio) = by prio_line (thread, (prio.0, tt))
 step_said (Interrupt thread) = by interrupt_line (thread, tt)
 step_said (Mount thread path manager) = by mount_line (thread, (path, (manager, tt)))

@@ -1,13 +1,13 @@
 ghost use Rattle.std.specs.Prelude.{◌≡◌, ℕ, IfOk, IfSome, List, map, option_map, true};
 ghost use Rattle.qx_types.specs.Configuration.{is_user_name};
 ghost use Rattle.qx_calls.specs.Forms.{read_form};
-ghost use Rattle.qx_script.specs.Lines.{command_of, do_of, interrupt_line, mount_line, perform_line, prio_line, line_of_receive, reply_line, serve_line, show_line, spawn_line, step_in_line, trace_line, user_line, workers_line};
+ghost use Rattle.qx_script.specs.Lines.{command_of, do_of, interrupt_line, mount_line, perform_line, prio_line, line_of_receive, pulse_line, reply_line, serve_line, show_line, spawn_line, step_in_line, trace_line, user_line, workers_line};
 
 use crate::command::Command;
 use qx_calls::lines::call;
 use qx_types::{Bytes, NoMemory, Prio, Step, Worker};
 use qx_words::Users;
-use qx_words::words::{byte, manager, moment, name, thread};
+use qx_words::words::{byte, manager, moment, name, process, thread};
 use std::alloc::Global;
 
 /// `user NAME`
@@ -57,6 +57,17 @@ fn reply(users: &Users, words: &[&[u8]]) -> Option<Step>
     };
     let thread = thread(users, *word)?;
     Some(Step::TakeReply { thread })
+}
+
+/// `pulse PROCESS`
+fn pulse(users: &Users, words: &[&[u8]]) -> Option<Step>
+    ensures step { result ≡ read_form pulse_line users.now (map (λ word. word.now) words.now) }
+{
+    let [word] = words else {
+        return None;
+    };
+    let proc = process(users, *word)?;
+    Some(Step::TakePulse { proc })
 }
 
 /// `prio THREAD PRIORITY`
@@ -141,6 +152,8 @@ fn step(
         Ok(spawn(users, words))
     } else if name == b"reply".as_slice() {
         Ok(reply(users, words))
+    } else if name == b"pulse".as_slice() {
+        Ok(pulse(users, words))
     } else if name == b"prio".as_slice() {
         Ok(prio(users, words))
     } else if name == b"interrupt".as_slice() {

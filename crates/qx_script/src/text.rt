@@ -7,8 +7,8 @@ ghost use Rattle.qx_types.specs.declared.step.Step.{Step};
 ghost use Rattle.qx_script.specs.StepText.{step_text};
 
 use qx_calls::text::{push_at_path, push_call, push_next_number};
-use qx_types::{Bytes, Config, Manager, NoMemory, Prio, Request, Step, Thread, User, Worker};
-use qx_words::text::{push_manager, push_thread, push_user};
+use qx_types::{Bytes, Config, Manager, NoMemory, Prio, Proc, Request, Step, Thread, User, Worker};
+use qx_words::text::{push_manager, push_process, push_thread, push_user};
 use std::alloc::Global;
 
 /// The line that takes a step.
@@ -28,6 +28,7 @@ pub fn push_step(
         } => push_spawn(text, config, *user, *threads, *prio),
         Step::Call { thread, request } => push_call_step(alloc, text, config, *thread, request),
         Step::TakeReply { thread } => push_reply(text, config, *thread),
+        Step::TakePulse { proc } => push_pulse(text, config, *proc),
         Step::SetPrio { thread, prio } => push_prio(text, config, *thread, *prio),
         Step::Interrupt { thread } => push_interrupt(text, config, *thread),
         Step::Mount {
@@ -75,6 +76,14 @@ fn push_reply(text: &mut Vec<u8>, config: &Config, thread: Thread) -> Result<(),
 {
     text.extend_from_slice(b"reply ")?;
     push_thread(text, config, thread)
+}
+
+#[tactic(auto, unfolding(crate::specs::StepText::step_text))]
+fn push_pulse(text: &mut Vec<u8>, config: &Config, process: Proc) -> Result<(), NoMemory>
+    ensures ok { OnOk result (text.new.items ≡ text.old.items ++ step_text config.now (Step.TakePulse process)) }
+{
+    text.extend_from_slice(b"pulse ")?;
+    push_process(text, config, process)
 }
 
 #[tactic(auto, unfolding(crate::specs::StepText::step_text))]

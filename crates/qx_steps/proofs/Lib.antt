@@ -2,6 +2,8 @@
 pub mod ResultLemmas
 -- the rows of users, put together from two columns
 pub mod PartsLemmas
+-- what the end of a step settles
+pub mod SettledLemmas
 -- a client's step, by what the channel makes of it
 pub mod ClientLemmas
 -- a step that mounts
@@ -12,3 +14,5 @@ pub mod ServeLemmas
 pub mod WorkerLemmas
 -- resources are still those of the channel's users
 pub mod StillLemmas
+-- a process takes its first pulse
+pub mod PulseLemmas

@@ -14,13 +14,13 @@ use Rattle.qx_machine.specs.declared.rows.Held.{Held}
 use Rattle.qx_machine.specs.Calls.{is_ready}
 use Rattle.qx_machine.specs.Clients.{mount_by, or_unchanged}
 use Rattle.qx_machine.specs.Judgements.{or_refused}
-use Rattle.qx_machine.specs.Machine.{World, client_end, step}
+use Rattle.qx_machine.specs.Machine.{World, client_end, own_held, step}
 use Rattle.qx_machine.specs.Mounting.{new_mount, with_mount}
 use Rattle.qx_machine.specs.Parts.{Part, thread_of}
 use Rattle.qx_machine.specs.Resources.{Resources}
 use Rattle.qx_machine.specs.Processes.{Process}
 use Rattle.qx_machine.specs.Rows.{row_at, with_row}
-use Rattle.qx_machine.specs.Users.{client, settle_part}
+use Rattle.qx_machine.specs.Users.{client}
 use Rattle.qx_machine.proofs.Places.{set-row_at}
 use Rattle.qx_resources.specs.Mounts as mounts
 use Rattle.qx_resources.specs.Mounts.{with_new_mount}
@@ -31,6 +31,7 @@ use Rattle.qx_steps.specs.inner.Reads.{is_thread_ready}
 use Rattle.qx_steps.specs.Reads.{process_of_part, row_among_parts}
 use Rattle.qx_steps.specs.inner.Steps.{after_mount, mount_from, mount_in, CanMount, IsMountable}
 use Rattle.qx_chan.proofs.RowReads.{option_cases}
+use Rattle.qx_steps.proofs.SettledLemmas.{settled-mount, settled-same}
 use Rattle.qx_steps.proofs.PartsLemmas.{mapped-put, row_at-parts, told-none, told-there}
 
 -- ---- how it is judged
@@ -70,8 +71,9 @@ still_ok (Err errno) P Q step p = tt
 
 -- a user whose rows stay
 refused_by : (w : World) (user : ℕ) (part : Part) (outcome : Outcome) → row_at w.parts user ≡ Some part → client_end w user part (or_unchanged part (Err outcome)) ≡ record { world = w; outcome = outcome }
-unfolding settle_part
-refused_by w user part outcome row = ap (λ parts. record { world = record w { parts = parts }; outcome = outcome }) (ap (slice_set w.parts user) (sym row) ∙ set-row_at w.parts user)
+refused_by w user part outcome row =
+    ap (λ parts. record { world = record w { parts = parts }; outcome = outcome })
+    (ap (λ settled. slice_set w.parts user (Some settled)) (settled-same part part (own_held user w.hands) refl refl) ∙ (ap (slice_set w.parts user) (sym row) ∙ set-row_at w.parts user))
 
 pub mount-refused : (w : World) (thread : Thread) (path : List ℕ) (manager : Manager) (outcome : Outcome) → mount_in w thread path manager ≡ Err outcome → step w (Mount thread path manager) ≡ record { world = w; outcome = outcome }
 unfolding step client
@@ -83,12 +85,12 @@ mount-refused w thread path manager outcome is = elim (option_cases (row_at w.pa
 ]
 
 pub mount-done : (w : World) (thread : Thread) (path : List ℕ) (manager : Manager) (mount : MountPoint) → mount_in w thread path manager ≡ Ok mount → step w (Mount thread path manager) ≡ record { world = after_mount w thread.proc.user.0 mount; outcome = Done }
-unfolding step client settle_part
+unfolding step client
 mount-done w thread path manager mount is = elim (option_cases (row_at w.parts thread.proc.user.0)) [
   | inl none ↦ let clash : Err WrongState ≡ Ok mount = rw none at is in absurd (cc)
   | inr part ↦
       let its : mount_by w.config thread.proc.user.0 part.0 thread path manager ≡ Ok mount = rw part.1 at is in
-      rw (part.1, its) refl
+      rw (part.1, its, settled-mount mount part.0 _) refl
 ]
 
 -- ---- a manager is attached for a user

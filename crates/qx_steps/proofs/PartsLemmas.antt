@@ -1,9 +1,10 @@
--- The rows of users, put together from two columns: one row, and a change in one column; and resources as the calls that wait tell them.
+-- The rows of users, put together from two columns: one row, and a change in one column; and resources as what waits tells them.
 use Rattle.std.proofs.Common.{◌≡◌, ◌⊎◌, subst, inl, inr, ℕ, zero, suc, ◌+◌, get_or, List, [], ◌∷◌, true, false, Option, Some, None, Result, Ok, Err, length, is_some, map, replicate, refl, sym, ap, ap₂, ◌∙◌, arith}
 use Rattle.std.specs.Prelude.{option_map, slice_set}
 use Rattle.qx_types.specs.Configuration.{Configuration}
 use Rattle.qx_types.specs.declared.names.Proc.{Proc}
 use Rattle.qx_types.specs.declared.names.Thread.{Thread}
+use Rattle.qx_machine.specs.Events.{no_events}
 use Rattle.qx_machine.specs.Machine.{boot, boot_parts}
 use Rattle.qx_machine.specs.Parts.{thread_of}
 use Rattle.qx_machine.specs.Resources.{Resources}
@@ -12,9 +13,9 @@ use Rattle.qx_machine.specs.Rows.{row_at, with_row}
 use Rattle.qx_machine.specs.Users.{boot_part}
 use Rattle.qx_machine.specs.Waiting.{no_pipes}
 use Rattle.qx_shared.proofs.RowLemmas.{row_at-mapped, rows-agree}
-use Rattle.qx_shared.specs.Shared.{Shared, pipes_of}
 use Rattle.qx_resources.specs.Boot.{boot_resources, without_pipes}
 use Rattle.qx_resources.specs.State.{told, Kept}
+use Rattle.qx_resources.specs.declared.waits.Waits.{Waits}
 use Rattle.qx_chan.proofs.RowReads.{option_cases}
 use Rattle.qx_chan.specs.Channel.{Channel, empty_channel, lists}
 use Rattle.qx_chan.specs.Users as users
@@ -116,7 +117,7 @@ put-cases (first ∷ rows) (suc i) (suc other) row there is = elim (put-cases ro
   | inr before ↦ inr (λ e. before.0 (omega (arith, e)), before.1)
 ]
 
--- ---- resources, by the calls that wait
+-- ---- resources, by what waits
 
 there-mapped : {A B : Type 0} (f : A → B) (row : Option A) → is_some row ≡ is_some (option_map f row)
 there-mapped f None = refl
@@ -159,19 +160,19 @@ get_same zero i x = refl
 get_same (suc n) zero x = refl
 get_same (suc n) (suc i) x = get_same n i x
 
-told-without_pipes : (r : Resources) (q : Shared) → pipes_of q r.user ≡ r.pipes → told (without_pipes r) q ≡ r
-told-without_pipes r q same = ap (λ pipes. record r { pipes = pipes }) same
+told-without_pipes : (r : Resources) (q : Waits) → get_or q.shared.pipes r.user no_pipes ≡ r.pipes → get_or q.events.events r.user no_events ≡ r.events → told (without_pipes r) q ≡ r
+told-without_pipes r q pipes events = ap₂ (λ pipes events. record r { pipes = pipes; events = events }) pipes events
 
-boot-rows : (q : Shared) (none : (user : ℕ) → pipes_of q user ≡ no_pipes) (config : Configuration) (user : ℕ) (names : List (List ℕ))
+boot-rows : (q : Waits) (pipes : (user : ℕ) → get_or q.shared.pipes user no_pipes ≡ no_pipes) (events : (user : ℕ) → get_or q.events.events user no_events ≡ no_events) (config : Configuration) (user : ℕ) (names : List (List ℕ))
     → parts_of (replicate (length names) (Some (None ∷ []))) (map (option_map (λ kept. told kept q)) (boot_resources config user names)) ≡ boot_parts config user names
 unfolding boot_part
-boot-rows q none config user [] = refl
-boot-rows q none config user (name ∷ names) =
-    ap₂ (λ r parts. Some (record { processes = None ∷ []; resources = r }) ∷ parts) (told-without_pipes (boot_part config user).resources q (none user)) (boot-rows q none config (user + 1) names)
+boot-rows q pipes events config user [] = refl
+boot-rows q pipes events config user (name ∷ names) =
+    ap₂ (λ r parts. Some (record { processes = None ∷ []; resources = r }) ∷ parts) (told-without_pipes (boot_part config user).resources q (pipes user) (events user)) (boot-rows q pipes events config (user + 1) names)
 
 parts-boot : (config : Configuration) (names : List (List ℕ))
     → parts_of (no_processes (length names)) (told_all (empty_channel (length names)) (None ∷ boot_resources config 1 names)) ≡ None ∷ boot_parts config 1 names
-parts-boot config names = ap (λ parts. None ∷ parts) (boot-rows (lists (empty_channel (length names))) (λ user. get_same (length names + 1) user no_pipes) config 1 names)
+parts-boot config names = ap (λ parts. None ∷ parts) (boot-rows (lists (empty_channel (length names))) (λ user. get_same (length names + 1) user no_pipes) (λ user. get_same (length names + 1) user no_events) config 1 names)
 
 same-boot_rows : (config : Configuration) (user : ℕ) (names : List (List ℕ)) → SameUsers {A = List (Option Process)} (replicate (length names) (Some (None ∷ []))) (boot_resources config user names)
 same-boot_rows config user [] other = refl

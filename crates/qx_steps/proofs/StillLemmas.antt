@@ -1,40 +1,43 @@
--- Resources are still those of the channel's users once the channel has changed, where its lists of pipes are as before.
+-- Resources are still those of the channel's users once the channel has changed, where its pipes and events are as before, and where a pulse is taken.
 use Rattle.std.proofs.Common.{◌≡◌, ℕ, List, Option, Some, None, refl, ap}
-use Rattle.std.specs.Prelude.{slice_get}
+use Rattle.std.specs.Prelude.{map, option_map, slice_get}
 use Rattle.qx_types.specs.Configuration.{Configuration}
 use Rattle.qx_types.specs.declared.errno.Errno.TheVariants.{EINTR}
 use Rattle.qx_types.specs.declared.names.Manager.{Manager}
+use Rattle.qx_types.specs.declared.names.Proc.{Proc}
 use Rattle.qx_types.specs.declared.names.Thread.{Thread}
 use Rattle.qx_types.specs.declared.outcome.Answer.{Answer}
 use Rattle.qx_machine.specs.declared.rows.Held.{Held}
 use Rattle.qx_machine.specs.declared.rows.OwnItem.{OwnItem}
 use Rattle.qx_machine.specs.declared.rows.OwnItem.TheVariants as item
+use Rattle.qx_machine.specs.declared.rows.Pulse.{Pulse}
 use Rattle.qx_machine.specs.declared.rows.Queued.{Queued}
 use Rattle.qx_machine.specs.declared.rows.Sent.{Sent}
 use Rattle.qx_machine.specs.Clients.{spawn_number}
+use Rattle.qx_machine.specs.Events.{first_pulse}
 use Rattle.qx_machine.specs.Processes.{Process, asked_thread, ready_thread, taken_thread, with_queued, with_thread}
 use Rattle.qx_machine.specs.Rows.{with_row}
 use Rattle.qx_procs.specs.Calls.{after_or, spawned, with_prio}
-use Rattle.qx_resources.specs.State.{Kept}
+use Rattle.qx_resources.specs.State.{told, Kept}
 use Rattle.qx_chan.specs.Calls.{answer_of, queued_call, unasked_call}
-use Rattle.qx_chan.specs.Channel.{Channel, after_asking, after_ranking, after_receive, after_send, after_spawn, after_taking, after_withdrawing, asked, channel_line, failed, readied, with_first_taken, withdrawn}
+use Rattle.qx_chan.specs.Channel.{Channel, after_asking, after_pulse, after_ranking, after_receive, after_send, after_spawn, after_taking, after_withdrawing, asked, channel_events, channel_line, failed, lists, readied, with_first_taken, with_pulse_taken, withdrawn}
 use Rattle.qx_chan.specs.declared.call.Call.{Call}
-use Rattle.qx_chan.specs.Users.{thread_row}
+use Rattle.qx_chan.specs.Users.{process_of, thread_row}
 use Rattle.qx_steps.specs.inner.Parts.{told_all, told_world, world_of, AreResourcesOf, SameUsers}
 use Rattle.qx_steps.proofs.PartsLemmas.{same-with_processes}
 
--- a channel with the same lists tells the same resources
-pub world-told : (config : Configuration) (c d : Channel) (ks : List (Option Kept)) (hands : List (Option Held)) → d.pipes ≡ c.pipes → world_of config d ks hands ≡ told_world config d (told_all c ks) hands
-world-told config c d ks hands same = ap (λ pipes. told_world config d (told_all (record c { pipes = pipes }) ks) hands) same
+-- a channel with the same pipes and events tells the same resources
+pub world-told : (config : Configuration) (c d : Channel) (ks : List (Option Kept)) (hands : List (Option Held)) → lists d ≡ lists c → world_of config d ks hands ≡ told_world config d (told_all c ks) hands
+world-told config c d ks hands same = ap (λ waits. told_world config d (map (option_map (λ kept. told kept waits)) ks) hands) same
 
 -- a channel in which the same users have processes
 pub of-users : (c d : Channel) (ks : List (Option Kept)) → AreResourcesOf c ks → SameUsers d.users ks → AreResourcesOf d ks
 of-users c d ks of users = record { same = users; own = of.own }
 
--- they are so still, and the pipes are as before
+-- they are so still, and pipes and events are as before
 pub record Still (c d : Channel) (ks : List (Option Kept)) : Type 0 where
   pub of : AreResourcesOf d ks
-  pub pipes : d.pipes ≡ c.pipes
+  pub waits : lists d ≡ lists c
 
 module _ (c : Channel) (ks : List (Option Kept)) (of : AreResourcesOf c ks) where
   -- one user's processes change
@@ -68,22 +71,32 @@ module _ (c : Channel) (ks : List (Option Kept)) (of : AreResourcesOf c ks) wher
   -- where a thread has a call, or an answer, its process changes
 
   asked_by : (thread : Thread) (call : Option Call) → Still c (asked c thread call) ks
-  asked_by thread None = record { of = of; pipes = refl }
-  asked_by thread (Some call) = record { of = of-users c (asked c thread (Some call)) ks of (one thread.proc.user.0 (λ processes. with_row processes thread.proc.num (with_thread thread.tid asked_thread))); pipes = refl }
+  asked_by thread None = record { of = of; waits = refl }
+  asked_by thread (Some call) = record { of = of-users c (asked c thread (Some call)) ks of (one thread.proc.user.0 (λ processes. with_row processes thread.proc.num (with_thread thread.tid asked_thread))); waits = refl }
 
   pub still-asking : (thread : Thread) → Still c (after_asking c thread) ks
   still-asking thread = asked_by thread (unasked_call (thread_row c.users thread))
 
   withdrawn_by : (thread : Thread) (call : Option Call) → Still c (withdrawn c thread call) ks
-  withdrawn_by thread None = record { of = of; pipes = refl }
-  withdrawn_by thread (Some call) = record { of = of-users c (withdrawn c thread (Some call)) ks of (one thread.proc.user.0 (λ processes. with_row processes thread.proc.num (failed thread.tid EINTR call.target.over))); pipes = refl }
+  withdrawn_by thread None = record { of = of; waits = refl }
+  withdrawn_by thread (Some call) = record { of = of-users c (withdrawn c thread (Some call)) ks of (one thread.proc.user.0 (λ processes. with_row processes thread.proc.num (failed thread.tid EINTR call.target.over))); waits = refl }
 
   pub still-withdrawing : (thread : Thread) → Still c (after_withdrawing c thread) ks
   still-withdrawing thread = withdrawn_by thread (queued_call (thread_row c.users thread))
 
   readied_by : (thread : Thread) (answer : Option Answer) → Still c (readied c thread answer) ks
-  readied_by thread None = record { of = of; pipes = refl }
-  readied_by thread (Some answer) = record { of = of-users c (readied c thread (Some answer)) ks of (one thread.proc.user.0 (λ processes. with_row processes thread.proc.num (with_thread thread.tid ready_thread))); pipes = refl }
+  readied_by thread None = record { of = of; waits = refl }
+  readied_by thread (Some answer) = record { of = of-users c (readied c thread (Some answer)) ks of (one thread.proc.user.0 (λ processes. with_row processes thread.proc.num (with_thread thread.tid ready_thread))); waits = refl }
 
   pub still-taking : (thread : Thread) → Still c (after_taking c thread) ks
   still-taking thread = readied_by thread (answer_of (thread_row c.users thread))
+
+  -- where a process has a pulse, the user's events change
+
+  pulsed_by : (proc : Proc) (process : Option Process) (first : Option Pulse) → AreResourcesOf (with_pulse_taken c proc process first) ks
+  pulsed_by proc None first = of
+  pulsed_by proc (Some process) None = of
+  pulsed_by proc (Some process) (Some first) = of-users c (with_pulse_taken c proc (Some process) (Some first)) ks of of.same
+
+  pub still-pulse : (proc : Proc) → AreResourcesOf (after_pulse c proc) ks
+  still-pulse proc = pulsed_by proc (process_of c.users proc) (first_pulse proc.num (channel_events c proc.user.0))

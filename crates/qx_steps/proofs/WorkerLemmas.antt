@@ -27,6 +27,7 @@ use Rattle.qx_steps.specs.Held.{held_work, work_of_sent}
 use Rattle.qx_steps.specs.Reads.{row_among_parts as thread_of_parts}
 use Rattle.qx_steps.specs.inner.Steps.{after_message, after_pulse}
 use Rattle.qx_chan.proofs.RowReads.{option_cases}
+use Rattle.qx_steps.proofs.SettledLemmas.{settled-processes, settled-same}
 use Rattle.qx_steps.proofs.PartsLemmas.{part-none, part-there, parts-set_processes}
 
 -- ---- lines
@@ -115,16 +116,16 @@ module _ (config : Configuration) (c : Channel) (rs : List (Option Resources)) (
   received : (worker : ℕ) (user : ℕ) (own : OwnItem) (prio : ℕ) (rest : List Queued) (manager : Manager) → channel_line c manager ≡ record { user = record { 0 = user }; item = own; prio = record { 0 = prio } } ∷ rest
       → received_part (with_taken w worker manager (record { user = record { 0 = user }; item = own })) (record { user = record { 0 = user }; item = own }) (row_at w.parts user)
       ≡ told_world config (after_receive c manager) rs (slice_set hands worker (Some (record { user = record { 0 = user }; item = own })))
-  unfolding settle_part take
+  unfolding take
   received worker user (item.Message process thread) prio rest manager is = elim (option_cases (row_at c.users user)) [
     | inl none ↦ rw (is, part-none c.users rs user none, with_row-none c.users user (λ processes. with_row processes process (with_thread thread taken_thread)) none) refl
     | inr ps ↦
         let there = part-there c.users rs user ps.0 same ps.1 in
-        rw (is, there.1.1, ps.1, parts-set_processes c.users rs user _ there.0 there.1.0) refl
+        rw (is, there.1.1, ps.1, settled-processes _ _ there.0 _, parts-set_processes c.users rs user _ there.0 there.1.0) refl
   ]
   received worker user (item.Unblock process thread call) prio rest manager is = elim (option_cases (row_at w.parts user)) [
     | inl none ↦ rw (is, none) refl
-    | inr part ↦ rw (is, part.1, set-row w.parts user part.0 part.1) refl
+    | inr part ↦ rw (is, part.1, settled-same part.0 part.0 _ refl refl, set-row w.parts user part.0 part.1) refl
   ]
 
   took : (worker : Worker) (manager : Manager) (line : List Queued) (first : Queued) → is_worker config worker.0 ≡ true → row_at hands worker.0 ≡ None → channel_line c manager ≡ line → slice_get line 0 ≡ Some first

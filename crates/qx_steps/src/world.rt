@@ -118,6 +118,15 @@ impl World {
         }
     }
 
+    /// A process takes its first pulse, which is gone then (System Architecture: pulses; C Library Reference:
+    /// `MsgReceivePulse`). `WrongState` where the process is not there, then `NoPulse` where it has none.
+    pub fn take_pulse(&mut self, proc: Proc) -> Outcome
+        ensures outcome { result ≡ (machine.step self.old (Step.TakePulse proc)).outcome }
+        ensures world { self.new ≡ (machine.step self.old (Step.TakePulse proc)).world }
+    {
+        self.channel.take_pulse(proc)
+    }
+
     /// A thread gets another priority, from 1 to 63; a message that it sent keeps the one that it was sent with (C Library
     /// Reference: `SchedSet`). `WrongState` where the thread is not there, then EINVAL for another number.
     pub fn set_prio(&mut self, thread: Thread, prio: Prio) -> Outcome
@@ -296,8 +305,9 @@ impl World {
     }
 
     /// A worker does what it holds (C Library Reference: `MsgReply`, `MsgError`), at a moment that becomes the times of
-    /// what it changes. `WrongState` where there is no such worker, `Nothing` where it holds nothing. Only an open, a mkdir
-    /// and a write that makes a file longer may want memory; one that is answered an error wants none.
+    /// what it changes; the user's events that are due by that give their pulses. `WrongState` where there is no such
+    /// worker, `Nothing` where it holds nothing. Only an open, a mkdir, a write that makes a file longer and a notification
+    /// that leaves more events may want memory; one that is answered an error wants none.
     pub fn perform_held(&mut self, worker: Worker, moment: u64) -> Result<Outcome, NoMemory>
         ensures outcome { IfOk result (λ outcome. outcome ≡ (machine.step self.old (Step.Perform worker moment)).outcome) }
         ensures world { OnOk result (self.new ≡ (machine.step self.old (Step.Perform worker moment)).world) }

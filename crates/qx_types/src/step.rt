@@ -1,7 +1,7 @@
 ghost use Rattle.std.specs.Prelude.{◌≡◌};
 ghost use Rattle.qx_types.specs.Step.{actor_of, is_client_step};
 
-use crate::names::{Actor, Manager, Prio, Thread, User, Worker};
+use crate::names::{Actor, Manager, Prio, Proc, Thread, User, Worker};
 use crate::request::Request;
 use qx_bytes::Bytes;
 use std::alloc::AllocError;
@@ -23,6 +23,10 @@ pub enum Step {
     /// Takes the answer that unblocks the thread.
     TakeReply {
         thread: Thread,
+    },
+    /// Takes the first pulse of a process (C Library Reference: `MsgReceivePulse`).
+    TakePulse {
+        proc: Proc,
     },
     /// Gives a thread another priority; a message that it sent keeps the one that it was sent with (C Library
     /// Reference: `SchedSet`).
@@ -61,6 +65,7 @@ impl Step {
     {
         match self {
             Step::Spawn { user, .. } => Some(Actor::OfUser(*user)),
+            Step::TakePulse { proc } => Some(Actor::OfProc(*proc)),
             Step::Call { thread, .. }
             | Step::TakeReply { thread }
             | Step::SetPrio { thread, .. }
@@ -98,6 +103,7 @@ impl Clone for Step {
                 request: request.clone()?,
             },
             Step::TakeReply { thread } => Step::TakeReply { thread: *thread },
+            Step::TakePulse { proc } => Step::TakePulse { proc: *proc },
             Step::SetPrio { thread, prio } => Step::SetPrio {
                 thread: *thread,
                 prio: *prio,

@@ -4,13 +4,13 @@ use Rattle.std.specs.Prelude.{nat_le}
 use Rattle.std.proofs.lemmas.Bool.Decides.{nat_tests}
 use Rattle.std.proofs.lemmas.Option.{cond_some}
 use Rattle.qx_types.specs.Configuration.{Configuration, IsConfiguration, is_user_name}
-use Rattle.qx_words.specs.Kinds.{AName, AUser, AThread, ANumber, AnOffset, APath, SomeFlags, AMode, SomeBytes, AHexByte, AManager, AWhence, AnAction, SomeConditions, CanName, Kind, Value, is_word, value_of, value_text}
+use Rattle.qx_words.specs.Kinds.{AName, AUser, AProcess, AThread, ANumber, AnOffset, APath, SomeFlags, AMode, SomeBytes, AHexByte, AManager, AWhence, AnAction, SomeConditions, CanName, Kind, Value, is_word, value_of, value_text}
 use Rattle.qx_words.specs.Words.{greatest_moment, name_in_word}
 use Rattle.qx_words.proofs.ReadBytes.{bytes_again, bytes_are_word, bytes_within, hex_byte_again, hex_byte_is_word, hex_byte_within}
 use Rattle.qx_words.proofs.ReadFixedWords.{action_word, conditions_within, conditions_word, manager_word, whence_word}
 use Rattle.qx_words.proofs.ReadOffsets.{offset_again, offset_is_word, offset_within}
-use Rattle.qx_words.proofs.ReadValues.{flags_within, mode_within, number_within, of_some, thread_within, user_within}
-use Rattle.qx_words.proofs.ReadWords.{chosen, flags_again, flags_are_word, mode_again, mode_is_word, name_is_word, number_again, number_is_word, thread_again, thread_is_word, user_again, user_is_word}
+use Rattle.qx_words.proofs.ReadValues.{flags_within, mode_within, number_within, of_some, process_within, thread_within, user_within}
+use Rattle.qx_words.proofs.ReadWords.{chosen, flags_again, flags_are_word, mode_again, mode_is_word, name_is_word, number_again, number_is_word, process_again, process_is_word, thread_again, thread_is_word, user_again, user_is_word}
 
 in_64_bits : (n greatest : ℕ) → n ≤ greatest → nat_le greatest greatest_moment ≡ true → n < 2 ^ 64
 in_64_bits n greatest few fits = grind (arith, nat_tests)
@@ -27,6 +27,7 @@ pub value_again : (kind : Kind) (config : Configuration) (value : Value kind) �
     → value_of kind config.users (value_text kind config value) ≡ Some value
 value_again AName config value valid can = name_again value can
 value_again AUser config value valid can = user_again config value valid can
+value_again AProcess config value valid can = process_again config value valid can
 value_again AThread config value valid can = thread_again config value valid can
 value_again (ANumber greatest fits) config value valid can = number_again greatest value can (in_64_bits greatest greatest (omega arith) fits)
 value_again AnOffset config value valid can = offset_again value can
@@ -44,6 +45,7 @@ pub value_is_word : (kind : Kind) (config : Configuration) (value : Value kind) 
     → is_word (value_text kind config value) ≡ true
 value_is_word AName config value valid can = name_is_word value can
 value_is_word AUser config value valid can = user_is_word config value valid can
+value_is_word AProcess config value valid can = process_is_word config value valid can
 value_is_word AThread config value valid can = thread_is_word config value valid can
 value_is_word (ANumber greatest fits) config value valid can = number_is_word value (in_64_bits value greatest can fits)
 value_is_word AnOffset config value valid can = offset_is_word value can
@@ -61,6 +63,7 @@ pub value_within : (kind : Kind) (users : List (List ℕ)) (word : List ℕ) (va
     → CanName kind users value
 value_within AName users word value is got = name_within word value got
 value_within AUser users word value is got = user_within users word value got
+value_within AProcess users word value is got = process_within users word value got
 value_within AThread users word value is got = thread_within users word value got
 value_within (ANumber greatest fits) users word value is got = number_within greatest word value got
 value_within AnOffset users word value is got = offset_within word value got

@@ -11,10 +11,11 @@ use Rattle.std.proofs.lemmas.Option.{cond_some}
 use Rattle.qx_types.specs.Optional.{◌>>=◌}
 use Rattle.qx_types.specs.declared.flags.OFlags.{OFlags}
 use Rattle.qx_types.specs.declared.limits.TheConstants.Limits.{MODE}
+use Rattle.qx_types.specs.declared.names.Proc.{Proc}
 use Rattle.qx_types.specs.declared.names.Thread.{Thread}
 use Rattle.qx_types.specs.declared.names.User.{User}
-use Rattle.qx_words.specs.Kinds.{is_word, is_word_byte, CanNameUser, CanNameThread}
-use Rattle.qx_words.specs.Words.{around_dot, byte_of, flag_of, flags_after, flags_of, greatest_byte, is_numeral, lines_of, mode_of, number_of, numbered_user, octal_of, thread_in_word, three_of, user_in_word, with_flag, words_of}
+use Rattle.qx_words.specs.Kinds.{is_word, is_word_byte, CanNameUser, CanNameProcess, CanNameThread}
+use Rattle.qx_words.specs.Words.{around_dot, byte_of, flag_of, flags_after, flags_of, greatest_byte, is_numeral, lines_of, mode_of, number_of, numbered_user, octal_of, process_in_word, thread_in_word, three_of, user_in_word, with_flag, words_of}
 use Rattle.qx_words.proofs.PlainWords.{and_true, both_true, all_weaker}
 
 pub bind_some : {A B : Type 0} (known : Option A) (next : A → Option B) (y : B) → (known >>= next) ≡ Some y → (x : A) × (known ≡ Some x) × (next x ≡ Some y)
@@ -47,6 +48,15 @@ user_within users word user is =
     let at = position-Some (λ name. bytes_eq name word) users place.0 [] place.1 in
     let number : place.0 + 1 ≡ user.0 = ap (λ (u : User). u.0) place.2 in
     (omega arith, omega (arith, at.0))
+
+pub process_within : (users : List (List ℕ)) (word : List ℕ) (process : Proc) → process_in_word users word ≡ Some process → CanNameProcess users process
+unfolding process_in_word
+process_within users word process is =
+    let parts = bind_some (around_dot word) _ process is in
+    let user = bind_some (user_in_word users parts.0.0) _ process parts.2 in
+    let number = bind_some (byte_of parts.0.1) _ process user.2 in
+    subst (CanNameProcess users) (of_some _ process number.2)
+    (user_within users parts.0.0 user.0 user.1, number_within greatest_byte parts.0.1 number.0 number.1)
 
 pub thread_within : (users : List (List ℕ)) (word : List ℕ) (thread : Thread) → thread_in_word users word ≡ Some thread → CanNameThread users thread
 unfolding thread_in_word

@@ -1,4 +1,4 @@
--- What is printed of users, threads, numbers, flags and modes is a word, and is read back.
+-- What is printed of users, processes, threads, numbers, flags and modes is a word, and is read back.
 use Rattle.std.proofs.Common.{◌≡◌, ◌∙◌, ℕ, ◌+◌, ◌-◌, ◌<◌, ◌≤◌, ◌^◌, Bool, true, false, cond, eqb, leb, not, List, [], ◌∷◌, ◌++◌, Some, None, length, get_or, map, refl, ap, sym, arith, append_assoc, zero, suc}
 use Rattle.std.specs.Prelude.{◌&&◌, ◌||◌, decimal, position}
 use Rattle.std.specs.Char.{is_ascii_digit}
@@ -16,11 +16,12 @@ use Rattle.std.proofs.lemmas.Slice.Eq.{bytes_eq-Decides}
 use Rattle.qx_types.specs.Configuration.{Configuration, IsConfiguration, is_letter, is_letter_or_digit, is_user_name}
 use Rattle.qx_types.specs.declared.flags.OFlags.{OFlags}
 use Rattle.qx_types.specs.declared.limits.TheConstants.Limits.{MODE}
+use Rattle.qx_types.specs.declared.names.Proc.{Proc}
 use Rattle.qx_types.specs.declared.names.Thread.{Thread}
 use Rattle.qx_types.specs.declared.names.User.{User}
-use Rattle.qx_words.specs.Kinds.{is_word, is_word_byte, CanNameUser, CanNameThread}
+use Rattle.qx_words.specs.Kinds.{is_word, is_word_byte, CanNameUser, CanNameProcess, CanNameThread}
 use Rattle.qx_words.specs.WordText.{flags_text, mode_text, process_text, thread_text, user_text}
-use Rattle.qx_words.specs.Words.{around_dot, byte_of, begins_well, flags_of, greatest_byte, is_numeral, mode_of, number_of, thread_in_word, user_in_word}
+use Rattle.qx_words.specs.Words.{around_dot, byte_of, begins_well, flags_of, greatest_byte, is_numeral, mode_of, number_of, process_in_word, thread_in_word, user_in_word}
 use Rattle.qx_words.proofs.Numbers.{own}
 use Rattle.qx_words.proofs.PlainWords.{all_joined, all_weaker, and_true, both_true, digit_in_word, digit_is_no_dot, is_no_dot, name_byte_in_word, name_byte_is_no_dot}
 
@@ -136,7 +137,7 @@ user_has_no_dot : (config : Configuration) (user : User) → IsConfiguration con
     → list_all is_no_dot (user_text config user.0) ≡ true
 user_has_no_dot config user valid can = user_text_by_name (list_all is_no_dot) name_has_no_dot config user.0 valid can.0 can.1
 
--- threads
+-- processes and threads
 
 before_dot : (before after : List ℕ) → list_all is_no_dot before ≡ true → position_or_len (λ byte. eqb byte 46) (before ++ 46 ∷ after) ≡ length before
 before_dot [] after plain = refl
@@ -163,6 +164,18 @@ number_has_no_dot n small = all_weaker is_ascii_digit is_no_dot digit_is_no_dot 
 pub byte_again : (n : ℕ) → n ≤ greatest_byte → byte_of (decimal n) ≡ Some n
 byte_again n few = number_again greatest_byte n few (omega arith)
 
+dotted_process : (config : Configuration) (process : Proc) → process_text config process ≡ user_text config process.user.0 ++ 46 ∷ decimal process.num
+unfolding process_text
+dotted_process config process = simp append_assoc
+
+pub process_again : (config : Configuration) (process : Proc) → IsConfiguration config.users config.workers → CanNameProcess config.users process
+    → process_in_word config.users (process_text config process) ≡ Some process
+unfolding process_in_word
+process_again config process valid can =
+    let plain = user_has_no_dot config process.user valid can.0 in
+    rw (dotted_process config process, around_again (user_text config process.user.0) (decimal process.num) plain)
+    (rw (user_again config process.user valid can.0, byte_again process.num can.1) refl)
+
 pub thread_again : (config : Configuration) (thread : Thread) → IsConfiguration config.users config.workers → CanNameThread config.users thread
     → thread_in_word config.users (thread_text config thread) ≡ Some thread
 unfolding thread_in_word
@@ -181,6 +194,12 @@ dotted first second is plain =
 
 pub number_in_word : (n : ℕ) → n < 2 ^ 64 → list_all is_word_byte (decimal n) ≡ true
 number_in_word n small = all_weaker is_ascii_digit is_word_byte digit_in_word (decimal n) (digits n small)
+
+pub process_is_word : (config : Configuration) (process : Proc) → IsConfiguration config.users config.workers → CanNameProcess config.users process
+    → is_word (process_text config process) ≡ true
+process_is_word config process valid can =
+    ap is_word (dotted_process config process)
+    ∙ dotted (user_text config process.user.0) (decimal process.num) (user_is_word config process.user valid can.0) (number_in_word process.num (omega arith))
 
 pub thread_is_word : (config : Configuration) (thread : Thread) → IsConfiguration config.users config.workers → CanNameThread config.users thread
     → is_word (thread_text config thread) ≡ true

@@ -11,11 +11,12 @@ use Rattle.qx_types.specs.declared.flags.Conds.{Conds}
 use Rattle.qx_types.specs.declared.flags.OFlags.{OFlags}
 use Rattle.qx_types.specs.declared.limits.TheConstants.Limits.{MODE}
 use Rattle.qx_types.specs.declared.names.Manager.{Manager}
+use Rattle.qx_types.specs.declared.names.Proc.{Proc}
 use Rattle.qx_types.specs.declared.names.Thread.{Thread}
 use Rattle.qx_types.specs.declared.names.User.{User}
 use Rattle.qx_words.specs.FixedWords.{action_of, action_text, conditions_of, conditions_text, manager_of, manager_text, whence_of, whence_text}
-use Rattle.qx_words.specs.WordText.{bytes_text, flags_text, mode_text, thread_text, user_text}
-use Rattle.qx_words.specs.Words.{bytes_in_word, flags_of, greatest_byte, greatest_moment, greatest_of_four_bytes, greatest_of_two_bytes, hex_byte_of, mode_of, name_in_word, number_of, offset_of, thread_in_word, user_in_word}
+use Rattle.qx_words.specs.WordText.{bytes_text, flags_text, mode_text, process_text, thread_text, user_text}
+use Rattle.qx_words.specs.Words.{bytes_in_word, flags_of, greatest_byte, greatest_moment, greatest_of_four_bytes, greatest_of_two_bytes, hex_byte_of, mode_of, name_in_word, number_of, offset_of, process_in_word, thread_in_word, user_in_word}
 
 -- neither a space nor a newline
 abbrev pub is_word_byte : ℕ → Bool
@@ -28,6 +29,10 @@ is_word bytes = not (length bytes == 0) && list_all is_word_byte bytes
 abbrev pub CanNameUser : List (List ℕ) → User → Type 0
 CanNameUser users user = (1 ≤ user.0) × (user.0 ≤ length users)
 
+-- a number of one byte, whether or not there is such a process
+abbrev pub CanNameProcess : List (List ℕ) → Proc → Type 0
+CanNameProcess users process = CanNameUser users process.user × (process.num ≤ greatest_byte)
+
 -- numbers of one byte, whether or not there is such a thread
 abbrev pub CanNameThread : List (List ℕ) → Thread → Type 0
 CanNameThread users thread = CanNameUser users thread.proc.user × (thread.proc.num ≤ greatest_byte) × (thread.tid ≤ greatest_byte)
@@ -36,6 +41,7 @@ CanNameThread users thread = CanNameUser users thread.proc.user × (thread.proc.
 pub data Kind : Type 0 where
   AName : Kind
   AUser : Kind
+  AProcess : Kind
   AThread : Kind
   ANumber : (greatest : ℕ) → IsTrue (nat_le greatest greatest_moment) → Kind
   AnOffset : Kind
@@ -65,6 +71,7 @@ AMoment = ANumber greatest_moment refl
 abbrev pub Value : Kind → Type 0
 Value AName = List ℕ
 Value AUser = User
+Value AProcess = Proc
 Value AThread = Thread
 Value (ANumber greatest fits) = ℕ
 Value AnOffset = ℤ
@@ -82,6 +89,7 @@ Value SomeConditions = Conds
 abbrev pub value_of : (kind : Kind) → List (List ℕ) → List ℕ → Option (Value kind)
 value_of AName users word = name_in_word word
 value_of AUser users word = user_in_word users word
+value_of AProcess users word = process_in_word users word
 value_of AThread users word = thread_in_word users word
 value_of (ANumber greatest fits) users word = number_of greatest word
 value_of AnOffset users word = offset_of word
@@ -99,6 +107,7 @@ value_of SomeConditions users word = conditions_of word
 abbrev pub value_text : (kind : Kind) → Configuration → Value kind → List ℕ
 value_text AName config name = name
 value_text AUser config user = user_text config user.0
+value_text AProcess config process = process_text config process
 value_text AThread config thread = thread_text config thread
 value_text (ANumber greatest fits) config number = decimal number
 value_text AnOffset config offset = signed_decimal offset
@@ -116,6 +125,7 @@ value_text SomeConditions config conditions = conditions_text conditions
 abbrev pub CanName : (kind : Kind) → List (List ℕ) → Value kind → Type 0
 CanName AName users name = IsTrue (is_user_name name)
 CanName AUser users user = CanNameUser users user
+CanName AProcess users process = CanNameProcess users process
 CanName AThread users thread = CanNameThread users thread
 CanName (ANumber greatest fits) users number = number ≤ greatest
 CanName AnOffset users offset = FitsSigned w64 offset

@@ -9,6 +9,7 @@ use Rattle.hex.specs.Hex.{decode_of, decode_sized}
 use Rattle.qx_types.specs.Configuration.{is_user_name}
 use Rattle.qx_types.specs.Optional.{◌>>=◌}
 use Rattle.qx_types.specs.declared.flags.OFlags.{OFlags}
+use Rattle.qx_types.specs.declared.names.Proc.{Proc}
 use Rattle.qx_types.specs.declared.names.Thread.{Thread}
 use Rattle.qx_types.specs.declared.names.User.{User}
 
@@ -80,6 +81,14 @@ around word place = (take place word, drop (place + 1) word)
 -- what stands before and after the first dot
 unfoldable pub around_dot : List ℕ → Option (List ℕ × List ℕ)
 around_dot word = option_map (around word) (position (λ byte. byte == 46) word)
+
+-- USER.PROCESS
+unfoldable pub process_in_word : List (List ℕ) → List ℕ → Option Proc
+process_in_word users word = do
+  parts ← around_dot word
+  user ← user_in_word users parts.0
+  process ← byte_of parts.1
+  Some (record { user = user; num = process })
 
 -- USER.PROCESS.THREAD
 unfoldable pub thread_in_word : List (List ℕ) → List ℕ → Option Thread

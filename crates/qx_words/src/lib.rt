@@ -4,8 +4,8 @@
 //! values have a word. For each kind it is proved once that what is printed is one word and is read back, and that what
 //! is read can be printed (`laws.rt`).
 //!
-//! - `words.rt`: lines and words of a text, and what one word says: a number, an offset, a name, a thread, a mode,
-//!   flags
+//! - `words.rt`: lines and words of a text, and what one word says: a number, an offset, a name, a process, a thread,
+//!   a mode, flags
 //! - `fixed_words.rt`: a manager, where an offset counts from, what a notification is to do, conditions
 //! - `hexadecimal.rt`: bytes
 //! - `users.rt`: the users' names so far, and the user that a word names

@@ -2,7 +2,7 @@ ghost use Rattle.std.specs.Prelude.{true, ◌≡◌, ◌==◌, ◌<◌, ◌≤�
 ghost use Rattle.std.specs.Char.{is_ascii_digit};
 ghost use Rattle.std.specs.List.{list_all};
 ghost use Rattle.qx_types.specs.Configuration.{is_user_name};
-ghost use Rattle.qx_words.specs.Words.{byte_of, flag_of, flags_after, flags_of, greatest_of_four_bytes, greatest_of_two_bytes, is_numeral, lines_of, mode_of, moment_of, name_in_word, negative, number_of, octal_of, offset_of, around_dot, thread_in_word, with_flag, words_of};
+ghost use Rattle.qx_words.specs.Words.{byte_of, flag_of, flags_after, flags_of, greatest_of_four_bytes, greatest_of_two_bytes, is_numeral, lines_of, mode_of, moment_of, name_in_word, negative, number_of, octal_of, offset_of, around_dot, process_in_word, thread_in_word, with_flag, words_of};
 
 pub use crate::fixed_words::{action, conditions, manager, whence};
 pub use crate::hexadecimal::{bytes, hex_byte};
@@ -172,6 +172,17 @@ fn around_dot(word: &[u8]) -> Option<(&[u8], &[u8])>
 {
     let place = place_of_dot(word)?;
     Some((&word[..place], &word[place + 1..]))
+}
+
+/// A process, as `ann.1`.
+#[tactic(auto, unfolding(crate::specs::Words::process_in_word))]
+pub fn process(users: &Users, word: &[u8]) -> Option<Proc>
+    ensures process { result ≡ process_in_word users.now word.now }
+{
+    let (user, number) = around_dot(word)?;
+    let user = users.find(user)?;
+    let num = byte(number)?;
+    Some(Proc { user, num })
 }
 
 /// A thread, as `ann.1.2`.

@@ -81,6 +81,7 @@ fn take(world: &mut World, step: &Step) -> Result<Outcome, NoMemory> {
         } => Ok(world.spawn(*user, *threads, *prio)?),
         Step::Call { thread, request } => world.call(*thread, request),
         Step::TakeReply { thread } => Ok(world.take_reply(*thread)),
+        Step::TakePulse { proc } => Ok(world.take_pulse(*proc)),
         Step::SetPrio { thread, prio } => Ok(world.set_prio(*thread, *prio)),
         Step::Interrupt { thread } => Ok(world.interrupt(*thread)),
         Step::Mount {

@@ -35,10 +35,11 @@ const KINDS: &str = "\
     raw bob.1.4 3 00\n\
     write bob.1.1 3 01020304\n\
     reply ann.1.1\n\
+    pulse ann.1\n\
     mount ann.1.1 /ann/m/n pipe\n";
 
-/// An open that makes a file, a write that makes it longer, a directory that is made, a mount of RAM, and an open that makes
-/// a pipe.
+/// An open that makes a file, a write that makes it longer, a directory that is made, a mount of RAM, an open that makes a
+/// pipe, and a notification that arms an event.
 const GROWTHS: &str = "\
     spawn ann 1 10\n\
     open ann.1.1 /ann/f rwc 644\n\
@@ -56,6 +57,10 @@ const GROWTHS: &str = "\
     mount ann.1.1 /ann/m ram\n\
     mount ann.1.1 /ann/p pipe\n\
     open ann.1.1 /ann/p/f rwc 600\n\
+    receive 1 pipe\n\
+    perform 1 8\n\
+    reply ann.1.1\n\
+    notify ann.1.1 4 pollarm i 5 7\n\
     receive 1 pipe\n\
     perform 1 8\n";
 

@@ -145,9 +145,40 @@ const CLOSES_SERVED: &str = "\
     reply ann.1.2\n\
     reply ann.1.3\n";
 
+/// Lines after which a process has five connections to one empty pipe, with an event armed over each.
+const EVENTS: &str = "\
+    spawn ann 3 10\n\
+    mount ann.1.1 /ann/p pipe\n\
+    open ann.1.1 /ann/p/f rwc 600\nreceive 1 pipe\nperform 1 1\nreply ann.1.1\n\
+    open ann.1.1 /ann/p/f r 000\nreceive 1 pipe\nperform 1 1\nreply ann.1.1\n\
+    open ann.1.1 /ann/p/f r 000\nreceive 1 pipe\nperform 1 1\nreply ann.1.1\n\
+    open ann.1.1 /ann/p/f r 000\nreceive 1 pipe\nperform 1 1\nreply ann.1.1\n\
+    open ann.1.1 /ann/p/f r 000\nreceive 1 pipe\nperform 1 1\nreply ann.1.1\n\
+    notify ann.1.1 3 pollarm i 1 7\nreceive 1 pipe\nperform 1 2\nreply ann.1.1\n\
+    notify ann.1.1 4 tranarm i 2 7\nreceive 1 pipe\nperform 1 2\nreply ann.1.1\n\
+    notify ann.1.1 5 pollarm i 3 7\nreceive 1 pipe\nperform 1 2\nreply ann.1.1\n\
+    notify ann.1.1 6 pollarm i 4 7\nreceive 1 pipe\nperform 1 2\nreply ann.1.1\n\
+    notify ann.1.1 7 pollarm i 5 7\nreceive 1 pipe\nperform 1 2\nreply ann.1.1\n";
+
+/// A poll and a close, each of which takes an event away, and a write that makes the three others due.
+const TRIGGERS: &str = "\
+    notify ann.1.1 6 poll i 4 7\n\
+    close ann.1.2 7\n\
+    write ann.1.3 3 01\n";
+
+/// They are served, and the pulses are taken, until there is none.
+const TRIGGERS_SERVED: &str = "\
+    receive 1 pipe\nperform 1 5\nreply ann.1.1\n\
+    receive 1 pipe\nperform 1 6\nreply ann.1.2\n\
+    receive 1 pipe\nperform 1 7\nreply ann.1.3\n\
+    pulse ann.1\n\
+    pulse ann.1\n\
+    pulse ann.1\n\
+    pulse ann.1\n";
+
 /// Lines that come before, calls that are sent then, lines whose steps are taken with all memory taken, and how many of all
 /// these steps come to a failure.
-const CASES: [(&str, &str, &str, u64); 8] = [
+const CASES: [(&str, &str, &str, u64); 9] = [
     (CALLED, "", SURE, 0),
     (CALLED, "", INTERRUPTS, 0),
     (CALLED, "", RECEIVED_INTERRUPTS, 0),
@@ -156,6 +187,7 @@ const CASES: [(&str, &str, &str, u64); 8] = [
     (PIPE, READS, READS_SERVED, 1),
     (PIPE, WRITES, WRITES_SERVED, 1),
     (PIPE, CLOSES, CLOSES_SERVED, 2),
+    (EVENTS, TRIGGERS, TRIGGERS_SERVED, 1),
 ];
 
 /// The calls wait, with room for the steps that serve them.
@@ -190,6 +222,7 @@ fn is_failure(outcome: &Outcome) -> bool {
         Outcome::Refused(_)
             | Outcome::Failed(_)
             | Outcome::WrongState
+            | Outcome::NoPulse
             | Outcome::Idle
             | Outcome::Busy
             | Outcome::Nothing

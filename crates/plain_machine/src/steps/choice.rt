@@ -1,11 +1,12 @@
 //! Which step is next.
 
 use crate::steps::dice::Dice;
+use crate::steps::events::pulsed_process;
 use crate::steps::paths::next_mount_path;
-use crate::steps::pipes::next_piping;
+use crate::steps::pipes::{next_piping, next_waiting};
 use crate::steps::requests::next_request;
 use crate::{Plain, Post, State};
-use qx_types::{Manager, Prio, Proc, Step, Thread, User, Worker};
+use qx_types::{Manager, Prio, Proc, Request, Step, Thread, User, Worker};
 use std::alloc::{AllocError, Global};
 
 /// While there are fewer threads, more processes are started.
@@ -16,6 +17,7 @@ enum Kind {
     Spawn,
     Call,
     TakeReply,
+    TakePulse,
     SetPrio,
     Interrupt,
     Mount,
@@ -37,6 +39,7 @@ pub fn next_step(
         Kind::Spawn => Ok(next_spawn(dice)),
         Kind::Call => next_call(alloc, dice, plain),
         Kind::TakeReply => Ok(next_take_reply(dice, plain)),
+        Kind::TakePulse => Ok(next_take_pulse(dice, plain)),
         Kind::SetPrio => Ok(next_set_prio(dice)),
         Kind::Interrupt => Ok(next_interrupt(dice, plain)),
         Kind::Mount => next_mount(alloc, dice, plain),
@@ -57,16 +60,46 @@ fn next_spawn(dice: &mut Dice) -> Step {
 fn next_call(alloc: Global, dice: &mut Dice, plain: &Plain) -> Result<Step, AllocError> {
     let thread = ready_thread(dice, plain);
     let request = if has_held_pulse(plain, thread) && !dice.one_in(4) {
-        next_piping(alloc, dice, plain, thread.proc)?
+        next_beside_pulse(alloc, dice, plain, thread.proc)?
     } else {
         next_request(alloc, dice, plain, thread.proc)?
     };
     Ok(Step::Call { thread, request })
 }
 
+/// Most often a call that waits.
+fn next_beside_pulse(
+    alloc: Global,
+    dice: &mut Dice,
+    plain: &Plain,
+    proc: Proc,
+) -> Result<Request, AllocError> {
+    if dice.one_in(2)
+        && let Some(request) = next_waiting(alloc, plain, proc)?
+    {
+        return Ok(request);
+    }
+    next_piping(alloc, dice, plain, proc)
+}
+
 fn next_take_reply(dice: &mut Dice, plain: &Plain) -> Step {
     Step::TakeReply {
         thread: answered_thread(dice, plain),
+    }
+}
+
+/// Most often a process that has a pulse.
+fn next_take_pulse(dice: &mut Dice, plain: &Plain) -> Step {
+    let found = if dice.one_in(4) {
+        None
+    } else {
+        pulsed_process(dice, plain)
+    };
+    Step::TakePulse {
+        proc: match found {
+            Some(proc) => proc,
+            None => next_thread(dice).proc,
+        },
     }
 }
 
@@ -116,7 +149,7 @@ fn next_perform(dice: &mut Dice, plain: &Plain) -> Step {
 }
 
 fn next_kind(dice: &mut Dice, busy: bool) -> Kind {
-    let number = dice.below(32);
+    let number = dice.below(34);
     if busy {
         match number {
             0 => Kind::Spawn,
@@ -126,7 +159,8 @@ fn next_kind(dice: &mut Dice, busy: bool) -> Kind {
             27 => Kind::Mount,
             28 | 29 => Kind::Interrupt,
             30 => Kind::Receive,
-            _ => Kind::Perform,
+            31 | 32 => Kind::Perform,
+            _ => Kind::TakePulse,
         }
     } else {
         match number {
@@ -135,7 +169,8 @@ fn next_kind(dice: &mut Dice, busy: bool) -> Kind {
             7..=11 => Kind::TakeReply,
             12 | 13 => Kind::Interrupt,
             14..=22 => Kind::Receive,
-            _ => Kind::Perform,
+            23..=32 => Kind::Perform,
+            _ => Kind::TakePulse,
         }
     }
 }
@@ -193,7 +228,7 @@ fn next_thread(dice: &mut Dice) -> Thread {
 
 /// A ready thread, where a few tries find one.
 fn ready_thread(dice: &mut Dice, plain: &Plain) -> Thread {
-    for _ in 0..dice.below(64) {
+    for _ in 0..dice.below(255) {
         let thread = watched_thread(dice, plain);
         if let Some(row) = plain.row(thread)
             && let State::Ready = &row.state

@@ -4,6 +4,7 @@ use crate::steps::dice::Dice;
 use crate::steps::paths::next_path;
 use crate::steps::raws::next_raw;
 use crate::steps::requests::{next_bytes, next_count, next_directory_mode, next_mode, next_using};
+use crate::steps::texts::filled;
 use crate::{Plain, State};
 use qx_types::{Bytes, OFlags, Proc, Request};
 use std::alloc::{AllocError, Global};
@@ -52,6 +53,27 @@ pub fn next_piping(
             bytes: next_bytes(alloc, dice)?,
         }),
     }
+}
+
+/// A call that waits, over one of the connections of a process to pipes: to read where nothing stands, or to write the
+/// most bytes where something does.
+pub fn next_waiting(
+    alloc: Global,
+    plain: &Plain,
+    proc: Proc,
+) -> Result<Option<Request>, AllocError> {
+    for place in 0..6 {
+        if let Some((coid, look)) = plain.pipe_look(proc, place) {
+            if look.for_reading && look.bytes == 0 {
+                return Ok(Some(Request::Read { coid, count: 1 }));
+            }
+            if look.for_writing && look.bytes > 0 {
+                let bytes = Bytes::from_vec(filled(alloc, b'l', 4_096)?);
+                return Ok(Some(Request::Write { coid, bytes }));
+            }
+        }
+    }
+    Ok(None)
 }
 
 /// Whether a thread of a process waits in a pipe.
@@ -112,8 +134,8 @@ fn pipe_path(
 /// For one side more often than for both, nearly always to make what is not there, and now and then not to wait.
 fn pipe_flags(dice: &mut Dice) -> OFlags {
     let access = match dice.below(8) {
-        0 | 1 => OFlags::READ,
-        2 | 3 => OFlags::WRITE,
+        0..=2 => OFlags::READ,
+        3..=5 => OFlags::WRITE,
         _ => OFlags::READ | OFlags::WRITE,
     };
     let more = match dice.below(16) {

@@ -2,11 +2,12 @@
 
 use crate::Plain;
 use crate::steps::dice::Dice;
+use crate::steps::events::{next_arming, next_notify, next_notifying, next_rousing};
 use crate::steps::paths::{next_directory_path, next_path, user_word};
 use crate::steps::pipes::{has_waiting, next_piping};
 use crate::steps::raws::next_raw;
 use crate::steps::texts::{filled, next_after};
-use qx_types::{Bytes, Coid, Conds, NotifyAction, OFlags, Proc, Request, User, Whence};
+use qx_types::{Bytes, Coid, OFlags, Proc, Request, User, Whence};
 use std::alloc::{AllocError, Global};
 
 /// A request of a process. Where its user can have no further block most are to close one; the second user opens its
@@ -23,6 +24,19 @@ pub fn next_request(
     }
     if dice.one_in(12) || proc.user == User(2) && dice.one_in(4) {
         return open_top(alloc, proc.user);
+    }
+    if dice.one_in(4)
+        && let Some(request) = next_arming(dice, plain, proc)
+    {
+        return Ok(request);
+    }
+    if dice.one_in(8) {
+        return Ok(next_notifying(dice, plain, proc));
+    }
+    if dice.one_in(10)
+        && let Some(request) = next_rousing(alloc, dice, plain, proc)?
+    {
+        return Ok(request);
     }
     if dice.one_in(2) || has_waiting(plain, proc) && dice.one_in(2) {
         return next_piping(alloc, dice, plain, proc);
@@ -43,7 +57,8 @@ pub fn next_request(
     }
 }
 
-/// What makes a file as long as can be: a seek, then a write of the most bytes, and then a close.
+/// What makes a file as long as can be: a seek, then a write of the most bytes, and then a close; and now and then a write
+/// of none.
 fn next_filling(
     alloc: Global,
     dice: &mut Dice,
@@ -59,6 +74,10 @@ fn next_filling(
             })
         }
         Some((coid, offset)) if offset > 61_440 => Ok(Request::Close { coid }),
+        Some((coid, _)) if dice.one_in(8) => Ok(Request::Write {
+            coid,
+            bytes: Bytes::from_vec(Vec::new(alloc)),
+        }),
         Some((coid, _)) => Ok(Request::Seek {
             coid,
             whence: Whence::Set,
@@ -189,47 +208,6 @@ fn next_offset(dice: &mut Dice) -> i64 {
     }
 }
 
-fn next_notify(dice: &mut Dice, coid: Coid) -> Request {
-    let action = match dice.below(3) {
-        0 => NotifyAction::Poll,
-        1 => NotifyAction::PollArm,
-        _ => NotifyAction::TranArm,
-    };
-    Request::Notify {
-        coid,
-        action,
-        conds: next_conditions(dice),
-        code: next_code(dice),
-        value: next_value(dice),
-    }
-}
-
-fn next_conditions(dice: &mut Dice) -> Conds {
-    if dice.one_in(8) {
-        Conds(4 * dice.below(2))
-    } else {
-        Conds(1 + dice.below(3))
-    }
-}
-
-/// A code, now and then the greatest one or the one after it.
-fn next_code(dice: &mut Dice) -> u8 {
-    if dice.one_in(8) {
-        127 + dice.below(2)
-    } else {
-        dice.below(100)
-    }
-}
-
-/// A value, now and then the greatest one or the one after it.
-fn next_value(dice: &mut Dice) -> u32 {
-    if dice.one_in(8) {
-        268_435_455 + u32::from(dice.below(2))
-    } else {
-        u32::from(dice.below(100))
-    }
-}
-
 /// A number of bytes, now and then the greatest one or the one after it.
 pub fn next_count(dice: &mut Dice) -> u32 {
     if dice.one_in(4) {
@@ -242,7 +220,7 @@ pub fn next_count(dice: &mut Dice) -> u32 {
 /// A few bytes, or the most, and now and then one more.
 pub fn next_bytes(alloc: Global, dice: &mut Dice) -> Result<Bytes, AllocError> {
     let length = match dice.below(8) {
-        0..=2 => dice.below(4) as usize,
+        0..=2 => dice.below(3) as usize,
         3 => 4_097,
         _ => 4_096,
     };
@@ -250,7 +228,7 @@ pub fn next_bytes(alloc: Global, dice: &mut Dice) -> Result<Bytes, AllocError> {
 }
 
 /// A connection of a process that has a block, if one has, now and then another.
-fn open_connection(dice: &mut Dice, plain: &Plain, proc: Proc) -> Coid {
+pub fn open_connection(dice: &mut Dice, plain: &Plain, proc: Proc) -> Coid {
     let count = plain.open_count(proc).min(24) as u8;
     if count == 0 || dice.one_in(16) {
         return next_connection(dice);

@@ -162,7 +162,7 @@ impl Files {
         Ok(inode.status())
     }
 
-    /// A block goes. Those are answered who waited in a pipe.
+    /// A block goes, and what it had armed. Those are answered who waited in a pipe.
     pub fn close(&mut self, user: User, block: u16, moment: u64) -> Result<Answers, AllocError> {
         let Some(row) = self.block(user, block) else {
             return Ok(Vec::new(self.alloc));
@@ -171,6 +171,7 @@ impl Files {
         self.blocks
             .retain(|row| row.user != user || row.number != block);
         let answers = self.release(user, inode, block, moment)?;
+        self.events.disarm(user, block);
         self.let_go(user, inode);
         Ok(answers)
     }

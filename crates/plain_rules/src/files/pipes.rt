@@ -6,6 +6,15 @@ use crate::pipes::{Answers, Caller, Given};
 use qx_types::{Errno, OFlags, Thread, User};
 use std::alloc::AllocError;
 
+/// How a block has a pipe open, whether no other has it open for any side of these, and how many bytes stand.
+#[derive(Clone, Copy)]
+pub struct PipeLook {
+    pub for_reading: bool,
+    pub for_writing: bool,
+    pub is_last: bool,
+    pub bytes: usize,
+}
+
 impl Files {
     /// At most so many bytes of a pipe.
     pub fn read_pipe(
@@ -87,8 +96,27 @@ impl Files {
         Ok(Vec::new(self.alloc))
     }
 
+    /// Of a block that has a pipe open: its flags, how many bytes stand, and whether no other block is for a side of its own.
+    pub fn pipe_look(&self, user: User, block: u16) -> Option<PipeLook> {
+        let (opened, inode) = self.opened(user, block).ok()?;
+        let Content::Pipe(pipe) = &inode.content else {
+            return None;
+        };
+        let has_other = self.blocks.iter().any(|other| other.user == user
+            && other.inode == opened.inode
+            && other.number != block
+            && (opened.has(OFlags::READ) && other.has(OFlags::READ)
+                || opened.has(OFlags::WRITE) && other.has(OFlags::WRITE)));
+        Some(PipeLook {
+            for_reading: opened.has(OFlags::READ),
+            for_writing: opened.has(OFlags::WRITE),
+            is_last: !has_other,
+            bytes: pipe.len(),
+        })
+    }
+
     /// Whether a block of an inode was opened with this flag.
-    fn is_open(&self, user: User, number: u16, flag: OFlags) -> bool {
+    pub fn is_open(&self, user: User, number: u16, flag: OFlags) -> bool {
         self.blocks.iter().any(|block| block.user == user
             && block.inode == number
             && block.has(flag))

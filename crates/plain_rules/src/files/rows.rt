@@ -1,5 +1,6 @@
 //! The rows, and how they are found.
 
+use crate::events::Events;
 use crate::pipes::Pipe;
 use qx_types::{Bytes, Errno, Manager, OFlags, User};
 use std::alloc::{AllocError, Global};
@@ -61,13 +62,14 @@ impl Block {
     }
 }
 
-/// All files, directories and pipes, paths to them, and open blocks.
+/// All files, directories and pipes, paths to them, open blocks, and what was armed on these.
 #[derive(Drop)]
 pub struct Files {
     pub alloc: Global,
     pub inodes: Vec<Inode>,
     pub names: Vec<Name>,
     pub blocks: Vec<Block>,
+    pub events: Events,
 }
 
 impl Files {
@@ -78,6 +80,7 @@ impl Files {
             inodes: Vec::new(alloc),
             names: Vec::new(alloc),
             blocks: Vec::new(alloc),
+            events: Events::new(alloc),
         }
     }
 

@@ -15,6 +15,7 @@ use Rattle.qx_machine.specs.declared.rows.ThreadRow.{ThreadRow}
 use Rattle.qx_machine.specs.Lines.{line_at}
 use Rattle.qx_machine.specs.Processes.{Process}
 use Rattle.qx_queues.specs.Queues.{UsersAnswer, UsersCall, caller, stands, unblock_call}
+use Rattle.qx_resources.specs.declared.waits.Waits.{Waits}
 use Rattle.qx_shared.specs.Shared.{Shared, has_disconnect_node, has_thread, waiting_in, with_shared_server, without_shared_server}
 use Rattle.qx_chan.specs.Nodes.{attached_at, attaches}
 use Rattle.qx_chan.specs.Users.{Users, process_of, thread_row}
@@ -68,7 +69,12 @@ pub record StandTogether (processes : Users) (queues : Shared) : Type 0 where
   pub waits : (user : ℕ) → AllByRecursion (IsWaiting processes) (waiting_in queues user)
   pub answered : queues.answered ≡ []
 
--- all of that, but that answers are on their way: each is to a call whose thread waits for it
+-- and who has a place for pipes has one for events
+pub record AllStandTogether (processes : Users) (waits : Waits) : Type 0 where
+  pub shared : StandTogether processes waits.shared
+  pub events : length waits.events.events ≡ length waits.shared.pipes
+
+-- all of the first, but that answers are on their way: each is to a call whose thread waits for it
 pub record Answering (processes : Users) (queues : Shared) : Type 0 where
   pub kept : StandTogether processes (record queues { answered = [] })
   pub answered : AllByRecursion (IsAwaited processes) queues.answered

@@ -1,15 +1,19 @@
 -- What only the proofs need of Serving.
-use Rattle.std.specs.Prelude.{◌≡◌, ℕ, List, Some, Result}
+use Rattle.std.specs.Prelude.{◌≡◌, ℕ, List, Some, Result, Ok, Err, slice_set}
 use Rattle.qx_types.specs.declared.errno.Errno.{Errno}
 use Rattle.qx_types.specs.declared.names.Thread.{Thread}
 use Rattle.qx_wire.specs.Reading.{meaning}
 use Rattle.qx_machine.specs.declared.rows.Caller.{Caller}
 use Rattle.qx_machine.specs.Functions.{Deed}
+use Rattle.qx_machine.specs.Notification.{events_settled}
 use Rattle.qx_machine.specs.Resources.{Resources}
 use Rattle.qx_machine.specs.Performing.{context_of, deed_of}
 use Rattle.qx_machine.specs.Processes.{Process}
-use Rattle.qx_shared.specs.Shared.{Shared}
+use Rattle.qx_shared.specs.Shared.{with_pipes}
+use Rattle.qx_resmgr.specs.Deeds.{reply_with}
+use Rattle.qx_resmgr.specs.declared.functions.Done.{Done}
 use Rattle.qx_resources.specs.State.{told, Kept}
+use Rattle.qx_resources.specs.declared.waits.Waits.{Waits}
 use Rattle.qx_chan.specs.inner.Calls.{taken_bytes}
 use Rattle.qx_chan.specs.Users.{Users, process_of, thread_row}
 use Rattle.qx_chan.specs.declared.call.Call.{Call}
@@ -25,6 +29,20 @@ abbrev pub caller_of_call : Thread → Call → Caller
 caller_of_call thread call = record { process = thread.proc.num; thread = thread.tid; call = call.number; is_asked = call.is_asked }
 
 -- what a message of a process with these bytes comes to
-abbrev pub deed_in : Kept → Shared → Process → TakenMessage → List ℕ → Result (Deed Resources) Errno
-deed_in resources queues process message bytes =
-    deed_of (told resources queues) (context_of process (caller_of_call message.thread message.call) message.call.target message.moment) (meaning bytes)
+abbrev pub deed_in : Kept → Waits → Process → TakenMessage → List ℕ → Result (Deed Resources) Errno
+deed_in resources waits process message bytes =
+    deed_of (told resources waits) (context_of process (caller_of_call message.thread message.call) message.call.target message.moment) (meaning bytes)
+
+-- what a deed to a user's resources leaves, once the events that are due by it have given their pulses: its answers are on their way, and of
+-- the room for events nothing is said
+pub record Leaves (k : Kept) (w : Waits) (l : Kept) (v : Waits) (deed : Deed Resources) : Type 0 where
+  pub told_is : told l v ≡ record deed.state { events = events_settled (told k w) deed.state }
+  pub shared : v.shared ≡ with_pipes w.shared k.user deed.state.pipes deed.answers
+  pub events : v.events.events ≡ slice_set w.events.events k.user (events_settled (told k w) deed.state)
+  pub user : l.user ≡ k.user
+
+-- that a message came to that: it is replied as it is to be, and leaves that, or it is that error, and nothing is different
+abbrev pub Comes : Kept → Waits → Kept → Waits → List ℕ → Result Done Errno → Result (Deed Resources) Errno → Type 0
+Comes k w l v bytes (Ok done) (Ok deed) = (reply_with bytes done ≡ deed.reply) × Leaves k w l v deed
+Comes k w l v bytes (Err error) (Err meant) = (error ≡ meant) × (l ≡ k) × (v ≡ w)
+Comes k w l v bytes _ _ = ⊥

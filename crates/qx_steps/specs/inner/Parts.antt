@@ -20,7 +20,7 @@ abbrev pub parts_of : List (Option (List (Option Process))) → List (Option Res
 parts_of (processes ∷ users) (resources ∷ rows) = part_of processes resources ∷ parts_of users rows
 parts_of _ _ = []
 
--- the resources of all users, with the pipes that the channel has
+-- the resources of all users, with the pipes and the events that the channel has
 abbrev pub told_all : Channel → List (Option Kept) → List (Option Resources)
 told_all channel resources = map (option_map (λ kept. told kept (lists channel))) resources
 

@@ -1,5 +1,7 @@
+use Rattle.std.proofs.Common.{rules}
 use Rattle.bell_manager.proofs.DeedLemmas.{opened}
 use Rattle.bell_manager.proofs.ringing.RingingConnectBellSharedBells.open.Goals as goal
 
 pub returns-clause-did : goal.returns-clause-did
-returns-clause-did c = rw (← c.state.view_is) (opened _ c.args._waits.now (rw (← c.state.view_is) at c.requires.fits) _ c.open.result c.args.over c.args.rest.now c.args.wish c.open.ensures.did)
+returns-clause-did c =
+    opened c.args.state.now c.args._waits.now c.requires.fits _ c.args.over c.in-Ok.over c.in-Ok-free_number.number c.args.rest.now c.args.wish (search rules) (search rules) (search rules) (search rules)

@@ -4,5 +4,5 @@ use Rattle.bell_manager.proofs.ringing.RingingIoBellSharedBells.close.Goals as g
 
 pub returns-clause-did : goal.returns-clause-did
 returns-clause-did c =
-    let opened : c.args.opened ≡ Ok c.in_ok-opened.field-0 = search rules in
-    rw (opened, ← c.state.view_is) (closed _ _ (rw (← c.state.view_is) at c.requires.fits) _ _ c.close.result c.in_ok-opened.field-0 c.dismiss.ensures (rw (opened) at c.close.ensures.did))
+    let opened : c.args.opened ≡ Ok c.in_ok-opened.opened = search rules in
+    rw (opened, ← c.state.view_is) (closed _ _ (rw (← c.state.view_is) at c.requires.fits) _ _ c.in_ok-opened.opened c.free.ensures.freed c.dismiss.ensures)

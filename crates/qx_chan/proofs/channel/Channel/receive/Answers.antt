@@ -4,10 +4,16 @@ use Rattle.qx_chan.proofs.channel.Channel.receive.Goals as goal
 
 pub invariant_of-self-in-Message : goal.invariant_of-self-in-Message
 invariant_of-self-in-Message c =
-    rw (c.take.ensures.taken, c.receive.ensures.rest)
-    (Kept-received c.self.inside.users c.self.inside.queues c.args.manager c.in_ok-first.first (item.Message c.in-Message.process c.in-Message.thread) c.in-Message.is c.in_ok-first.ensures.first c.in_ok-first.ensures.gone c.self.invariant)
+    record {
+      shared = rw (c.take.ensures.taken, c.receive.ensures.rest)
+          (Kept-received c.self.inside.users c.self.inside.waits.shared c.args.manager c.in_ok-first.first (item.Message c.in-Message.process c.in-Message.thread) c.in-Message.is c.in_ok-first.ensures.first c.in_ok-first.ensures.gone c.self.invariant.shared);
+      events = rw c.receive.ensures.rest c.self.invariant.events;
+    }
 
 pub invariant_of-self-in-Unblock : goal.invariant_of-self-in-Unblock
 invariant_of-self-in-Unblock c =
-    rw c.receive.ensures.rest
-    (Kept-received c.self.inside.users c.self.inside.queues c.args.manager c.in_ok-first.first _ c.in-Unblock.is c.in_ok-first.ensures.first c.in_ok-first.ensures.gone c.self.invariant)
+    record {
+      shared = rw c.receive.ensures.rest
+          (Kept-received c.self.inside.users c.self.inside.waits.shared c.args.manager c.in_ok-first.first _ c.in-Unblock.is c.in_ok-first.ensures.first c.in_ok-first.ensures.gone c.self.invariant.shared);
+      events = rw c.receive.ensures.rest c.self.invariant.events;
+    }

@@ -6,6 +6,7 @@ use Rattle.qx_chan.proofs.MessageLemmas.{Serves-untaken, received, received-alon
 use Rattle.qx_chan.proofs.OutcomeLemmas.{outcome}
 use Rattle.qx_chan.proofs.PulseLemmas.{user-fits}
 use Rattle.qx_chan.proofs.RoomLemmas.{served-waits}
+use Rattle.qx_chan.proofs.SettledLemmas.{places}
 use Rattle.qx_machine.specs.Rows.{row_at}
 use Rattle.qx_shared.specs.Shared.{Shared}
 use Rattle.qx_chan.proofs.NodesLemmas.{held, held-answered, held-did, room-told}
@@ -14,22 +15,22 @@ use Rattle.qx_chan.proofs.channel.Channel.serve.Goals as goal
 pub returns-in_default-clause-ok : goal.returns-in_default-clause-ok
 returns-in_default-clause-ok c =
     rw (← c.self.view_is)
-    (Serves-untaken c.args.thread c.args.moment c.self.inside.users c.self.inside.queues c.args.resources.now c.requires.user (rw (← c.self.view_is) at (sym c.taken.ensures.call ∙ c.in_default.is)))
+    (Serves-untaken c.args.thread c.args.moment c.self.inside.users c.self.inside.waits c.args.resources.now c.requires.user (rw (← c.self.view_is) at (sym c.taken.ensures.call ∙ c.in_default.is)))
 
 pub perform-requires-clause-received : goal.perform-requires-clause-received
-perform-requires-clause-received c = received-alone c.self.inside.users c.self.inside.queues c.args.thread c.in-Some.call (rw (← c.self.view_is) at c.in-Some.ensures.call) c.self.invariant
+perform-requires-clause-received c = received-alone c.self.inside.users c.self.inside.waits.shared c.args.thread c.in-Some.call (rw (← c.self.view_is) at c.in-Some.ensures.call) c.self.invariant.shared
 
 pub perform-requires-clause-fits : goal.perform-requires-clause-fits
 perform-requires-clause-fits c =
     let its = received c.self.inside.users c.args.thread c.in-Some.call (rw (← c.self.view_is) at c.in-Some.ensures.call) in
-    user-fits c.self.inside.users c.self.inside.queues c.args.resources.now its.processes (ap (row_at c.self.inside.users) c.requires.user ∙ its.user) c.self.invariant
+    user-fits c.self.inside.users c.self.inside.waits c.args.resources.now its.processes (ap (row_at c.self.inside.users) c.requires.user ∙ its.user) c.self.invariant
 
 pub returns-in_err-given-clause-sure : goal.returns-in_err-given-clause-sure
 returns-in_err-given-clause-sure c = λ no.
     let taken : Some c.in-Some.call ≡ taken_call (thread_row c.self.inside.users c.args.thread) = rw (← c.self.view_is) at c.in-Some.ensures.call in
     let its = received c.self.inside.users c.args.thread c.in-Some.call taken in
     let of = sends c.self.inside.users c.args.thread c.in-Some.call its in
-    absurd (false≢true (sym (rw (← c.self.view_is, received-wants c.self.inside.users c.self.inside.queues c.args.resources.now c.args.thread c.in-Some.call its c.requires.user c.args.moment) at no) ∙ c.in_err-given.ensures.wanted its.process its.sent.bytes of))
+    absurd (false≢true (sym (rw (← c.self.view_is, received-wants c.self.inside.users c.self.inside.waits c.args.resources.now c.args.thread c.in-Some.call its c.requires.user c.args.moment) at no) ∙ c.in_err-given.ensures.wanted its.process its.sent.bytes of))
 
 pub answer-requires-clause-served : goal.answer-requires-clause-served
 answer-requires-clause-served c =
@@ -41,7 +42,7 @@ give_answers-requires c =
     let its = received c.self.inside.users c.args.thread c.in-Some.call taken in
     record {
       answering = rw (c.answer.ensures.queues, c.answer.ensures.users, c.in_ok-given.ensures.served, c.as_slice.ensures.bytes)
-          (outcome c.self.inside.users c.self.inside.queues c.args.thread c.in-Some.call taken c.self.invariant c.args.resources.now c.perform.new.resources c.perform.new.queues c.requires.user
+          (outcome c.self.inside.users c.self.inside.waits c.args.thread c.in-Some.call taken c.self.invariant.shared c.args.resources.now c.perform.new.resources c.perform.new.waits c.requires.user
           c.args.moment c.perform.new.reply c.in_ok-given.given _ refl
           (c.in_ok-given.ensures.did its.process its.sent.bytes (sends c.self.inside.users c.args.thread c.in-Some.call its)) c.answer.ensures.gone).0;
     }
@@ -51,9 +52,21 @@ returns-clause-ok c =
     let taken : Some c.in-Some.call ≡ taken_call (thread_row c.self.inside.users c.args.thread) = rw (← c.self.view_is) at c.in-Some.ensures.call in
     let its = received c.self.inside.users c.args.thread c.in-Some.call taken in
     rw (← c.self.view_is, c.give_answers.ensures.queues, c.give_answers.ensures.users, c.answer.ensures.queues, c.answer.ensures.users, c.in_ok-given.ensures.served, c.as_slice.ensures.bytes)
-    (outcome c.self.inside.users c.self.inside.queues c.args.thread c.in-Some.call taken c.self.invariant c.args.resources.now c.perform.new.resources c.perform.new.queues c.requires.user
+    (outcome c.self.inside.users c.self.inside.waits c.args.thread c.in-Some.call taken c.self.invariant.shared c.args.resources.now c.perform.new.resources c.perform.new.waits c.requires.user
     c.args.moment c.perform.new.reply c.in_ok-given.given _ refl
     (c.in_ok-given.ensures.did its.process its.sent.bytes (sends c.self.inside.users c.args.thread c.in-Some.call its)) c.answer.ensures.gone).1
+
+pub invariant_of-self-2 : goal.invariant_of-self-2
+invariant_of-self-2 c =
+    let taken : Some c.in-Some.call ≡ taken_call (thread_row c.self.inside.users c.args.thread) = rw (← c.self.view_is) at c.in-Some.ensures.call in
+    let its = received c.self.inside.users c.args.thread c.in-Some.call taken in
+    record {
+      shared = c.give_answers.ensures.kept;
+      events = rw (c.give_answers.ensures.queues, c.answer.ensures.queues, c.answer.ensures.users, c.in_ok-given.ensures.served, c.as_slice.ensures.bytes)
+          (places _ _ _ _ _ (outcome c.self.inside.users c.self.inside.waits c.args.thread c.in-Some.call taken c.self.invariant.shared c.args.resources.now c.perform.new.resources c.perform.new.waits c.requires.user
+          c.args.moment c.perform.new.reply c.in_ok-given.given _ refl
+          (c.in_ok-given.ensures.did its.process its.sent.bytes (sends c.self.inside.users c.args.thread c.in-Some.call its)) c.answer.ensures.gone).1 c.self.invariant.events);
+    }
 
 pub returns-clause-room : goal.returns-clause-room
 returns-clause-room c =
@@ -61,6 +74,6 @@ returns-clause-room c =
     let its = received c.self.inside.users c.args.thread c.in-Some.call taken in
     let proc = c.args.thread.proc in
     let same = ap (λ (q : Shared). q.room + held q proc) c.give_answers.ensures.queues ∙ ap (λ (q : Shared). q.room + held q proc) c.answer.ensures.queues
-    ∙ held-answered c.perform.new.queues c.answer.new.users c.args.thread c.in-Some.call c.in_ok-given.given
-    ∙ held-did c.args.resources.now c.perform.new.resources c.self.inside.queues c.perform.new.queues c.perform.new.reply proc c.in_ok-given.given _ (c.in_ok-given.ensures.did its.process its.sent.bytes (sends c.self.inside.users c.args.thread c.in-Some.call its)) in
-    rw (← c.self.view_is) (room-told c.self.inside.users c.give_answers.new.users c.self.inside.queues c.give_answers.new.queues proc c.self.inside.queues.room c.self.invariant c.give_answers.ensures.kept same)
+    ∙ held-answered c.perform.new.waits.shared c.answer.new.users c.args.thread c.in-Some.call c.in_ok-given.given
+    ∙ held-did c.args.resources.now c.perform.new.resources c.self.inside.waits c.perform.new.waits c.perform.new.reply proc c.in_ok-given.given _ (c.in_ok-given.ensures.did its.process its.sent.bytes (sends c.self.inside.users c.args.thread c.in-Some.call its)) in
+    rw (← c.self.view_is) (room-told c.self.inside.users c.give_answers.new.users c.self.inside.waits.shared c.give_answers.new.queues proc c.self.inside.waits.shared.room c.self.invariant.shared c.give_answers.ensures.kept same)

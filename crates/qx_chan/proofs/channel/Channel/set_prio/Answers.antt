@@ -11,4 +11,7 @@ returns-in_default-clause-ranked c =
     rw (← c.self.view_is, with_row-none c.self.inside.users c.args.thread.proc.user.0 (λ processes. after_or processes (with_prio processes c.args.thread.proc.num c.args.thread.tid c.args.prio.0)) none)
 
 pub invariant_of-self-2 : goal.invariant_of-self-2
-invariant_of-self-2 c = rw c.set_prio.ensures.rows (Kept-ranked c.self.inside.users c.self.inside.queues c.args.thread c.args.prio.0 c.in-Some.processes.now c.in-Some.ensures.row c.self.invariant)
+invariant_of-self-2 c = record {
+  shared = rw c.set_prio.ensures.rows (Kept-ranked c.self.inside.users c.self.inside.waits.shared c.args.thread c.args.prio.0 c.in-Some.processes.now c.in-Some.ensures.row c.self.invariant.shared);
+  events = c.self.invariant.events;
+}

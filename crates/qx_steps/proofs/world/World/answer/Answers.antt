@@ -19,14 +19,14 @@ serve-requires-clause-read c = rw (← thread_row-told c.self.inside.channel c.s
 pub invariant_of-self-2 : goal.invariant_of-self-2
 invariant_of-self-2 c =
     on_either c.serve.result c.serve.ensures.ok c.serve.ensures.err
-    (λ serves. still-serving c.self.inside.channel c.serve.new.self c.self.inside.resources c.self.invariant c.args.thread.proc.user.0 c.in-Some.resources.now c.serve.new.resources (sym c.in-Some.ensures.row) _ serves)
+    (λ serves. still-serving c.self.inside.channel c.serve.new.self c.self.inside.resources c.self.invariant c.args.thread.proc.user.0 c.in-Some.resources.now c.serve.new.resources (sym c.in-Some.ensures.row) (λ part. or_kept part (serve_message part c.args.thread.proc.num c.args.thread.tid c.args.moment)) serves)
     (λ kept. subst (λ channel. AreResourcesOf channel (slice_set c.self.inside.resources c.args.thread.proc.user.0 (Some c.serve.new.resources))) (sym kept.0)
     (still-resources c.self.inside.channel c.self.inside.resources c.args.thread.proc.user.0 c.in-Some.resources.now c.serve.new.resources (sym c.in-Some.ensures.row) (ap (λ k. k.user) kept.1) c.self.invariant))
 
 pub returns-clause-ok : goal.returns-clause-ok
 returns-clause-ok c =
     rw (← c.self.view_is)
-    (on_ok_by c.serve.result (λ serves. world-serving c.self.inside.channel c.serve.new.self c.self.inside.resources c.self.invariant c.args.thread.proc.user.0 c.in-Some.resources.now c.serve.new.resources (sym c.in-Some.ensures.row) _ serves c.self.inside.config c.self.inside.hands.items) c.serve.ensures.ok)
+    (on_ok_by c.serve.result (λ serves. world-serving c.self.inside.channel c.serve.new.self c.self.inside.resources c.self.invariant c.args.thread.proc.user.0 c.in-Some.resources.now c.serve.new.resources (sym c.in-Some.ensures.row) (λ part. or_kept part (serve_message part c.args.thread.proc.num c.args.thread.tid c.args.moment)) serves c.self.inside.config c.self.inside.hands.items) c.serve.ensures.ok)
 
 pub returns-clause-err : goal.returns-clause-err
 returns-clause-err c =

@@ -31,8 +31,8 @@ returns-clause-world c =
     elim c.match-row.branch [
       | in-Queued w ↦
           rw (w.self-is, ← c.self.view_is, interrupt-queued c.self.inside.config c.self.inside.channel (told_all c.self.inside.channel c.self.inside.resources) c.self.inside.hands.items (same-told c.self.inside.channel c.self.inside.resources c.self.invariant) c.args.thread c.in-Some.row.now w.in-Queued.field-0 (sym c.in-Some.ensures.row) w.in-Queued.is)
-          (ap (λ channel. world_of c.self.inside.config channel c.self.inside.resources c.self.inside.hands.items) w.withdraw.ensures.withdrawn ∙ world-told c.self.inside.config c.self.inside.channel (after_withdrawing c.self.inside.channel c.args.thread) c.self.inside.resources c.self.inside.hands.items (still-withdrawing c.self.inside.channel c.self.inside.resources c.self.invariant c.args.thread).pipes)
+          (ap (λ channel. world_of c.self.inside.config channel c.self.inside.resources c.self.inside.hands.items) w.withdraw.ensures.withdrawn ∙ world-told c.self.inside.config c.self.inside.channel (after_withdrawing c.self.inside.channel c.args.thread) c.self.inside.resources c.self.inside.hands.items (still-withdrawing c.self.inside.channel c.self.inside.resources c.self.invariant c.args.thread).waits)
       | in_default-state w ↦
           rw (w.self-is, ← c.self.view_is, interrupt-unqueued c.self.inside.config c.self.inside.channel (told_all c.self.inside.channel c.self.inside.resources) c.self.inside.hands.items (same-told c.self.inside.channel c.self.inside.resources c.self.invariant) c.args.thread c.in-Some.row.now (sym c.in-Some.ensures.row) (search rules))
-          (ap (λ channel. world_of c.self.inside.config channel c.self.inside.resources c.self.inside.hands.items) w.ask_unblock.ensures.asked ∙ world-told c.self.inside.config c.self.inside.channel (after_asking c.self.inside.channel c.args.thread) c.self.inside.resources c.self.inside.hands.items (still-asking c.self.inside.channel c.self.inside.resources c.self.invariant c.args.thread).pipes)
+          (ap (λ channel. world_of c.self.inside.config channel c.self.inside.resources c.self.inside.hands.items) w.ask_unblock.ensures.asked ∙ world-told c.self.inside.config c.self.inside.channel (after_asking c.self.inside.channel c.args.thread) c.self.inside.resources c.self.inside.hands.items (still-asking c.self.inside.channel c.self.inside.resources c.self.invariant c.args.thread).waits)
     ]

@@ -15,4 +15,4 @@ returns-clause-outcome c = rw (← c.self.view_is, take_reply-step c.self.inside
 pub returns-clause-world : goal.returns-clause-world
 returns-clause-world c =
     rw (← c.self.view_is, take_reply-step c.self.inside.config c.self.inside.channel (told_all c.self.inside.channel c.self.inside.resources) c.self.inside.hands.items (same-told c.self.inside.channel c.self.inside.resources c.self.invariant) c.args.thread)
-    (ap (λ channel. world_of c.self.inside.config channel c.self.inside.resources c.self.inside.hands.items) c.take_reply.ensures.taken ∙ world-told c.self.inside.config c.self.inside.channel (after_taking c.self.inside.channel c.args.thread) c.self.inside.resources c.self.inside.hands.items (still-taking c.self.inside.channel c.self.inside.resources c.self.invariant c.args.thread).pipes)
+    (ap (λ channel. world_of c.self.inside.config channel c.self.inside.resources c.self.inside.hands.items) c.take_reply.ensures.taken ∙ world-told c.self.inside.config c.self.inside.channel (after_taking c.self.inside.channel c.args.thread) c.self.inside.resources c.self.inside.hands.items (still-taking c.self.inside.channel c.self.inside.resources c.self.invariant c.args.thread).waits)

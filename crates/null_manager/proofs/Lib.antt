@@ -1,0 +1,2 @@
+-- A notification that wants memory arms one event more.
+pub mod ArmLemmas

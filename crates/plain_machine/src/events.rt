@@ -1,0 +1,96 @@
+//! Notifications and pulses: what a message asks for, the step that takes a pulse, and what is looked at.
+
+use crate::Plain;
+use plain_rules::events::Event;
+use plain_rules::files::{Fault, PipeLook};
+use plain_rules::messages::{from_place, number_at};
+use qx_types::{Coid, Manager, Outcome, Proc, User};
+
+/// Where the body of a message stands.
+const BODY: usize = 8;
+
+impl Plain {
+    /// The status of a notification of a process over a block.
+    pub fn notify(&mut self, proc: Proc, block: u16, bytes: &[u8]) -> Result<u64, Fault> {
+        match from_place(bytes, BODY) {
+            [wanted, code, v0, v1, v2, v3] => {
+                let event = Event {
+                    proc,
+                    block,
+                    wanted: *wanted,
+                    code: *code,
+                    value: u32::from_le_bytes([*v0, *v1, *v2, *v3]),
+                };
+                self.files.notify(number_at(bytes, 2), event)
+            }
+            _ => Ok(0),
+        }
+    }
+
+    /// A process takes its first pulse.
+    pub fn take_pulse(&mut self, proc: Proc) -> Outcome {
+        if !self.processes.contains(&proc) {
+            return Outcome::WrongState;
+        }
+        match self.files.events.take_pulse(proc) {
+            Some((code, value)) => Outcome::Pulse(code, value),
+            None => Outcome::NoPulse,
+        }
+    }
+
+    /// How many events a user has armed, and pulses that nobody has taken.
+    pub fn event_count(&self, user: User) -> usize {
+        self.files.events.count(user)
+    }
+
+    /// One of the connections of a process that have a block with nothing armed, by its place among them.
+    pub fn unarmed_connection(&self, proc: Proc, place: usize) -> Option<Coid> {
+        self.connections
+            .iter()
+            .filter(|row| row.proc == proc && self.is_unarmed(proc.user, row.block))
+            .nth(place)
+            .map(|row| row.coid)
+    }
+
+    /// One of the connections of a process that have a block in a pipe mount, by its place among them, and how it has a
+    /// pipe open.
+    pub fn pipe_look(&self, proc: Proc, place: usize) -> Option<(Coid, PipeLook)> {
+        let coid = self.pipe_connection(proc, place)?;
+        let row = self.connection(proc, coid)?;
+        Some((coid, self.files.pipe_look(proc.user, row.block?)?))
+    }
+
+    /// Whether a process has an event armed over one of its connections to a pipe mount.
+    pub fn has_armed_pipe(&self, proc: Proc) -> bool {
+        self.connections.iter().any(|row| row.proc == proc
+            && row.manager == Manager::Pipe
+            && row.block.is_some()
+            && !self.is_unarmed(proc.user, row.block))
+    }
+
+    fn is_unarmed(&self, user: User, block: Option<u16>) -> bool {
+        match block {
+            Some(block) => !self.files.events.is_armed(user, block),
+            None => false,
+        }
+    }
+
+    /// One of the connections of a process that have no block yet, by its place among them.
+    pub fn unopened_connection(&self, proc: Proc, place: usize) -> Option<Coid> {
+        self.connections
+            .iter()
+            .filter(|row| row.proc == proc && row.block.is_none())
+            .nth(place)
+            .map(|row| row.coid)
+    }
+
+    /// How many pulses nobody has taken, of all users.
+    pub fn pulses(&self) -> usize {
+        self.files.events.pulses()
+    }
+
+    /// The process of one of the untaken pulses, by its place among them.
+    pub fn pulse_process(&self, place: usize) -> Option<Proc> {
+        self.files.events.pulse_process(place)
+    }
+}

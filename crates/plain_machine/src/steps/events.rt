@@ -1,0 +1,123 @@
+//! Pseudo-random notifications, and who takes a pulse.
+
+use crate::Plain;
+use crate::steps::dice::Dice;
+use crate::steps::pipes::has_waiting;
+use crate::steps::requests::open_connection;
+use crate::steps::texts::filled;
+use qx_types::{Bytes, Coid, Conds, NotifyAction, Proc, Request, User};
+use std::alloc::{AllocError, Global};
+
+/// A notification of a process, most often over a connection to a pipe mount, and now and then over one whose open is
+/// still to be done.
+pub fn next_notifying(dice: &mut Dice, plain: &Plain, proc: Proc) -> Request {
+    let place = usize::from(dice.below(6));
+    let found = match dice.below(8) {
+        0..=2 => plain.unopened_connection(proc, place / 2),
+        3 => None,
+        _ => plain.pipe_connection(proc, place),
+    };
+    let coid = match found {
+        Some(coid) => coid,
+        None => open_connection(dice, plain, proc),
+    };
+    next_notify(dice, coid)
+}
+
+/// So many events and pulses a user may have.
+const FULL: usize = 128;
+
+/// For most users, something to arm on what has nothing armed, so that they come to have as many events as they may; and
+/// now and then where they have so many.
+pub fn next_arming(dice: &mut Dice, plain: &Plain, proc: Proc) -> Option<Request> {
+    let is_full = plain.event_count(proc.user) >= FULL;
+    if proc.user == User(2) || is_full && !dice.one_in(4) {
+        return None;
+    }
+    let coid = plain.unarmed_connection(proc, usize::from(dice.below(8)))?;
+    if is_full {
+        return Some(next_notify(dice, coid));
+    }
+    Some(Request::Notify {
+        coid,
+        action: NotifyAction::TranArm,
+        conds: Conds(1 + dice.below(3)),
+        code: dice.below(128),
+        value: u32::from(dice.below(100)),
+    })
+}
+
+/// A notification over a connection, of any action.
+pub fn next_notify(dice: &mut Dice, coid: Coid) -> Request {
+    let action = match dice.below(3) {
+        0 => NotifyAction::Poll,
+        1 => NotifyAction::PollArm,
+        _ => NotifyAction::TranArm,
+    };
+    Request::Notify {
+        coid,
+        action,
+        conds: next_conditions(dice),
+        code: next_code(dice),
+        value: next_value(dice),
+    }
+}
+
+fn next_conditions(dice: &mut Dice) -> Conds {
+    if dice.one_in(8) {
+        Conds(4 * dice.below(2))
+    } else {
+        Conds(1 + dice.below(3))
+    }
+}
+
+/// A code, now and then the greatest one or the one after it.
+fn next_code(dice: &mut Dice) -> u8 {
+    if dice.one_in(8) {
+        127 + dice.below(2)
+    } else {
+        dice.below(100)
+    }
+}
+
+/// A value, now and then the greatest one or the one after it.
+fn next_value(dice: &mut Dice) -> u32 {
+    if dice.one_in(8) {
+        268_435_455 + u32::from(dice.below(2))
+    } else {
+        u32::from(dice.below(100))
+    }
+}
+
+/// The process of one of the first pulses, if there are so many.
+pub fn pulsed_process(dice: &mut Dice, plain: &Plain) -> Option<Proc> {
+    plain.pulse_process(usize::from(dice.below(16)))
+}
+
+/// What most likely makes events due of a process that has armed some on pipes, or serves its calls that wait there: bytes that stand are read, as many as
+/// can stand are written or a few where there are none, or a side is closed that is open nowhere else.
+pub fn next_rousing(
+    alloc: Global,
+    dice: &mut Dice,
+    plain: &Plain,
+    proc: Proc,
+) -> Result<Option<Request>, AllocError> {
+    if !plain.has_armed_pipe(proc) && !has_waiting(plain, proc) {
+        return Ok(None);
+    }
+    let Some((coid, look)) = plain.pipe_look(proc, usize::from(dice.below(6))) else {
+        return Ok(None);
+    };
+    if look.is_last && look.for_reading != look.for_writing && dice.one_in(2) {
+        return Ok(Some(Request::Close { coid }));
+    }
+    if look.for_reading && look.bytes > 0 {
+        return Ok(Some(Request::Read { coid, count: 4_096 }));
+    }
+    if look.for_writing && look.bytes == 0 {
+        let length = if dice.one_in(3) { 5 } else { 4_096 };
+        let bytes = Bytes::from_vec(filled(alloc, b'r', length)?);
+        return Ok(Some(Request::Write { coid, bytes }));
+    }
+    Ok(None)
+}

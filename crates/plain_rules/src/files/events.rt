@@ -1,0 +1,39 @@
+//! What is asked of open blocks by notifications, and which events a step makes due.
+
+use crate::events::{Event, INPUT, OUTPUT};
+use crate::files::fault::Fault;
+use crate::files::rows::{Content, Files};
+use qx_types::{Errno, OFlags, User};
+use std::alloc::AllocError;
+
+impl Files {
+    /// The status of a notification over a block: to poll (0), to arm (2), or to arm where it has none to tell of (1).
+    pub fn notify(&mut self, action: u16, event: Event) -> Result<u64, Fault> {
+        let holding = self.conditions(event.proc.user, event.block)?;
+        self.events.notify(action, event, holding)
+    }
+
+    /// At the end of a step, the due events give their pulses.
+    pub fn settle_events(&mut self) -> Result<(), AllocError> {
+        for (event, before) in self.events.take_armed() {
+            if let Ok(after) = self.conditions(event.proc.user, event.block) {
+                self.events.settle(event, before, after)?;
+            }
+        }
+        Ok(())
+    }
+
+    /// Which conditions hold of what a block has open: of a pipe input where bytes stand or no block is for writing, and
+    /// output where one more has room or no block is for reading; of a file or a directory both.
+    fn conditions(&self, user: User, block: u16) -> Result<u8, Errno> {
+        let (opened, inode) = self.opened(user, block)?;
+        let Content::Pipe(pipe) = &inode.content else {
+            return Ok(INPUT | OUTPUT);
+        };
+        let has_input = pipe.len() > 0 || !self.is_open(user, opened.inode, OFlags::WRITE);
+        let has_output = pipe.has_room(1) || !self.is_open(user, opened.inode, OFlags::READ);
+        let input = if has_input { INPUT } else { 0 };
+        let output = if has_output { OUTPUT } else { 0 };
+        Ok(input | output)
+    }
+}

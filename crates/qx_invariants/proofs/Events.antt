@@ -1,0 +1,137 @@
+-- A user's armed events and untaken pulses together are no more than there may be, and each process has a queue for its pulses, whatever happens.
+use Rattle.std.proofs.Common.{◌≡◌, inl, inr, ℕ, zero, suc, ◌+◌, ◌≤◌, Bool, not, List, [], ◌∷◌, ◌++◌, length, drop, refl, sym, ap, ◌∙◌, subst, arith, length-append, length-drop}
+use Rattle.std.specs.Prelude.{filter, nat_lt, sum_by}
+use Rattle.std.proofs.Math.ListN.{length-set}
+use Rattle.std.proofs.lemmas.Bool.{cases_Bool, cond_both, ltb-true}
+use Rattle.std.proofs.lemmas.List.Filters.{length-filter_both}
+use Rattle.std.proofs.lemmas.List.Sums.{sum_by-cons}
+use Rattle.qx_types.specs.declared.errno.Errno.TheVariants.{EAGAIN}
+use Rattle.qx_types.specs.declared.fields.NotifyAction.{NotifyAction}
+use Rattle.qx_types.specs.declared.fields.NotifyAction.TheVariants.{Poll, PollArm, TranArm}
+use Rattle.qx_types.specs.declared.limits.TheConstants.Limits.{EVENTS, PROCESSES}
+use Rattle.qx_machine.specs.declared.rows.Conditions.{Conditions}
+use Rattle.qx_machine.specs.declared.rows.Event.{Event}
+use Rattle.qx_machine.specs.declared.rows.Kind.{Kind}
+use Rattle.qx_machine.specs.declared.rows.Pulse.{Pulse}
+use Rattle.qx_machine.specs.Defaults.{without_block, without_unused}
+use Rattle.qx_machine.specs.Events.{Events, Notified, arm_event, arming, disarmed, event_count, is_any, is_due, is_on, notified, pulse_of, triggered, wanted_of, with_pulse, with_pulses, without_first_pulse}
+use Rattle.qx_machine.specs.Inodes.{new_attribute}
+use Rattle.qx_machine.specs.Judgements.{need}
+use Rattle.qx_machine.specs.Lines.{with_line}
+use Rattle.qx_machine.specs.Names.{under}
+use Rattle.qx_machine.specs.Resources.{Resources}
+use Rattle.qx_invariants.specs.Changes.{AreKept, Closes, Comes, MayHappen, Notifies, ResourceChange, Unlinks, with_change, with_named, with_unlinked}
+use Rattle.qx_machine.proofs.Gives.{Gives, gives_by, gives_done, gives_on, need-true}
+use Rattle.qx_invariants.proofs.Rows.{content_cases, empty_cases, freed, unused_cases}
+
+-- ---- fewer events
+
+filter-fewer : {A : Type 0} (which : A → Bool) (all : List A) → length (filter which all) ≤ length all
+filter-fewer which all = let both = length-filter_both which (λ one. not (which one)) (λ one. refl) all in omega (arith, both)
+
+-- a queue changes
+line-count : (pulses : List (List Pulse)) (number : ℕ) (change : List Pulse → List Pulse) (more : ℕ) → ((queue : List Pulse) → length (change queue) ≤ length queue + more) → sum_by length (with_line pulses number change) ≤ sum_by length pulses + more
+line-count [] number change more few = omega arith
+line-count (queue ∷ queues) zero change more few =
+    let now = sum_by-cons length (change queue) queues in
+    let was = sum_by-cons length queue queues in
+    let its = few queue in
+    omega (arith, now, was, its)
+line-count (queue ∷ queues) (suc number) change more few =
+    let now = sum_by-cons length queue (with_line queues number change) in
+    let was = sum_by-cons length queue queues in
+    let rest = line-count queues number change more few in
+    omega (arith, now, was, rest)
+
+line-length : (pulses : List (List Pulse)) (number : ℕ) (change : List Pulse → List Pulse) → length (with_line pulses number change) ≡ length pulses
+line-length pulses number change = length-set pulses number _
+
+-- what a block had armed goes
+pub disarmed-kept : (block : ℕ) (events : Events) → AreKept events (disarmed block events)
+disarmed-kept block events = record { few = inl (let fewer = filter-fewer (λ event. not (is_on block event)) events.armed in omega (arith, fewer)); queues = refl }
+
+-- a process takes its first pulse
+pub taken-kept : (process : ℕ) (events : Events) → AreKept events (without_first_pulse process events)
+taken-kept process events = record {
+  few = inl (let fewer = line-count events.pulses process (drop 1) 0 (λ queue. let long = length-drop 1 queue in omega (arith, long)) in omega (arith, fewer));
+  queues = line-length events.pulses process (drop 1);
+}
+
+-- ---- a notification
+
+arming-kept : (event : Event) (events : Events) → Gives (λ (given : Notified). AreKept events given.events) (arming event events)
+arming-kept event events =
+    gives_by (AreKept events) _ (arm_event event events) _
+    (gives_on _ (need (nat_lt (event_count (disarmed event.block events)) EVENTS) EAGAIN) _ (λ few is_few.
+    let room = ltb-true (event_count (disarmed event.block events)) EVENTS (need-true _ _ few is_few) in
+    let longer = length-append (disarmed event.block events).armed (event ∷ []) in
+    gives_done _ _ (record { few = inr (omega (arith, room, longer)); queues = refl })))
+    (λ armed kept. gives_done _ _ kept)
+
+pub notified-kept : (action : NotifyAction) (event : Event) (holding : Conditions) (events : Events) → Gives (λ (given : Notified). AreKept events given.events) (notified action event holding events)
+notified-kept Poll event holding events = gives_done _ _ (disarmed-kept event.block events)
+notified-kept TranArm event holding events = arming-kept event events
+notified-kept PollArm event holding events =
+    cond_both (is_any (wanted_of event.conditions holding)) _ _ (Gives (λ (given : Notified). AreKept events given.events)) (λ is. gives_done _ _ (disarmed-kept event.block events)) (λ is. arming-kept event events)
+
+-- ---- the end of a step
+
+module _ (due : Event → Bool) (after : ℕ → Conditions) where
+  -- each due event gives at most one pulse
+  given-fewer : (events : List Event) (pulses : List (List Pulse)) → length (filter (λ event. not (due event)) events) + sum_by length (with_pulses due after events pulses) ≤ length events + sum_by length pulses
+  given-fewer [] pulses = omega arith
+  given-fewer (event ∷ events) pulses = elim (cases_Bool (due event)) [
+    | inl is ↦
+        let new = pulse_of event (after event.block) in
+        let one = line-count pulses event.process (λ queue. queue ++ new ∷ []) 1 (λ queue. let long = length-append queue (new ∷ []) in omega (arith, long)) in
+        let rest = given-fewer events (with_pulse event.process new pulses) in
+        rw is (omega (arith, one, rest))
+    | inr not_so ↦ let rest = given-fewer events pulses in rw not_so (omega (arith, rest))
+  ]
+
+  given-queues : (events : List Event) (pulses : List (List Pulse)) → length (with_pulses due after events pulses) ≡ length pulses
+  given-queues [] pulses = refl
+  given-queues (event ∷ events) pulses = elim (cases_Bool (due event)) [
+    | inl is ↦ rw is (given-queues events (with_pulse event.process (pulse_of event (after event.block)) pulses) ∙ line-length pulses event.process (λ queue. queue ++ pulse_of event (after event.block) ∷ []))
+    | inr not_so ↦ rw not_so (given-queues events pulses)
+  ]
+
+pub triggered-fewer : (before after : ℕ → Conditions) (events : Events) → event_count (triggered before after events) ≤ event_count events
+triggered-fewer before after events = given-fewer (is_due before after) after events.armed events.pulses
+
+pub triggered-kept : (before after : ℕ → Conditions) (events : Events) → AreKept events (triggered before after events)
+triggered-kept before after events = record { few = inl (triggered-fewer before after events); queues = given-queues (is_due before after) after events.armed events.pulses }
+
+-- ---- whatever happens
+
+pub record HasEvents (r : Resources) : Type 0 where
+  -- armed events and untaken pulses together are no more than may be
+  pub few : event_count r.events ≤ EVENTS
+  -- there is a queue for the pulses of each process
+  pub queues : length r.events.pulses ≡ PROCESSES + 1
+
+unused-events : (own : Kind) (inode : ℕ) (r : Resources) → (without_unused own inode r).events ≡ r.events
+unused-events own inode r = unused_cases (λ (s : Resources). s.events ≡ r.events) own inode r (λ gone. content_cases (λ (s : Resources). s.events ≡ r.events) own inode (freed inode r) (λ is. refl) (λ is. refl) (λ is. refl)) (λ stays. refl)
+
+-- what a user's events are afterwards
+abbrev events_after : ResourceChange → Events → Events
+events_after (Notifies events) before = events
+events_after _ before = before
+
+now-events : (change : ResourceChange) (r : Resources) → (with_change change r).events ≡ events_after change r.events
+now-events (Comes inode directory name which mode moment) r = empty_cases (λ (s : Resources). s.events ≡ r.events) which inode (with_named inode (under directory name) (new_attribute which mode r.user moment) r) (λ is. refl) (λ is. refl) (λ is. refl)
+now-events (Unlinks own directory name inode mtime ctime) r = unused-events own inode (with_unlinked inode (under directory name) mtime ctime r)
+now-events (Closes own number block) r = unused-events own block.inode (without_block number r)
+now-events _ r = refl
+
+kept-events : (change : ResourceChange) (r : Resources) → MayHappen change r → HasEvents r → HasEvents (record r { events = events_after change r.events })
+kept-events (Notifies events) r may h = record {
+  few = elim may.few [ inl fewer ↦ let few = h.few in omega (arith, fewer, few) | inr few ↦ few ];
+  queues = may.queues ∙ h.queues;
+}
+kept-events _ r may h = record { few = h.few; queues = h.queues }
+
+pub events-keep : (change : ResourceChange) (r : Resources) → MayHappen change r → HasEvents r → HasEvents (with_change change r)
+events-keep change r may h =
+    let now = kept-events change r may h in
+    record { few = subst (λ (events : Events). event_count events ≤ EVENTS) (sym (now-events change r)) now.few; queues = ap (λ (events : Events). length events.pulses) (now-events change r) ∙ now.queues }

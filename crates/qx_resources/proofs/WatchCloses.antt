@@ -1,0 +1,105 @@
+-- What a close comes to: the event of its block goes, and only of its pipe may something come to hold.
+use Rattle.std.proofs.Common.{◌≡◌, inl, inr, ℕ, ◌≤◌, Bool, not, ◌==◌, refl, sym, ap, ◌∙◌, arith, Option, Some, None, ◌≢◌, List, ◌∷◌, [], count_by, slice_set}
+use Rattle.std.proofs.lemmas.Bool.{false≢true, eq-eqb, cases_Bool, cond_both}
+use Rattle.std.specs.List.{AllByRecursion}
+use Rattle.std.specs.Prelude.{filter}
+use Rattle.qx_types.specs.declared.errno.Errno.TheVariants.{EBADF}
+use Rattle.qx_types.specs.declared.flags.OFlags.{OFlags}
+use Rattle.qx_machine.specs.declared.rows.Event.{Event}
+use Rattle.qx_machine.specs.declared.rows.Kind.{Kind}
+use Rattle.qx_machine.specs.declared.rows.Kind.TheVariants.{Directory, File}
+use Rattle.qx_machine.specs.declared.rows.Ocb.{Ocb}
+use Rattle.qx_machine.specs.declared.rows.Opened.{Opened}
+use Rattle.qx_machine.specs.declared.rows.WaitingCall.{WaitingCall}
+use Rattle.qx_machine.specs.Defaults.{close, close_with_event, is_own, own_block, pipe_in, without_block, without_unused}
+use Rattle.qx_machine.specs.Events.{disarmed, is_on}
+use Rattle.qx_machine.specs.Functions.{Deed}
+use Rattle.qx_machine.specs.Inodes.{is_open, reads, writes, Inodes, free_inode, is_unused}
+use Rattle.qx_machine.specs.Judgements.{found, need}
+use Rattle.qx_machine.specs.PipeManager.{released}
+use Rattle.qx_machine.specs.Pipes.{Pipe}
+use Rattle.qx_machine.specs.Resources.{Resources, without_content}
+use Rattle.qx_machine.specs.Rows.{row_at}
+use Rattle.qx_machine.proofs.Places.{row_at-set_other}
+use Rattle.qx_attr.proofs.CountLemmas.{count-free, counts_other}
+use Rattle.qx_attr.specs.inner.Counts.{one}
+use Rattle.qx_resources.proofs.WatchDeeds.{unarmed, IsSettledAt, at-block}
+use Rattle.qx_resources.proofs.WatchFacts.{Stays, watch-settled, OthersAreStill, all-weaker}
+use Rattle.qx_machine.proofs.Gives.{Gives, found-row, gives_done, gives_on, gives_by}
+use Rattle.qx_resources.proofs.WatchQuiet.{inode_of, pipe-falls}
+use Rattle.qx_machine.specs.declared.rows.Kind.TheVariants as kind
+
+-- ---- a block goes
+
+-- all else stays, but perhaps what is in the block's inode
+record IsClosed (r : Resources) (number inode : ℕ) (s : Resources) : Type 0 where
+  blocks : s.inodes.blocks ≡ slice_set r.inodes.blocks number None
+  pipes : (other : ℕ) → other ≢ inode → row_at s.pipes other ≡ row_at r.pipes other
+  events : s.events ≡ r.events
+
+released-closed : (r : Resources) (number inode moment : ℕ) (row : Option (Pipe WaitingCall)) → IsClosed r number inode (released (without_block number r) number inode moment row).state
+released-closed r number inode moment None = record { blocks = refl; pipes = λ other apart. refl; events = refl }
+released-closed r number inode moment (Some pipe) = record { blocks = refl; pipes = λ other apart. row_at-set_other r.pipes inode other _ apart; events = refl }
+
+pub free-blocks : (inodes : Inodes) (inode : ℕ) → (free_inode inodes inode).blocks ≡ inodes.blocks
+free-blocks inodes inode = cond_both (is_unused inodes inode (row_at inodes.attributes inode)) _ inodes (λ (now : Inodes). now.blocks ≡ inodes.blocks) (λ is. refl) (λ is_not. refl)
+
+content-closed : (own : Kind) (r : Resources) (number inode : ℕ) (s : Resources) → IsClosed r number inode s → IsClosed r number inode (without_content own inode (record s { inodes = free_inode s.inodes inode }))
+content-closed File r number inode s h = record { blocks = free-blocks s.inodes inode ∙ h.blocks; pipes = h.pipes; events = h.events }
+content-closed Directory r number inode s h = record { blocks = free-blocks s.inodes inode ∙ h.blocks; pipes = h.pipes; events = h.events }
+content-closed kind.Pipe r number inode s h = record { blocks = free-blocks s.inodes inode ∙ h.blocks; pipes = λ other apart. row_at-set_other s.pipes inode other None apart ∙ h.pipes other apart; events = h.events }
+
+unused-closed : (own : Kind) (r : Resources) (number inode : ℕ) (s : Resources) → IsClosed r number inode s → IsClosed r number inode (without_unused own inode s)
+unused-closed own r number inode s h = cond_both (is_unused s.inodes inode (row_at s.inodes.attributes inode)) _ s (IsClosed r number inode) (λ is. content-closed own r number inode s h) (λ is_not. h)
+
+own-gives : (inodes : Inodes) (number : ℕ) (own : Kind) → Gives (λ (block : Ocb). row_at inodes.blocks number ≡ Some block) (own_block inodes number own)
+own-gives inodes number own =
+    gives_on _ (found (row_at inodes.blocks number) EBADF) _ (λ block is.
+    gives_on _ (found (row_at inodes.attributes block.inode) EBADF) _ (λ attribute there.
+    gives_on _ (need (is_own own attribute.kind) EBADF) _ (λ mine is_mine. gives_done _ block (found-row _ _ block is))))
+
+-- a block goes, and its event with it
+record IsClosedAt (r : Resources) (number : ℕ) (s : Resources) : Type 0 where
+  block : Ocb
+  was : row_at r.inodes.blocks number ≡ Some block
+  closed : IsClosed r number block.inode s
+
+close-gives : (own : Kind) (r : Resources) (over : Opened) → Gives (λ (deed : Deed Resources). IsClosedAt r over.number deed.state) (close own r over)
+close-gives own r over =
+    gives_by _ _ (own_block r.inodes over.number own) _ (own-gives r.inodes over.number own) (λ block was.
+    gives_done _ _ (record { block = block; was = was; closed = unused-closed own r over.number block.inode _ (released-closed r over.number block.inode over.moment (pipe_in own r block.inode)) }))
+
+-- what is armed still is of other blocks
+disarmed-others : (number : ℕ) (events : List Event) → AllByRecursion (λ (event : Event). event.block ≢ number) (filter (λ event. not (is_on number event)) events)
+disarmed-others number [] = tt
+disarmed-others number (event ∷ events) = elim (cases_Bool (event.block == number)) [
+  | inl is ↦ rw is (disarmed-others number events)
+  | inr is_not ↦ rw is_not ((λ same. false≢true (sym is_not ∙ eq-eqb event.block number same)), disarmed-others number events)
+]
+
+module _ (r s : Resources) (number : ℕ) (h : IsClosedAt r number s) where
+  abbrev after : Resources
+  after = record s { events = disarmed number s.events }
+
+  closed-row : (other : ℕ) → other ≢ number → inode_of (row_at r.inodes.blocks other) ≡ inode_of (row_at s.inodes.blocks other)
+  closed-row other apart = ap inode_of (sym (row_at-set_other r.inodes.blocks number other None apart)) ∙ ap (λ (rows : List (Option Ocb)). inode_of (row_at rows other)) (sym h.closed.blocks)
+
+  closed-counts : (which : OFlags → Bool) (inode : ℕ) → inode ≢ h.block.inode → count_by (is_open which inode) r.inodes.blocks ≤ count_by (is_open which inode) s.inodes.blocks
+  closed-counts which inode apart =
+      let freed = count-free (is_open which inode) refl r.inodes.blocks number h.block h.was in
+      let other = ap one (counts_other which h.block inode apart) in
+      let same = ap (count_by (is_open which inode)) h.closed.blocks in
+      omega (arith, freed, other, same)
+
+  closed-others : OthersAreStill r after h.block.inode
+  closed-others inode apart = pipe-falls r after inode (closed-counts reads inode apart) (closed-counts writes inode apart) (h.closed.pipes inode apart)
+
+  closed-settled : IsSettledAt r number after
+  closed-settled =
+      at-block r after number h.block h.was
+      (watch-settled r after h.block.inode closed-others
+      (all-weaker (λ (event : Event). event.block ≢ number) (Stays r after) after.events.armed (λ event apart. closed-row event.block apart) (disarmed-others number s.events.armed))
+      (λ none. ap (filter (λ event. not (is_on number event))) (unarmed r s h.closed.events none)))
+
+pub close-settled : (own : Kind) (r : Resources) (over : Opened) → Gives (λ (deed : Deed Resources). IsSettledAt r over.number deed.state) (close_with_event own r over)
+close-settled own r over = gives_by _ _ (close own r over) _ (close-gives own r over) (λ deed h. gives_done _ _ (closed-settled r deed.state over.number h))

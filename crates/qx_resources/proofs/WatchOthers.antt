@@ -1,0 +1,109 @@
+-- What an unlink comes to, and what tells or arms alone: nothing comes to hold.
+use Rattle.std.proofs.Common.{◌≡◌, inl, ℕ, true, not, ◌==◌, refl, sym, ap, ◌∙◌, arith, Option, Some, None, ◌≢◌, List, count_by}
+use Rattle.std.proofs.lemmas.Bool.{false≢true, eqb-true, cond_both, and_parts}
+use Rattle.std.specs.Prelude.{ℤ}
+use Rattle.qx_types.specs.declared.errno.Errno.TheVariants.{EBADF, EINVAL, ENOENT, EBUSY, ENOTDIR, ENOTEMPTY, EPERM, ESPIPE}
+use Rattle.qx_types.specs.declared.fields.NotifyAction.{NotifyAction}
+use Rattle.qx_types.specs.declared.fields.Whence.{Whence}
+use Rattle.qx_machine.specs.declared.rows.Attribute.{Attribute}
+use Rattle.qx_machine.specs.declared.rows.Kind.{Kind}
+use Rattle.qx_machine.specs.declared.rows.Kind.TheVariants.{Directory, File}
+use Rattle.qx_machine.specs.declared.rows.Ocb.{Ocb}
+use Rattle.qx_machine.specs.declared.rows.Opened.{Opened}
+use Rattle.qx_machine.specs.declared.rows.PulseWish.{PulseWish}
+use Rattle.qx_machine.specs.declared.rows.WaitingCall.{WaitingCall}
+use Rattle.qx_machine.specs.Attributes.{top_inode}
+use Rattle.qx_machine.specs.Defaults.{is_own, without_unused, writable, chmod_block, list_block, stat_block, stat_path, unlink_path, without_name}
+use Rattle.qx_machine.specs.Events.{notified}
+use Rattle.qx_machine.specs.Inodes.{is_open, Inodes, free_inode, is_unused, with_attribute}
+use Rattle.qx_machine.specs.Judgements.{found, need}
+use Rattle.qx_machine.specs.Names.{is_directory, spot, is_empty, names_in, inode_at}
+use Rattle.qx_machine.specs.Notification.{conditions_at, event_of, notify_block}
+use Rattle.qx_machine.specs.PipeManager.{seek_pipe}
+use Rattle.qx_machine.specs.Pipes.{Pipe}
+use Rattle.qx_machine.specs.Resources.{Resources, without_content}
+use Rattle.qx_machine.specs.Rows.{row_at}
+use Rattle.qx_machine.proofs.Places.{row_at-set_other}
+use Rattle.qx_attr.proofs.CountLemmas.{count-free, counts_own}
+use Rattle.qx_attr.specs.inner.Counts.{one}
+use Rattle.qx_resources.proofs.WatchCloses.{free-blocks}
+use Rattle.qx_resources.proofs.WatchDeeds.{GivesStill}
+use Rattle.qx_resources.proofs.WatchFacts.{IsStill}
+use Rattle.qx_machine.proofs.Gives.{gives_done, gives_on, gives_error}
+use Rattle.qx_resources.proofs.WatchOpens.{grows-still, same-grows, same-still}
+use Rattle.qx_machine.specs.declared.rows.Kind.TheVariants as kind
+
+-- ---- a name goes
+
+-- what no block has open, none has
+unopened : (blocks : List (Option Ocb)) (number : ℕ) (block : Ocb) (inode : ℕ) → row_at blocks number ≡ Some block → count_by (is_open (λ flags. true) inode) blocks ≡ 0 → block.inode ≢ inode
+unopened blocks number block inode is none same =
+    let closed = count-free (is_open (λ flags. true) inode) refl blocks number block is in
+    let own = ap one (counts_own (λ flags. true) block inode (sym same)) in
+    absurd (omega (arith, closed, own, none))
+
+none-open : (inodes : Inodes) (inode : ℕ) (row : Option Attribute) → is_unused inodes inode row ≡ true → count_by (is_open (λ flags. true) inode) inodes.blocks ≡ 0
+none-open inodes inode None is = absurd (false≢true is)
+none-open inodes inode (Some attribute) is = eqb-true _ 0 (and_parts _ _ is).1
+
+-- an inode that is free, and without what was in it
+abbrev freed : Kind → ℕ → Resources → Resources
+freed own inode s = without_content own inode (record s { inodes = free_inode s.inodes inode })
+
+content-still : (own : Kind) (r s : Resources) (inode : ℕ) → s.inodes.blocks ≡ r.inodes.blocks → s.pipes ≡ r.pipes → count_by (is_open (λ flags. true) inode) r.inodes.blocks ≡ 0 → IsStill r (freed own inode s)
+content-still File r s inode blocks pipes none = same-still r (freed File inode s) (free-blocks s.inodes inode ∙ blocks) pipes
+content-still Directory r s inode blocks pipes none = same-still r (freed Directory inode s) (free-blocks s.inodes inode ∙ blocks) pipes
+content-still kind.Pipe r s inode blocks pipes none =
+    grows-still r (freed kind.Pipe inode s) (same-grows r (freed kind.Pipe inode s) (free-blocks s.inodes inode ∙ blocks) (λ number block is.
+    inl (row_at-set_other s.pipes inode block.inode None (unopened r.inodes.blocks number block inode is none) ∙ ap (λ (rows : List (Option (Pipe WaitingCall))). row_at rows block.inode) pipes)))
+
+unused-still : (own : Kind) (r s : Resources) (inode : ℕ) → s.inodes.blocks ≡ r.inodes.blocks → s.pipes ≡ r.pipes → IsStill r (without_unused own inode s)
+unused-still own r s inode blocks pipes =
+    cond_both (is_unused s.inodes inode (row_at s.inodes.attributes inode)) _ s (IsStill r)
+    (λ is. content-still own r s inode blocks pipes (ap (count_by (is_open (λ flags. true) inode)) (sym blocks) ∙ none-open s.inodes inode (row_at s.inodes.attributes inode) is))
+    (λ is_not. same-still r s blocks pipes)
+
+pub unlink-still : (own : Kind) (r : Resources) (root : ℕ) (rest : List (List ℕ)) (moment : ℕ) → GivesStill r (unlink_path own r root rest moment)
+unlink-still own r root rest moment =
+    gives_on _ (spot r.inodes r.names r.user root rest EBUSY) _ (λ at is.
+    gives_on _ (found at.inode ENOENT) _ (λ inode there.
+    gives_on _ (writable r.inodes r.user at.parent) _ (λ parent is_parent.
+    gives_on _ (need (is_empty (names_in r.names inode)) ENOTEMPTY) _ (λ empty is_empty.
+    gives_on _ (found (row_at r.inodes.attributes inode) ENOENT) _ (λ attribute has.
+    gives_on _ (need (is_own own attribute.kind) ENOENT) _ (λ mine is_mine.
+    gives_done _ _ (unused-still own r (without_name at parent inode attribute moment r) inode refl refl)))))))
+
+-- ---- what tells
+
+pub stat_path-still : (r : Resources) (root : ℕ) (rest : List (List ℕ)) (moment : ℕ) → GivesStill r (stat_path r root rest moment)
+stat_path-still r root rest moment =
+    gives_on _ (inode_at r.inodes r.names r.user root rest) _ (λ inode is.
+    gives_on _ (found (row_at r.inodes.attributes inode) ENOENT) _ (λ attribute there. gives_done _ _ (same-still r r refl refl)))
+
+pub stat_block-still : (r : Resources) (over : Opened) → GivesStill r (stat_block r over)
+stat_block-still r over =
+    gives_on _ (found (row_at r.inodes.blocks over.number) EBADF) _ (λ block is.
+    gives_on _ (found (row_at r.inodes.attributes block.inode) EBADF) _ (λ attribute there. gives_done _ _ (same-still r r refl refl)))
+
+pub list-still : (r : Resources) (over : Opened) (after : List ℕ) → GivesStill r (list_block r over after)
+list-still r over after =
+    gives_on _ (found (row_at r.inodes.blocks over.number) EBADF) _ (λ block is.
+    gives_on _ (found (row_at r.inodes.attributes block.inode) EBADF) _ (λ attribute there.
+    gives_on _ (need (is_directory attribute.kind) ENOTDIR) _ (λ directory is_one. gives_done _ _ (same-still r r refl refl))))
+
+pub chmod-still : (r : Resources) (over : Opened) (mode : ℕ) → GivesStill r (chmod_block r over mode)
+chmod-still r over mode =
+    gives_on _ (found (row_at r.inodes.blocks over.number) EBADF) _ (λ block is.
+    gives_on _ (need (not (block.inode == top_inode)) EPERM) _ (λ other is_other.
+    gives_on _ (found (row_at r.inodes.attributes block.inode) EBADF) _ (λ attribute there. gives_done _ _ (same-still r (record r { inodes = with_attribute r.inodes block.inode (record attribute { mode = mode; ctime = over.moment }) }) refl refl))))
+
+pub notify-still : (r : Resources) (over : Opened) (action : NotifyAction) (wish : PulseWish) → GivesStill r (notify_block r over action wish)
+notify-still r over action wish =
+    gives_on _ (found (row_at r.inodes.blocks over.number) EBADF) _ (λ block opened.
+    gives_on _ (notified action (event_of over wish) (conditions_at r (Some block)) r.events) _ (λ given is. gives_done _ _ (same-still r (record r { events = given.events }) refl refl)))
+
+pub seek_pipe-still : (r : Resources) (over : Opened) (whence : Whence) (by : ℤ) → GivesStill r (seek_pipe r over whence by)
+seek_pipe-still r over whence by =
+    gives_on _ (found (row_at r.inodes.blocks over.number) EBADF) _ (λ block is.
+    gives_on _ (found (row_at r.inodes.attributes block.inode) EBADF) _ (λ attribute there.
+    gives_on _ (need (not (is_directory attribute.kind)) EINVAL) _ (λ pipe is_pipe. gives_error _ ESPIPE)))

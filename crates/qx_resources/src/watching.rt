@@ -1,0 +1,148 @@
+//! The pipe that is watched while a message or an unblock pulse is done, and the pulses that come of it.
+
+ghost use Rattle.std.specs.Prelude.{◌≡◌, ◌&&◌, ◌==◌, ℕ, Some, IsSome, length, not};
+ghost use Rattle.qx_machine.specs.Notification.{conditions_of};
+ghost use Rattle.qx_machine.specs.Rows.{row_at};
+ghost use Rattle.qx_machine.specs.Waiting.{sides_of};
+ghost use Rattle.qx_machine.specs.declared.rows.Ocb as machine;
+ghost use Rattle.qx_notify.specs.Events.{with_events};
+ghost use Rattle.qx_resources.specs.State.{HasUser, told};
+ghost use Rattle.qx_resources.specs.Watching.{pipe_conditions, told_over, watch, watched_call, watched_over, watched_settled};
+
+use crate::resources::Resources;
+use crate::waits::Waits;
+use qx_attr::Inodes;
+use qx_machine::{Conditions, Opened};
+use qx_notify::{Change, Changes};
+use qx_types::{Errno, Limits, Thread};
+use qx_wire::{Meaning, Message};
+
+/// Both conditions hold of a file and of a directory, always.
+pub(crate) const BOTH: Conditions = Conditions {
+    input: true,
+    output: true,
+};
+
+/// A pipe that is watched: its inode, and which conditions held of it before it is worked on.
+#[derive(Clone, Copy, Debug, PartialEq, Eq)]
+pub struct Watched {
+    pub inode: u32,
+    pub before: Conditions,
+}
+
+impl Resources {
+    /// The pipe that a message over what is open works on, if any event of the user is armed: a read, a write and a close
+    /// work on one. What is open is there.
+    pub fn watch_message(
+        &self,
+        waits: &Waits,
+        meaning: &Meaning<'_>,
+        opened: Result<Opened, Errno>,
+    ) -> Option<Watched>
+        requires fits { HasUser self.now waits.now }
+        ensures watched { result ≡ watched_over (told self.now waits.now) meaning.now opened }
+        ensures there { (number : ℕ) (block : machine.Ocb) → row_at self.now.inodes.blocks number ≡ Some block → IsSome (row_at self.now.inodes.attributes block.inode) }
+    {
+        let inodes = self.store.inodes();
+        inodes.opened();
+        match meaning {
+            Meaning::Known(Message::Read { .. } | Message::Write { .. } | Message::Close) => {}
+            _ => return None,
+        }
+        let block = inodes.block(opened.ok()?.number)?;
+        self.watch(waits, block.inode)
+    }
+
+    /// The pipe in which a call of a thread waits, if any event of the user is armed: an unblock pulse works on it.
+    pub fn watch_call(&self, waits: &Waits, thread: Thread, call: u64) -> Option<Watched>
+        requires own { self.now.user ≡ thread.proc.user.0 }
+        requires fits { HasUser self.now waits.now }
+        ensures watched { result ≡ watched_call (told self.now waits.now) thread.proc.num thread.tid call }
+    {
+        if !waits.events.has_armed(thread.proc.user) {
+            return None;
+        }
+        let inode = qx_pipes::holder(&waits.shared, self.store.inodes(), thread, call)?;
+        self.watch(waits, inode)
+    }
+
+    /// The pipe of an inode, if it is one and any event of the user is armed.
+    fn watch(&self, waits: &Waits, inode: u32) -> Option<Watched>
+        requires fits { HasUser self.now waits.now }
+        ensures watched { result ≡ watch (told self.now waits.now) inode }
+    {
+        let user = self.store.user();
+        if !waits.events.has_armed(user) || !waits.shared.has_pipe(user, inode) {
+            return None;
+        }
+        Some(Watched {
+            inode,
+            before: self.conditions(waits, inode),
+        })
+    }
+
+    /// Which conditions hold of what is open under an inode (C Library Reference: `ionotify`): of a pipe input where bytes
+    /// stand or nobody has it open for writing, and output where bytes have room or nobody has it open for reading.
+    pub(crate) fn conditions(&self, waits: &Waits, inode: u32) -> Conditions
+        ensures { result ≡ pipe_conditions (told self.now waits.now) inode }
+    {
+        let user = self.store.user();
+        if !waits.shared.has_pipe(user, inode) {
+            return BOTH;
+        }
+        let sides = self.store.inodes().sides(inode);
+        let len = waits.shared.pipe_len(user, inode);
+        Conditions {
+            input: len != 0 || !sides.for_writing,
+            output: len < Limits::PIPE || !sides.for_reading,
+        }
+    }
+
+    /// Events that are due by what was done to a watched pipe give their pulses (C Library Reference:
+    /// `iofunc_notify_trigger`). Where nothing is watched none is due.
+    pub fn trigger(&self, waits: &mut Waits, watched: Option<Watched>)
+        requires fits { HasUser self.now waits.old }
+        ensures triggered { waits.new ≡ record waits.old { events = with_events waits.old.events self.now.user (watched_settled watched (told self.now waits.old)) } }
+    {
+        let Some(watched) = watched else {
+            return;
+        };
+        let after = self.conditions(waits, watched.inode);
+        let changes = PipeChanges {
+            inodes: self.store.inodes(),
+            inode: watched.inode,
+            change: Change {
+                before: watched.before,
+                after,
+            },
+        };
+        waits.events.trigger(self.store.user(), &changes);
+    }
+}
+
+/// What changed of the conditions of one pipe.
+#[derive(Clone, Copy)]
+struct PipeChanges<'a> {
+    inodes: &'a Inodes,
+    inode: u32,
+    change: Change,
+}
+
+impl<'a> Changes for PipeChanges<'a> {
+    ghost use Rattle.qx_machine.specs.Rows.{row_at};
+    ghost use Rattle.qx_resources.specs.Watching.{told_of};
+
+    ghost before = { λ c number. told_of (row_at c.inodes.now.inodes.blocks number) c.inode c.change.before };
+
+    ghost after = { λ c number. told_of (row_at c.inodes.now.inodes.blocks number) c.inode c.change.after };
+
+    fn of(&self, block: u16) -> Change {
+        match self.inodes.block(block) {
+            Some(row) if row.inode == self.inode => self.change,
+            _ => Change {
+                before: BOTH,
+                after: BOTH,
+            },
+        }
+    }
+}
