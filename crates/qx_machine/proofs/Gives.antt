@@ -1,6 +1,6 @@
 -- What a judgement gives, if it gives anything.
 use Rattle.std.proofs.Common.{◌≡◌, Bool, true, false, refl}
-use Rattle.std.specs.Prelude.{Option, Some, None, Result, Ok, Err, IfOk}
+use Rattle.std.specs.Prelude.{Option, Some, None, Result, Ok, Err, IfOk, if◌then◌else◌}
 use Rattle.std.proofs.lemmas.Result.{IfOk-at_ok, IfOk-weaker}
 use Rattle.qx_machine.specs.Judgements.{◌>>=◌, found, need}
 
@@ -17,6 +17,10 @@ gives_done Q value h = record { gives = h }
 
 pub gives_error : {A E : Type 0} (Q : A → Type 0) (error : E) → Gives Q (Err error)
 gives_error Q error = record { gives = tt }
+
+pub gives_if : {A E : Type 0} (Q : A → Type 0) (test : Bool) (first second : Result A E) → Gives Q first → Gives Q second → Gives Q (if test then first else second)
+gives_if Q true first second h k = h
+gives_if Q false first second h k = k
 
 pub gives-value : {A E : Type 0} (Q : A → Type 0) (given : Result A E) (value : A) → given ≡ Ok value → Gives Q given → Q value
 gives-value Q given value is h = IfOk-at_ok Q is h.gives

@@ -29,6 +29,7 @@ use Rattle.qx_machine.specs.declared.rows.Kind.{Kind}
 use Rattle.qx_machine.specs.declared.rows.Kind.TheVariants as kind
 use Rattle.qx_machine.specs.declared.rows.Kind.TheVariants.{Directory, File}
 use Rattle.qx_machine.specs.declared.rows.Manner.{Manner}
+use Rattle.qx_machine.specs.declared.rows.NewDup.{NewDup}
 use Rattle.qx_machine.specs.declared.rows.NewOpen.{NewOpen}
 use Rattle.qx_machine.specs.declared.rows.Opened.{Opened}
 use Rattle.qx_machine.specs.declared.rows.PulseWish.{PulseWish}
@@ -36,16 +37,16 @@ use Rattle.qx_machine.specs.declared.rows.Sides.{Sides}
 use Rattle.qx_machine.specs.declared.rows.Target.{Target}
 use Rattle.qx_machine.specs.declared.rows.WaitingCall.{WaitingCall}
 use Rattle.qx_machine.specs.declared.rows.Wish.{Wish}
-use Rattle.qx_machine.specs.Defaults.{MadeInode, allows, chmod_block, close, is_own, list_block, made_at, make_directory, open_spot, open_existing, open_missing, open_path, opened, own_block, stat_block, stat_path, unlink_path, without_block, without_name, without_unused, writable}
+use Rattle.qx_machine.specs.Defaults.{MadeInode, allows, chmod_block, close, dup_open, is_own, list_block, made_at, make_directory, open_spot, open_existing, open_missing, open_path, opened, own_block, stat_block, stat_path, unlink_path, without_block, without_name, without_unused, writable}
 use Rattle.qx_machine.specs.Events.{notified}
 use Rattle.qx_machine.specs.Files.{base, moved_by}
-use Rattle.qx_machine.specs.Functions.{Deed, Reply, existing_coid, new_open, reply_alone, side_root}
-use Rattle.qx_machine.specs.Inodes.{block_number, has, is_unused, new_attribute, new_inode, open_block, reads, writes}
+use Rattle.qx_machine.specs.Functions.{Deed, Reply, new_dup, new_open, reply_alone, side_root}
+use Rattle.qx_machine.specs.Inodes.{block_number, dup_block, has, is_shared, is_unused, new_attribute, new_inode, open_block, reads, writes}
 use Rattle.qx_machine.specs.Judgements.{found, need}
 use Rattle.qx_machine.specs.Managers.{manager_deed}
 use Rattle.qx_machine.specs.Names.{Spot, is_directory, is_empty, names_in, spot}
 use Rattle.qx_machine.specs.Notification.{conditions_at, event_of, notify_block}
-use Rattle.qx_machine.specs.Performing.{context_of, deed_of, opened_by, read_message}
+use Rattle.qx_machine.specs.Performing.{context_of, deed_of, dup_of, opened_by, read_message, works_over}
 use Rattle.qx_machine.specs.PipeManager.{cancel_call, read_pipe, released, seek_pipe, deed_of_pipe, write_pipe}
 use Rattle.qx_machine.specs.Pipes.{PipeAfter, Pipe, all_answered, and_then, cancel, clean, clean_read, clean_write, dismissed, first_answered, fits, nobody_answered, one_answered, portion, read, readers_dismissed, readers_ended, release, removed, served, settle, waiting_unless, without_bytes, write, writers_dismissed, writers_ended}
 use Rattle.qx_machine.specs.Processes.{Process}
@@ -54,7 +55,7 @@ use Rattle.qx_machine.specs.Resources.{Resources, with_empty, without_content}
 use Rattle.qx_machine.specs.Rows.{row_at}
 use Rattle.qx_machine.specs.Servers.{is_numbered}
 use Rattle.qx_machine.specs.Waiting.{Pipes, holds, is_call, is_gone, offered, waiting_call, wanted}
-use Rattle.qx_machine.proofs.Gives.{Gives, found-row, gives_by, gives_done, gives_error, gives_more, gives_on, gives-value}
+use Rattle.qx_machine.proofs.Gives.{Gives, found-row, gives_by, gives_done, gives_error, gives_if, gives_more, gives_on, gives-value}
 use Rattle.qx_machine.proofs.Places.{row_at-set_cases}
 
 module _ {A : Type 0} (P : A → Type 0) where
@@ -272,6 +273,9 @@ module _ (K : Pipes → Type 0) where
   emptied-keeps : (flags : OFlags) (inode moment : ℕ) (r : Resources) → K r.pipes → K (emptied flags inode moment r).pipes
   emptied-keeps flags inode moment r h = cond_both (has flags TRUNC && writes flags && is_some (row_at r.files inode)) _ r (λ (s : Resources). K s.pipes) (λ is. h) (λ is_not. h)
 
+  dup-gives : (r : Resources) (dup : NewDup) → K r.pipes → Gives (Quiet K) (dup_open r dup)
+  dup-gives r dup h = gives_on _ (dup_block r.inodes dup.old.number) _ (λ inodes is. gives_done _ _ (reply-quiet _ _ _ _ h))
+
   opened-gives : (coid : Coid) (flags : OFlags) (inode : ℕ) (r : Resources) → K r.pipes → Gives (Quiet K) (opened coid flags inode r)
   opened-gives coid flags inode r h = gives_on _ (open_block r.inodes inode flags) _ (λ block is. gives_done _ _ (reply-quiet _ _ _ _ h))
 
@@ -400,13 +404,15 @@ module _ (resources : Resources) (context : Context) where
   ram-gives (msg.Mknod mode rest) = gives_on _ (side_root context.target) _ (λ root is. directory-gives Same resources root mode rest context.moment refl)
   ram-gives (msg.Read count) = gives_on _ context.opened _ (λ over is. read_file-gives Same resources over count refl)
   ram-gives (msg.Write bytes) = gives_on _ context.opened _ (λ over is. write_file-gives Same resources over bytes refl)
-  ram-gives msg.Close = gives_on _ context.opened _ (λ over is. gives_by (Quiet Same) _ (close File resources over) _ (file-closed over) (λ deed quiet. gives_done _ _ (record { replied = quiet.replied; pipes = quiet.pipes; answers = quiet.answers })))
+  ram-gives msg.Close = gives_on _ context.opened _ (λ over is.
+      gives_if _ (is_shared (row_at resources.inodes.blocks over.number)) _ _ (gives_done _ _ (reply-quiet Same _ _ _ _ refl))
+      (gives_by (Quiet Same) _ (close File resources over) _ (file-closed over) (λ deed quiet. gives_done _ _ (record { replied = quiet.replied; pipes = quiet.pipes; answers = quiet.answers }))))
+  ram-gives (msg.Dup old) = gives_on _ (new_dup context) _ (λ dup is. dup-gives Same resources dup refl)
   ram-gives (msg.Lseek whence offset) = gives_on _ context.opened _ (λ over is. seek_file-gives Same resources over whence offset refl)
   ram-gives msg.Fstat = gives_on _ context.opened _ (λ over is. stat_block-gives Same resources over refl)
   ram-gives (msg.List after) = gives_on _ context.opened _ (λ over is. list-gives Same resources over after refl)
   ram-gives (msg.Notify action conditions code value) = gives_on _ context.opened _ (λ over is. notify-gives Same resources over action _ refl)
   ram-gives (msg.Chmod mode) = gives_on _ context.opened _ (λ over is. chmod-gives Same resources over mode refl)
-  ram-gives _ = gives_error _ _
 
   manager-alone : (manager : Manager) → manager ≡ managers.Ram → (message : Message) → Gives (IsAlone resources) (manager_deed manager resources context message)
   manager-alone managers.Ram ram message = ram-gives message
@@ -458,38 +464,40 @@ module _ (P : WaitingCall → Type 0) (caller : Caller) where
     pipe-gives (msg.Mknod mode rest) = gives_error _ _
     pipe-gives (msg.Read count) = gives_on _ context.opened _ (λ over is. read-own over count (callers over is))
     pipe-gives (msg.Write bytes) = gives_on _ context.opened _ (λ over is. write-own over bytes (callers over is))
-    pipe-gives msg.Close = gives_on _ context.opened _ (λ over is. gives_by DeedKeeps _ (close kind.Pipe resources over) _ (pipe-closed over) (λ deed kept. gives_done _ _ (record { keeps = λ own. let left = kept.keeps own in record { pipes = left.pipes; answers = left.answers } })))
+    pipe-gives msg.Close = gives_on _ context.opened _ (λ over is.
+        gives_if _ (is_shared (row_at resources.inodes.blocks over.number)) _ _ (gives_done _ _ (quiet-keeps _ (reply-quiet (InPipes P) _ _ _ _ h)))
+        (gives_by DeedKeeps _ (close kind.Pipe resources over) _ (pipe-closed over) (λ deed kept. gives_done _ _ (record { keeps = λ own. let left = kept.keeps own in record { pipes = left.pipes; answers = left.answers } }))))
+    pipe-gives (msg.Dup old) = gives_on _ (new_dup context) _ (λ dup is. quiet-gives _ (dup-gives (InPipes P) resources dup h))
     pipe-gives (msg.Lseek whence offset) = gives_on _ context.opened _ (λ over is. quiet-gives _ (seek_pipe-gives (InPipes P) resources over whence offset))
     pipe-gives msg.Fstat = gives_on _ context.opened _ (λ over is. quiet-gives _ (stat_block-gives (InPipes P) resources over h))
     pipe-gives (msg.List after) = gives_on _ context.opened _ (λ over is. quiet-gives _ (list-gives (InPipes P) resources over after h))
     pipe-gives (msg.Notify action conditions code value) = gives_on _ context.opened _ (λ over is. quiet-gives _ (notify-gives (InPipes P) resources over action _ h))
     pipe-gives (msg.Chmod mode) = gives_on _ context.opened _ (λ over is. quiet-gives _ (chmod-gives (InPipes P) resources over mode h))
-    pipe-gives _ = gives_error _ _
 
     manager-gives : (manager : Manager) (message : Message) → Gives DeedKeeps (manager_deed manager resources context message)
     manager-gives managers.Ram message = gives_more (IsAlone resources) DeedKeeps _ (λ deed. alone-keeps resources deed h) (ram-gives resources context message)
     manager-gives managers.Pipe message = pipe-gives message
 
-pub opened_by-caller : (process : Process) (caller : Caller) (target : Target) (moment : ℕ) (over : Opened) → opened_by process caller target moment ≡ Ok over → over.caller ≡ caller
-opened_by-caller process caller target moment over is =
+pub opened_by-caller : (process : Process) (caller : Caller) (target : Target) (moment : ℕ) (old : Option Coid) (over : Opened) → opened_by process caller target moment old ≡ Ok over → over.caller ≡ caller
+opened_by-caller process caller target moment old over is =
     gives-value (λ over. over.caller ≡ caller) _ over is
-    (gives_on _ (found (existing_coid target.over) EINVAL) _ (λ coid is_over.
+    (gives_on _ (works_over target.over old) _ (λ coid is_over.
     gives_on _ (found (row_at process.connections coid.0) EBADF) _ (λ connection there.
     gives_on _ (need (is_numbered (manager_number target.manager) connection.manager) EBADF) _ (λ here is_here.
     gives_on _ (found connection.block EBADF) _ (λ number has_block.
     gives_done _ _ refl)))))
 
-module _ (resources : Resources) (process : Process) (caller : Caller) (target : Target) (moment : ℕ) (given : Meaning) (deed : Deed Resources) (is : deed_of resources (context_of process caller target moment) given ≡ Ok deed) where
+module _ (resources : Resources) (process : Process) (caller : Caller) (target : Target) (moment : ℕ) (given : Meaning) (deed : Deed Resources) (is : deed_of resources (context_of process caller target moment given) given ≡ Ok deed) where
   -- the RAM manager answers nobody who waited, and leaves the pipes
   pub ram_deed-alone : target.manager ≡ managers.Ram → IsAlone resources deed
   ram_deed-alone ram =
       gives-value (IsAlone resources) _ deed is
-      (gives_on _ (read_message given) _ (λ message known. manager-alone resources (context_of process caller target moment) target.manager ram message))
+      (gives_on _ (read_message given) _ (λ message known. manager-alone resources (context_of process caller target moment given) target.manager ram message))
 
   deed-gives : (P : WaitingCall → Type 0) → InPipes P resources.pipes → DeedKeeps P caller deed
   deed-gives P h =
       gives-value (DeedKeeps P caller) _ deed is
-      (gives_on _ (read_message given) _ (λ message known. manager-gives P caller resources h (context_of process caller target moment) (opened_by-caller process caller target moment) target.manager message))
+      (gives_on _ (read_message given) _ (λ message known. manager-gives P caller resources h (context_of process caller target moment given) (opened_by-caller process caller target moment (dup_of given)) target.manager message))
 
   -- the caller's own call may wait or be answered too
   pub deed-keeps : (P : WaitingCall → Type 0) → InPipes P resources.pipes → ((block wanted : ℕ) (bytes : List ℕ) → P (call_of caller block wanted bytes)) → InDeed P deed

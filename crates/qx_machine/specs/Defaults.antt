@@ -13,6 +13,7 @@ use Rattle.qx_machine.specs.declared.rows.Attribute.{Attribute}
 use Rattle.qx_machine.specs.declared.rows.Effect.TheVariants.{Closes, Keeps, Opens}
 use Rattle.qx_machine.specs.declared.rows.Kind.{Kind}
 use Rattle.qx_machine.specs.declared.rows.Kind.TheVariants.{Directory, Pipe}
+use Rattle.qx_machine.specs.declared.rows.NewDup.{NewDup}
 use Rattle.qx_machine.specs.declared.rows.NewOpen.{NewOpen}
 use Rattle.qx_machine.specs.declared.rows.Ocb.{Ocb}
 use Rattle.qx_machine.specs.declared.rows.Opened.{Opened}
@@ -21,7 +22,7 @@ use Rattle.qx_machine.specs.declared.rows.WaitingCall.{WaitingCall}
 use Rattle.qx_machine.specs.Attributes.{stat_bytes, top_inode}
 use Rattle.qx_machine.specs.Events.{disarmed}
 use Rattle.qx_machine.specs.Functions.{Deed, reply_alone}
-use Rattle.qx_machine.specs.Inodes.{Inodes, block_number, close_block, free_inode, has, is_unused, may, new_attribute, new_inode, open_block, reads, with_attribute, writes}
+use Rattle.qx_machine.specs.Inodes.{Inodes, block_number, close_block, dup_block, free_inode, has, is_shared, is_unused, may, new_attribute, new_inode, open_block, reads, with_attribute, without_use, writes}
 use Rattle.qx_machine.specs.Judgements.{◌>>=◌, found, need}
 use Rattle.qx_machine.specs.Names.{Spot, inode_at, is_directory, is_empty, is_same_kind, listed, listing, names_in, spot}
 use Rattle.qx_machine.specs.PipeManager.{released}
@@ -191,7 +192,21 @@ close_with_event own r opened = do
   deed ← close own r opened
   Ok (record deed { state = record deed.state { events = disarmed opened.number deed.state.events } })
 
+-- a close takes the connection away, and what it had open where no other connection has that (Writing a Resource Manager:
+-- iofunc_close_dup, iofunc_close_ocb)
+abbrev pub close_dup : Kind → Resources → Opened → Result (Deed Resources) Errno
+close_dup own r opened =
+    if is_shared (row_at r.inodes.blocks opened.number)
+    then Ok (reply_alone 0 [] (Closes opened.coid) (record r { inodes = without_use r.inodes opened.number }))
+    else close_with_event own r opened
+
 -- ---- other messages over what is open
+
+-- a dup's connection has open what the old one has, and is the status (C Library Reference: dup; Writing a Resource Manager: io_dup)
+abbrev pub dup_open : Resources → NewDup → Result (Deed Resources) Errno
+dup_open r dup = do
+  inodes ← dup_block r.inodes dup.old.number
+  Ok (reply_alone dup.coid.0 [] (Opens dup.coid dup.old.number) (record r { inodes = inodes }))
 
 -- an fstat tells the status of what is open
 abbrev pub stat_block : Resources → Opened → Result (Deed Resources) Errno

@@ -11,6 +11,7 @@ use Rattle.qx_wire.specs.declared.message.Message.{Message}
 use Rattle.qx_wire.specs.declared.message.Message.TheVariants as msg
 use Rattle.qx_machine.specs.declared.rows.Context.{Context}
 use Rattle.qx_machine.specs.declared.rows.Effect.{Effect}
+use Rattle.qx_machine.specs.declared.rows.NewDup.{NewDup}
 use Rattle.qx_machine.specs.declared.rows.NewOpen.{NewOpen}
 use Rattle.qx_machine.specs.declared.rows.Opened.{Opened}
 use Rattle.qx_machine.specs.declared.rows.Over.{Over}
@@ -50,6 +51,7 @@ pub record IoFunctions (S : Type 0) : Type 0 where
   pub read : Option (S → Opened → ℕ → Result (Deed S) Errno)
   pub write : Option (S → Opened → List ℕ → Result (Deed S) Errno)
   pub close : Option (S → Opened → Result (Deed S) Errno)
+  pub dup : Option (S → NewDup → Result (Deed S) Errno)
   pub lseek : Option (S → Opened → Whence → ℤ → Result (Deed S) Errno)
   pub fstat : Option (S → Opened → Result (Deed S) Errno)
   pub list : Option (S → Opened → List ℕ → Result (Deed S) Errno)
@@ -61,7 +63,7 @@ abbrev pub no_connect : {S : Type 0} → ConnectFunctions S
 no_connect = record { «open» = None; stat = None; unlink = None; mknod = None }
 
 abbrev pub no_io : {S : Type 0} → IoFunctions S
-no_io = record { read = None; write = None; close = None; lseek = None; fstat = None; list = None; chmod = None; notify = None }
+no_io = record { read = None; write = None; close = None; dup = None; lseek = None; fstat = None; list = None; chmod = None; notify = None }
 
 -- ---- what a message came over
 
@@ -84,6 +86,13 @@ new_open target = do
   root ← found target.root EINVAL
   Ok (record { coid = coid; root = root })
 
+-- a dup comes over a connection that its call made; what is open over the old one is asked then
+abbrev pub new_dup : Context → Result NewDup Errno
+new_dup context = do
+  coid ← found (new_coid context.target.over) EINVAL
+  old ← context.opened
+  Ok (record { coid = coid; old = old })
+
 -- what else is sent to a path comes over a side connection, to the mount with this root
 abbrev pub side_root : Target → Result ℕ Errno
 side_root target = do
@@ -100,7 +109,7 @@ function_deed function over deed = do
   given ← over
   deed f given
 
--- a message is served by one function of one of the manager's tables; no manager has one for the other messages
+-- a message is served by one function of one of the manager's tables
 abbrev pub message_deed : {S : Type 0} → ConnectFunctions S → IoFunctions S → S → Context → Message → Result (Deed S) Errno
 message_deed connect io state context (msg.Open flags mode rest) =
     function_deed connect.«open» (new_open context.target) (λ f over. f state over rest (record { flags = flags; mode = mode; moment = context.moment }))
@@ -110,10 +119,10 @@ message_deed connect io state context (msg.Mknod mode rest) = function_deed conn
 message_deed connect io state context (msg.Read count) = function_deed io.read context.opened (λ f opened. f state opened count)
 message_deed connect io state context (msg.Write bytes) = function_deed io.write context.opened (λ f opened. f state opened bytes)
 message_deed connect io state context msg.Close = function_deed io.close context.opened (λ f opened. f state opened)
+message_deed connect io state context (msg.Dup old) = function_deed io.dup (new_dup context) (λ f dup. f state dup)
 message_deed connect io state context (msg.Lseek whence offset) = function_deed io.lseek context.opened (λ f opened. f state opened whence offset)
 message_deed connect io state context msg.Fstat = function_deed io.fstat context.opened (λ f opened. f state opened)
 message_deed connect io state context (msg.List after) = function_deed io.list context.opened (λ f opened. f state opened after)
 message_deed connect io state context (msg.Notify action conditions code value) =
     function_deed io.notify context.opened (λ f opened. f state opened action (record { conditions = conditions; code = code; value = value }))
 message_deed connect io state context (msg.Chmod mode) = function_deed io.chmod context.opened (λ f opened. f state opened mode)
-message_deed connect io state context _ = Err ENOSYS

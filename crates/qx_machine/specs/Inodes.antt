@@ -1,18 +1,18 @@
 -- The inodes and open control blocks of one user, at all managers (Writing a Resource Manager: iofunc_attr_t, iofunc_ocb_t; that each user
 -- has numbers of their own is this profile).
-use Rattle.std.specs.Prelude.{ℕ, Bool, true, false, ◌==◌, ◌&&◌, not, List, [], ◌∷◌, Option, Some, None, Result, Ok, Err, count_by, nat_le, slice_set, if◌then◌else◌}
+use Rattle.std.specs.Prelude.{ℕ, Bool, true, false, ◌+◌, ◌-◌, ◌==◌, ◌&&◌, not, List, [], ◌∷◌, Option, Some, None, Result, Ok, Err, count_by, nat_le, nat_lt, slice_set, if◌then◌else◌}
 use Rattle.std.specs.Int.RustNames.{bit_and}
 use Rattle.qx_types.specs.declared.errno.Errno.{Errno}
-use Rattle.qx_types.specs.declared.errno.Errno.TheVariants.{ENFILE, ENOSPC}
+use Rattle.qx_types.specs.declared.errno.Errno.TheVariants.{EBADF, EMFILE, ENFILE, ENOSPC}
 use Rattle.qx_types.specs.declared.flags.OFlags.{OFlags}
 use Rattle.qx_types.specs.declared.flags.TheConstants.OFlags.{READ, WRITE}
-use Rattle.qx_types.specs.declared.limits.TheConstants.Limits.{BLOCKS, INODES}
+use Rattle.qx_types.specs.declared.limits.TheConstants.Limits.{BLOCKS, INODES, LAST_CONNECTION}
 use Rattle.qx_machine.specs.declared.rows.Access.{Access}
 use Rattle.qx_machine.specs.declared.rows.Access.TheVariants.{Read, Write, Search}
 use Rattle.qx_machine.specs.declared.rows.Attribute.{Attribute}
 use Rattle.qx_machine.specs.declared.rows.Kind.{Kind}
 use Rattle.qx_machine.specs.declared.rows.Ocb.{Ocb}
-use Rattle.qx_machine.specs.Judgements.{◌>>=◌}
+use Rattle.qx_machine.specs.Judgements.{◌>>=◌, found, need}
 use Rattle.qx_machine.specs.Rows.{row_at, lowest_from, put_row, with_row}
 
 -- inodes from 1, each as its attribute, and open control blocks from 1
@@ -105,7 +105,7 @@ writers_of = open_with writes
 abbrev pub open_block : Inodes → ℕ → OFlags → Result Numbered Errno
 open_block inodes inode flags = do
   number ← block_number inodes
-  Ok (record { number = number; inodes = record inodes { blocks = put_row inodes.blocks number (record { inode = inode; flags = flags; offset = 0 }) } })
+  Ok (record { number = number; inodes = record inodes { blocks = put_row inodes.blocks number (record { inode = inode; flags = flags; offset = 0; uses = 1 }) } })
 
 abbrev pub moved_to : ℕ → Ocb → Ocb
 moved_to offset block = record block { offset = offset }
@@ -113,6 +113,23 @@ moved_to offset block = record block { offset = offset }
 -- an open control block stands at another offset
 abbrev pub with_offset : Inodes → ℕ → ℕ → Inodes
 with_offset inodes number offset = record inodes { blocks = with_row inodes.blocks number (moved_to offset) }
+
+-- one more connection has an open control block (C Library Reference: dup). A process can't have that many connections, so EMFILE doesn't
+-- come of it
+abbrev pub dup_block : Inodes → ℕ → Result Inodes Errno
+dup_block inodes number = do
+  block ← found (row_at inodes.blocks number) EBADF
+  few ← need (nat_lt block.uses LAST_CONNECTION) EMFILE
+  Ok (record inodes { blocks = with_row inodes.blocks number (λ block. record block { uses = block.uses + 1 }) })
+
+-- more than one connection has an open control block
+abbrev pub is_shared : Option Ocb → Bool
+is_shared None = false
+is_shared (Some block) = nat_lt 1 block.uses
+
+-- one connection less has it
+abbrev pub without_use : Inodes → ℕ → Inodes
+without_use inodes number = record inodes { blocks = with_row inodes.blocks number (λ block. record block { uses = block.uses - 1 }) }
 
 -- an open control block goes, and its number is free (C Library Reference: close)
 abbrev pub close_block : Inodes → ℕ → Inodes

@@ -6,7 +6,7 @@ use Rattle.qx_types.specs.declared.names.Manager.TheVariants as manager
 use Rattle.qx_wire.specs.declared.message.Message.{Message}
 use Rattle.qx_machine.specs.declared.rows.Context.{Context}
 use Rattle.qx_machine.specs.declared.rows.Kind.TheVariants.{File, Pipe}
-use Rattle.qx_machine.specs.Defaults.{chmod_block, close_with_event, list_block, make_directory, open_path, stat_block, stat_path, unlink_path}
+use Rattle.qx_machine.specs.Defaults.{chmod_block, close_dup, dup_open, list_block, make_directory, open_path, stat_block, stat_path, unlink_path}
 use Rattle.qx_machine.specs.Functions.{ConnectFunctions, Deed, IoFunctions, message_deed}
 use Rattle.qx_machine.specs.Notification.{notify_block}
 use Rattle.qx_machine.specs.PipeManager.{read_pipe, seek_pipe, write_pipe}
@@ -21,10 +21,10 @@ abbrev pub pipe_connect : ConnectFunctions Resources
 pipe_connect = record { «open» = Some (open_path Pipe); stat = Some stat_path; unlink = Some (unlink_path Pipe); mknod = None }
 
 abbrev pub ram_io : IoFunctions Resources
-ram_io = record { read = Some read_file; write = Some write_file; close = Some (close_with_event File); lseek = Some seek_file; fstat = Some stat_block; list = Some list_block; chmod = Some chmod_block; notify = Some notify_block }
+ram_io = record { read = Some read_file; write = Some write_file; close = Some (close_dup File); dup = Some dup_open; lseek = Some seek_file; fstat = Some stat_block; list = Some list_block; chmod = Some chmod_block; notify = Some notify_block }
 
 abbrev pub pipe_io : IoFunctions Resources
-pipe_io = record { read = Some read_pipe; write = Some write_pipe; close = Some (close_with_event Pipe); lseek = Some seek_pipe; fstat = Some stat_block; list = Some list_block; chmod = Some chmod_block; notify = Some notify_block }
+pipe_io = record { read = Some read_pipe; write = Some write_pipe; close = Some (close_dup Pipe); dup = Some dup_open; lseek = Some seek_pipe; fstat = Some stat_block; list = Some list_block; chmod = Some chmod_block; notify = Some notify_block }
 
 -- each manager serves by its own two tables
 abbrev pub manager_deed : Manager → Resources → Context → Message → Result (Deed Resources) Errno

@@ -5,6 +5,7 @@ use Rattle.qx_types.specs.declared.errno.Errno.{Errno}
 use Rattle.qx_types.specs.declared.errno.Errno.TheVariants.{EBADF, EINVAL, ENOSYS}
 use Rattle.qx_types.specs.declared.names.Manager.{Manager}
 use Rattle.qx_types.specs.declared.names.Manager.TheVariants.{Pipe}
+use Rattle.qx_types.specs.declared.names.Coid.{Coid}
 use Rattle.qx_types.specs.declared.outcome.Answer.{Answer}
 use Rattle.qx_types.specs.declared.outcome.Answer.TheVariants as answer
 use Rattle.qx_types.specs.declared.outcome.Answer.TheVariants.{Failed}
@@ -13,6 +14,7 @@ use Rattle.qx_types.specs.declared.outcome.Outcome.TheVariants.{WrongState}
 use Rattle.qx_wire.specs.declared.message.Meaning.{Meaning}
 use Rattle.qx_wire.specs.declared.message.Meaning.TheVariants.{Known, Unknown, Malformed}
 use Rattle.qx_wire.specs.declared.message.Message.{Message}
+use Rattle.qx_wire.specs.declared.message.Message.TheVariants as msg
 use Rattle.qx_wire.specs.Reading.{meaning}
 use Rattle.qx_machine.specs.declared.rows.Caller.{Caller}
 use Rattle.qx_machine.specs.declared.rows.Context.{Context}
@@ -40,18 +42,28 @@ pub record Served : Type 0 where
   pub part : Part
   pub changes : List Change
 
+-- the connection that a dup names, the old one
+abbrev pub dup_of : Meaning → Option Coid
+dup_of (Known (msg.Dup old)) = Some old
+dup_of _ = None
+
+-- the connection whose block a message works on: that which it came over, but of a dup the old one
+abbrev pub works_over : Over → Option Coid → Result Coid Errno
+works_over over (Some old) = Ok old
+works_over over None = found (existing_coid over) EINVAL
+
 -- what a message's connection has open: the connection is there still, at this manager, with a block (C Library Reference: EBADF)
-abbrev pub opened_by : Process → Caller → Target → ℕ → Result Opened Errno
-opened_by process caller target moment = do
-  coid ← found (existing_coid target.over) EINVAL
+abbrev pub opened_by : Process → Caller → Target → ℕ → Option Coid → Result Opened Errno
+opened_by process caller target moment old = do
+  coid ← works_over target.over old
   connection ← found (row_at process.connections coid.0) EBADF
   here ← need (is_numbered (manager_number target.manager) connection.manager) EBADF
   number ← found connection.block EBADF
   Ok (record { caller = caller; coid = coid; number = number; moment = moment })
 
--- what a message of a process is served with
-abbrev pub context_of : Process → Caller → Target → ℕ → Context
-context_of process caller target moment = record { target = target; opened = opened_by process caller target moment; moment = moment }
+-- what a message of a process that means this is served with
+abbrev pub context_of : Process → Caller → Target → ℕ → Meaning → Context
+context_of process caller target moment given = record { target = target; opened = opened_by process caller target moment (dup_of given); moment = moment }
 
 -- the message that a manager reads, or how it answers other bytes (Writing a Resource Manager: ENOSYS for an unknown message; that
 -- malformed ones are EINVAL is this profile)
@@ -121,7 +133,7 @@ serve_message part number thread moment = do
   process ← found (row_at part.processes number) WrongState
   row ← found (row_at process.threads thread) WrongState
   sent ← found (taken_in row.state) WrongState
-  Ok (served_by part (caller_of number thread row sent) sent (deed_of part.resources (context_of process (caller_of number thread row sent) sent.target moment) (meaning sent.bytes)))
+  Ok (served_by part (caller_of number thread row sent) sent (deed_of part.resources (context_of process (caller_of number thread row sent) sent.target moment (meaning sent.bytes)) (meaning sent.bytes)))
 
 -- an unblock pulse is for a call that waits in a pipe, and for no other (Writing a Resource Manager: the unblock pulse)
 abbrev pub serve_pulse : Part → ℕ → ℕ → ℕ → ℕ → Result Served Outcome

@@ -68,7 +68,7 @@ thread_wants_memory rows number thread moment = or_false (do
   row ← found (row_at process.threads thread) WrongState
   sent ← found (taken_in row.state) WrongState
   Ok (bytes_want_memory sent.target.manager part.resources (meaning sent.bytes)
-      (deed_of part.resources (context_of process (caller_of number thread row sent) sent.target moment) (meaning sent.bytes))))
+      (deed_of part.resources (context_of process (caller_of number thread row sent) sent.target moment (meaning sent.bytes)) (meaning sent.bytes))))
 
 -- an unblock pulse wants none
 abbrev pub item_wants_memory : Option Part → OwnItem → ℕ → Bool

@@ -90,7 +90,7 @@ pub struct ServerConnection {
 #[derive(Clone, Copy, Debug, PartialEq, Eq)]
 pub enum Effect {
     Keeps,
-    /// The connection has its open control block.
+    /// The connection has its open control block, a new one or that of another connection.
     Opens { coid: Coid, block: u16 },
     /// The connection goes.
     Closes(Coid),
@@ -107,7 +107,7 @@ pub struct Caller {
 }
 
 /// What a message over a connection works on: whose message it is, the connection, and the number of its open control
-/// block; and the moment at which it does.
+/// block; and the moment at which it does. A dup works on the connection that it names, the old one.
 #[derive(Clone, Copy, Debug, PartialEq, Eq)]
 pub struct Opened {
     pub caller: Caller,
@@ -146,6 +146,13 @@ pub struct NewOpen {
     pub root: u32,
 }
 
+/// What a dup is given: the connection that its call made, and what is open over the old one.
+#[derive(Clone, Copy, Debug, PartialEq, Eq)]
+pub struct NewDup {
+    pub coid: Coid,
+    pub old: Opened,
+}
+
 /// What an open wishes: to be opened with these flags, and what is missing to be made of this mode, at that moment (C Library
 /// Reference: `open`).
 #[derive(Clone, Copy, Debug, PartialEq, Eq)]
@@ -175,13 +182,14 @@ pub struct Attribute {
     pub ctime: u64,
 }
 
-/// An open control block: the inode that it has open, the flags of the open, and where the next read or write begins
-/// (Writing a Resource Manager: `iofunc_ocb_t`).
+/// An open control block: the inode that it has open, the flags of the open, where the next read or write begins, and how
+/// many connections have it (Writing a Resource Manager: `iofunc_ocb_t`; C Library Reference: `dup`).
 #[derive(Clone, Copy, Debug, PartialEq, Eq)]
 pub struct Ocb {
     pub inode: u32,
     pub flags: OFlags,
     pub offset: u64,
+    pub uses: u8,
 }
 
 /// What an inode's mode may allow (C Library Reference: `access`).
