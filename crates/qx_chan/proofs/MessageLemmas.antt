@@ -3,18 +3,18 @@ use Rattle.std.proofs.Common.{◌≡◌, ◌≤◌, inl, inr, Bool, true, false,
 use Rattle.std.specs.Prelude.{[], IfOk, IsSome, Result, option_map}
 use Rattle.qx_types.specs.Managers.{manager_number}
 use Rattle.qx_types.specs.declared.errno.Errno.{Errno}
-use Rattle.qx_types.specs.declared.errno.Errno.TheVariants.{EBADF, EINVAL}
+use Rattle.qx_types.specs.declared.errno.Errno.TheVariants.{EBADF}
 use Rattle.qx_types.specs.declared.limits.TheConstants.Limits.{PROCESSES}
+use Rattle.qx_types.specs.declared.names.Coid.{Coid}
 use Rattle.qx_types.specs.declared.names.Thread.{Thread}
 use Rattle.qx_wire.specs.declared.message.Meaning.{Meaning}
 use Rattle.qx_wire.specs.Reading.{meaning}
 use Rattle.qx_machine.specs.declared.rows.Sent.{Sent}
 use Rattle.qx_machine.specs.declared.rows.State.TheVariants.{Taken}
 use Rattle.qx_machine.specs.declared.rows.ThreadRow.{ThreadRow}
-use Rattle.qx_machine.specs.Functions.{existing_coid}
 use Rattle.qx_machine.specs.Judgements.{◌>>=◌, found, need}
 use Rattle.qx_machine.specs.Parts.{Part, thread_at, thread_of}
-use Rattle.qx_machine.specs.Performing.{caller_of, context_of, deed_of, opened_by, or_kept, serve_message, served_by, taken_in}
+use Rattle.qx_machine.specs.Performing.{caller_of, context_of, deed_of, opened_by, or_kept, serve_message, served_by, taken_in, works_over}
 use Rattle.qx_machine.specs.Processes.{Process, served_state, served_thread, with_thread}
 use Rattle.qx_machine.specs.Rows.{row_at}
 use Rattle.qx_machine.specs.Servers.{is_numbered}
@@ -55,24 +55,20 @@ received-alone users queues thread call is kept = record {
   };
 }
 
--- where a judgement finds something, it goes on with that
+-- where a judgement gives something, it goes on with that
 module _ {B E : Type 0} (P : B → Type 0) where
-  if_found : {A : Type 0} (o : Option A) (error : E) (next : A → Result B E) → ((a : A) → IfOk (next a) P) → IfOk (found o error >>= next) P
-  if_found None error next each = tt
-  if_found (Some a) error next each = each a
-
-  if_need : (test : Bool) (error : E) (next : Bool → Result B E) → IfOk (next true) P → IfOk (need test error >>= next) P
-  if_need true error next goes = goes
-  if_need false error next goes = tt
+  if_given : {A : Type 0} (given : Result A E) (next : A → Result B E) → ((a : A) → IfOk (next a) P) → IfOk (given >>= next) P
+  if_given (Ok a) next each = each a
+  if_given (Err error) next each = tt
 
 -- so the caller of what it works on is of a process that may be, and its message was received
-pub caller-received : (k : state.Kept) (w : AllWaits) (thread : Thread) (call : Call) (process : Process) (moment : ℕ) → k.user ≡ thread.proc.user.0 → thread.proc.num ≤ PROCESSES → IsReceived w.shared thread
-    → IfOk (opened_by process (caller_of_call thread call) call.target moment) (λ o. IsCallerReceived k w o)
-caller-received k w thread call process moment of few is =
-    if_found (IsCallerReceived k w) (existing_coid call.target.over) EINVAL _ (λ coid.
-    if_found (IsCallerReceived k w) (row_at process.connections coid.0) EBADF _ (λ connection.
-    if_need (IsCallerReceived k w) (is_numbered (manager_number call.target.manager) connection.manager) EBADF _ (
-    if_found (IsCallerReceived k w) connection.block EBADF _ (λ number. record { process = few; received = rw of is }))))
+pub caller-received : (k : state.Kept) (w : AllWaits) (thread : Thread) (call : Call) (process : Process) (moment : ℕ) (old : Option Coid) → k.user ≡ thread.proc.user.0 → thread.proc.num ≤ PROCESSES → IsReceived w.shared thread
+    → IfOk (opened_by process (caller_of_call thread call) call.target moment old) (λ o. IsCallerReceived k w o)
+caller-received k w thread call process moment old of few is =
+    if_given (IsCallerReceived k w) (works_over call.target.over old) _ (λ coid.
+    if_given (IsCallerReceived k w) (found (row_at process.connections coid.0) EBADF) _ (λ connection.
+    if_given (IsCallerReceived k w) (need (is_numbered (manager_number call.target.manager) connection.manager) EBADF) _ (λ here.
+    if_given (IsCallerReceived k w) (found connection.block EBADF) _ (λ number. record { process = few; received = rw of is }))))
 
 -- what is read of a received message
 pub record Received (users : Users) (thread : Thread) (call : Call) : Type 0 where
@@ -116,7 +112,7 @@ sends users thread call its = record {
 
 -- what the machine serves
 pub serves-message : (part : Part) (number thread moment : ℕ) (process : Process) (row : ThreadRow) (sent : Sent) → row_at part.processes number ≡ Some process → row_at process.threads thread ≡ Some row → taken_in row.state ≡ Some sent
-    → serve_message part number thread moment ≡ Ok (served_by part (caller_of number thread row sent) sent (deed_of part.resources (context_of process (caller_of number thread row sent) sent.target moment) (meaning sent.bytes)))
+    → serve_message part number thread moment ≡ Ok (served_by part (caller_of number thread row sent) sent (deed_of part.resources (context_of process (caller_of number thread row sent) sent.target moment (meaning sent.bytes)) (meaning sent.bytes)))
 serves-message part number thread moment process row sent there at is = rw (there, at, is) refl
 
 -- ---- the message is handed over
@@ -131,13 +127,13 @@ meaning-served users thread process bytes given means of read is =
 -- it comes to the same as before
 pub deed-served : (k : state.Kept) (w : AllWaits) (users new : Users) (thread : Thread) (call : Call) (moment : ℕ) (process found : Process) (bytes given : List ℕ) (means : Meaning) → Sends users thread process bytes
     → new ≡ with_thread_row users thread served_thread → Some found ≡ process_of new thread.proc → Some given ≡ taken_bytes (thread_row users thread) → means ≡ meaning given
-    → deed_of (told k w) (context_of found (caller_of_call thread call) call.target moment) means ≡ deed_in k w process (record { thread = thread; call = call; moment = moment }) bytes
+    → deed_of (told k w) (context_of found (caller_of_call thread call) call.target moment means) means ≡ deed_in k w process (record { thread = thread; call = call; moment = moment }) bytes
 deed-served k w users new thread call moment process found bytes given means of served there read is =
     let here : process_of (with_thread_row users thread served_thread) thread.proc ≡ Some (with_thread thread.tid served_thread process) = process_of-same users thread.proc (with_thread thread.tid served_thread) ∙ ap (option_map (with_thread thread.tid served_thread)) of.there in
     let both : Some found ≡ Some (with_thread thread.tid served_thread process) = there ∙ ap (λ users. process_of users thread.proc) served ∙ here in
     let its : found ≡ with_thread thread.tid served_thread process = cc in
-    ap (λ process. deed_of (told k w) (context_of process (caller_of_call thread call) call.target moment) means) its
-    ∙ ap (deed_of (told k w) (context_of process (caller_of_call thread call) call.target moment)) (meaning-served users thread process bytes given means of read is)
+    ap (λ process. deed_of (told k w) (context_of process (caller_of_call thread call) call.target moment means) means) its
+    ∙ ap (λ means. deed_of (told k w) (context_of process (caller_of_call thread call) call.target moment means) means) (meaning-served users thread process bytes given means of read is)
 
 -- ---- memory is refused
 

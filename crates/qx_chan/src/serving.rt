@@ -129,8 +129,8 @@ fn perform(
     let Some(process) = users.process(thread.proc) else {
         unreachable!();
     };
-    let context = context_of(process, caller(thread, call), call.target, moment);
     let meaning = meaning_of(&bytes, read);
+    let context = context_of(process, caller(thread, call), call.target, moment, &meaning);
     let watched = resources.watch_message(waits, &meaning, context.opened);
     match resources.perform(waits, context, meaning, reply, &mut room) {
         Ok(given) => {

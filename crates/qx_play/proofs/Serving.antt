@@ -127,7 +127,7 @@ serve_takes : (c : Configuration) (user : ℕ) (held : List OwnItem) (part : Par
 unfolding serve
 serve_takes c user held part (Message process thread) moment =
     takes_on part (found (row_at part.processes process) WrongState) _ (λ its. takes_on part (found (row_at its.threads thread) WrongState) _ (λ row. takes_on part (found (taken_in row.state) WrongState) _ (λ sent.
-    served_takes sent.target.manager (caller_of process thread row sent) (deed_of part.resources (context_of its (caller_of process thread row sent) sent.target moment) (meaning sent.bytes)))))
+    served_takes sent.target.manager (caller_of process thread row sent) (deed_of part.resources (context_of its (caller_of process thread row sent) sent.target moment (meaning sent.bytes)) (meaning sent.bytes)))))
 serve_takes c user held part (Unblock process thread call) moment =
     takes_on part (cancel_call part.resources process thread call moment) _ (λ deed. answers_take Pipe deed.answers)
 

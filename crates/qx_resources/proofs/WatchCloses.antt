@@ -2,19 +2,20 @@
 use Rattle.std.proofs.Common.{◌≡◌, inl, inr, ℕ, ◌≤◌, Bool, not, ◌==◌, refl, sym, ap, ◌∙◌, arith, Option, Some, None, ◌≢◌, List, ◌∷◌, [], count_by, slice_set}
 use Rattle.std.proofs.lemmas.Bool.{false≢true, eq-eqb, cases_Bool, cond_both}
 use Rattle.std.specs.List.{AllByRecursion}
-use Rattle.std.specs.Prelude.{filter}
+use Rattle.std.specs.Prelude.{Ok, ◌-◌, filter, if◌then◌else◌}
 use Rattle.qx_types.specs.declared.errno.Errno.TheVariants.{EBADF}
 use Rattle.qx_types.specs.declared.flags.OFlags.{OFlags}
+use Rattle.qx_machine.specs.declared.rows.Effect.TheVariants.{Closes}
 use Rattle.qx_machine.specs.declared.rows.Event.{Event}
 use Rattle.qx_machine.specs.declared.rows.Kind.{Kind}
 use Rattle.qx_machine.specs.declared.rows.Kind.TheVariants.{Directory, File}
 use Rattle.qx_machine.specs.declared.rows.Ocb.{Ocb}
 use Rattle.qx_machine.specs.declared.rows.Opened.{Opened}
 use Rattle.qx_machine.specs.declared.rows.WaitingCall.{WaitingCall}
-use Rattle.qx_machine.specs.Defaults.{close, close_with_event, is_own, own_block, pipe_in, without_block, without_unused}
+use Rattle.qx_machine.specs.Defaults.{close, close_dup, close_with_event, is_own, own_block, pipe_in, without_block, without_unused}
 use Rattle.qx_machine.specs.Events.{disarmed, is_on}
-use Rattle.qx_machine.specs.Functions.{Deed}
-use Rattle.qx_machine.specs.Inodes.{is_open, reads, writes, Inodes, free_inode, is_unused}
+use Rattle.qx_machine.specs.Functions.{Deed, reply_alone}
+use Rattle.qx_machine.specs.Inodes.{is_open, reads, writes, Inodes, free_inode, is_shared, is_unused, without_use}
 use Rattle.qx_machine.specs.Judgements.{found, need}
 use Rattle.qx_machine.specs.PipeManager.{released}
 use Rattle.qx_machine.specs.Pipes.{Pipe}
@@ -23,9 +24,9 @@ use Rattle.qx_machine.specs.Rows.{row_at}
 use Rattle.qx_machine.proofs.Places.{row_at-set_other}
 use Rattle.qx_attr.proofs.CountLemmas.{count-free, counts_other}
 use Rattle.qx_attr.specs.inner.Counts.{one}
-use Rattle.qx_resources.proofs.WatchDeeds.{unarmed, IsSettledAt, at-block}
+use Rattle.qx_resources.proofs.WatchDeeds.{unarmed, IsSettledAt, KeepsOpen, at-block, moved-settled}
 use Rattle.qx_resources.proofs.WatchFacts.{Stays, watch-settled, OthersAreStill, all-weaker}
-use Rattle.qx_machine.proofs.Gives.{Gives, found-row, gives_done, gives_on, gives_by}
+use Rattle.qx_machine.proofs.Gives.{Gives, found-row, gives_done, gives_if, gives_on, gives_by}
 use Rattle.qx_resources.proofs.WatchQuiet.{inode_of, pipe-falls}
 use Rattle.qx_machine.specs.declared.rows.Kind.TheVariants as kind
 
@@ -101,5 +102,17 @@ module _ (r s : Resources) (number : ℕ) (h : IsClosedAt r number s) where
       (all-weaker (λ (event : Event). event.block ≢ number) (Stays r after) after.events.armed (λ event apart. closed-row event.block apart) (disarmed-others number s.events.armed))
       (λ none. ap (filter (λ event. not (is_on number event))) (unarmed r s h.closed.events none)))
 
-pub close-settled : (own : Kind) (r : Resources) (over : Opened) → Gives (λ (deed : Deed Resources). IsSettledAt r over.number deed.state) (close_with_event own r over)
+close-settled : (own : Kind) (r : Resources) (over : Opened) → Gives (λ (deed : Deed Resources). IsSettledAt r over.number deed.state) (close_with_event own r over)
 close-settled own r over = gives_by _ _ (close own r over) _ (close-gives own r over) (λ deed h. gives_done _ _ (closed-settled r deed.state over.number h))
+
+-- a close of what other connections have too leaves it open
+pub close_dup-settled : (own : Kind) (r : Resources) (over : Opened) → Gives (λ (deed : Deed Resources). IsSettledAt r over.number deed.state) (close_dup own r over)
+close_dup-settled own r over = by (row_at r.inodes.blocks over.number) refl
+  where
+    by : (row : Option Ocb) → row_at r.inodes.blocks over.number ≡ row → Gives (λ (deed : Deed Resources). IsSettledAt r over.number deed.state)
+        (if is_shared row then Ok (reply_alone 0 [] (Closes over.coid) (record r { inodes = without_use r.inodes over.number })) else close_with_event own r over)
+    by None none = close-settled own r over
+    by (Some block) is =
+        gives_if _ (is_shared (Some block)) _ _
+        (gives_done _ _ (moved-settled r _ over.number (λ (block : Ocb). record block { uses = block.uses - 1 }) (record { inode = λ block. refl; flags = λ block. refl }) block is refl refl refl))
+        (close-settled own r over)

@@ -1,7 +1,7 @@
 -- What a read, a write, a seek and an unblock come to: nothing comes to hold, or of one pipe alone.
 use Rattle.std.proofs.Common.{◌≡◌, ℕ, ◌≤◌, Bool, ◌==◌, length, refl, sym, ap, ◌∙◌, arith, Option, Some, None, List, ◌∷◌, [], le_of_eq, Result, option_map, count_by, slice_set, nat_le, position, ◌+◌, zero, suc}
 use Rattle.std.proofs.lemmas.Bool.{cond_both}
-use Rattle.std.specs.Prelude.{ℤ}
+use Rattle.std.specs.Prelude.{ℤ, ◌&&◌}
 use Rattle.qx_types.specs.declared.errno.Errno.{Errno}
 use Rattle.qx_types.specs.declared.errno.Errno.TheVariants.{EBADF, EFBIG, EINVAL, EISDIR, ENOSPC}
 use Rattle.qx_types.specs.declared.fields.Whence.{Whence}
@@ -86,42 +86,55 @@ cancel-settled r process thread call moment =
     gives_done _ _ (at-place r _ (position (holds (is_call process thread call)) r.pipes) inode (found-row _ _ inode at)
     (pipe-settled r inode moment (cancel wanted offered is_gone (is_call process thread call) pipe)))))
 
--- ---- a block stands at another offset
+-- ---- a block stands at another offset, or more or fewer connections have it
 
-same-inode : (offset : ℕ) (row : Option Ocb) → inode_of row ≡ inode_of (option_map (moved_to offset) row)
-same-inode offset None = refl
-same-inode offset (Some block) = refl
+-- what a block has open, and how, stays
+pub record KeepsOpen (change : Ocb → Ocb) : Type 0 where
+  pub inode : (block : Ocb) → (change block).inode ≡ block.inode
+  pub flags : (block : Ocb) → (change block).flags ≡ block.flags
 
-moved-rows : (blocks : List (Option Ocb)) (number offset other : ℕ) → inode_of (row_at blocks other) ≡ inode_of (row_at (with_row blocks number (moved_to offset)) other)
-moved-rows [] number offset other = refl
-moved-rows (place ∷ blocks) zero offset zero = same-inode offset place
-moved-rows (place ∷ blocks) zero offset (suc other) = refl
-moved-rows (place ∷ blocks) (suc number) offset zero = refl
-moved-rows (place ∷ blocks) (suc number) offset (suc other) = moved-rows blocks number offset other
+-- only the offset is another
+only-moved : (offset : ℕ) → KeepsOpen (moved_to offset)
+only-moved offset = record { inode = λ block. refl; flags = λ block. refl }
 
-moved-count : (which : OFlags → Bool) (inode : ℕ) (blocks : List (Option Ocb)) (number offset : ℕ) (block : Ocb) → row_at blocks number ≡ Some block → count_by (is_open which inode) (with_row blocks number (moved_to offset)) ≡ count_by (is_open which inode) blocks
-moved-count which inode blocks number offset block is =
-    ap (λ (row : Option Ocb). count_by (is_open which inode) (slice_set blocks number (option_map (moved_to offset) row))) is
-    ∙ count-same (is_open which inode) refl blocks number block (moved_to offset block) is refl
+module _ (change : Ocb → Ocb) (keeps : KeepsOpen change) where
+  same-inode : (row : Option Ocb) → inode_of row ≡ inode_of (option_map change row)
+  same-inode None = refl
+  same-inode (Some block) = ap Some (sym (keeps.inode block))
 
-module _ (r s : Resources) (number offset : ℕ) (block : Ocb) (is : row_at r.inodes.blocks number ≡ Some block) (blocks : with_row r.inodes.blocks number (moved_to offset) ≡ s.inodes.blocks) (pipes : s.pipes ≡ r.pipes) where
+  moved-rows : (blocks : List (Option Ocb)) (number other : ℕ) → inode_of (row_at blocks other) ≡ inode_of (row_at (with_row blocks number change) other)
+  moved-rows [] number other = refl
+  moved-rows (place ∷ blocks) zero zero = same-inode place
+  moved-rows (place ∷ blocks) zero (suc other) = refl
+  moved-rows (place ∷ blocks) (suc number) zero = refl
+  moved-rows (place ∷ blocks) (suc number) (suc other) = moved-rows blocks number other
+
+  same-open : (which : OFlags → Bool) (inode : ℕ) (block : Ocb) → is_open which inode (Some (change block)) ≡ is_open which inode (Some block)
+  same-open which inode block i = (keeps.inode block i == inode) && which (keeps.flags block i)
+
+  moved-count : (which : OFlags → Bool) (inode : ℕ) (blocks : List (Option Ocb)) (number : ℕ) (block : Ocb) → row_at blocks number ≡ Some block → count_by (is_open which inode) (with_row blocks number change) ≡ count_by (is_open which inode) blocks
+  moved-count which inode blocks number block is =
+      ap (λ (row : Option Ocb). count_by (is_open which inode) (slice_set blocks number (option_map change row))) is
+      ∙ count-same (is_open which inode) refl blocks number block (change block) is (same-open which inode block)
+
+module _ (r s : Resources) (number : ℕ) (change : Ocb → Ocb) (keeps : KeepsOpen change) (block : Ocb) (is : row_at r.inodes.blocks number ≡ Some block) (blocks : with_row r.inodes.blocks number change ≡ s.inodes.blocks) (pipes : s.pipes ≡ r.pipes) where
   moved-stays : (other : ℕ) → inode_of (row_at r.inodes.blocks other) ≡ inode_of (row_at s.inodes.blocks other)
-  moved-stays other = moved-rows r.inodes.blocks number offset other ∙ ap (λ (rows : List (Option Ocb)). inode_of (row_at rows other)) blocks
+  moved-stays other = moved-rows change keeps r.inodes.blocks number other ∙ ap (λ (rows : List (Option Ocb)). inode_of (row_at rows other)) blocks
 
   moved-counts : (which : OFlags → Bool) (inode : ℕ) → count_by (is_open which inode) r.inodes.blocks ≤ count_by (is_open which inode) s.inodes.blocks
-  moved-counts which inode = le_of_eq (sym (moved-count which inode r.inodes.blocks number offset block is) ∙ ap (count_by (is_open which inode)) blocks)
+  moved-counts which inode = le_of_eq (sym (moved-count change keeps which inode r.inodes.blocks number block is) ∙ ap (count_by (is_open which inode)) blocks)
 
   moved-quiet : (inode : ℕ) → IsQuiet (pipe_conditions r inode) (pipe_conditions s inode)
   moved-quiet inode = pipe-falls r s inode (moved-counts reads inode) (moved-counts writes inode) (ap (λ (rows : List (Option (Pipe WaitingCall))). row_at rows inode) pipes)
 
-  moved-still : IsStill r s
+  pub moved-still : IsStill r s
   moved-still other = quiet-over r s other _ _ refl (sym (moved-stays other)) (by (inode_of (row_at r.inodes.blocks other)))
     where
       by : (place : Option ℕ) → IsQuiet (conditions_over r place) (conditions_over s place)
       by None = quiet-same _ _ refl
       by (Some inode) = moved-quiet inode
 
-  moved-settled : s.events ≡ r.events → IsSettledAt r number s
+  pub moved-settled : s.events ≡ r.events → IsSettledAt r number s
   moved-settled events =
       at-block r s number block is
       (watch-settled r s block.inode (λ other apart. moved-quiet other) (all-events (Stays r s) s.events.armed (λ event. moved-stays event.block)) (unarmed r s events))
@@ -131,13 +144,13 @@ read_file-settled r over count =
     gives_on _ (found (row_at r.inodes.blocks over.number) EBADF) _ (λ block is.
     gives_on _ (need (reads block.flags) EBADF) _ (λ reading may.
     gives_on _ (found (row_at r.files block.inode) EISDIR) _ (λ bytes here.
-    gives_done _ _ (moved-settled r _ over.number _ block (found-row _ _ block is) refl refl refl))))
+    gives_done _ _ (moved-settled r _ over.number _ (only-moved _) block (found-row _ _ block is) refl refl refl))))
 
 written-settled : (r : Resources) (number inode : ℕ) (bytes : List ℕ) (offset : ℕ) (new : List ℕ) (moment : ℕ) (block : Ocb) → row_at r.inodes.blocks number ≡ Some block → Gives (λ deed. IsSettledAt r number deed.state) (written_at r number inode bytes offset new moment)
 written-settled r number inode bytes offset new moment block is =
     gives_on _ (need (nat_le (offset + length new) FILE) EFBIG) _ (λ short is_short.
     gives_on _ (need (nat_le (total_size (slice_set r.files inode (Some (put bytes offset new)))) FILES) ENOSPC) _ (λ few is_few.
-    gives_done _ _ (moved-settled r _ number (offset + length new) block is refl refl refl)))
+    gives_done _ _ (moved-settled r _ number _ (only-moved (offset + length new)) block is refl refl refl)))
 
 pub write_file-settled : (r : Resources) (over : Opened) (new : List ℕ) → Gives (λ deed. IsSettledAt r over.number deed.state) (write_file r over new)
 write_file-settled r over new =
@@ -158,4 +171,4 @@ seek_file-still r over whence by =
     gives_on _ (found (row_at r.files block.inode) EINVAL) _ (λ bytes here.
     gives_on _ (found (moved_by (base whence block bytes) by) EINVAL) _ (λ offset is_moved.
     gives_on _ (need (nat_le offset OFFSET) EINVAL) _ (λ small is_small.
-    gives_done _ _ (moved-still r (moved over.number offset offset [] r).state over.number offset block (found-row _ _ block is) refl refl)))))
+    gives_done _ _ (moved-still r (moved over.number offset offset [] r).state over.number _ (only-moved offset) block (found-row _ _ block is) refl refl)))))

@@ -13,7 +13,7 @@ use Rattle.qx_machine.specs.declared.rows.Context.{Context}
 use Rattle.qx_machine.specs.declared.rows.Kind.TheVariants as kind
 use Rattle.qx_machine.specs.declared.rows.Ocb.{Ocb}
 use Rattle.qx_machine.specs.declared.rows.Opened.{Opened}
-use Rattle.qx_machine.specs.Functions.{Deed, new_open, side_root}
+use Rattle.qx_machine.specs.Functions.{Deed, new_dup, new_open, side_root}
 use Rattle.qx_machine.specs.Judgements.{◌>>=◌}
 use Rattle.qx_machine.specs.Managers.{manager_deed}
 use Rattle.qx_machine.specs.Notification.{events_settled}
@@ -30,11 +30,11 @@ use Rattle.qx_attr.proofs.TableLemmas.{no_value, none_before}
 use Rattle.qx_resources.specs.declared.watching.Watched.{Watched}
 use Rattle.qx_resources.specs.Watching.{HasNoStalePipe, watch_block, watch_place, watched_call, watched_over, watched_settled, works_on_pipe}
 use Rattle.qx_resources.proofs.WatchDeeds.{GivesStill, cancel-settled, kept-settled, read_file-settled, read_pipe-settled, seek_file-still, write_file-settled, write_pipe-settled}
-use Rattle.qx_resources.proofs.WatchCloses.{close-settled}
+use Rattle.qx_resources.proofs.WatchCloses.{close_dup-settled}
 use Rattle.qx_resources.proofs.WatchFacts.{still-settled}
 use Rattle.qx_machine.proofs.Gives.{Gives, gives_error, gives_more, gives_on, gives-value}
 use Rattle.qx_resources.proofs.WatchOpens.{directory-still, open-still}
-use Rattle.qx_resources.proofs.WatchOthers.{chmod-still, list-still, notify-still, seek_pipe-still, stat_block-still, stat_path-still, unlink-still}
+use Rattle.qx_resources.proofs.WatchOthers.{chmod-still, dup-still, list-still, notify-still, seek_pipe-still, stat_block-still, stat_path-still, unlink-still}
 
 -- it is enough to watch what is watched for a message over this
 abbrev IsSettled : Resources → Meaning → Result Opened Errno → Deed Resources → Type 0
@@ -62,13 +62,13 @@ module _ (r : Resources) (no_stale : HasNoStalePipe r) (context : Context) where
   ram-settled (msg.Mknod mode rest) = still r (msg.Mknod mode rest) context.opened _ refl (gives_on _ (side_root context.target) _ (λ root is. directory-still r no_stale root mode rest context.moment))
   ram-settled (msg.Read count) = over_opened r (Known (msg.Read count)) context.opened _ (λ over. read_file-settled r over count)
   ram-settled (msg.Write bytes) = over_opened r (Known (msg.Write bytes)) context.opened _ (λ over. write_file-settled r over bytes)
-  ram-settled msg.Close = over_opened r (Known msg.Close) context.opened _ (λ over. close-settled kind.File r over)
+  ram-settled msg.Close = over_opened r (Known msg.Close) context.opened _ (λ over. close_dup-settled kind.File r over)
+  ram-settled (msg.Dup old) = still r (msg.Dup old) context.opened _ refl (gives_on _ (new_dup context) _ (λ dup is. dup-still r dup))
   ram-settled (msg.Lseek whence offset) = still r (msg.Lseek whence offset) context.opened _ refl (gives_on _ context.opened _ (λ over is. seek_file-still r over whence offset))
   ram-settled msg.Fstat = still r msg.Fstat context.opened _ refl (gives_on _ context.opened _ (λ over is. stat_block-still r over))
   ram-settled (msg.List after) = still r (msg.List after) context.opened _ refl (gives_on _ context.opened _ (λ over is. list-still r over after))
   ram-settled (msg.Notify action conditions code value) = still r (msg.Notify action conditions code value) context.opened _ refl (gives_on _ context.opened _ (λ over is. notify-still r over action _))
   ram-settled (msg.Chmod mode) = still r (msg.Chmod mode) context.opened _ refl (gives_on _ context.opened _ (λ over is. chmod-still r over mode))
-  ram-settled _ = gives_error _ _
 
   pipe-settled : (message : Message) → Gives (IsSettled r (Known message) context.opened) (manager_deed managers.Pipe r context message)
   pipe-settled (msg.Open flags mode rest) = still r (msg.Open flags mode rest) context.opened _ refl (gives_on _ (new_open context.target) _ (λ over is. open-still r no_stale kind.Pipe over rest _))
@@ -77,13 +77,13 @@ module _ (r : Resources) (no_stale : HasNoStalePipe r) (context : Context) where
   pipe-settled (msg.Mknod mode rest) = gives_error _ _
   pipe-settled (msg.Read count) = over_opened r (Known (msg.Read count)) context.opened _ (λ over. read_pipe-settled r over count)
   pipe-settled (msg.Write bytes) = over_opened r (Known (msg.Write bytes)) context.opened _ (λ over. write_pipe-settled r over bytes)
-  pipe-settled msg.Close = over_opened r (Known msg.Close) context.opened _ (λ over. close-settled kind.Pipe r over)
+  pipe-settled msg.Close = over_opened r (Known msg.Close) context.opened _ (λ over. close_dup-settled kind.Pipe r over)
+  pipe-settled (msg.Dup old) = still r (msg.Dup old) context.opened _ refl (gives_on _ (new_dup context) _ (λ dup is. dup-still r dup))
   pipe-settled (msg.Lseek whence offset) = still r (msg.Lseek whence offset) context.opened _ refl (gives_on _ context.opened _ (λ over is. seek_pipe-still r over whence offset))
   pipe-settled msg.Fstat = still r msg.Fstat context.opened _ refl (gives_on _ context.opened _ (λ over is. stat_block-still r over))
   pipe-settled (msg.List after) = still r (msg.List after) context.opened _ refl (gives_on _ context.opened _ (λ over is. list-still r over after))
   pipe-settled (msg.Notify action conditions code value) = still r (msg.Notify action conditions code value) context.opened _ refl (gives_on _ context.opened _ (λ over is. notify-still r over action _))
   pipe-settled (msg.Chmod mode) = still r (msg.Chmod mode) context.opened _ refl (gives_on _ context.opened _ (λ over is. chmod-still r over mode))
-  pipe-settled _ = gives_error _ _
 
   manager-settled : (manager : Manager) (message : Message) → Gives (IsSettled r (Known message) context.opened) (manager_deed manager r context message)
   manager-settled managers.Ram message = ram-settled message

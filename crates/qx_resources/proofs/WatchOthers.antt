@@ -1,21 +1,23 @@
 -- What an unlink comes to, and what tells or arms alone: nothing comes to hold.
 use Rattle.std.proofs.Common.{◌≡◌, inl, ℕ, true, not, ◌==◌, refl, sym, ap, ◌∙◌, arith, Option, Some, None, ◌≢◌, List, count_by}
 use Rattle.std.proofs.lemmas.Bool.{false≢true, eqb-true, cond_both, and_parts}
-use Rattle.std.specs.Prelude.{ℤ}
-use Rattle.qx_types.specs.declared.errno.Errno.TheVariants.{EBADF, EINVAL, ENOENT, EBUSY, ENOTDIR, ENOTEMPTY, EPERM, ESPIPE}
+use Rattle.std.specs.Prelude.{ℤ, ◌+◌, nat_lt}
+use Rattle.qx_types.specs.declared.errno.Errno.TheVariants.{EBADF, EINVAL, EMFILE, ENOENT, EBUSY, ENOTDIR, ENOTEMPTY, EPERM, ESPIPE}
 use Rattle.qx_types.specs.declared.fields.NotifyAction.{NotifyAction}
 use Rattle.qx_types.specs.declared.fields.Whence.{Whence}
+use Rattle.qx_types.specs.declared.limits.TheConstants.Limits.{LAST_CONNECTION}
 use Rattle.qx_machine.specs.declared.rows.Attribute.{Attribute}
 use Rattle.qx_machine.specs.declared.rows.Kind.{Kind}
 use Rattle.qx_machine.specs.declared.rows.Kind.TheVariants.{Directory, File}
+use Rattle.qx_machine.specs.declared.rows.NewDup.{NewDup}
 use Rattle.qx_machine.specs.declared.rows.Ocb.{Ocb}
 use Rattle.qx_machine.specs.declared.rows.Opened.{Opened}
 use Rattle.qx_machine.specs.declared.rows.PulseWish.{PulseWish}
 use Rattle.qx_machine.specs.declared.rows.WaitingCall.{WaitingCall}
 use Rattle.qx_machine.specs.Attributes.{top_inode}
-use Rattle.qx_machine.specs.Defaults.{is_own, without_unused, writable, chmod_block, list_block, stat_block, stat_path, unlink_path, without_name}
+use Rattle.qx_machine.specs.Defaults.{dup_open, is_own, without_unused, writable, chmod_block, list_block, stat_block, stat_path, unlink_path, without_name}
 use Rattle.qx_machine.specs.Events.{notified}
-use Rattle.qx_machine.specs.Inodes.{is_open, Inodes, free_inode, is_unused, with_attribute}
+use Rattle.qx_machine.specs.Inodes.{dup_block, is_open, Inodes, free_inode, is_unused, with_attribute}
 use Rattle.qx_machine.specs.Judgements.{found, need}
 use Rattle.qx_machine.specs.Names.{is_directory, spot, is_empty, names_in, inode_at}
 use Rattle.qx_machine.specs.Notification.{conditions_at, event_of, notify_block}
@@ -27,9 +29,9 @@ use Rattle.qx_machine.proofs.Places.{row_at-set_other}
 use Rattle.qx_attr.proofs.CountLemmas.{count-free, counts_own}
 use Rattle.qx_attr.specs.inner.Counts.{one}
 use Rattle.qx_resources.proofs.WatchCloses.{free-blocks}
-use Rattle.qx_resources.proofs.WatchDeeds.{GivesStill}
+use Rattle.qx_resources.proofs.WatchDeeds.{GivesStill, KeepsOpen, moved-still}
 use Rattle.qx_resources.proofs.WatchFacts.{IsStill}
-use Rattle.qx_machine.proofs.Gives.{gives_done, gives_on, gives_error}
+use Rattle.qx_machine.proofs.Gives.{Gives, found-row, gives_by, gives_done, gives_on, gives_error}
 use Rattle.qx_resources.proofs.WatchOpens.{grows-still, same-grows, same-still}
 use Rattle.qx_machine.specs.declared.rows.Kind.TheVariants as kind
 
@@ -72,6 +74,17 @@ unlink-still own r root rest moment =
     gives_on _ (found (row_at r.inodes.attributes inode) ENOENT) _ (λ attribute has.
     gives_on _ (need (is_own own attribute.kind) ENOENT) _ (λ mine is_mine.
     gives_done _ _ (unused-still own r (without_name at parent inode attribute moment r) inode refl refl)))))))
+
+-- ---- a connection more
+
+dup_block-still : (r : Resources) (number : ℕ) → Gives (λ (inodes : Inodes). IsStill r (record r { inodes = inodes })) (dup_block r.inodes number)
+dup_block-still r number =
+    gives_on _ (found (row_at r.inodes.blocks number) EBADF) _ (λ block is.
+    gives_on _ (need (nat_lt block.uses LAST_CONNECTION) EMFILE) _ (λ few is_few.
+    gives_done _ _ (moved-still r _ number (λ (block : Ocb). record block { uses = block.uses + 1 }) (record { inode = λ block. refl; flags = λ block. refl }) block (found-row _ _ block is) refl refl)))
+
+pub dup-still : (r : Resources) (dup : NewDup) → GivesStill r (dup_open r dup)
+dup-still r dup = gives_by _ _ (dup_block r.inodes dup.old.number) _ (dup_block-still r dup.old.number) (λ inodes still. gives_done _ _ still)
 
 -- ---- what tells
 

@@ -7,7 +7,7 @@ use crate::resources::Resources;
 use crate::state::Told;
 use crate::waits::Waits;
 use qx_attr::Reply;
-use qx_machine::{Kind, NewOpen, Opened, PulseWish, Wish};
+use qx_machine::{Kind, NewDup, NewOpen, Opened, PulseWish, Wish};
 use qx_process::Room;
 use qx_resmgr::{Connect, Done, Io};
 use qx_types::{Errno, NotifyAction, Whence};
@@ -119,8 +119,19 @@ impl Io<Resources, Waits, Told> for Ram {
         opened: Result<Opened, Errno>,
     ) -> Result<Done, Errno> {
         let opened = opened?;
+        if let Some(done) = blocks::close_dup(state, opened) {
+            return Ok(done);
+        }
         state.store.close(Kind::File, opened.number)?;
         Ok(blocks::closed(state, waits, opened))
+    }
+
+    fn dup(
+        state: &mut Resources,
+        _waits: &mut Waits,
+        dup: Result<NewDup, Errno>,
+    ) -> Result<Done, Errno> {
+        blocks::dup(state, dup)
     }
 
     fn lseek(

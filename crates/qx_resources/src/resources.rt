@@ -26,8 +26,8 @@ use qx_machine::{Caller, Context, Opened, Over, Target};
 use qx_paths::{MountFault, Mounts, Path, read_path};
 use qx_process::{Process, Room};
 use qx_resmgr::{Done, serve};
-use qx_types::{Config, Errno, Manager, NoMemory, Thread, User};
-use qx_wire::Meaning;
+use qx_types::{Coid, Config, Errno, Manager, NoMemory, Thread, User};
+use qx_wire::{Meaning, Message};
 use std::alloc::{AllocError, Global};
 use std::marker::Model;
 
@@ -186,28 +186,47 @@ impl Resources {
     }
 }
 
-/// What a message of a process is served with at a moment (Writing a Resource Manager: `resmgr_context_t`).
-pub fn context_of(process: &Process, caller: Caller, target: Target, moment: u64) -> Context
-    ensures context { result ≡ performing.context_of process.now caller target moment }
+/// What a message of a process is served with at a moment, by what it means (Writing a Resource Manager:
+/// `resmgr_context_t`).
+pub fn context_of(
+    process: &Process,
+    caller: Caller,
+    target: Target,
+    moment: u64,
+    meaning: &Meaning<'_>,
+) -> Context
+    ensures context { result ≡ performing.context_of process.now caller target moment meaning.now }
 {
     Context {
         target,
-        opened: opened_by(process, caller, target, moment),
+        opened: opened_by(process, caller, target, moment, dup_of(meaning)),
         moment,
     }
 }
 
-/// What the connection of a message has open.
+/// The connection that a dup names, the old one.
+fn dup_of(meaning: &Meaning<'_>) -> Option<Coid>
+    ensures { result ≡ performing.dup_of meaning.now }
+{
+    match meaning {
+        Meaning::Known(Message::Dup { old }) => Some(*old),
+        _ => None,
+    }
+}
+
+/// What the connection of a message has open: that which it came over, or of a dup the old one.
 fn opened_by(
     process: &Process,
     caller: Caller,
     target: Target,
     moment: u64,
+    old: Option<Coid>,
 ) -> Result<Opened, Errno>
-    ensures { result ≡ performing.opened_by process.now caller target moment }
+    ensures { result ≡ performing.opened_by process.now caller target moment old }
 {
-    let Over::Existing(coid) = target.over else {
-        return Err(Errno::EINVAL);
+    let coid = match (old, target.over) {
+        (Some(coid), _) | (None, Over::Existing(coid)) => coid,
+        _ => return Err(Errno::EINVAL),
     };
     let Some(connection) = process.conn_of(coid) else {
         return Err(Errno::EBADF);

@@ -45,6 +45,9 @@ impl Resources {
     {
         let inodes = self.store.inodes();
         inodes.opened();
+        if !waits.events.has_armed(self.store.user()) {
+            return None;
+        }
         match meaning {
             Meaning::Known(Message::Read { .. } | Message::Write { .. } | Message::Close) => {}
             _ => return None,

@@ -31,7 +31,7 @@ caller_of_call thread call = record { process = thread.proc.num; thread = thread
 -- what a message of a process with these bytes comes to
 abbrev pub deed_in : Kept → Waits → Process → TakenMessage → List ℕ → Result (Deed Resources) Errno
 deed_in resources waits process message bytes =
-    deed_of (told resources waits) (context_of process (caller_of_call message.thread message.call) message.call.target message.moment) (meaning bytes)
+    deed_of (told resources waits) (context_of process (caller_of_call message.thread message.call) message.call.target message.moment (meaning bytes)) (meaning bytes)
 
 -- what a deed to a user's resources leaves, once the events that are due by it have given their pulses: its answers are on their way, and of
 -- the room for events nothing is said

@@ -3,7 +3,7 @@ use Rattle.std.specs.Prelude.{IsTrue, Result}
 use Rattle.qx_types.specs.declared.errno.Errno.{Errno}
 use Rattle.qx_wire.specs.declared.message.Meaning.{Meaning}
 use Rattle.qx_machine.specs.Functions.{Deed}
-use Rattle.qx_machine.specs.Performing.{deed_of}
+use Rattle.qx_machine.specs.Performing.{deed_of, dup_of}
 use Rattle.qx_machine.specs.Resources.{Resources}
 use Rattle.qx_machine.specs.Wants.{bytes_want_memory}
 use Rattle.qx_resmgr.specs.Deeds.{Did}
@@ -27,7 +27,7 @@ returns-in-Ok-clause-did c = λ process bytes sends.
 pub perform-requires-clause-received : goal.perform-requires-clause-received
 perform-requires-clause-received c =
     rw (c.context_of-context.ensures.context, c.caller.ensures)
-    (caller-received c.args.resources.now c.args.waits.now c.args.message.thread c.args.message.call c.in-Some.process.now c.args.message.moment c.requires.user c.in-Some.ensures.within c.requires.received)
+    (caller-received c.args.resources.now c.args.waits.now c.args.message.thread c.args.message.call c.in-Some.process.now c.args.message.moment (dup_of c.meaning_of-meaning.result) c.requires.user c.in-Some.ensures.within c.requires.received)
 
 pub trigger-requires : goal.trigger-requires
 trigger-requires c = record { fits = fits-did c.args.resources.now c.perform.new.self c.args.waits.now c.perform.new.all c.perform.new.reply c.in-Ok.given _ c.requires.fits c.in-Ok.ensures.did }
