@@ -2,7 +2,7 @@
 use Rattle.std.proofs.Common.{◌≡◌, ◌≢◌, ℕ, zero, suc, ◌+◌, ◌-◌, ◌<◌, ◌≤◌, Bool, true, false, ◌==◌, ◌&&◌, List, [], ◌∷◌, ◌++◌, length, refl, sym, ap, ◌∙◌, inl, inr, arith, Option, Some, None, map, slice_set, count_by, get_or, ltb, length-append}
 use Rattle.std.proofs.Math.ListN.{length-set}
 use Rattle.std.proofs.Math.Seq.{map-set_same}
-use Rattle.std.specs.Prelude.{if◌then◌else◌}
+use Rattle.std.specs.Prelude.{if◌then◌else◌, option_map}
 use Rattle.std.proofs.lemmas.Bool.{cases_eq, ltb-false, ltb-true, ne_eqb}
 use Rattle.std.proofs.lemmas.Bool.Decides.{nat_tests}
 use Rattle.std.proofs.lemmas.List.{get_or-set_same}
@@ -10,8 +10,8 @@ use Rattle.std.proofs.lemmas.Option.{unwrap_or-slice_get}
 use Rattle.std.proofs.lemmas.List.Sums.{sum_by-append, sum_by-cons, sum_by-set}
 use Rattle.qx_types.specs.declared.flags.OFlags.{OFlags}
 use Rattle.qx_machine.specs.declared.rows.Ocb.{Ocb}
-use Rattle.qx_machine.specs.Inodes.{is_open, moved_to, reads, writes}
-use Rattle.qx_machine.specs.Rows.{row_at, put_row}
+use Rattle.qx_machine.specs.Inodes.{is_open, reads, writes}
+use Rattle.qx_machine.specs.Rows.{row_at, put_row, with_row}
 use Rattle.qx_machine.proofs.Places.{row_at-set_other}
 use Rattle.qx_attr.specs.declared.attr.Attr.{Attr}
 use Rattle.qx_attr.specs.inner.Counts.{AreCounted, IsCounted, attribute_of, count_in, counted, one, uncounted}
@@ -212,10 +212,18 @@ pub same_attributes : (attrs : List (Option Attr)) (n : ℕ) (attr now : Attr) �
 same_attributes attrs n attr now is same =
     map-set_same attribute_of attrs n (Some now) None (ap (λ attribute. Some attribute) same ∙ ap attribute_of (sym is ∙ read_row attrs n))
 
--- at which offset a block stands is not counted
-pub counted_moved : (attrs : List (Option Attr)) (blocks : List (Option Ocb)) (n offset : ℕ) (block : Ocb) → row_at blocks n ≡ Some block → AreCounted attrs blocks → AreCounted attrs (slice_set blocks n (Some (moved_to offset block)))
-counted_moved attrs blocks n offset block is are = record {
-  blocks_are = λ m. are.blocks_are m ∙ sym (count-same (is_open (λ flags. true) m) refl blocks n block (moved_to offset block) is refl);
-  readers_are = λ m. are.readers_are m ∙ sym (count-same (is_open reads m) refl blocks n block (moved_to offset block) is refl);
-  writers_are = λ m. are.writers_are m ∙ sym (count-same (is_open writes m) refl blocks n block (moved_to offset block) is refl);
-}
+-- of a block only its inode and its flags are counted
+pub counted_kept : (attrs : List (Option Attr)) (blocks : List (Option Ocb)) (n : ℕ) (now : Ocb) → option_map (λ was. was.inode) (row_at blocks n) ≡ Some now.inode → option_map (λ was. was.flags) (row_at blocks n) ≡ Some now.flags
+    → AreCounted attrs blocks → AreCounted attrs (with_row blocks n (λ _. now))
+counted_kept attrs blocks n now same_inode same_flags are = by_row (row_at blocks n) refl same_inode same_flags
+  where
+    as_many : (which : OFlags → Bool) (was : Ocb) (m : ℕ) → row_at blocks n ≡ Some was → now.inode ≡ was.inode → now.flags ≡ was.flags → count_by (is_open which m) (slice_set blocks n (Some now)) ≡ count_by (is_open which m) blocks
+    as_many which was m is inode flags = count-same (is_open which m) refl blocks n was now is (λ i. (inode i == m) && which (flags i))
+
+    by_row : (row : Option Ocb) → row_at blocks n ≡ row → option_map (λ was. was.inode) row ≡ Some now.inode → option_map (λ was. was.flags) row ≡ Some now.flags → AreCounted attrs (slice_set blocks n (option_map (λ _. now) row))
+    by_row None is inode flags = absurd (cc)
+    by_row (Some was) is inode flags = record {
+      blocks_are = λ m. are.blocks_are m ∙ sym (as_many (λ flags. true) was m is (cc) (cc));
+      readers_are = λ m. are.readers_are m ∙ sym (as_many reads was m is (cc) (cc));
+      writers_are = λ m. are.writers_are m ∙ sym (as_many writes was m is (cc) (cc));
+    }

@@ -1,5 +1,6 @@
-ghost use Rattle.std.specs.Prelude.{◌≡◌, ℕ, ◌+◌, ◌-◌, ◌<◌, ◌≤◌, Bool, None, Some, IfOk, IfSome, OnOk, OnErr, IsOk, IsSome, length, max, option_map, slice_set};
+ghost use Rattle.std.specs.Prelude.{◌≡◌, ℕ, ◌+◌, ◌-◌, ◌<◌, ◌≤◌, Bool, None, Some, IfOk, IfSome, OnOk, OnErr, IsOk, IsSome, length, max, option_map, slice_set, if◌then◌else◌};
 ghost use Rattle.std.specs.Option.{option_copied};
+ghost use Rattle.std.specs.Result.{result_map_both};
 ghost use Rattle.qx_attr.specs.Counts.{with_number};
 ghost use Rattle.qx_attr.specs.Flags.{block_for};
 ghost use Rattle.qx_machine.specs.Attributes.{stat_bytes};
@@ -205,6 +206,7 @@ impl Inodes {
                     inode,
                     flags,
                     offset: 0,
+                    uses: 1,
                 };
                 self.put_block(number, block);
                 Ok(Ok(number))
@@ -228,9 +230,53 @@ impl Inodes {
     pub fn set_offset(&mut self, number: u16, offset: u64)
         ensures moved { self.new ≡ record self.old { inodes = machine.with_offset self.old.inodes number offset } }
     {
-        if let Some(block) = self.blocks.get(number as usize).copied() {
-            self.blocks.set(number as usize, Ocb { offset, ..block });
+        if let Some(block) = self.block(number).copied() {
+            self.set_block(number, Ocb { offset, ..block });
         }
+    }
+
+    /// One more connection has an open control block (Writing a Resource Manager: `io_dup`; C Library Reference: `dup`).
+    /// EBADF where it is not there, and EMFILE where as many connections have it as a process can have, which no process
+    /// comes to. Where an error comes, nothing changes.
+    pub fn dup_block(&mut self, number: u16) -> Result<(), Errno>
+        ensures shared { result_map_both (λ _. self.new.inodes) (λ error. error) result ≡ machine.dup_block self.old.inodes number }
+        ensures room { self.new.room ≡ self.old.room }
+        ensures err { OnErr result (self.new ≡ self.old) }
+    {
+        let Some(block) = self.block(number).copied() else {
+            return Err(Errno::EBADF);
+        };
+        if block.uses as usize >= Limits::LAST_CONNECTION {
+            return Err(Errno::EMFILE);
+        }
+        let uses = block.uses + 1;
+        self.set_block(number, Ocb { uses, ..block });
+        Ok(())
+    }
+
+    /// One connection less has an open control block, if others have it too, and tells whether they have (Writing a Resource
+    /// Manager: `iofunc_close_dup`). Else nothing changes.
+    pub fn close_dup(&mut self, number: u16) -> bool
+        ensures shared { result ≡ machine.is_shared (row_at self.old.inodes.blocks number) }
+        ensures left { self.new ≡ (if machine.is_shared (row_at self.old.inodes.blocks number) then record self.old { inodes = machine.without_use self.old.inodes number } else self.old) }
+    {
+        match self.block(number).copied() {
+            Some(block) if block.uses > 1 => {
+                let uses = block.uses - 1;
+                self.set_block(number, Ocb { uses, ..block });
+                true
+            }
+            _ => false,
+        }
+    }
+
+    /// Changes an open control block, but not what it has open nor for what.
+    fn set_block(&mut self, number: u16, block: Ocb)
+        requires inode { option_map (λ was. was.inode) (row_at self.old.inodes.blocks number) ≡ Some block.inode }
+        requires flags { option_map (λ was. was.flags) (row_at self.old.inodes.blocks number) ≡ Some block.flags }
+        ensures { self.new ≡ record self.old { inodes = record self.old.inodes { blocks = slice_set self.old.inodes.blocks number (Some block) } } }
+    {
+        self.blocks.set(number as usize, block);
     }
 
     /// Takes an open control block away, if it is there; its inode's counts fall (Writing a Resource Manager:
