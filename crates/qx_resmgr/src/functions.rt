@@ -9,7 +9,7 @@ ghost use Rattle.qx_resmgr.specs.Deeds.{Did, HasRoomAfter, IsReplied};
 
 use crate::state::State;
 use qx_attr::Reply;
-use qx_machine::{Effect, NewOpen, Opened, PulseWish, Wish};
+use qx_machine::{Effect, NewDup, NewOpen, Opened, PulseWish, Wish};
 use qx_process::Room;
 use qx_types::{Errno, NotifyAction, Whence};
 use qx_wire::Rest;
@@ -101,12 +101,12 @@ pub trait Connect<S: State<W, T>, W, T> {
         ensures wanted { OnErr result (IsOk (function_deed connect.mknod root (λ f root. f (S.told state.old waits.old) root mode rest.now moment))) };
 }
 
-/// A manager's functions for messages over what is open (Writing a Resource Manager: `resmgr_io_funcs_t`), which work on what
-/// it keeps for a user and on what all users share. A function is given what is open, with the moment, or the error if
-/// nothing is; one whose reply may have bytes puts them into `reply`. A read or a write may leave its message without a
-/// reply, and then takes `room`, memory for a reply that comes later; else it leaves that as it was. The others always
-/// reply. An error leaves all as it was, and no bytes. Where memory is short, all is as it was too, and the message would
-/// have been done.
+/// A manager's functions for messages over what is open (Writing a Resource Manager: `resmgr_io_funcs_t`), which work on
+/// what it keeps for a user and on what all users share. A function is given what is open, with the moment, or the error
+/// if nothing is, a dup the connection that its call made too; one whose reply may have bytes puts them into `reply`. A
+/// read or a write may leave its message without a reply, and then takes `room`, memory for a reply that comes later;
+/// else it leaves that as it was. The others always reply. An error leaves all as it was, and no bytes. Where memory is
+/// short, all is as it was too, and the message would have been done.
 pub trait Io<S: State<W, T>, W, T> {
     /// What they mean. A function that is left out is `no_function()`.
     ghost io: { IoFunctions T } = { no_io };
@@ -152,10 +152,17 @@ pub trait Io<S: State<W, T>, W, T> {
         ensures err { OnErr result ((state.new ≡ state.old) × (waits.new ≡ waits.old) × (room.new ≡ room.old)) }
         ensures wanted { OnErr result (IsTrue (is_done_so wants (S.told state.old waits.old) (function_deed io.write opened (λ f o. f (S.told state.old waits.old) o bytes.now)))) };
 
-    /// Takes a connection away, and its block with it.
+    /// Takes a connection away, and its block with it where no other connection has that (Writing a Resource Manager:
+    /// `iofunc_close_dup`).
     fn close(state: &mut S, waits: &mut W, opened: Result<Opened, Errno>) -> Result<Done, Errno>
         requires fits { S.fits state.old waits.old }
         ensures did { Did S.State state.old waits.old state.new waits.new [] result (function_deed io.close opened (λ f o. f (S.told state.old waits.old) o)) }
+        ensures replied { IsReplied result };
+
+    /// Gives a connection that its call made the block of another (Writing a Resource Manager: `io_dup`).
+    fn dup(state: &mut S, waits: &mut W, dup: Result<NewDup, Errno>) -> Result<Done, Errno>
+        requires fits { S.fits state.old waits.old }
+        ensures did { Did S.State state.old waits.old state.new waits.new [] result (function_deed io.dup dup (λ f dup. f (S.told state.old waits.old) dup)) }
         ensures replied { IsReplied result };
 
     /// Sets the offset, in bytes.

@@ -5,21 +5,22 @@ ghost use Rattle.qx_machine.specs.Functions.{message_deed};
 ghost use Rattle.qx_machine.specs.Wants.{deed_wants_memory};
 ghost use Rattle.qx_resmgr.specs.Deeds.{Did, HasRoomAfter};
 
-use crate::functions::{Connect, Done, Io, no_function};
+use crate::functions::{Connect, Done, Io};
 use crate::state::State;
 use qx_attr::Reply;
-use qx_machine::{Context, NewOpen, Over, PulseWish, Target, Wish};
+use qx_machine::{Context, NewDup, NewOpen, Over, PulseWish, Target, Wish};
 use qx_process::Room;
 use qx_types::Errno;
 use qx_wire::Message;
 use std::alloc::AllocError;
 
 /// Does what a message asks a manager for, by the function for it in one of the manager's two tables (Writing a Resource
-/// Manager: `resmgr_handler`). ENOSYS where there is none; EINVAL where an open didn't come over a new connection, or
-/// another message to a path not over a side connection; the error of the context's `opened`, for a message over what is
-/// open; then the function's own errors. An error changes nothing. The bytes of the reply are then in `reply`, none after
-/// an error; a message that is left without one took `room` along, and else that is as it was. Only an open, a mknod and,
-/// of some managers, a write or a notification may want memory, and only where they would be done.
+/// Manager: `resmgr_handler`). ENOSYS where there is none; EINVAL where an open or a dup didn't come over a new
+/// connection, or another message to a path not over a side connection; the error of the context's `opened`, for a dup
+/// and a message over what is open; then the function's own errors. An error changes nothing. The bytes of the reply are
+/// then in `reply`, none after an error; a message that is left without one took `room` along, and else that is as it
+/// was. Only an open, a mknod and, of some managers, a write or a notification may want memory, and only where they would
+/// be done.
 pub fn serve<M: Connect<S, W, T> + Io<S, W, T>, S: State<W, T>, W, T>(
     state: &mut S,
     waits: &mut W,
@@ -75,11 +76,11 @@ pub fn serve<M: Connect<S, W, T> + Io<S, W, T>, S: State<W, T>, W, T>(
         Message::Unlink { rest } => M::unlink(state, waits, side_root(target), &rest, moment),
         Message::Read { count } => M::read(state, waits, opened, count, reply, room),
         Message::Close => M::close(state, waits, opened),
+        Message::Dup { .. } => M::dup(state, waits, new_dup(context)),
         Message::Lseek { whence, offset } => M::lseek(state, waits, opened, whence, offset),
         Message::Fstat => M::fstat(state, waits, opened, reply),
         Message::List { after } => M::list(state, waits, opened, after.as_slice(), reply),
         Message::Chmod { mode } => M::chmod(state, waits, opened, mode),
-        _ => no_function(),
     };
     Ok(given)
 }
@@ -92,6 +93,17 @@ fn new_open(target: Target) -> Result<NewOpen, Errno>
         return Err(Errno::EINVAL);
     };
     Ok(NewOpen { coid, root })
+}
+
+/// What a dup is given.
+fn new_dup(context: Context) -> Result<NewDup, Errno>
+    ensures { result ≡ functions.new_dup context }
+{
+    let Over::New(coid) = context.target.over else {
+        return Err(Errno::EINVAL);
+    };
+    let old = context.opened?;
+    Ok(NewDup { coid, old })
 }
 
 /// The root of the mount of what else is sent to a path.
