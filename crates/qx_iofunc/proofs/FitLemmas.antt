@@ -12,7 +12,7 @@ use Rattle.qx_iofunc.specs.inner.Fits.{NamesFitBut}
 use Rattle.qx_iofunc.proofs.PlaceLemmas.{Differ, by_place, put_at, put_differ, row-freed, same_differ, set_differ}
 use Rattle.qx_machine.specs.declared.rows.Attribute.{Attribute}
 use Rattle.qx_machine.specs.declared.rows.Ocb.{Ocb}
-use Rattle.qx_machine.specs.Inodes.{Inodes, blocks_of, close_block, free_inode, is_open, is_unused, moved_to, no_inodes, with_attribute, with_offset}
+use Rattle.qx_machine.specs.Inodes.{Inodes, blocks_of, close_block, free_inode, is_open, is_unused, no_inodes, with_attribute}
 use Rattle.qx_machine.specs.Names.{Key, Names, key_cmp}
 use Rattle.qx_machine.specs.Rows.{put_row, row_at, with_row}
 use Rattle.qx_names.specs.Paths.{HasNoPath}
@@ -103,12 +103,13 @@ blocks_fit inodes names blocks more fits = record {
   places = fits.places;
 }
 
-pub offset_fits : (inodes : Inodes) (names : Names) (number offset : ℕ) → NamesFit inodes names → NamesFit (with_offset inodes number offset) names
-offset_fits inodes names number offset = blocks_fit inodes names (with_row inodes.blocks number (moved_to offset)) (λ inode. let same = by_row inode (row_at inodes.blocks number) refl in omega (arith, same))
+-- so a block may change that keeps its inode
+pub block_changed_fits : (inodes : Inodes) (names : Names) (number : ℕ) (change : Ocb → Ocb) → ((block : Ocb) → (change block).inode ≡ block.inode) → NamesFit inodes names → NamesFit (record inodes { blocks = with_row inodes.blocks number change }) names
+block_changed_fits inodes names number change same_inode = blocks_fit inodes names (with_row inodes.blocks number change) (λ inode. let same = by_row inode (row_at inodes.blocks number) refl in omega (arith, same))
   where
-    by_row : (inode : ℕ) (row : Option Ocb) → row_at inodes.blocks number ≡ row → count_by (is_open (λ flags. true) inode) (with_row inodes.blocks number (moved_to offset)) ≡ blocks_of inodes inode
-    by_row inode None is = ap (count_by (is_open (λ flags. true) inode)) (with_row-none inodes.blocks number (moved_to offset) is)
-    by_row inode (Some block) is = rw is (count-same (is_open (λ flags. true) inode) refl inodes.blocks number block (moved_to offset block) is refl)
+    by_row : (inode : ℕ) (row : Option Ocb) → row_at inodes.blocks number ≡ row → count_by (is_open (λ flags. true) inode) (with_row inodes.blocks number change) ≡ blocks_of inodes inode
+    by_row inode None is = ap (count_by (is_open (λ flags. true) inode)) (with_row-none inodes.blocks number change is)
+    by_row inode (Some block) is = rw is (count-same (is_open (λ flags. true) inode) refl inodes.blocks number block (change block) is (λ i. (same_inode block i == inode) && true))
 
 pub block_fits : (inodes : Inodes) (names : Names) (number : ℕ) (block : Ocb) → row_at inodes.blocks number ≡ None → NamesFit inodes names → NamesFit (record inodes { blocks = put_row inodes.blocks number block }) names
 block_fits inodes names number block free =

@@ -86,7 +86,7 @@ no_value error is = absurd (cc)
 -- an open, once it is known what number it gets
 abbrev opened_by : Coid → OFlags → ℕ → Resources → Result ℕ Errno → Result (Deed Resources) Errno
 opened_by coid flags inode after number =
-    (number >>= (λ n. Ok (the Numbered (record { number = n; inodes = record after.inodes { blocks = put_row after.inodes.blocks n (record { inode = inode; flags = flags; offset = 0 }) } })))) >>= (λ block. Ok (reply_alone coid.0 [] (Opens coid block.number) (record after { inodes = block.inodes })))
+    (number >>= (λ n. Ok (the Numbered (record { number = n; inodes = record after.inodes { blocks = put_row after.inodes.blocks n (record { inode = inode; flags = flags; offset = 0; uses = 1 }) } })))) >>= (λ block. Ok (reply_alone coid.0 [] (Opens coid block.number) (record after { inodes = block.inodes })))
 
 judged : (last : Result ℕ Errno → Result (Deed Resources) Errno) → ((error : Errno) → last (Err error) ≡ Err error) → (shared fits may : Bool) (number : Result ℕ Errno)
     → (need shared EEXIST >>= (λ _. need fits EISDIR >>= (λ _. need may EACCES >>= (λ _. last number))))
@@ -159,13 +159,13 @@ all_allowed s inode wish allowed = allowed_may (with_stored (beside s) s) (recor
 -- ---- once it is open
 
 module _ (inodes now : Inodes) (inode number : ℕ) (flags : OFlags) (is_open : with_number now (Ok number) ≡ open_block inodes inode flags) where
-  opened_is : now ≡ record inodes { blocks = put_row inodes.blocks (lowest_from 1 inodes.blocks) (record { inode = inode; flags = flags; offset = 0 }) }
+  opened_is : now ≡ record inodes { blocks = put_row inodes.blocks (lowest_from 1 inodes.blocks) (record { inode = inode; flags = flags; offset = 0; uses = 1 }) }
   opened_is = by_test (nat_le (lowest_from 1 inodes.blocks) BLOCKS) is_open
     where
-      by_test : (few : Bool) → with_number now (Ok number) ≡ ((if few then Ok (lowest_from 1 inodes.blocks) else Err ENFILE) >>= (λ n. Ok (record { number = n; inodes = record inodes { blocks = put_row inodes.blocks n (record { inode = inode; flags = flags; offset = 0 }) } })))
-          → now ≡ record inodes { blocks = put_row inodes.blocks (lowest_from 1 inodes.blocks) (record { inode = inode; flags = flags; offset = 0 }) }
+      by_test : (few : Bool) → with_number now (Ok number) ≡ ((if few then Ok (lowest_from 1 inodes.blocks) else Err ENFILE) >>= (λ n. Ok (record { number = n; inodes = record inodes { blocks = put_row inodes.blocks n (record { inode = inode; flags = flags; offset = 0; uses = 1 }) } })))
+          → now ≡ record inodes { blocks = put_row inodes.blocks (lowest_from 1 inodes.blocks) (record { inode = inode; flags = flags; offset = 0; uses = 1 }) }
       by_test true e =
-          let equal : record { number = number; inodes = now } ≡ record { number = lowest_from 1 inodes.blocks; inodes = record inodes { blocks = put_row inodes.blocks (lowest_from 1 inodes.blocks) (record { inode = inode; flags = flags; offset = 0 }) } } = cc in
+          let equal : record { number = number; inodes = now } ≡ record { number = lowest_from 1 inodes.blocks; inodes = record inodes { blocks = put_row inodes.blocks (lowest_from 1 inodes.blocks) (record { inode = inode; flags = flags; offset = 0; uses = 1 }) } } = cc in
           ap (λ (given : Numbered). given.inodes) equal
       by_test false e = absurd (cc)
 
@@ -173,7 +173,7 @@ module _ (inodes now : Inodes) (inode number : ℕ) (flags : OFlags) (is_open : 
   opened_fits names files fits =
       subst (λ (i : Inodes). Fits i names files) (sym opened_is)
       (record {
-        named = block_fits inodes names (lowest_from 1 inodes.blocks) (record { inode = inode; flags = flags; offset = 0 }) (lowest_from_free 1 inodes.blocks) fits.named;
+        named = block_fits inodes names (lowest_from 1 inodes.blocks) (record { inode = inode; flags = flags; offset = 0; uses = 1 }) (lowest_from_free 1 inodes.blocks) fits.named;
         sized = fits.sized;
         room = fits.room;
       })

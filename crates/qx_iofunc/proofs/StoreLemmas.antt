@@ -1,19 +1,21 @@
 -- What each change leaves of how names, inodes and the bytes of files stand together.
 use Rattle.std.proofs.Common.{◌≡◌, ◌≢◌, inl, inr, ℕ, suc, ◌+◌, ◌<◌, ◌≤◌, ◌&&◌, Bool, true, false, List, [], length, refl, sym, ap, ◌∙◌, subst, arith, Option, Some, None, Result, Ok, Err, IfOk, IsOk, IsSome, option_map, replicate, slice_set}
 use Rattle.std.specs.FinMap.{empty, get, insert, remove}
-use Rattle.std.specs.Prelude.{nat_le, is_some, if◌then◌else◌}
+use Rattle.std.specs.Prelude.{◌-◌, OnErr, nat_le, nat_lt, is_some, if◌then◌else◌}
+use Rattle.std.specs.Result.{result_map_both}
 use Rattle.std.proofs.Math.ListN.{length-set}
 use Rattle.std.proofs.lemmas.Bool.{leb-true}
 use Rattle.std.proofs.lemmas.List.{length-replicate}
 use Rattle.qx_attr.proofs.CountLemmas.{row-set_same, within_table}
 use Rattle.qx_attr.proofs.TableLemmas.{row-put}
-use Rattle.qx_attr.specs.Counts.{with_number}
+use Rattle.qx_attr.specs.Counts.{Reserved, with_number}
 use Rattle.qx_iofunc.proofs.FitLemmas as of_names
 use Rattle.qx_iofunc.proofs.PlaceLemmas.{Differ, by_place, lowest_within, put_at, put_differ, row-freed, same_differ, set_at, set_differ, with_row-at}
 use Rattle.qx_iofunc.specs.Fits.{AreSized, Fits, IsLinked, NamesFit, file_size, is_file}
 use Rattle.qx_iofunc.specs.inner.Fits.{NamesFitBut}
 use Rattle.qx_iofunc.specs.Store.{Stored, block_gone, boot_store, files_without, unused_gone, with_mount_root, with_stored}
 use Rattle.qx_iofunc.specs.inner.Store.{files_with, with_made, with_resized, with_truncated}
+use Rattle.qx_machine.proofs.Gives.{Gives, gives_done, gives_on, gives-value}
 use Rattle.qx_machine.proofs.Places.{lowest_from_free}
 use Rattle.qx_machine.specs.declared.rows.Attribute.{Attribute}
 use Rattle.qx_machine.specs.declared.rows.Kind.{Kind}
@@ -22,7 +24,7 @@ use Rattle.qx_machine.specs.declared.rows.Ocb.{Ocb}
 use Rattle.qx_machine.specs.Attributes.{root_attribute}
 use Rattle.qx_machine.specs.Defaults.{with_entries_changed, is_own, own_block, unnamed}
 use Rattle.qx_machine.specs.Files.{Files, no_files, size_of}
-use Rattle.qx_machine.specs.Inodes.{Inodes, Numbered, block_number, has, inode_number, is_unused, new_attribute, new_inode, no_inodes, with_attribute, writes}
+use Rattle.qx_machine.specs.Inodes.{Inodes, Numbered, block_number, dup_block, has, inode_number, is_unused, new_attribute, new_inode, no_inodes, with_attribute, without_use, writes}
 use Rattle.qx_machine.specs.Judgements.{◌>>=◌, found, need}
 use Rattle.qx_machine.specs.Names.{Key, Names, Spot, root_key}
 use Rattle.qx_machine.specs.RamManager.{emptied, with_bytes}
@@ -31,10 +33,10 @@ use Rattle.qx_machine.specs.Rows.{lowest_from, put_row, row_at, with_row}
 use Rattle.qx_names.specs.Paths.{HasNoPath}
 use Rattle.qx_process.proofs.RowLemmas.{with_row-none}
 use Rattle.qx_types.specs.declared.errno.Errno.{Errno}
-use Rattle.qx_types.specs.declared.errno.Errno.TheVariants.{EBADF, ENOSPC}
+use Rattle.qx_types.specs.declared.errno.Errno.TheVariants.{EBADF, EMFILE, ENOSPC}
 use Rattle.qx_types.specs.declared.flags.OFlags.{OFlags}
 use Rattle.qx_types.specs.declared.flags.TheConstants.OFlags.{TRUNC}
-use Rattle.qx_types.specs.declared.limits.TheConstants.Limits.{INODES}
+use Rattle.qx_types.specs.declared.limits.TheConstants.Limits.{INODES, LAST_CONNECTION}
 
 -- a store stands together
 abbrev pub StoreFits : Stored → Type 0
@@ -256,6 +258,28 @@ module _ (flags : OFlags) (inode moment : ℕ) (s : Stored) where
 
   pub emptied_number : IsOk (block_number s.inodes) → IsOk (block_number (emptied_in flags inode moment s).inodes)
   emptied_number free = by_emptied (λ now. IsOk (block_number now.inodes)) free free
+
+-- ---- an open control block changes, and keeps its inode
+
+module _ (all : Reserved) (names : Names) (files : Files) (number : ℕ) (fits : Fits all.inodes names files) where
+  pub block_changed_fits : (change : Ocb → Ocb) → ((block : Ocb) → (change block).inode ≡ block.inode) → Fits (record all.inodes { blocks = with_row all.inodes.blocks number change }) names files
+  block_changed_fits change same_inode = record { named = of_names.block_changed_fits all.inodes names number change same_inode fits.named; sized = fits.sized; room = fits.room }
+
+  -- one more connection has it
+  dup-gives : Gives (λ now. Fits now names files) (dup_block all.inodes number)
+  dup-gives =
+      gives_on _ (found (row_at all.inodes.blocks number) EBADF) _ (λ there has.
+      gives_on _ (need (nat_lt there.uses LAST_CONNECTION) EMFILE) _ (λ few is_few.
+      gives_done _ _ (block_changed_fits (λ block. record block { uses = block.uses + 1 }) (λ block. refl))))
+
+  pub dup_fits : (now : Reserved) (given : Result (Unit {0}) Errno) → result_map_both (λ _. now.inodes) (λ error. error) given ≡ dup_block all.inodes number → OnErr given (now ≡ all) → Fits now.inodes names files
+  dup_fits now (Ok done) is kept = gives-value (λ now. Fits now names files) (dup_block all.inodes number) now.inodes (sym is) dup-gives
+  dup_fits now (Err error) is kept = subst (λ (left : Reserved). Fits left.inodes names files) (sym kept) fits
+
+  -- one connection less has it, if others do
+  pub close_dup_fits : (shared : Bool) → Fits (if shared then record all { inodes = without_use all.inodes number } else all).inodes names files
+  close_dup_fits true = block_changed_fits (λ block. record block { uses = block.uses - 1 }) (λ block. refl)
+  close_dup_fits false = fits
 
 -- ---- what is a manager's own goes
 

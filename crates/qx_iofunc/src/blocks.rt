@@ -1,11 +1,11 @@
 //! Messages over what is open.
 
-ghost use Rattle.std.specs.Prelude.{◌≡◌, [], Ok, IfOk, OnErr};
+ghost use Rattle.std.specs.Prelude.{◌≡◌, [], Ok, IfOk, OnErr, if◌then◌else◌};
 ghost use Rattle.std.specs.Result.{result_map_both};
 ghost use Rattle.qx_iofunc.specs.Given as given;
 ghost use Rattle.qx_iofunc.specs.Store.{block_gone, unused_gone, with_stored};
 ghost use Rattle.qx_machine.specs.Defaults as machine;
-ghost use Rattle.qx_machine.specs.Inodes.{close_block, is_unused};
+ghost use Rattle.qx_machine.specs.Inodes.{close_block, dup_block, is_shared, is_unused, without_use};
 ghost use Rattle.qx_machine.specs.Resources.{Resources};
 ghost use Rattle.qx_machine.specs.Rows.{row_at};
 
@@ -88,6 +88,25 @@ impl Store {
         };
         self.tables.inodes.set_attribute(inode, attribute);
         Ok(())
+    }
+
+    /// One more connection has an open control block (Writing a Resource Manager: `io_dup`; C Library Reference: `dup`).
+    /// EBADF without a block, and EMFILE where as many connections have it as a process can have, which no process comes to.
+    pub fn dup(&mut self, number: u16) -> Result<(), Errno>
+        ensures shared { result_map_both (λ _. self.new.stored.inodes) (λ error. error) result ≡ dup_block self.old.stored.inodes number }
+        ensures rest { self.new ≡ record self.old { stored = record self.old.stored { inodes = self.new.stored.inodes } } }
+        ensures kept { OnErr result (self.new ≡ self.old) }
+    {
+        self.tables.inodes.dup_block(number)
+    }
+
+    /// One connection less has an open control block, if others have it too, and tells whether they have (Writing a Resource
+    /// Manager: `iofunc_close_dup`). Else nothing changes.
+    pub fn close_dup(&mut self, number: u16) -> bool
+        ensures shared { result ≡ is_shared (row_at self.old.stored.inodes.blocks number) }
+        ensures left { self.new ≡ (if is_shared (row_at self.old.stored.inodes.blocks number) then record self.old { stored = record self.old.stored { inodes = without_use self.old.stored.inodes number } } else self.old) }
+    {
+        self.tables.inodes.close_dup(number)
     }
 
     /// Takes an open control block of a directory or of an inode of the manager's own kind away (C Library Reference:
