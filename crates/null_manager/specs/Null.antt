@@ -81,7 +81,7 @@ abbrev pub open_deed : Told → NewOpen → OFlags → List (List ℕ) → Resul
 open_deed own over flags rest = do
   there ← need (length rest == 0) ENOENT
   number ← free_number own.blocks
-  reply_deed over.coid.0 (Opens over.coid number) (record own { blocks = put_row own.blocks number (record { inode = over.root; flags = flags; offset = 0 }) })
+  reply_deed over.coid.0 (Opens over.coid number) (record own { blocks = put_row own.blocks number (record { inode = over.root; flags = flags; offset = 0; uses = 1 }) })
 
 -- a block goes, and its event with it (iofunc_notify_remove)
 abbrev pub close_deed : Told → Opened → Result (Deed Told) Errno

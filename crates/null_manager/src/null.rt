@@ -2,7 +2,7 @@ ghost use Rattle.null_manager.specs.Null.{null_connect, null_io};
 
 use crate::kept::{Kept, Told};
 use qx_attr::Reply;
-use qx_machine::{Conditions, Effect, Event, NewOpen, Ocb, Opened, PulseWish, Wish};
+use qx_machine::{Conditions, Effect, Event, NewDup, NewOpen, Ocb, Opened, PulseWish, Wish};
 use qx_notify::AllEvents;
 use qx_process::Room;
 use qx_resmgr::{Connect, Done, Io, no_function};
@@ -38,6 +38,7 @@ impl Connect<Kept, AllEvents, Told> for Null {
             inode: over.root,
             flags: wish.flags,
             offset: 0,
+            uses: 1,
         };
         state.blocks.put(number, block)?;
         Ok(Ok(Done::Reply {
@@ -125,6 +126,14 @@ impl Io<Kept, AllEvents, Told> for Null {
             status: 0,
             effect: Effect::Closes(opened.coid),
         })
+    }
+
+    fn dup(
+        _state: &mut Kept,
+        _waits: &mut AllEvents,
+        _dup: Result<NewDup, Errno>,
+    ) -> Result<Done, Errno> {
+        no_function()
     }
 
     fn lseek(
