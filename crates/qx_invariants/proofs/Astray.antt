@@ -1,6 +1,6 @@
 -- Each call that waits in a pipe is over an open control block of that pipe, whatever happens.
 use Rattle.std.proofs.Common.{◌≡◌, ◌≢◌, ◌⊎◌, inl, inr, ℕ, ◌+◌, ◌≤◌, ◌==◌, length, ◌&&◌, not, Bool, true, false, List, [], ◌∷◌, cond, refl, sym, ap, ◌∙◌, subst, arith, zero, suc}
-use Rattle.std.specs.Prelude.{Option, Some, None, option_map, slice_set}
+use Rattle.std.specs.Prelude.{Option, Some, None, slice_set}
 use Rattle.std.specs.List.{count_by}
 use Rattle.std.proofs.lemmas.Bool.{cases_eq, eq-eqb, eqb-true, ne_eqb}
 use Rattle.std.proofs.lemmas.List.Sums.{sum_by-cons}
@@ -9,17 +9,17 @@ use Rattle.qx_machine.specs.declared.rows.Kind.TheVariants as kind
 use Rattle.qx_machine.specs.declared.rows.Ocb.{Ocb}
 use Rattle.qx_machine.specs.declared.rows.WaitingCall.{WaitingCall}
 use Rattle.qx_machine.specs.Defaults.{pipe_in, without_block, without_unused}
-use Rattle.qx_machine.specs.Inodes.{blocks_of, is_open, is_unused, moved_to, new_attribute, with_offset}
+use Rattle.qx_machine.specs.Inodes.{blocks_of, is_open, is_unused, new_attribute}
 use Rattle.qx_machine.specs.Names.{under}
 use Rattle.qx_machine.specs.Pipes.{Pipe, pipe_of}
 use Rattle.qx_machine.specs.Resources.{Resources}
 use Rattle.qx_machine.specs.Rows.{put_row, row_at, with_row}
 use Rattle.qx_machine.specs.Waiting.{is_over}
 use Rattle.qx_machine.proofs.Places.{row_at-set_other}
-use Rattle.qx_invariants.specs.Changes.{ResourceChange, Closes, Comes, Fills, IsOwnInode, MayHappen, Moves, Opens, Unlinks, with_change, with_named, with_unlinked}
+use Rattle.qx_invariants.specs.Changes.{ResourceChange, Closes, Comes, Fills, IsOwnInode, MayHappen, Moves, Opens, Unlinks, with_change, with_moved, with_named, with_unlinked}
 use Rattle.qx_invariants.specs.Holds.{HasContents, HasOpenWaiters, HasRoom}
 use Rattle.qx_invariants.specs.Waits.{is_astray, count_waiting_in}
-use Rattle.qx_invariants.proofs.Rows.{content_cases, empty_cases, freed, block_is_new, not_open, put_other, unused_cases, with_row-at, with_row-other}
+use Rattle.qx_invariants.proofs.Rows.{content_cases, empty_cases, freed, block_is_new, not_open, put_other, same_open, unused_cases, with_row-at, with_row-other}
 use Rattle.qx_invariants.proofs.Contents.{no_size, none_fits, own_directory, own_file}
 use Rattle.qx_invariants.proofs.Named.{unused_there}
 
@@ -122,20 +122,17 @@ module _ (r : Resources) (h : HasOpenWaiters r) where
         | inr apart ↦ ap (λ row. not (is_open (λ flags. true) m row)) (sym (put_other r.inodes.blocks number block within call.block apart)) ∙ is
       ]
 
-  moved_astray : (number offset : ℕ) → HasOpenWaiters (record r { inodes = with_offset r.inodes number offset })
-  moved_astray number offset = record {
+  moved_astray : (number : ℕ) (change : Ocb → Ocb) → MayHappen (Moves number change) r → HasOpenWaiters (with_moved number change r)
+  moved_astray number change may = record {
     none_astray = λ m. none_waits _ (is_astray r.inodes.blocks m) (is_astray r.inodes.blocks m) (λ call is. inl (sym (same m call) ∙ is)) (row_at r.pipes m) (h.none_astray m) (h.none_astray m);
   }
     where
-      by_row : (m : ℕ) (row : Option Ocb) → is_open (λ flags. true) m (option_map (moved_to offset) row) ≡ is_open (λ flags. true) m row
-      by_row m None = refl
-      by_row m (Some block) = refl
-
-      same : (m : ℕ) (call : WaitingCall) → is_astray (with_row r.inodes.blocks number (moved_to offset)) m call ≡ is_astray r.inodes.blocks m call
+      same : (m : ℕ) (call : WaitingCall) → is_astray (with_row r.inodes.blocks number change) m call ≡ is_astray r.inodes.blocks m call
       same m call = elim (cases_eq call.block number) [
-        | inl is ↦ ap (λ n. not (is_open (λ flags. true) m (row_at (with_row r.inodes.blocks number (moved_to offset)) n))) is
-            ∙ (ap (λ row. not (is_open (λ flags. true) m row)) (with_row-at r.inodes.blocks number (moved_to offset)) ∙ (ap not (by_row m (row_at r.inodes.blocks number)) ∙ ap (λ n. not (is_open (λ flags. true) m (row_at r.inodes.blocks n))) (sym is)))
-        | inr apart ↦ ap (λ row. not (is_open (λ flags. true) m row)) (with_row-other r.inodes.blocks number (moved_to offset) call.block apart)
+        | inl is ↦ ap (λ n. not (is_open (λ flags. true) m (row_at (with_row r.inodes.blocks number change) n))) is
+            ∙ (ap (λ row. not (is_open (λ flags. true) m row)) (with_row-at r.inodes.blocks number change)
+            ∙ (ap not (same_open r.inodes number change may m (row_at r.inodes.blocks number) refl) ∙ ap (λ n. not (is_open (λ flags. true) m (row_at r.inodes.blocks n))) (sym is)))
+        | inr apart ↦ ap (λ row. not (is_open (λ flags. true) m row)) (with_row-other r.inodes.blocks number change call.block apart)
       ]
 
   unused_astray : (own : Kind) (inode : ℕ) → HasOpenWaiters (without_unused own inode r)
@@ -157,7 +154,7 @@ astray-keeps (Comes inode directory name kind mode moment) r may room contents h
     empty_cases HasOpenWaiters kind inode (with_named inode (under directory name) (new_attribute kind mode r.user moment) r) (λ is. record { none_astray = h.none_astray })
     (λ is. record { none_astray = (set_astray r h inode (Some (pipe_of [] [] [])) refl).none_astray }) (λ is. record { none_astray = h.none_astray })
 astray-keeps (Opens number block) r may room contents h = let new = block_is_new r.inodes number room.some_blocks may.0 in opened_astray r h number block new.free new.within
-astray-keeps (Moves number offset) r may room contents h = moved_astray r h number offset
+astray-keeps (Moves number change) r may room contents h = moved_astray r h number change may
 astray-keeps (Fills inode moment after came) r may room contents h =
     let before : count_waiting_in (is_astray r.inodes.blocks inode) (Some may.pipe) ≡ 0 = ap (count_waiting_in (is_astray r.inodes.blocks inode)) (sym may.there) ∙ h.none_astray inode in
     let once = may.once (is_astray r.inodes.blocks inode) in

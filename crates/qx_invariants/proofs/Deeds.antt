@@ -1,16 +1,16 @@
 -- What deeds do to a user's resources: a property that each change which may happen keeps, each deed and each cancelled call keep.
-use Rattle.std.proofs.Common.{◌≡◌, inl, inr, ℕ, zero, suc, ◌+◌, ◌≤◌, ◌==◌, List, [], ◌∷◌, ◌++◌, length, true, refl, sym, ap, ◌∙◌, subst, arith, Bool}
-use Rattle.std.specs.Prelude.{ℤ, ◌&&◌, Option, Some, None, Ok, is_some, nat_le, not, option_map, position, slice_set}
+use Rattle.std.proofs.Common.{◌≡◌, inl, inr, ℕ, zero, suc, ◌+◌, ◌≤◌, ◌==◌, List, [], ◌∷◌, ◌++◌, length, true, false, refl, sym, ap, ◌∙◌, subst, arith, ltb-true, ltb-false, Bool}
+use Rattle.std.specs.Prelude.{ℤ, ◌-◌, ◌&&◌, Option, Some, None, Ok, is_some, nat_le, nat_lt, not, option_map, position, slice_set}
 use Rattle.std.specs.FinMap.{get, insert, remove}
 use Rattle.std.specs.List.{count_by}
 use Rattle.std.proofs.lemmas.Option.{same_Some}
 use Rattle.std.proofs.lemmas.Bool.{and_parts, cases_eq, cond_both, eq-eqb, leb-true}
-use Rattle.qx_types.specs.declared.errno.Errno.TheVariants.{EACCES, EBADF, EBUSY, EEXIST, EFBIG, EISDIR, ENOENT, ENOSPC, ENOTEMPTY, EPERM}
+use Rattle.qx_types.specs.declared.errno.Errno.TheVariants.{EACCES, EBADF, EBUSY, EEXIST, EFBIG, EISDIR, EMFILE, ENOENT, ENOSPC, ENOTEMPTY, EPERM}
 use Rattle.qx_types.specs.declared.fields.NotifyAction.{NotifyAction}
 use Rattle.qx_types.specs.declared.fields.Whence.{Whence}
 use Rattle.qx_types.specs.declared.flags.OFlags.{OFlags}
 use Rattle.qx_types.specs.declared.flags.TheConstants.OFlags.{CREAT, EXCL, TRUNC}
-use Rattle.qx_types.specs.declared.limits.TheConstants.Limits.{FILE, FILES, INODES, PIPE}
+use Rattle.qx_types.specs.declared.limits.TheConstants.Limits.{FILE, FILES, INODES, LAST_CONNECTION, PIPE}
 use Rattle.qx_types.specs.declared.names.Coid.{Coid}
 use Rattle.qx_types.specs.declared.names.Manager.{Manager}
 use Rattle.qx_types.specs.declared.names.Manager.TheVariants as managers
@@ -26,6 +26,7 @@ use Rattle.qx_types.specs.declared.outcome.Answer.{Answer}
 use Rattle.qx_machine.specs.declared.rows.Kind.{Kind}
 use Rattle.qx_machine.specs.declared.rows.Kind.TheVariants as kind
 use Rattle.qx_machine.specs.declared.rows.Kind.TheVariants.{Directory, File}
+use Rattle.qx_machine.specs.declared.rows.NewDup.{NewDup}
 use Rattle.qx_machine.specs.declared.rows.NewOpen.{NewOpen}
 use Rattle.qx_machine.specs.declared.rows.Ocb.{Ocb}
 use Rattle.qx_machine.specs.declared.rows.Opened.{Opened}
@@ -33,11 +34,11 @@ use Rattle.qx_machine.specs.declared.rows.PulseWish.{PulseWish}
 use Rattle.qx_machine.specs.declared.rows.WaitingCall.{WaitingCall}
 use Rattle.qx_machine.specs.declared.rows.Wish.{Wish}
 use Rattle.qx_machine.specs.Attributes.{top_inode}
-use Rattle.qx_machine.specs.Defaults.{MadeInode, allows, with_entries_changed as written_to, chmod_block, close, close_with_event, is_own, list_block, made_at, make_directory, open_spot, open_existing, open_missing, open_path, opened, own_block, pipe_in, stat_block, stat_path, unlink_path, unnamed, without_block, without_name, without_unused, writable}
+use Rattle.qx_machine.specs.Defaults.{MadeInode, allows, with_entries_changed as written_to, chmod_block, close, close_dup, close_with_event, dup_open, is_own, list_block, made_at, make_directory, open_spot, open_existing, open_missing, open_path, opened, own_block, pipe_in, stat_block, stat_path, unlink_path, unnamed, without_block, without_name, without_unused, writable}
 use Rattle.qx_machine.specs.Events.{Notified, disarmed, notified}
 use Rattle.qx_machine.specs.Files.{put, total_size}
-use Rattle.qx_machine.specs.Functions.{Deed, Reply, reply_alone, new_open, side_root}
-use Rattle.qx_machine.specs.Inodes.{Inodes, Numbered, is_open, block_number, has, inode_number, may, new_attribute, new_inode, open_block, readers_of, reads, with_attribute, with_offset, writers_of, writes}
+use Rattle.qx_machine.specs.Functions.{Deed, Reply, reply_alone, new_dup, new_open, side_root}
+use Rattle.qx_machine.specs.Inodes.{Inodes, Numbered, is_open, is_shared, block_number, dup_block, has, inode_number, may, moved_to, new_attribute, new_inode, open_block, readers_of, reads, with_attribute, with_offset, writers_of, writes}
 use Rattle.qx_machine.specs.Judgements.{found, need}
 use Rattle.qx_machine.specs.Managers.{manager_deed}
 use Rattle.qx_machine.specs.Names.{Spot, is_directory, is_empty, names_in, spot, under}
@@ -49,7 +50,7 @@ use Rattle.qx_machine.specs.Resources.{Resources, with_empty}
 use Rattle.qx_machine.specs.Rows.{put_row, row_at}
 use Rattle.qx_machine.specs.Waiting.{Pipes, holds, is_call, is_gone, is_over, manner_of, offered, sides_of, waiting_call, wanted}
 use Rattle.qx_machine.proofs.Places.{row_at-set_other}
-use Rattle.qx_invariants.specs.Changes.{AreKept, ResourceChange, Closes, Comes, Fills, IsOwnInode, IsPipeSettled, MayHappen, Moves, Notifies, Opens, Touches, Unlinks, Writes, with_change, touched, without_link, with_named}
+use Rattle.qx_invariants.specs.Changes.{AreKept, ResourceChange, Closes, Comes, Fills, IsMoved, IsOwnInode, IsPipeSettled, MayHappen, Moves, Notifies, Opens, Touches, Unlinks, Writes, with_change, touched, without_link, with_named}
 use Rattle.qx_invariants.specs.Waits.{count_answers_to, is_astray, count_waiting_in, count_waiting_of}
 use Rattle.qx_machine.proofs.Gives.{Gives, found-row, gives_by, gives_done, gives_error, gives_on, need-true}
 use Rattle.qx_attr.proofs.CountLemmas.{within_table}
@@ -79,6 +80,25 @@ empty-inodes _ number r inodes = refl
 empty-same : (kind : Kind) (number : ℕ) (r : Resources) → (with_empty kind number r).inodes ≡ r.inodes
 empty-same File number r = refl
 empty-same _ number r = refl
+
+-- what is open stays open at another offset, with one connection more while few have it, and with one less while more than one has it
+offset-moved : (block : Ocb) (offset : ℕ) → IsMoved block (moved_to offset block)
+offset-moved block offset = record { inode = refl; flags = refl; some = inl (omega arith); few = inl (omega arith) }
+
+abbrev one_more_use : Ocb → Ocb
+one_more_use block = record block { uses = block.uses + 1 }
+
+abbrev one_less_use : Ocb → Ocb
+one_less_use block = record block { uses = block.uses - 1 }
+
+more-moved : (block : Ocb) → nat_lt block.uses LAST_CONNECTION ≡ true → IsMoved block (one_more_use block)
+more-moved block is_few = let few = ltb-true block.uses LAST_CONNECTION is_few in record { inode = refl; flags = refl; some = inr (omega arith); few = inr (omega (arith, few)) }
+
+less-moved : (block : Ocb) → nat_lt 1 block.uses ≡ true → IsMoved block (one_less_use block)
+less-moved block is_shared = let shared = ltb-true 1 block.uses is_shared in record { inode = refl; flags = refl; some = inr (omega (arith, shared)); few = inl (omega arith) }
+
+last-use : (block : Ocb) → nat_lt 1 block.uses ≡ false → block.uses ≤ 1
+last-use block is_last = ltb-false 1 block.uses is_last
 
 -- the components that a message names
 abbrev pub NamesComponents : Message → Type 0
@@ -136,7 +156,7 @@ module _ (K : Resources → Told → Type 0) (keeps : (change : ResourceChange) 
     opened-gives : (coid : Coid) (flags : OFlags) (inode : ℕ) → is_some (row_at r.inodes.attributes inode) ≡ true → Gives Kept (opened coid flags inode r)
     opened-gives coid flags inode there =
         gives_by (λ (block : Numbered). Q (record r { inodes = block.inodes })) _ (open_block r.inodes inode flags) _
-        (gives_on _ (block_number r.inodes) _ (λ number is. gives_done _ _ (keeps (Opens number (record { inode = inode; flags = flags; offset = 0 })) r nothing (is, there) h)))
+        (gives_on _ (block_number r.inodes) _ (λ number is. gives_done _ _ (keeps (Opens number (record { inode = inode; flags = flags; offset = 0; uses = 1 })) r nothing (is, there, refl) h)))
         (λ block kept. gives_done _ _ (alone _ _ _ _ kept))
 
   emptied-there : (r : Resources) (flags : OFlags) (inode moment : ℕ) → is_some (row_at r.inodes.attributes inode) ≡ true → is_some (row_at (emptied flags inode moment r).inodes.attributes inode) ≡ true
@@ -354,10 +374,10 @@ module _ (K : Resources → Told → Type 0) (keeps : (change : ResourceChange) 
     pipe_in-set kind.Pipe s inode pipe after is are = ap (λ (pipes : Pipes). row_at pipes inode) are ∙ set_at r.pipes inode after (within_table r.pipes inode pipe is)
     pipe_in-set _ s inode pipe after is are = absurd (cc)
 
-    closed-keeps : (own : Kind) (number moment : ℕ) (block : Ocb) → row_at r.inodes.blocks number ≡ Some block → IsOwnInode own r block.inode → (row : Option (Pipe WaitingCall)) → pipe_in own r block.inode ≡ row
+    closed-keeps : (own : Kind) (number moment : ℕ) (block : Ocb) → row_at r.inodes.blocks number ≡ Some block → IsOwnInode own r block.inode → block.uses ≤ 1 → (row : Option (Pipe WaitingCall)) → pipe_in own r block.inode ≡ row
         → (λ (deed : Deed Resources). K (without_unused own block.inode deed.state) (record { answers = deed.answers; came = [] })) (released (without_block number r) number block.inode moment row)
-    closed-keeps own number moment block there owned None its = keeps (Closes own number block) r nothing (there, owned, ap (count_waiting_in (is_over number)) its) h
-    closed-keeps own number moment block there owned (Some pipe) its =
+    closed-keeps own number moment block there owned last None its = keeps (Closes own number block) r nothing (there, owned, ap (count_waiting_in (is_over number)) its, last) h
+    closed-keeps own number moment block there owned last (Some pipe) its =
         let sides = sides_of (without_block number r).inodes block.inode in
         let after : PipeAfter WaitingCall = release wanted offered is_gone (is_over number) sides pipe in
         keeps (Closes own number block) (deed_of_pipe r block.inode moment after).state (record { answers = after.answers; came = [] }) (
@@ -368,6 +388,7 @@ module _ (K : Resources → Told → Type 0) (keeps : (change : ResourceChange) 
             owned = ap (is_own own) (filled-kind moment after owned.attribute) ∙ owned.owned;
           },
           ap (count_waiting_in (is_over number)) (pipe_in-set own (deed_of_pipe r block.inode moment after).state block.inode pipe after.pipe its refl) ∙ release_none wanted offered is_gone (λ who. refl) (is_over number) sides pipe,
+          last,
         )
         (keeps (Fills block.inode moment after []) r nothing (record {
           pipe = pipe;
@@ -378,20 +399,36 @@ module _ (K : Resources → Told → Type 0) (keeps : (change : ResourceChange) 
           short = λ short. release_short wanted offered is_gone pipe short (is_over number) sides;
         }) h)
 
-    close-gives : (own : Kind) (over : Opened) → Gives Kept (close own r over)
-    close-gives own over =
+    close-gives : (own : Kind) (over : Opened) → is_shared (row_at r.inodes.blocks over.number) ≡ false → Gives Kept (close own r over)
+    close-gives own over last =
         gives_by (IsOwnBlock own over.number) _ (own_block r.inodes over.number own) _ (own_block-gives own over.number) (λ block is.
-        gives_done _ _ (record { came = []; kept = closed-keeps own over.number over.moment block is.0 is.1 (pipe_in own r block.inode) refl; own = refl }))
+        gives_done _ _ (record { came = []; kept = closed-keeps own over.number over.moment block is.0 is.1 (last-use block (sym (ap is_shared is.0) ∙ last)) (pipe_in own r block.inode) refl; own = refl }))
 
     -- the event of the block goes with it
-    close_with_event-gives : (own : Kind) (over : Opened) → Gives Kept (close_with_event own r over)
-    close_with_event-gives own over =
-        gives_by Kept _ (close own r over) _ (close-gives own over) (λ deed closed.
+    close_with_event-gives : (own : Kind) (over : Opened) → is_shared (row_at r.inodes.blocks over.number) ≡ false → Gives Kept (close_with_event own r over)
+    close_with_event-gives own over last =
+        gives_by Kept _ (close own r over) _ (close-gives own over last) (λ deed closed.
         gives_done _ _ (record {
           came = closed.came;
           kept = keeps (Notifies (disarmed over.number deed.state.events)) deed.state (record { answers = deed.answers; came = closed.came }) (disarmed-kept over.number deed.state.events) closed.kept;
           own = closed.own;
         }))
+
+    -- a close takes one use away, or the last one with the block
+    close_dup-gives : (own : Kind) (over : Opened) → Gives Kept (close_dup own r over)
+    close_dup-gives own over =
+        cond_both (is_shared (row_at r.inodes.blocks over.number)) _ _ (Gives Kept)
+        (λ shared. gives_done _ _ (alone _ _ _ _ (keeps (Moves over.number one_less_use) r nothing (λ block there. less-moved block (sym (ap is_shared there) ∙ shared)) h)))
+        (λ last. close_with_event-gives own over last)
+
+    -- a dup adds one
+    dup-gives : (dup : NewDup) → Gives Kept (dup_open r dup)
+    dup-gives dup =
+        gives_by (λ (inodes : Inodes). Q (record r { inodes = inodes })) _ (dup_block r.inodes dup.old.number) _
+        (gives_on _ (found (row_at r.inodes.blocks dup.old.number) EBADF) _ (λ block opened.
+        gives_on _ (need (nat_lt block.uses LAST_CONNECTION) EMFILE) _ (λ few is_few.
+        gives_done _ _ (keeps (Moves dup.old.number one_more_use) r nothing (λ other there. more-moved other (ap (λ (b : Ocb). nat_lt b.uses LAST_CONNECTION) (same_Some _ _ (sym there ∙ found-row _ _ block opened)) ∙ need-true _ _ few is_few)) h))))
+        (λ inodes kept. gives_done _ _ (alone _ _ _ _ kept))
 
     -- ---- what tells, and what moves
 
@@ -415,7 +452,7 @@ module _ (K : Resources → Told → Type 0) (keeps : (change : ResourceChange) 
     seek_pipe-gives over whence by = search (gives_on, gives_error)
 
     moved-keeps : (number offset : ℕ) → Q (record r { inodes = with_offset r.inodes number offset })
-    moved-keeps number offset = keeps (Moves number offset) r nothing tt h
+    moved-keeps number offset = keeps (Moves number (moved_to offset)) r nothing (λ block there. offset-moved block offset) h
 
     read_file-gives : (over : Opened) (count : ℕ) → Gives Kept (read_file r over count)
     read_file-gives over count = search (gives_on, gives_done, alone, moved-keeps) depth 8
@@ -427,7 +464,7 @@ module _ (K : Resources → Told → Type 0) (keeps : (change : ResourceChange) 
     written-gives number inode bytes offset new moment here =
         gives_on _ (need (nat_le (offset + length new) FILE) EFBIG) _ (λ short is_short.
         gives_on _ (need (nat_le (total_size (slice_set r.files inode (Some (put bytes offset new)))) FILES) ENOSPC) _ (λ few is_few.
-        gives_done _ _ (alone _ _ _ _ (keeps (Moves number (offset + length new)) (with_bytes inode moment (put bytes offset new) r) nothing tt (keeps (Writes inode moment (put bytes offset new)) r nothing (record { was = bytes; there = here; file = put_short bytes new offset (leb-true _ _ (need-true _ _ short is_short)); files = inr (leb-true _ _ (need-true _ _ few is_few)) }) h)))))
+        gives_done _ _ (alone _ _ _ _ (keeps (Moves number (moved_to (offset + length new))) (with_bytes inode moment (put bytes offset new) r) nothing (λ block there. offset-moved block (offset + length new)) (keeps (Writes inode moment (put bytes offset new)) r nothing (record { was = bytes; there = here; file = put_short bytes new offset (leb-true _ _ (need-true _ _ short is_short)); files = inr (leb-true _ _ (need-true _ _ few is_few)) }) h)))))
 
     write_file-gives : (over : Opened) (new : List ℕ) → Gives Kept (write_file r over new)
     write_file-gives over new =
@@ -454,13 +491,13 @@ module _ (K : Resources → Told → Type 0) (keeps : (change : ResourceChange) 
       ram-gives (msg.Mknod mode rest) names = gives_on _ (side_root context.target) _ (λ root is. directory-gives root mode rest context.moment names)
       ram-gives (msg.Read count) names = gives_on _ context.opened _ (λ over is. read_file-gives over count)
       ram-gives (msg.Write bytes) names = gives_on _ context.opened _ (λ over is. write_file-gives over bytes)
-      ram-gives msg.Close names = gives_on _ context.opened _ (λ over is. close_with_event-gives File over)
+      ram-gives msg.Close names = gives_on _ context.opened _ (λ over is. close_dup-gives File over)
+      ram-gives (msg.Dup old) names = gives_on _ (new_dup context) _ (λ dup is. dup-gives dup)
       ram-gives (msg.Lseek whence offset) names = gives_on _ context.opened _ (λ over is. seek_file-gives over whence offset)
       ram-gives msg.Fstat names = gives_on _ context.opened _ (λ over is. stat_block-gives over)
       ram-gives (msg.List after) names = gives_on _ context.opened _ (λ over is. list-gives over after)
       ram-gives (msg.Notify action conditions code value) names = gives_on _ context.opened _ (λ over is. notify-gives over action _)
       ram-gives (msg.Chmod mode) names = gives_on _ context.opened _ (λ over is. chmod-gives over mode)
-      ram-gives _ names = gives_error _ _
 
       pipe-gives : (message : Message) → NamesComponents message → Gives Kept (manager_deed managers.Pipe r context message)
       pipe-gives (msg.Open flags mode rest) names = gives_on _ (new_open context.target) _ (λ over is. open-gives kind.Pipe over rest _ names)
@@ -469,13 +506,13 @@ module _ (K : Resources → Told → Type 0) (keeps : (change : ResourceChange) 
       pipe-gives (msg.Mknod mode rest) names = gives_error _ _
       pipe-gives (msg.Read count) names = gives_on _ context.opened _ (λ over is. read-gives over count (callers over is))
       pipe-gives (msg.Write bytes) names = gives_on _ context.opened _ (λ over is. write-gives over bytes (callers over is))
-      pipe-gives msg.Close names = gives_on _ context.opened _ (λ over is. close_with_event-gives kind.Pipe over)
+      pipe-gives msg.Close names = gives_on _ context.opened _ (λ over is. close_dup-gives kind.Pipe over)
+      pipe-gives (msg.Dup old) names = gives_on _ (new_dup context) _ (λ dup is. dup-gives dup)
       pipe-gives (msg.Lseek whence offset) names = gives_on _ context.opened _ (λ over is. seek_pipe-gives over whence offset)
       pipe-gives msg.Fstat names = gives_on _ context.opened _ (λ over is. stat_block-gives over)
       pipe-gives (msg.List after) names = gives_on _ context.opened _ (λ over is. list-gives over after)
       pipe-gives (msg.Notify action conditions code value) names = gives_on _ context.opened _ (λ over is. notify-gives over action _)
       pipe-gives (msg.Chmod mode) names = gives_on _ context.opened _ (λ over is. chmod-gives over mode)
-      pipe-gives _ names = gives_error _ _
 
       pub manager-gives : (manager : Manager) (message : Message) → NamesComponents message → Gives Kept (manager_deed manager r context message)
       manager-gives managers.Ram message names = ram-gives message names

@@ -13,14 +13,14 @@ use Rattle.qx_machine.specs.Files.{Files}
 use Rattle.qx_machine.specs.Waiting.{Pipes}
 use Rattle.qx_machine.specs.Attributes.{root_attribute}
 use Rattle.qx_machine.specs.Defaults.{without_block, without_unused}
-use Rattle.qx_machine.specs.Inodes.{Inodes, blocks_of, close_block, is_unused, moved_to, new_attribute, with_offset}
+use Rattle.qx_machine.specs.Inodes.{Inodes, blocks_of, close_block, is_unused, new_attribute}
 use Rattle.qx_machine.specs.Listings.{HasAtMostOnePath}
 use Rattle.qx_machine.specs.Names.{Key, Names, root_key, under}
 use Rattle.qx_machine.specs.PipeManager.{filled}
 use Rattle.qx_machine.specs.Resources.{Resources, resized}
 use Rattle.qx_machine.specs.Rows.{put_row, row_at, with_row}
 use Rattle.qx_machine.proofs.Places.{row_at-set_cases, row_at-set_other}
-use Rattle.qx_invariants.specs.Changes.{ResourceChange, Closes, Comes, Fills, MayHappen, Mounts, Moves, Notifies, Opens, Touches, Unlinks, Writes, with_change, touched, without_link, with_changed, with_named, with_unlinked}
+use Rattle.qx_invariants.specs.Changes.{ResourceChange, Closes, Comes, Fills, MayHappen, Mounts, Moves, Notifies, Opens, Touches, Unlinks, Writes, with_change, touched, without_link, with_changed, with_moved, with_named, with_unlinked}
 use Rattle.qx_invariants.specs.Holds.{HasNames, HasRoom, IsNamed, IsUnnamed}
 use Rattle.qx_iofunc.proofs.PlaceLemmas.{put_at, row-freed}
 use Rattle.qx_invariants.proofs.Rows.{IsNew, content_cases, empty_cases, freed, more_blocks, block_is_new, inode_is_new, not_open, other_blocks, put_other, same_blocks, unused_cases, with_row-at, with_row-other, filled-same, put_cases, with_row-some_at, with_row-was}
@@ -144,15 +144,17 @@ module _ (r : Resources) (h : HasNames r) where
     ];
   }
 
-  move_names : (number offset : ℕ) → HasNames (record r { inodes = with_offset r.inodes number offset })
-  move_names number offset = record {
+  move_names : (number : ℕ) (change : Ocb → Ocb) → MayHappen (Moves number change) r → HasNames (with_moved number change r)
+  move_names number change may = record {
     leads = h.leads;
     single = h.single;
     roots = h.roots;
     links = h.links;
-    used = λ m. used_more r.inodes (with_offset r.inodes number offset) m (row_at r.inodes.attributes m) (let same = same_blocks r.inodes number offset m in omega (arith, same)) (h.used m);
-    opened = λ n now is. let was = with_row-was r.inodes.blocks number (moved_to offset) n now is in
-        elim was.2 [ inl stays ↦ ap (λ (b : Ocb). is_some (row_at r.inodes.attributes b.inode)) (sym stays.1) | inr moved ↦ ap (λ (b : Ocb). is_some (row_at r.inodes.attributes b.inode)) (sym moved.1) ] ∙ h.opened n was.0 was.1;
+    used = λ m. used_more r.inodes (with_moved number change r).inodes m (row_at r.inodes.attributes m) (let same = same_blocks r.inodes number change may m in omega (arith, same)) (h.used m);
+    opened = λ n now is. let was = with_row-was r.inodes.blocks number change n now is in elim was.2 [
+      | inl stays ↦ ap (λ (b : Ocb). is_some (row_at r.inodes.attributes b.inode)) (sym stays.1)
+      | inr moved ↦ ap (λ m. is_some (row_at r.inodes.attributes m)) (ap (λ (b : Ocb). b.inode) (sym moved.1) ∙ (may was.0 (ap (row_at r.inodes.blocks) (sym moved.0) ∙ was.1)).inode)
+    ] ∙ h.opened n was.0 was.1;
   }
 
 -- the same, but that one inode may have neither a link nor an open control block
@@ -263,7 +265,7 @@ names-keep (Comes inode directory name kind mode moment) r may room h =
     empty_cases HasNames kind inode (with_named inode (under directory name) attribute r) (λ is. same_but_content (with_named inode (under directory name) attribute r) _ _ more) (λ is. same_but_content (with_named inode (under directory name) attribute r) _ _ more) (λ is. more)
 names-keep (Touches inode mode mtime ctime) r may room h = same_names r h inode (touched mode mtime ctime) (λ a. refl)
 names-keep (Opens number block) r may room h = let new = block_is_new r.inodes number room.some_blocks may.0 in open_names r h number block new.free new.within may.1
-names-keep (Moves number offset) r may room h = move_names r h number offset
+names-keep (Moves number change) r may room h = move_names r h number change may
 names-keep (Writes inode moment bytes) r may room h = same_but_content _ (slice_set r.files inode (Some bytes)) r.pipes (same_names r h inode (resized (length bytes) moment) (λ a. refl))
 names-keep (Fills inode moment after came) r may room h = same_but_content _ r.files (slice_set r.pipes inode (Some after.pipe)) (same_names r h inode (filled moment after) (λ a. filled-same moment after a (λ (b : Attribute). b.links) refl refl))
 names-keep (Unlinks own directory name inode mtime ctime) r may room h = unused_names own inode (with_unlinked inode (under directory name) mtime ctime r) (unlink_names r h inode (under directory name) mtime ctime may.0)

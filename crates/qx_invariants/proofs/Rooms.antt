@@ -88,7 +88,7 @@ parts-keep (Comes inode directory name kind mode moment) r may h =
     empty_cases Parts kind inode _ (λ is. with_files _ inode _ more) (λ is. with_pipes _ inode _ more) (λ is. more)
 parts-keep (Touches inode mode mtime ctime) r may h = with_inodes r _ (changed_numbered INODES r.inodes.attributes h.inodes inode _) h.blocks h
 parts-keep (Opens number block) r may h = with_inodes r _ h.inodes (put_numbered BLOCKS r.inodes.blocks h.blocks number block (block_is_new r.inodes number h.blocks.some may.0)) h
-parts-keep (Moves number offset) r may h = with_inodes r _ h.inodes (changed_numbered BLOCKS r.inodes.blocks h.blocks number _) h
+parts-keep (Moves number change) r may h = with_inodes r _ h.inodes (changed_numbered BLOCKS r.inodes.blocks h.blocks number change) h
 parts-keep (Writes inode moment bytes) r may h = with_files _ inode _ (with_inodes r _ (changed_numbered INODES r.inodes.attributes h.inodes inode _) h.blocks h)
 parts-keep (Fills inode moment after came) r may h = with_pipes _ inode _ (with_inodes r _ (changed_numbered INODES r.inodes.attributes h.inodes inode _) h.blocks h)
 parts-keep (Unlinks own directory name inode mtime ctime) r may h =

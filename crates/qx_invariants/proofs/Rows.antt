@@ -1,5 +1,5 @@
 -- Rows under numbers: what a write leaves, which number is new, how many open control blocks an inode has, and what is left once an inode comes or goes.
-use Rattle.std.proofs.Common.{◌≡◌, ◌≢◌, ◌⊎◌, inl, inr, ℕ, zero, suc, Bool, true, false, refl, sym, ap, ◌∙◌, subst, ◌<◌, ◌≤◌, arith}
+use Rattle.std.proofs.Common.{◌≡◌, ◌≢◌, ◌⊎◌, inl, inr, ℕ, zero, suc, Bool, true, false, refl, sym, ap, ◌∙◌, subst, ◌<◌, ◌≤◌, ◌==◌, ◌&&◌, arith}
 use Rattle.std.specs.Prelude.{List, [], ◌∷◌, Option, Some, None, Ok, Err, count_by, is_some, nat_le, not, if◌then◌else◌, option_map, slice_set, length}
 use Rattle.std.specs.List.{list_any}
 use Rattle.std.proofs.lemmas.Bool.{cases_eq, cond_both, leb-true}
@@ -13,7 +13,7 @@ use Rattle.qx_machine.specs.declared.rows.Attribute.{Attribute}
 use Rattle.qx_machine.specs.declared.rows.Ocb.{Ocb}
 use Rattle.qx_machine.specs.declared.rows.WaitingCall.{WaitingCall}
 use Rattle.qx_machine.specs.Defaults.{without_unused}
-use Rattle.qx_machine.specs.Inodes.{Inodes, block_number, blocks_of, close_block, inode_number, is_open, is_unused, moved_to, with_offset}
+use Rattle.qx_machine.specs.Inodes.{Inodes, block_number, blocks_of, close_block, inode_number, is_open, is_unused}
 use Rattle.qx_machine.specs.Names.{is_same_kind}
 use Rattle.qx_machine.specs.PipeManager.{filled}
 use Rattle.qx_machine.specs.Pipes.{PipeAfter, pipe_of}
@@ -24,6 +24,7 @@ use Rattle.qx_machine.proofs.Places.{lowest_from_free, row_at-set_other, set-row
 use Rattle.qx_attr.specs.inner.Counts.{one}
 use Rattle.qx_attr.proofs.CountLemmas.{count-free, count-put, count-same, counts_other, counts_own}
 use Rattle.qx_iofunc.proofs.PlaceLemmas.{lowest_within, put_at, put_differ}
+use Rattle.qx_invariants.specs.Changes.{IsMoved}
 
 module _ {A : Type 0} where
   pub some-is : (row : Option A) (value : A) → row ≡ Some value → is_some row ≡ true
@@ -115,12 +116,18 @@ module _ (inodes : Inodes) where
   pub more_blocks : (number : ℕ) (block : Ocb) → row_at inodes.blocks number ≡ None → (m : ℕ) → blocks_of inodes m ≤ blocks_of (record inodes { blocks = put_row inodes.blocks number block }) m
   more_blocks number block free m = let put = count-put (is_open (λ flags. true) m) refl inodes.blocks number block free in omega (arith, put)
 
-  pub same_blocks : (number offset m : ℕ) → blocks_of (with_offset inodes number offset) m ≡ blocks_of inodes m
-  same_blocks number offset m = by (row_at inodes.blocks number) refl
-    where
-      by : (row : Option Ocb) → row_at inodes.blocks number ≡ row → count_by (is_open (λ flags. true) m) (slice_set inodes.blocks number (option_map (moved_to offset) row)) ≡ blocks_of inodes m
-      by None is = ap (count_by (is_open (λ flags. true) m)) (ap (slice_set inodes.blocks number) (sym is) ∙ set-row_at inodes.blocks number)
-      by (Some block) is = count-same (is_open (λ flags. true) m) refl inodes.blocks number block (moved_to offset block) is refl
+  -- an open control block that moved is of the same inode, and as many are
+  module _ (number : ℕ) (change : Ocb → Ocb) (moved : (block : Ocb) → row_at inodes.blocks number ≡ Some block → IsMoved block (change block)) where
+    pub same_open : (m : ℕ) (row : Option Ocb) → row_at inodes.blocks number ≡ row → is_open (λ flags. true) m (option_map change row) ≡ is_open (λ flags. true) m row
+    same_open m None is = refl
+    same_open m (Some block) is = ap (λ n. (n == m) && true) (moved block is).inode
+
+    pub same_blocks : (m : ℕ) → blocks_of (record inodes { blocks = with_row inodes.blocks number change }) m ≡ blocks_of inodes m
+    same_blocks m = by (row_at inodes.blocks number) refl
+      where
+        by : (row : Option Ocb) → row_at inodes.blocks number ≡ row → count_by (is_open (λ flags. true) m) (slice_set inodes.blocks number (option_map change row)) ≡ blocks_of inodes m
+        by None is = ap (count_by (is_open (λ flags. true) m)) (ap (slice_set inodes.blocks number) (sym is) ∙ set-row_at inodes.blocks number)
+        by (Some block) is = count-same (is_open (λ flags. true) m) refl inodes.blocks number block (change block) is (same_open m (Some block) is)
 
   pub other_blocks : (number : ℕ) (block : Ocb) → row_at inodes.blocks number ≡ Some block → (m : ℕ) → m ≢ block.inode → blocks_of (close_block inodes number) m ≡ blocks_of inodes m
   other_blocks number block is m apart =

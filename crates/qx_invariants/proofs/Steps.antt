@@ -33,7 +33,7 @@ use Rattle.qx_machine.specs.Judgements.{found, need, or_refused}
 use Rattle.qx_machine.specs.Mounting.{new_mount}
 use Rattle.qx_machine.specs.Notification.{block_conditions, events_settled}
 use Rattle.qx_machine.specs.Parts.{Part, thread_at, Change as LineChange}
-use Rattle.qx_machine.specs.Performing.{Served, after_answer, context_of, deed_of, or_kept, read_message, serve_message, serve_pulse, taken_in, with_answers}
+use Rattle.qx_machine.specs.Performing.{Served, after_answer, context_of, deed_of, dup_of, or_kept, read_message, serve_message, serve_pulse, taken_in, with_answers}
 use Rattle.qx_machine.specs.PipeManager.{cancel_call}
 use Rattle.qx_machine.specs.Processes.{Process}
 use Rattle.qx_machine.specs.Resources.{Resources}
@@ -67,10 +67,10 @@ read-components bytes Malformed is = gives_error _ _
 
 -- what a property of the resources and of what was answered is after a deed
 pub deed_kept : (K : Resources → Told → Type 0) (keeps : (change : ResourceChange) (r : Resources) (told : Told) → MayHappen change r → K r told → K (with_change change r) (told_by change told)) (caller : Caller) (r : Resources) → K r nothing
-    → (process : Process) (target : Target) (moment : ℕ) (bytes : List ℕ) → Gives (Kept K keeps caller) (deed_of r (context_of process caller target moment) (meaning bytes))
+    → (process : Process) (target : Target) (moment : ℕ) (bytes : List ℕ) → Gives (Kept K keeps caller) (deed_of r (context_of process caller target moment (meaning bytes)) (meaning bytes))
 deed_kept K keeps caller r h process target moment bytes =
     gives_by NamesComponents _ (read_message (meaning bytes)) _ (read-components bytes (meaning bytes) refl)
-    (λ message names. manager-gives K keeps caller r h (context_of process caller target moment) (opened_by-caller process caller target moment) target.manager message names)
+    (λ message names. manager-gives K keeps caller r h (context_of process caller target moment (meaning bytes)) (opened_by-caller process caller target moment (dup_of (meaning bytes))) target.manager message names)
 
 -- what holds of a part that was given holds of what is kept where none was
 pub kept-keeps : (P : Part → Type 0) (part : Part) → P part → (given : Result Served Outcome) → Gives (λ (served : Served). P served.part) given → P (or_kept part given).part
@@ -87,7 +87,7 @@ module _ (K : Resources → Type 0) (keeps : (change : ResourceChange) (r : Reso
 
   -- ---- what a worker does
 
-  deed-gives : (r : Resources) → K r → (process : Process) (caller : Caller) (target : Target) (moment : ℕ) (bytes : List ℕ) → Gives (λ (deed : Deed Resources). K deed.state) (deed_of r (context_of process caller target moment) (meaning bytes))
+  deed-gives : (r : Resources) → K r → (process : Process) (caller : Caller) (target : Target) (moment : ℕ) (bytes : List ℕ) → Gives (λ (deed : Deed Resources). K deed.state) (deed_of r (context_of process caller target moment (meaning bytes)) (meaning bytes))
   deed-gives r h process caller target moment bytes =
       gives_more _ (λ (deed : Deed Resources). K deed.state) _ (λ deed kept. kept.kept) (deed_kept (λ r told. K r) (λ change r told. keeps change r) caller r h process target moment bytes)
 

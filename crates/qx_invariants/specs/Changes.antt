@@ -2,7 +2,7 @@
 use Rattle.std.specs.Prelude.{◌+◌, ◌≡◌, ◌≤◌, ◌⊎◌, length, slice_set, ℕ, Bool, true, List, [], ◌∷◌, Some, None, Ok, is_some}
 use Rattle.std.specs.List.{count_by}
 use Rattle.std.specs.FinMap.{get, insert, remove}
-use Rattle.qx_types.specs.declared.limits.TheConstants.Limits.{EVENTS, FILE, FILES, PIPE}
+use Rattle.qx_types.specs.declared.limits.TheConstants.Limits.{EVENTS, FILE, FILES, LAST_CONNECTION, PIPE}
 use Rattle.qx_machine.specs.Files.{total_size}
 use Rattle.qx_wire.specs.Rests.{is_component}
 use Rattle.qx_paths.specs.Prefixes.{MountPoint}
@@ -12,7 +12,7 @@ use Rattle.qx_machine.specs.declared.rows.Ocb.{Ocb}
 use Rattle.qx_machine.specs.declared.rows.WaitingCall.{WaitingCall}
 use Rattle.qx_machine.specs.Defaults.{is_own, pipe_in, without_block, without_unused}
 use Rattle.qx_machine.specs.Events.{Events, event_count}
-use Rattle.qx_machine.specs.Inodes.{block_number, inode_number, new_attribute, with_offset}
+use Rattle.qx_machine.specs.Inodes.{block_number, inode_number, new_attribute}
 use Rattle.qx_machine.specs.Mounting.{with_mount}
 use Rattle.qx_machine.specs.Names.{Key, is_directory, names_in, under}
 use Rattle.qx_machine.specs.PipeManager.{deed_of_pipe}
@@ -33,8 +33,8 @@ pub data ResourceChange : Type 0 where
   Touches : (inode mode mtime ctime : ℕ) → ResourceChange
   -- an open control block comes
   Opens : (number : ℕ) (block : Ocb) → ResourceChange
-  -- an open control block stands at another offset
-  Moves : (number offset : ℕ) → ResourceChange
+  -- an open control block stands at another offset, or more or fewer connections have it
+  Moves : (number : ℕ) (change : Ocb → Ocb) → ResourceChange
   -- a file has other bytes
   Writes : (inode moment : ℕ) (bytes : List ℕ) → ResourceChange
   -- something is done to a pipe, to which calls came
@@ -58,6 +58,10 @@ without_link mtime ctime attribute = record attribute { links = 0; mtime = mtime
 abbrev pub with_changed : ℕ → (Attribute → Attribute) → Resources → Resources
 with_changed inode change r = record r { inodes = record r.inodes { attributes = with_row r.inodes.attributes inode change } }
 
+-- an open control block changes, if it is there
+abbrev pub with_moved : ℕ → (Ocb → Ocb) → Resources → Resources
+with_moved number change r = record r { inodes = record r.inodes { blocks = with_row r.inodes.blocks number change } }
+
 -- an inode is there under a name, and there is nothing in it yet
 abbrev pub with_named : ℕ → Key → Attribute → Resources → Resources
 with_named inode key attribute r = record r {
@@ -74,7 +78,7 @@ with_change (Mounts mount) r = with_mount mount r
 with_change (Comes inode directory name kind mode moment) r = with_empty kind inode (with_named inode (under directory name) (new_attribute kind mode r.user moment) r)
 with_change (Touches inode mode mtime ctime) r = with_changed inode (touched mode mtime ctime) r
 with_change (Opens number block) r = record r { inodes = record r.inodes { blocks = put_row r.inodes.blocks number block } }
-with_change (Moves number offset) r = record r { inodes = with_offset r.inodes number offset }
+with_change (Moves number change) r = with_moved number change r
 with_change (Writes inode moment bytes) r = with_bytes inode moment bytes r
 with_change (Fills inode moment after came) r = (deed_of_pipe r inode moment after).state
 with_change (Unlinks own directory name inode mtime ctime) r = without_unused own inode (with_unlinked inode (under directory name) mtime ctime r)
@@ -100,6 +104,15 @@ pub record IsOwnInode (own : Kind) (r : Resources) (inode : ℕ) : Type 0 where
 -- nobody waits in a pipe who could be served: to settle it changes nothing and answers nobody
 abbrev pub IsPipeSettled : Pipe WaitingCall → Type 0
 IsPipeSettled pipe = settle wanted offered pipe ≡ nobody_answered pipe
+
+-- this is an open control block once it stands at another offset, or once more or fewer connections have it: what it had open, it has
+pub record IsMoved (before after : Ocb) : Type 0 where
+  pub inode : after.inode ≡ before.inode
+  pub flags : after.flags ≡ before.flags
+  -- no fewer connections than before have it, or one has it still
+  pub some : (before.uses ≤ after.uses) ⊎ (1 ≤ after.uses)
+  -- no more than before, or than the greatest number of a connection
+  pub few : (after.uses ≤ before.uses) ⊎ (after.uses ≤ LAST_CONNECTION)
 
 -- a file is there, and has other bytes
 pub record IsRewritten (r : Resources) (inode : ℕ) (bytes : List ℕ) : Type 0 where
@@ -131,18 +144,18 @@ pub record AreKept (before events : Events) : Type 0 where
   pub queues : length events.pulses ≡ length before.pulses
 
 -- an inode comes under the lowest free number, with a name that is a component and not there yet, into a directory; a name goes that leads to
--- an inode in which no names are; only what is there is opened, written, closed or unnamed; nobody waits over what is closed; and events do
--- not come to be too many
+-- an inode in which no names are; only what is there is opened, written, closed or unnamed; one connection has what comes to be open, and
+-- what is open stays so while another has it; nobody waits over what is closed; and events do not come to be too many
 abbrev pub MayHappen : ResourceChange → Resources → Type 0
 MayHappen (Mounts mount) r = inode_number r.inodes ≡ Ok mount.root
 MayHappen (Comes inode directory name kind mode moment) r = (inode_number r.inodes ≡ Ok inode) × IsDirectoryAt r directory × (get r.names (under directory name) ≡ None) × (is_component name ≡ true)
 MayHappen (Touches inode mode mtime ctime) r = Unit {0}
-MayHappen (Opens number block) r = (block_number r.inodes ≡ Ok number) × (is_some (row_at r.inodes.attributes block.inode) ≡ true)
-MayHappen (Moves number offset) r = Unit {0}
+MayHappen (Opens number block) r = (block_number r.inodes ≡ Ok number) × (is_some (row_at r.inodes.attributes block.inode) ≡ true) × (block.uses ≡ 1)
+MayHappen (Moves number change) r = (block : Ocb) → row_at r.inodes.blocks number ≡ Some block → IsMoved block (change block)
 MayHappen (Writes inode moment bytes) r = IsRewritten r inode bytes
 MayHappen (Fills inode moment after came) r = IsDone r inode after came
 MayHappen (Unlinks own directory name inode mtime ctime) r = (get r.names (under directory name) ≡ Some inode) × (names_in r.names inode ≡ []) × IsOwnInode own r inode
-MayHappen (Closes own number block) r = (row_at r.inodes.blocks number ≡ Some block) × IsOwnInode own r block.inode × (count_waiting_in (is_over number) (pipe_in own r block.inode) ≡ 0)
+MayHappen (Closes own number block) r = (row_at r.inodes.blocks number ≡ Some block) × IsOwnInode own r block.inode × (count_waiting_in (is_over number) (pipe_in own r block.inode) ≡ 0) × (block.uses ≤ 1)
 MayHappen (Notifies events) r = AreKept r.events events
 
 -- ---- one after another
