@@ -14,7 +14,7 @@ pub mod Messages
 pub mod Steps
 -- how many calls wait, with what is answered, and which threads
 pub mod Balances
--- numbers of inodes and open control blocks, and whose inodes are
+-- numbers of inodes and open control blocks, whose inodes are, and how many connections have what is open
 pub mod Rooms
 -- what is in inodes, and who waits in pipes
 pub mod Contents

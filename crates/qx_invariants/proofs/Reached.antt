@@ -10,7 +10,7 @@ use Rattle.qx_wire.specs.Rests.{is_component, is_dots, is_name_byte}
 use Rattle.qx_machine.specs.Listings.{HasSizedNames, IsZeroFree}
 use Rattle.qx_machine.specs.Names.{names_behind, fitting, listed, listing, names_in}
 use Rattle.qx_machine.specs.Resources.{Resources}
-use Rattle.qx_invariants.specs.Holds.{HasTree, HasContents, HasMounts, HasOpenWaiters, HasRoom, HasSettledPipes, HoldsInRuns, HoldsOfParts, IsOwnedBy}
+use Rattle.qx_invariants.specs.Holds.{HasTree, HasContents, HasMounts, HasOpenWaiters, HasRoom, HasSettledPipes, HasUses, HoldsInRuns, HoldsOfParts, IsOwnedBy}
 use Rattle.qx_invariants.proofs.Keys.{all_names}
 use Rattle.qx_types.specs.Configuration.{Configuration, name_bytes}
 use Rattle.qx_types.specs.declared.step.Step.{Step}
@@ -102,6 +102,9 @@ run_holds config steps user part there = (run_stands config steps user part ther
 
 pub run_contents : HoldsInRuns HasContents
 run_contents config steps user part there = (run_holds config steps user part there).contents
+
+pub run_uses : HoldsInRuns HasUses
+run_uses config steps user part there = (run_holds config steps user part there).uses
 
 pub run_owned : (config : Configuration) (steps : List Step) (user : ℕ) (part : Part) → row_at (run config steps).world.parts user ≡ Some part → IsOwnedBy user part.resources
 unfolding boot_part

@@ -1,9 +1,11 @@
--- Inodes and open control blocks have their numbers and a place each for what is in them, and each inode of a user is owned by that user, whatever happens.
-use Rattle.std.proofs.Common.{◌≡◌, inl, inr, ℕ, ◌+◌, ◌<◌, ◌≤◌, List, length, ◌∙◌, arith, refl, sym, ap}
+-- Inodes and open control blocks have their numbers and a place each for what is in them, each inode of a user is owned by that user, and connections have each
+-- open control block, whatever happens.
+use Rattle.std.proofs.Common.{◌≡◌, inl, inr, ℕ, ◌+◌, ◌<◌, ◌≤◌, List, length, ◌∙◌, arith, refl, sym, ap, subst}
 use Rattle.std.specs.Prelude.{Option, Some, None, option_map, slice_set}
 use Rattle.std.proofs.Math.ListN.{length-set}
 use Rattle.qx_types.specs.declared.limits.TheConstants.Limits.{BLOCKS, INODES}
 use Rattle.qx_machine.specs.declared.rows.Kind.{Kind}
+use Rattle.qx_machine.specs.declared.rows.Ocb.{Ocb}
 use Rattle.qx_machine.specs.declared.rows.WaitingCall.{WaitingCall}
 use Rattle.qx_machine.specs.Defaults.{without_unused, without_block}
 use Rattle.qx_machine.specs.Inodes.{Inodes, new_attribute}
@@ -11,8 +13,8 @@ use Rattle.qx_machine.specs.Pipes.{Pipe}
 use Rattle.qx_machine.specs.Resources.{Resources, resized}
 use Rattle.qx_machine.specs.Rows.{put_row, row_at, with_row}
 use Rattle.qx_machine.proofs.Places.{row_at-set_cases}
-use Rattle.qx_invariants.specs.Changes.{ResourceChange, Closes, Comes, Fills, MayHappen, Mounts, Moves, Notifies, Opens, Touches, Unlinks, Writes, with_change, touched, without_link, with_changed, with_named, with_unlinked}
-use Rattle.qx_invariants.specs.Holds.{HasRoom, IsOwnedBy}
+use Rattle.qx_invariants.specs.Changes.{ResourceChange, Closes, Comes, Fills, IsMoved, MayHappen, Mounts, Moves, Notifies, Opens, Touches, Unlinks, Writes, with_change, touched, without_link, with_changed, with_named, with_unlinked}
+use Rattle.qx_invariants.specs.Holds.{HasRoom, HasUses, IsOwnedBy, IsUsed}
 use Rattle.qx_iofunc.proofs.PlaceLemmas.{put_differ}
 use Rattle.qx_invariants.proofs.Rows.{IsNew, content_cases, empty_cases, freed, block_is_new, inode_is_new, unused_cases, put_cases, with_row-was, filled-same}
 use Rattle.qx_machine.specs.declared.rows.Attribute.{Attribute}
@@ -148,3 +150,40 @@ module _ (user : ℕ) where
       unused_owner (with_unlinked inode (under directory name) mtime ctime r) (seen_owner (with_changed inode (without_link mtime ctime) r) _ refl refl (same_owner r h inode (without_link mtime ctime) (λ a. refl))) own inode
   owner-keeps (Closes own number block) r may room h = unused_owner (without_block number r) (seen_owner r _ refl refl h) own block.inode
   owner-keeps _ r may room h = seen_owner r _ refl refl h
+
+-- ---- uses
+
+-- what stands in open control blocks alone is seen
+seen_uses : (r now : Resources) → now.inodes.blocks ≡ r.inodes.blocks → HasUses r → HasUses now
+seen_uses r now same h = record { used = λ number block there. h.used number block (ap (λ rows. row_at rows number) (sym same) ∙ there) }
+
+unused_uses : (own : Kind) (inode : ℕ) (r : Resources) → HasUses r → HasUses (without_unused own inode r)
+unused_uses own inode r h =
+    unused_cases HasUses own inode r
+    (λ gone. content_cases HasUses own inode (freed inode r) (λ is. seen_uses r _ refl h) (λ is. seen_uses r _ refl h) (λ is. seen_uses r _ refl h)) (λ stays. h)
+
+moved_used : (before after : Ocb) → IsMoved before after → IsUsed before → IsUsed after
+moved_used before after moved used = record {
+  some = elim moved.some [ inl more ↦ let some = used.some in omega (arith, more, some) | inr some ↦ some ];
+  few = elim moved.few [ inl fewer ↦ let few = used.few in omega (arith, fewer, few) | inr few ↦ few ];
+}
+
+pub uses-keep : (change : ResourceChange) (r : Resources) → MayHappen change r → HasRoom r → HasUses r → HasUses (with_change change r)
+uses-keep (Comes inode directory name kind mode moment) r may room h =
+    empty_cases HasUses kind inode (with_named inode (under directory name) (new_attribute kind mode r.user moment) r) (λ is. seen_uses r _ refl h) (λ is. seen_uses r _ refl h) (λ is. seen_uses r _ refl h)
+uses-keep (Opens number block) r may room h = record {
+  used = λ n other there. elim (put_cases r.inodes.blocks number block (block_is_new r.inodes number room.some_blocks may.0).within n other there) [
+    | inl is ↦ let one : other.uses ≡ 1 = ap (λ (b : Ocb). b.uses) (sym is.1) ∙ may.2 in record { some = omega (arith, one); few = omega (arith, one) }
+    | inr was ↦ h.used n other was
+  ];
+}
+uses-keep (Moves number change) r may room h = record {
+  used = λ n now there. let was = with_row-was r.inodes.blocks number change n now there in elim was.2 [
+    | inl stays ↦ subst IsUsed stays.1 (h.used n was.0 was.1)
+    | inr moved ↦ subst IsUsed moved.1 (moved_used was.0 (change was.0) (may was.0 (ap (row_at r.inodes.blocks) (sym moved.0) ∙ was.1)) (h.used n was.0 was.1))
+  ];
+}
+uses-keep (Unlinks own directory name inode mtime ctime) r may room h = unused_uses own inode (with_unlinked inode (under directory name) mtime ctime r) (seen_uses r _ refl h)
+uses-keep (Closes own number block) r may room h =
+    unused_uses own block.inode (without_block number r) (record { used = λ n other there. elim (row_at-set_cases r.inodes.blocks number n None other there) [ inl was ↦ h.used n other was | inr none ↦ absurd (cc) ] })
+uses-keep _ r may room h = seen_uses r _ refl h

@@ -21,12 +21,12 @@ use Rattle.qx_paths.specs.Prefixes.{MountPoint}
 use Rattle.std.proofs.lemmas.List.Elements.{All-cons, All-nil}
 use Rattle.qx_iofunc.proofs.StoreLemmas.{row_at-none}
 use Rattle.qx_invariants.specs.Changes.{IsDirectoryAt, ResourceChange, MayHappen, with_change}
-use Rattle.qx_invariants.specs.Holds.{HasContents, HasLimits, HasMounts, HasNames, HasOpenWaiters, HasRoom, HasSettledPipes, HasTree, IsOwnedBy, size_if}
+use Rattle.qx_invariants.specs.Holds.{HasContents, HasLimits, HasMounts, HasNames, HasOpenWaiters, HasRoom, HasSettledPipes, HasTree, HasUses, IsOwnedBy, size_if}
 use Rattle.qx_invariants.proofs.Contents.{contents-keep, settled-keep, limits-keep}
 use Rattle.qx_invariants.proofs.Events.{HasEvents, events-keep}
 use Rattle.qx_invariants.proofs.Keys.{insert-at, insert-cases, not_root}
 use Rattle.qx_invariants.proofs.Named.{names-keep}
-use Rattle.qx_invariants.proofs.Rooms.{room-keeps}
+use Rattle.qx_invariants.proofs.Rooms.{room-keeps, uses-keep}
 use Rattle.qx_machine.specs.Files.{size_of, total_size}
 use Rattle.std.proofs.lemmas.List.Folds.{sum_by-replicate}
 use Rattle.qx_invariants.proofs.Trees.{mounts-keep, tree-keeps}
@@ -125,6 +125,9 @@ module _ (user : ℕ) (name : List ℕ) where
     queues = length-replicate {A = List Pulse} (PROCESSES + 1) [];
   }
 
+  boot_uses : HasUses start
+  boot_uses = record { used = λ number block is. let none : None ≡ Some block = sym (none_there number) ∙ is in absurd (cc) }
+
 -- ---- all of it
 
 pub record Holds (r : Resources) : Type 0 where
@@ -137,9 +140,10 @@ pub record Holds (r : Resources) : Type 0 where
   pub mounts : HasMounts r
   pub limits : HasLimits r
   pub events : HasEvents r
+  pub uses : HasUses r
 
 pub holds-keep : (change : ResourceChange) (r : Resources) → MayHappen change r → Holds r → Holds (with_change change r)
-holds-keep change r may h = record { room = room-keeps change r may h.room; contents = contents-keep change r may h.room h.contents; settled = settled-keep change r may h.settled; names = names-keep change r may h.room h.names; tree = tree-keeps change r may h.room h.names h.tree; waiters = astray-keeps change r may h.room h.contents h.waiters; mounts = mounts-keep change r may h.room h.names h.mounts; limits = limits-keep change r may h.limits; events = events-keep change r may h.events }
+holds-keep change r may h = record { room = room-keeps change r may h.room; contents = contents-keep change r may h.room h.contents; settled = settled-keep change r may h.settled; names = names-keep change r may h.room h.names; tree = tree-keeps change r may h.room h.names h.tree; waiters = astray-keeps change r may h.room h.contents h.waiters; mounts = mounts-keep change r may h.room h.names h.mounts; limits = limits-keep change r may h.limits; events = events-keep change r may h.events; uses = uses-keep change r may h.room h.uses }
 
 pub boot_holds : (user : ℕ) (name : List ℕ) → Holds (new_resources user name)
-boot_holds user name = record { room = boot_room user name; contents = boot_contents user name; settled = boot_settled user name; names = boot_names user name; tree = boot_tree user name; waiters = boot_waiters user name; mounts = boot_rooted user name; limits = boot_limits user name; events = boot_events user name }
+boot_holds user name = record { room = boot_room user name; contents = boot_contents user name; settled = boot_settled user name; names = boot_names user name; tree = boot_tree user name; waiters = boot_waiters user name; mounts = boot_rooted user name; limits = boot_limits user name; events = boot_events user name; uses = boot_uses user name }

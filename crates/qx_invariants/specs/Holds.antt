@@ -3,7 +3,7 @@ use Rattle.std.specs.Prelude.{All, ◌≡◌, ◌≢◌, ◌⊎◌, ℕ, ◌+◌
 use Rattle.std.specs.FinMap.{get}
 use Rattle.qx_paths.specs.Prefixes.{MountPoint}
 use Rattle.qx_types.specs.Configuration.{Configuration}
-use Rattle.qx_types.specs.declared.limits.TheConstants.Limits.{BLOCKS, FILE, FILES, INODES, PIPE}
+use Rattle.qx_types.specs.declared.limits.TheConstants.Limits.{BLOCKS, FILE, FILES, INODES, LAST_CONNECTION, PIPE}
 use Rattle.qx_types.specs.declared.step.Step.{Step}
 use Rattle.qx_wire.specs.Rests.{is_component}
 use Rattle.qx_machine.specs.declared.rows.Attribute.{Attribute}
@@ -43,6 +43,17 @@ pub record HasRoom (r : Resources) : Type 0 where
   -- there is a place for the bytes and for the pipe of each inode
   pub files : length r.files ≡ INODES + 1
   pub pipes : length r.pipes ≡ INODES + 1
+
+-- ---- uses
+
+-- one connection has an open control block, or more have it, but no more than the greatest number of a connection
+pub record IsUsed (block : Ocb) : Type 0 where
+  pub some : 1 ≤ block.uses
+  pub few : block.uses ≤ LAST_CONNECTION
+
+-- so it is of each that is there
+pub record HasUses (r : Resources) : Type 0 where
+  pub used : (number : ℕ) (block : Ocb) → row_at r.inodes.blocks number ≡ Some block → IsUsed block
 
 -- ---- owners
 

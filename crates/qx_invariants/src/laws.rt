@@ -17,7 +17,7 @@ ghost use Rattle.qx_machine.specs.Rows.{row_at};
 ghost use Rattle.qx_machine.specs.Runs.{run};
 ghost use Rattle.qx_machine.specs.Waiting.{is_call};
 ghost use Rattle.qx_invariants.specs.Changes.{Become};
-ghost use Rattle.qx_invariants.specs.Holds.{HasContents, HasLimits, HasMounts, HasNames, HasOpenWaiters, HasRoom, HasSettledPipes, HasTree, HoldsInRuns, HoldsOfParts, IsOwnedBy, WaitsOnce};
+ghost use Rattle.qx_invariants.specs.Holds.{HasContents, HasLimits, HasMounts, HasNames, HasOpenWaiters, HasRoom, HasSettledPipes, HasTree, HasUses, HoldsInRuns, HoldsOfParts, IsOwnedBy, WaitsOnce};
 ghost use Rattle.qx_invariants.specs.Waits.{count_waiting};
 
 /// A user's resources become what they are by a few kinds of change alone, one after another, each where it may happen.
@@ -29,6 +29,13 @@ pub fn only_changes_happen()
 /// Inodes and open control blocks are numbered from 1 within their limits, and each inode has a place for what is in it.
 pub fn numbers_are_within_limits()
     ensures { HoldsInRuns HasRoom }
+{}
+
+/// An open control block that is there has one use at least, and 66 at most, the greatest number of a connection (C Library
+/// Reference: `dup`).
+#[tactic(auto, using(crate::proofs::Reached::run_uses))]
+pub fn blocks_are_used()
+    ensures { HoldsInRuns HasUses }
 {}
 
 /// Each inode among a user's resources is owned by that user.
