@@ -2,7 +2,7 @@
 use Rattle.std.proofs.Common.{◌≡◌, ◌∙◌, ◌+◌, ◌-◌, ◌<◌, length, ℕ, Bool, true, false, List, [], Result, Ok, Err, IfOk, OnErr, MatchResult, refl, sym, ap, ap₂, subst, arith}
 use Rattle.std.specs.Prelude.{◌||◌, IsTrue, if◌then◌else◌}
 use Rattle.std.specs.Result.{result_map_both}
-use Rattle.std.proofs.lemmas.Bool.{cond_both}
+use Rattle.std.proofs.lemmas.Bool.{cond_both, cond-false}
 use Rattle.std.proofs.lemmas.List.{get_or-set_same, set-get_or}
 use Rattle.qx_types.specs.declared.errno.Errno.{Errno}
 use Rattle.qx_types.specs.declared.names.Manager.TheVariants as managers
@@ -15,10 +15,10 @@ use Rattle.qx_machine.specs.declared.rows.Kind.{Kind}
 use Rattle.qx_machine.specs.declared.rows.Kind.TheVariants.{File}
 use Rattle.qx_machine.specs.declared.rows.Ocb.{Ocb}
 use Rattle.qx_machine.specs.declared.rows.Opened.{Opened}
-use Rattle.qx_machine.specs.Defaults.{close, close_with_event, closed, own_block, without_block, without_unused}
+use Rattle.qx_machine.specs.Defaults.{close, close_dup, close_with_event, closed, own_block, without_block, without_unused}
 use Rattle.qx_machine.specs.Events.{disarmed, event_count, no_events}
 use Rattle.qx_machine.specs.Functions.{Deed, reply_alone}
-use Rattle.qx_machine.specs.Inodes.{close_block, free_inode, is_unused}
+use Rattle.qx_machine.specs.Inodes.{close_block, free_inode, is_shared, is_unused, without_use}
 use Rattle.qx_machine.specs.Judgements.{◌>>=◌}
 use Rattle.qx_machine.specs.PipeManager.{unreplied}
 use Rattle.qx_machine.specs.Resources.{Resources, without_content}
@@ -155,6 +155,11 @@ module _ (k l : Kept) (w v : Waits) (own : Kind) (opened : Opened) where
 
   pub closed-refused : (error : Errno) → Did state k w l v [] (Err error) (close own (told k w) opened) → Did state k w l v [] (Err error) (close_with_event own (told k w) opened)
   closed-refused error = refused-so error (close own (told k w) opened)
+
+-- the close of the last connection that has a block
+pub last-closed : (own : Kind) (r : Resources) (opened : Opened) → is_shared (row_at r.inodes.blocks opened.number) ≡ false → close_dup own r opened ≡ close_with_event own r opened
+last-closed own r opened last =
+    cond-false (is_shared (row_at r.inodes.blocks opened.number)) (Ok (reply_alone 0 [] (Closes opened.coid) (record r { inodes = without_use r.inodes opened.number }))) (close_with_event own r opened) last
 
 -- ---- a close of a file
 

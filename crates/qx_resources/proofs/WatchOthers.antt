@@ -24,7 +24,7 @@ use Rattle.qx_machine.specs.Notification.{conditions_at, event_of, notify_block}
 use Rattle.qx_machine.specs.PipeManager.{seek_pipe}
 use Rattle.qx_machine.specs.Pipes.{Pipe}
 use Rattle.qx_machine.specs.Resources.{Resources, without_content}
-use Rattle.qx_machine.specs.Rows.{row_at}
+use Rattle.qx_machine.specs.Rows.{row_at, with_row}
 use Rattle.qx_machine.proofs.Places.{row_at-set_other}
 use Rattle.qx_attr.proofs.CountLemmas.{count-free, counts_own}
 use Rattle.qx_attr.specs.inner.Counts.{one}
@@ -79,9 +79,12 @@ unlink-still own r root rest moment =
 
 dup_block-still : (r : Resources) (number : ℕ) → Gives (λ (inodes : Inodes). IsStill r (record r { inodes = inodes })) (dup_block r.inodes number)
 dup_block-still r number =
+    let used = λ (block : Ocb). record block { uses = block.uses + 1 } in
     gives_on _ (found (row_at r.inodes.blocks number) EBADF) _ (λ block is.
     gives_on _ (need (nat_lt block.uses LAST_CONNECTION) EMFILE) _ (λ few is_few.
-    gives_done _ _ (moved-still r _ number (λ (block : Ocb). record block { uses = block.uses + 1 }) (record { inode = λ block. refl; flags = λ block. refl }) block (found-row _ _ block is) refl refl)))
+    gives_done _ _
+    (moved-still r (record r { inodes = record r.inodes { blocks = with_row r.inodes.blocks number used } }) number used (record { inode = λ block. refl; flags = λ block. refl }) block
+    (found-row _ _ block is) refl refl)))
 
 pub dup-still : (r : Resources) (dup : NewDup) → GivesStill r (dup_open r dup)
 dup-still r dup = gives_by _ _ (dup_block r.inodes dup.old.number) _ (dup_block-still r dup.old.number) (λ inodes still. gives_done _ _ still)

@@ -1,6 +1,6 @@
 //! What both managers do alike with what is open, and with what a path leads to.
 
-ghost use Rattle.std.specs.Prelude.{◌≡◌, ◌<◌, ℕ, false, [], IfOk, IfSome, IsTrue, Ok, OnErr, OnNone, length};
+ghost use Rattle.std.specs.Prelude.{◌≡◌, ◌<◌, ℕ, false, [], IfNone, IfOk, IfSome, IsTrue, Ok, OnErr, length};
 ghost use Rattle.qx_iofunc.specs.Given as given;
 ghost use Rattle.qx_machine.specs.Defaults.{close_dup as machine_close};
 ghost use Rattle.qx_machine.specs.Events.{disarmed};
@@ -64,7 +64,7 @@ fn detached(coid: Coid) -> Done
 pub fn close_dup(state: &mut Resources, opened: Opened) -> Option<Done>
     ensures shared { IfSome result (λ done. (own : Kind) (waits : AllWaits) → Did kept.state state.old waits state.new waits [] (Ok done) (machine_close own (kept.told state.old waits) opened)) }
     ensures replied { IfSome result (λ done. IsReplied (Ok done)) }
-    ensures last { OnNone result ((is_shared (row_at state.old.inodes.blocks opened.number) ≡ false) × (state.new ≡ state.old)) }
+    ensures last { IfNone result ((is_shared (row_at state.old.inodes.blocks opened.number) ≡ false) × (state.new ≡ state.old)) }
 {
     if state.store.close_dup(opened.number) {
         Some(detached(opened.coid))

@@ -111,11 +111,13 @@ impl Io<Resources, Waits, Told> for Pipe {
         opened: Result<Opened, Errno>,
     ) -> Result<Done, Errno> {
         let opened = opened?;
-        if let Some(done) = blocks::close_dup(state, opened) {
-            return Ok(done);
+        match blocks::close_dup(state, opened) {
+            Some(done) => Ok(done),
+            None => {
+                qx_pipes::close(&mut waits.shared, &mut state.store, opened)?;
+                Ok(blocks::closed(state, waits, opened))
+            }
         }
-        qx_pipes::close(&mut waits.shared, &mut state.store, opened)?;
-        Ok(blocks::closed(state, waits, opened))
     }
 
     fn dup(

@@ -119,11 +119,13 @@ impl Io<Resources, Waits, Told> for Ram {
         opened: Result<Opened, Errno>,
     ) -> Result<Done, Errno> {
         let opened = opened?;
-        if let Some(done) = blocks::close_dup(state, opened) {
-            return Ok(done);
+        match blocks::close_dup(state, opened) {
+            Some(done) => Ok(done),
+            None => {
+                state.store.close(Kind::File, opened.number)?;
+                Ok(blocks::closed(state, waits, opened))
+            }
         }
-        state.store.close(Kind::File, opened.number)?;
-        Ok(blocks::closed(state, waits, opened))
     }
 
     fn dup(
