@@ -32,6 +32,7 @@ enum Ask {
     Write(&'static str),
     Read,
     Close,
+    Dup,
     Fstat,
     Notify(NotifyAction),
 }
@@ -46,12 +47,13 @@ const OPENS: Effect = Effect::Opens {
 };
 
 /// Messages in turn over connection 3, and what each comes to.
-const MESSAGES: [(Over, Ask, Given); 11] = [
+const MESSAGES: [(Over, Ask, Given); 12] = [
     (Over::New(THREE), Ask::Open("name"), Err(Errno::ENOENT)),
     (Over::Existing(THREE), Ask::Open(""), Err(Errno::EINVAL)),
     (Over::Existing(THREE), Ask::Fstat, Err(Errno::ENOSYS)),
     (Over::Existing(THREE), Ask::Close, Err(Errno::EBADF)),
     (Over::New(THREE), Ask::Open(""), Ok((3, OPENS))),
+    (Over::New(Coid(4)), Ask::Dup, Err(Errno::ENOSYS)),
     (
         Over::Existing(THREE),
         Ask::Write("abc"),
@@ -95,6 +97,7 @@ fn message(ask: Ask) -> Message<'static> {
         },
         Ask::Read => Message::Read { count: 3 },
         Ask::Close => Message::Close,
+        Ask::Dup => Message::Dup { old: THREE },
         Ask::Fstat => Message::Fstat,
         Ask::Notify(action) => Message::Notify {
             action,
