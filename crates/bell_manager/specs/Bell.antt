@@ -63,7 +63,7 @@ open_deed bells over flags rest = do
   there ← need (length rest == 0) ENOENT
   number ← free_number bells.blocks
   comes_to (Some (record { status = over.coid.0; bytes = []; effect = Opens over.coid number }))
-      (put_row bells.blocks number (record { inode = over.root; flags = flags; offset = 0 }))
+      (put_row bells.blocks number (record { inode = over.root; flags = flags; offset = 0; uses = 1 }))
       (nobody_answered bells.place)
 
 -- who was asked to unblock does not wait (Writing a Resource Manager: the unblock pulse)

@@ -2,7 +2,7 @@ ghost use Rattle.bell_manager.specs.Bell.{bell_connect, bell_io};
 
 use crate::bell::{Bell, Bells};
 use qx_attr::Reply;
-use qx_machine::{Effect, NewOpen, Ocb, Opened, PulseWish, Wish};
+use qx_machine::{Effect, NewDup, NewOpen, Ocb, Opened, PulseWish, Wish};
 use qx_process::Room;
 use qx_queues::{Leaving, PipeCall};
 use qx_resmgr::{Connect, Done, Io, no_function};
@@ -39,6 +39,7 @@ impl Connect<Bell, Shared, Bells> for Ringing {
             inode: over.root,
             flags: wish.flags,
             offset: 0,
+            uses: 1,
         };
         state.blocks.put(number, block)?;
         Ok(Ok(Done::Reply {
@@ -148,6 +149,14 @@ impl Io<Bell, Shared, Bells> for Ringing {
             status: 0,
             effect: Effect::Closes(opened.coid),
         })
+    }
+
+    fn dup(
+        _state: &mut Bell,
+        _waits: &mut Shared,
+        _dup: Result<NewDup, Errno>,
+    ) -> Result<Done, Errno> {
+        no_function()
     }
 
     fn lseek(
