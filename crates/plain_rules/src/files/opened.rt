@@ -1,4 +1,4 @@
-//! What is asked of open blocks: read and write of files, seek, list, chmod, fstat and close.
+//! What is asked of open blocks: read and write of files, seek, list, chmod, fstat, dup and close.
 
 use crate::files::fault::Fault;
 use crate::files::rows::{Block, Content, Files, Inode};
@@ -13,6 +13,9 @@ const FILE: usize = 65_536;
 const FILES: usize = 1_048_576;
 
 const LIST: usize = 4_096;
+
+/// The most connections that have a block.
+const USES: u8 = 66;
 
 impl Files {
     /// At most so many bytes from the offset on.
@@ -162,11 +165,29 @@ impl Files {
         Ok(inode.status())
     }
 
-    /// A block goes, and what it had armed. Those are answered who waited in a pipe.
+    /// One connection more has a block.
+    pub fn dup(&mut self, user: User, block: u16) -> Result<(), Errno> {
+        match self.block_mut(user, block) {
+            Some(row) if row.uses < USES => {
+                row.uses = row.uses.saturating_add(1);
+                Ok(())
+            }
+            Some(_) => Err(Errno::EMFILE),
+            None => Err(Errno::EBADF),
+        }
+    }
+
+    /// One connection less has a block. Where it was the last one the block goes, and what it had armed, and those are
+    /// answered who waited in a pipe.
     pub fn close(&mut self, user: User, block: u16, moment: u64) -> Result<Answers, AllocError> {
-        let Some(row) = self.block(user, block) else {
-            return Ok(Vec::new(self.alloc));
+        let alloc = self.alloc;
+        let Some(row) = self.block_mut(user, block) else {
+            return Ok(Vec::new(alloc));
         };
+        if row.uses > 1 {
+            row.uses = row.uses.saturating_sub(1);
+            return Ok(Vec::new(alloc));
+        }
         let inode = row.inode;
         self.blocks
             .retain(|row| row.user != user || row.number != block);

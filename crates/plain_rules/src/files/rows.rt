@@ -45,7 +45,7 @@ pub struct Name {
     pub inode: u16,
 }
 
-/// An open block.
+/// An open block, and how many connections have it.
 #[derive(Clone, Copy)]
 pub struct Block {
     pub user: User,
@@ -53,6 +53,7 @@ pub struct Block {
     pub inode: u16,
     pub flags: OFlags,
     pub offset: u64,
+    pub uses: u8,
 }
 
 impl Block {
@@ -110,7 +111,7 @@ impl Files {
         Ok(())
     }
 
-    /// Makes an open block at the beginning.
+    /// Makes an open block at the beginning, for one connection.
     pub fn add_block(
         &mut self,
         user: User,
@@ -124,6 +125,7 @@ impl Files {
             inode,
             flags,
             offset: 0,
+            uses: 1,
         })?;
         Ok(())
     }
@@ -159,6 +161,14 @@ impl Files {
             Some(block.offset)
         } else {
             None
+        }
+    }
+
+    /// Whether more than one connection has a block.
+    pub fn is_shared(&self, user: User, number: u16) -> bool {
+        match self.block(user, number) {
+            Some(block) => block.uses > 1,
+            None => false,
         }
     }
 
