@@ -37,10 +37,11 @@ const RECEIVED_INTERRUPTS: &str = "\
     interrupt bob.1.1\n\
     interrupt bob.1.1\n";
 
-/// Lines after which one process has a file of 100 bytes and the top open, another the file for reading alone.
+/// Lines after which one process has a file of 100 bytes and the top open, two others the file for reading alone.
 const FILES: &str = "\
     spawn ann 4 10\n\
     spawn ann 4 10\n\
+    spawn ann 2 10\n\
     mount ann.1.1 /ann/p pipe\n\
     open ann.1.1 /ann/f rwc 644\n\
     receive 1 ram\nperform 1 1\nreply ann.1.1\n\
@@ -48,6 +49,8 @@ const FILES: &str = "\
     receive 1 ram\nperform 1 2\nreply ann.1.1\n\
     open ann.2.1 /ann/f r 000\n\
     receive 1 ram\nperform 1 3\nreply ann.2.1\n\
+    open ann.3.1 /ann/f r 000\n\
+    receive 1 ram\nperform 1 3\nreply ann.3.1\n\
     fill ann.1.1 3 100 07\n\
     receive 1 ram\nperform 1 4\nreply ann.1.1\n";
 
@@ -60,7 +63,9 @@ const USES: &str = "\
     stat ann.2.1 /ann/f\n\
     fstat ann.2.2 3\n\
     unlink ann.2.3 /ann/f\n\
-    close ann.2.4 3\n";
+    close ann.2.4 3\n\
+    dup ann.3.1 3\n\
+    close ann.3.2 4\n";
 
 /// The calls are received, performed and answered.
 const USES_SERVED: &str = "\
@@ -71,7 +76,9 @@ const USES_SERVED: &str = "\
     receive 1 ram\nperform 1 9\nreply ann.2.1\n\
     receive 1 ram\nperform 1 10\nreply ann.2.2\n\
     receive 1 ram\nperform 1 11\nreply ann.2.3\n\
-    receive 1 ram\nperform 1 12\nreply ann.2.4\n";
+    receive 1 ram\nperform 1 12\nreply ann.2.4\n\
+    receive 1 ram\nperform 1 13\nreply ann.3.1\n\
+    receive 1 ram\nperform 1 14\nreply ann.3.2\n";
 
 /// Calls that are then sent, to be answered errors: three to the RAM manager and one to the pipe manager.
 const MISTAKES: &str = "\
@@ -145,6 +152,21 @@ const CLOSES_SERVED: &str = "\
     reply ann.1.2\n\
     reply ann.1.3\n";
 
+/// A dup, a read that is to wait, and a close of each connection.
+const DUPS: &str = "\
+    dup ann.1.1 3\n\
+    read ann.1.2 3 4\n\
+    close ann.1.3 3\n\
+    close ann.1.4 4\n";
+
+/// The first close leaves the read, and the second one answers it.
+const DUPS_SERVED: &str = "\
+    receive 1 pipe\nperform 1 5\nreply ann.1.1\n\
+    receive 1 pipe\nperform 1 6\n\
+    receive 1 pipe\nperform 1 7\nreply ann.1.3\n\
+    receive 1 pipe\nperform 1 8\nreply ann.1.4\n\
+    reply ann.1.2\n";
+
 /// Lines after which a process has five connections to one empty pipe, with an event armed over each.
 const EVENTS: &str = "\
     spawn ann 3 10\n\
@@ -178,7 +200,7 @@ const TRIGGERS_SERVED: &str = "\
 
 /// Lines that come before, calls that are sent then, lines whose steps are taken with all memory taken, and how many of all
 /// these steps come to a failure.
-const CASES: [(&str, &str, &str, u64); 9] = [
+const CASES: [(&str, &str, &str, u64); 10] = [
     (CALLED, "", SURE, 0),
     (CALLED, "", INTERRUPTS, 0),
     (CALLED, "", RECEIVED_INTERRUPTS, 0),
@@ -187,6 +209,7 @@ const CASES: [(&str, &str, &str, u64); 9] = [
     (PIPE, READS, READS_SERVED, 1),
     (PIPE, WRITES, WRITES_SERVED, 1),
     (PIPE, CLOSES, CLOSES_SERVED, 2),
+    (PIPE, DUPS, DUPS_SERVED, 1),
     (EVENTS, TRIGGERS, TRIGGERS_SERVED, 1),
 ];
 
@@ -194,7 +217,7 @@ const CASES: [(&str, &str, &str, u64); 9] = [
 fn sent(rt: &impl Abort, alloc: Global, before: &str, calls: &str) -> Result<Traced, NoMemory> {
     let mut traced = ran(rt, alloc, before)?;
     run(rt, alloc, &mut traced, calls)?;
-    traced.reserve(24)?;
+    traced.reserve(30)?;
     Ok(traced)
 }
 
