@@ -40,6 +40,9 @@ nothing() { alone; echo 'show a'; for i in 1 2 3 4; do echo trace; done; }
 fstat() { alone; first open /a r 000; echo 'show a'; ask fstat 3; }
 do_fstat() { alone; first open /a r 000; echo 'show a'; first fstat 3; }
 
+# A thread makes another connection to what it has open, and closes it.
+dup() { alone; first open /a r 000; echo 'show a'; ask dup 3; ask close 4; }
+
 # A thread opens COUNT connections, and closes them.
 opens() { for ((i = 0; i < $1; i++)); do ask open /a r 000; done; }
 closes() { for ((i = 0; i < $1; i++)); do ask close $((i + 3)); done; }
