@@ -1,27 +1,23 @@
 -- What functions come to, by what the store and the pipes tell of them.
-use Rattle.std.proofs.Common.{◌≡◌, ◌∙◌, ◌+◌, ◌-◌, ◌<◌, length, ℕ, Bool, true, false, List, [], Result, Ok, Err, IfOk, OnErr, MatchResult, refl, sym, ap, ap₂, subst, arith}
-use Rattle.std.specs.Prelude.{◌||◌, IsTrue, if◌then◌else◌}
-use Rattle.std.specs.Result.{result_map_both}
-use Rattle.std.proofs.lemmas.Bool.{cond_both, cond-false}
+use Rattle.std.proofs.Common.{◌≡◌, ◌∙◌, ◌+◌, ◌-◌, ◌<◌, length, ℕ, Bool, false, List, [], Result, Ok, Err, IfOk, OnErr, MatchResult, refl, sym, ap, ap₂, subst, arith}
+use Rattle.std.specs.Prelude.{◌||◌, IsTrue}
+use Rattle.std.proofs.lemmas.Bool.{cond-false}
 use Rattle.std.proofs.lemmas.List.{get_or-set_same, set-get_or}
 use Rattle.qx_types.specs.declared.errno.Errno.{Errno}
 use Rattle.qx_types.specs.declared.names.Manager.TheVariants as managers
 use Rattle.qx_paths.specs.Prefixes.{MountPoint}
 use Rattle.qx_iofunc.specs.Given.{number_replied}
-use Rattle.qx_iofunc.specs.Store.{Store, Stored, block_gone, files_without, unused_gone, with_stored}
+use Rattle.qx_iofunc.specs.Store.{Store, Stored, with_stored}
 use Rattle.qx_machine.specs.declared.rows.Effect.{Effect}
 use Rattle.qx_machine.specs.declared.rows.Effect.TheVariants.{Closes, Keeps}
 use Rattle.qx_machine.specs.declared.rows.Kind.{Kind}
-use Rattle.qx_machine.specs.declared.rows.Kind.TheVariants.{File}
-use Rattle.qx_machine.specs.declared.rows.Ocb.{Ocb}
 use Rattle.qx_machine.specs.declared.rows.Opened.{Opened}
-use Rattle.qx_machine.specs.Defaults.{close, close_dup, close_with_event, closed, own_block, without_block, without_unused}
+use Rattle.qx_machine.specs.Defaults.{close, close_dup, close_with_event}
 use Rattle.qx_machine.specs.Events.{disarmed, event_count, no_events}
 use Rattle.qx_machine.specs.Functions.{Deed, reply_alone}
-use Rattle.qx_machine.specs.Inodes.{close_block, free_inode, is_shared, is_unused, without_use}
+use Rattle.qx_machine.specs.Inodes.{is_shared, without_use}
 use Rattle.qx_machine.specs.Judgements.{◌>>=◌}
-use Rattle.qx_machine.specs.PipeManager.{unreplied}
-use Rattle.qx_machine.specs.Resources.{Resources, without_content}
+use Rattle.qx_machine.specs.Resources.{Resources}
 use Rattle.qx_machine.specs.Rows.{row_at}
 use Rattle.qx_machine.specs.Wants.{difference_wants_memory, got_events, got_longer, is_done_so}
 use Rattle.qx_pipes.proofs.PipesLemmas.{given-same}
@@ -160,35 +156,6 @@ module _ (k l : Kept) (w v : Waits) (own : Kind) (opened : Opened) where
 pub last-closed : (own : Kind) (r : Resources) (opened : Opened) → is_shared (row_at r.inodes.blocks opened.number) ≡ false → close_dup own r opened ≡ close_with_event own r opened
 last-closed own r opened last =
     cond-false (is_shared (row_at r.inodes.blocks opened.number)) (Ok (reply_alone 0 [] (Closes opened.coid) (record r { inodes = without_use r.inodes opened.number }))) (close_with_event own r opened) last
-
--- ---- a close of a file
-
-module _ (s : Stored) (opened : Opened) (r : Resources) where
-  abbrev gone : ℕ → Stored
-  gone inode = unused_gone File inode (block_gone opened.number s)
-
-  -- what is left in the store is what the machine leaves
-  gone-same : (inode : ℕ) → with_stored r (gone inode) ≡ without_unused File inode (without_block opened.number (with_stored r s))
-  gone-same inode = by_use (is_unused (close_block s.inodes opened.number) inode (row_at s.inodes.attributes inode))
-    where
-      by_use : (unused : Bool) → with_stored r (if unused then record (block_gone opened.number s) { inodes = free_inode (close_block s.inodes opened.number) inode; files = files_without File inode s.files } else block_gone opened.number s)
-          ≡ (if unused then without_content File inode (record (without_block opened.number (with_stored r s)) { inodes = free_inode (close_block s.inodes opened.number) inode }) else without_block opened.number (with_stored r s))
-      by_use true = refl
-      by_use false = refl
-
-  pub file-closed : (inode : ℕ) → Ok inode ≡ result_map_both (λ (block : Ocb). block.inode) (λ error. error) (own_block s.inodes opened.number File)
-      → Ok (reply_alone 0 [] (Closes opened.coid) (with_stored r (gone inode))) ≡ close File (with_stored r s) opened
-  file-closed inode is = by_block (own_block s.inodes opened.number File) is
-    where
-      by_block : (block : Result Ocb Errno) → Ok inode ≡ result_map_both (λ (block : Ocb). block.inode) (λ error. error) block
-          → Ok (reply_alone 0 [] (Closes opened.coid) (with_stored r (gone inode))) ≡ (block >>= (λ block. Ok (closed File opened.coid block.inode (unreplied (without_block opened.number (with_stored r s))))))
-      by_block (Ok block) e =
-          let same : inode ≡ block.inode = cc in
-          ap (λ state. Ok (reply_alone 0 [] (Closes opened.coid) state)) (gone-same inode ∙ ap (λ inode. without_unused File inode (without_block opened.number (with_stored r s))) same)
-      by_block (Err error) e = absurd (cc)
-
-pub gone-user : (s : Stored) (number inode : ℕ) → (unused_gone File inode (block_gone number s)).user ≡ s.user
-gone-user s number inode = cond_both (is_unused (close_block s.inodes number) inode (row_at s.inodes.attributes inode)) _ _ (λ (left : Stored). left.user ≡ s.user) (λ _. refl) (λ _. refl)
 
 -- ---- what a write wants
 

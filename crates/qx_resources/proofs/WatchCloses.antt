@@ -24,7 +24,7 @@ use Rattle.qx_machine.specs.Rows.{row_at}
 use Rattle.qx_machine.proofs.Places.{row_at-set_other}
 use Rattle.qx_attr.proofs.CountLemmas.{count-free, counts_other}
 use Rattle.qx_attr.specs.inner.Counts.{one}
-use Rattle.qx_resources.proofs.WatchDeeds.{unarmed, IsSettledAt, KeepsOpen, at-block, moved-settled}
+use Rattle.qx_resources.proofs.WatchDeeds.{unarmed, IsSettledAt, at-block, moved-settled}
 use Rattle.qx_resources.proofs.WatchFacts.{Stays, watch-settled, OthersAreStill, all-weaker}
 use Rattle.qx_machine.proofs.Gives.{Gives, found-row, gives_done, gives_if, gives_on, gives_by}
 use Rattle.qx_resources.proofs.WatchQuiet.{inode_of, pipe-falls}

@@ -29,7 +29,7 @@ use Rattle.qx_machine.proofs.Places.{row_at-set_other}
 use Rattle.qx_attr.proofs.CountLemmas.{count-free, counts_own}
 use Rattle.qx_attr.specs.inner.Counts.{one}
 use Rattle.qx_resources.proofs.WatchCloses.{free-blocks}
-use Rattle.qx_resources.proofs.WatchDeeds.{GivesStill, KeepsOpen, moved-still}
+use Rattle.qx_resources.proofs.WatchDeeds.{GivesStill, moved-still}
 use Rattle.qx_resources.proofs.WatchFacts.{IsStill}
 use Rattle.qx_machine.proofs.Gives.{Gives, found-row, gives_by, gives_done, gives_on, gives_error}
 use Rattle.qx_resources.proofs.WatchOpens.{grows-still, same-grows, same-still}
