@@ -6,8 +6,8 @@
 //! - `serving.rt`: what a performed message comes to
 //! - `events.rt`: notifications, and the pulses that processes take
 //! - `steps.rt`: the steps that are tried: numbers of a linear congruential generator (`steps/dice.rt`), the steps that
-//!   they choose (`steps/choice.rt`), and what these ask: `steps/requests.rt`, `steps/pipes.rt`, `steps/events.rt`,
-//!   `steps/paths.rt`, `steps/raws.rt`, `steps/texts.rt`
+//!   they choose (`steps/choice.rt`), and what these ask: `steps/requests.rt`, `steps/dups.rt`, `steps/pipes.rt`,
+//!   `steps/events.rt`, `steps/paths.rt`, `steps/raws.rt`, `steps/texts.rt`
 #![tactic(auto)]
 
 mod events;
@@ -478,6 +478,30 @@ impl Plain {
             .filter(|row| row.proc == proc && row.manager == Manager::Pipe && row.block.is_some())
             .nth(place)
             .map(|row| row.coid)
+    }
+
+    /// One of the connections of a process that have a block with others, by its place among them.
+    pub fn shared_connection(&self, proc: Proc, place: usize) -> Option<Coid> {
+        self.connections
+            .iter()
+            .filter(|row| row.proc == proc && self.is_block_shared(row))
+            .nth(place)
+            .map(|row| row.coid)
+    }
+
+    /// Whether a connection of a process has a block with others.
+    pub fn is_shared(&self, proc: Proc, coid: Coid) -> bool {
+        match self.connection(proc, coid) {
+            Some(row) => self.is_block_shared(row),
+            None => false,
+        }
+    }
+
+    fn is_block_shared(&self, row: &Connection) -> bool {
+        match row.block {
+            Some(block) => self.files.is_shared(row.proc.user, block),
+            None => false,
+        }
     }
 
     /// The path of one of a user's mounts of the pipe manager, by its place among them.

@@ -34,13 +34,14 @@ impl Plain {
         }
     }
 
-    /// Both managers have functions for all messages but dup, and the pipe manager none for mknod.
+    /// Both managers have functions for all messages, but the pipe manager none for mknod.
     fn served(&mut self, thread: Thread, sent: &Sent, moment: u64) -> Result<Option<Reply>, Fault> {
         let reading = read(sent.bytes.as_slice());
         match (sent.manager, reading) {
             (_, Reading::Malformed) => Err(Fault::Refused(Errno::EINVAL)),
-            (_, Reading::Unknown | Reading::Known(Kind::Dup))
-            | (Manager::Pipe, Reading::Known(Kind::Mknod)) => Err(Fault::Refused(Errno::ENOSYS)),
+            (_, Reading::Unknown) | (Manager::Pipe, Reading::Known(Kind::Mknod)) => {
+                Err(Fault::Refused(Errno::ENOSYS))
+            }
             (Manager::Pipe, Reading::Known(kind @ (Kind::Read | Kind::Write))) => {
                 self.in_pipe(thread, sent, moment, kind)?;
                 Ok(None)
@@ -59,6 +60,7 @@ impl Plain {
     ) -> Result<Reply, Fault> {
         match kind {
             Kind::Open => self.open(proc, sent, moment),
+            Kind::Dup => self.dup(proc, sent),
             Kind::Stat | Kind::Unlink | Kind::Mknod => self.at_path(proc, sent, moment, kind),
             _ => self.over_block(proc, sent, moment, kind),
         }
@@ -105,6 +107,17 @@ impl Plain {
         };
         let flags = OFlags(number_at(bytes, BODY));
         let block = self.files.open(&place, flags, number_at(bytes, BODY + 2))?;
+        self.set_block(proc, coid, block);
+        Ok((u64::from(coid.0), Vec::new(self.alloc)))
+    }
+
+    /// The new connection gets the block of the one that the message names.
+    fn dup(&mut self, proc: Proc, sent: &Sent) -> Result<Reply, Fault> {
+        let Over::New(coid) = sent.over else {
+            return Err(Fault::Refused(Errno::EINVAL));
+        };
+        let block = self.block_at(proc, sent.manager, named_connection(sent.bytes.as_slice()))?;
+        self.files.dup(proc.user, block)?;
         self.set_block(proc, coid, block);
         Ok((u64::from(coid.0), Vec::new(self.alloc)))
     }
@@ -186,19 +199,26 @@ impl Plain {
         }
     }
 
-    /// The connection of a message and its block. It may have gone since the call, or its open may still wait.
+    /// The connection that a message came over, and its block.
     fn opened(&self, proc: Proc, sent: &Sent) -> Result<(Coid, u16), Errno> {
         let Over::Existing(coid) = sent.over else {
             return Err(Errno::EINVAL);
         };
+        Ok((coid, self.block_at(proc, sent.manager, coid)?))
+    }
+
+    /// The block of a connection to a manager. It may have gone since the call, or its open may still wait.
+    fn block_at(&self, proc: Proc, manager: Manager, coid: Coid) -> Result<u16, Errno> {
         match self.connection(proc, coid) {
-            Some(row) if row.manager == sent.manager => match row.block {
-                Some(block) => Ok((coid, block)),
-                None => Err(Errno::EBADF),
-            },
+            Some(row) if row.manager == manager => row.block.ok_or(Errno::EBADF),
             _ => Err(Errno::EBADF),
         }
     }
+}
+
+/// The connection that a dup names: the first byte of two, of which the other is zero.
+fn named_connection(bytes: &[u8]) -> Coid {
+    Coid(bytes.get(BODY).copied().unwrap_or(0))
 }
 
 fn offset_of(body: &[u8]) -> i64 {

@@ -2,6 +2,7 @@
 
 mod choice;
 mod dice;
+mod dups;
 mod events;
 mod paths;
 mod pipes;

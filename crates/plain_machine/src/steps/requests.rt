@@ -2,6 +2,7 @@
 
 use crate::Plain;
 use crate::steps::dice::Dice;
+use crate::steps::dups::{next_dup, next_shared};
 use crate::steps::events::{next_arming, next_notify, next_notifying, next_rousing};
 use crate::steps::paths::{next_directory_path, next_path, user_word};
 use crate::steps::pipes::{has_waiting, next_piping};
@@ -35,6 +36,14 @@ pub fn next_request(
     }
     if dice.one_in(10)
         && let Some(request) = next_rousing(alloc, dice, plain, proc)?
+    {
+        return Ok(request);
+    }
+    if dice.one_in(20) {
+        return Ok(next_dup(dice, plain, proc));
+    }
+    if dice.one_in(12)
+        && let Some(request) = next_shared(alloc, dice, plain, proc)?
     {
         return Ok(request);
     }
@@ -180,7 +189,7 @@ pub fn next_using(alloc: Global, dice: &mut Dice, coid: Coid) -> Result<Request,
     }
 }
 
-fn next_seek(dice: &mut Dice, coid: Coid) -> Request {
+pub fn next_seek(dice: &mut Dice, coid: Coid) -> Request {
     let whence = match dice.below(4) {
         0 => Whence::Current,
         1 => Whence::End,
