@@ -1,6 +1,6 @@
 //! What a step does beside its outcome, and what a performed message is answered.
 
-use plain_machine::{Plain, Post, Row, Sent, State};
+use plain_machine::{Over, Plain, Post, Row, Sent, State};
 use plain_rules::messages::{Kind, Reading, number_at, read};
 use qx_types::{Answer, Errno, Manager, Request, Step, Thread, Worker};
 
@@ -96,13 +96,15 @@ fn item_deed(plain: &Plain, worker: Worker) -> Option<Deed> {
     }
 }
 
-/// A message that a step is about to perform: whose it is, at which manager, its kind and its subtype.
+/// A message that a step is about to perform: whose it is, at which manager, its kind and its subtype, and whether its
+/// connection has a block with others.
 #[derive(Clone, Copy)]
 pub struct Served {
     pub thread: Thread,
     pub manager: Manager,
     pub kind: Kind,
     pub subtype: u16,
+    pub is_shared: bool,
 }
 
 /// The message that a step is about to perform.
@@ -122,24 +124,33 @@ pub fn performed(plain: &Plain, step: &Step) -> Option<Served> {
             manager: sent.manager,
             kind,
             subtype: number_at(sent.bytes.as_slice(), 2),
+            is_shared: is_shared(plain, thread, sent.over),
         }),
         Reading::Malformed | Reading::Unknown => None,
     }
 }
 
+/// Whether a message of a thread goes over a connection that has a block with others.
+fn is_shared(plain: &Plain, thread: Thread, over: Over) -> bool {
+    match over {
+        Over::Existing(coid) => plain.is_shared(thread.proc, coid),
+        Over::New(_) | Over::Side => false,
+    }
+}
+
 /// How a message was answered, or that it waits. That there is no function for it is not told, and that its connection
-/// has no block is told for all kinds in one, but for a read and a write, where EBADF has another cause too, and for
-/// notifications.
+/// has no block is told for all kinds in one, but for a read and a write, where EBADF has another cause too, for dups and
+/// for notifications.
 pub fn answer_deed(plain: &Plain, served: Served) -> Option<Deed> {
     let Served { thread, kind, .. } = served;
     let word = served_word(served);
     match &plain.row(thread)?.state {
         State::Answered(Answer::Reply(status, bytes)) => {
-            Some((word, reply_word(kind, *status, bytes.as_slice())))
+            Some((word, reply_word(served, *status, bytes.as_slice())))
         }
         State::Answered(Answer::Failed(Errno::ENOSYS)) => None,
         State::Answered(Answer::Failed(Errno::EBADF))
-            if !matches!(kind, Kind::Read | Kind::Write | Kind::Notify) => {
+            if !matches!(kind, Kind::Read | Kind::Write | Kind::Dup | Kind::Notify) => {
             Some(("no block", "EBADF"))
         }
         State::Answered(Answer::Failed(error)) => Some((word, error.name())),
@@ -185,7 +196,8 @@ fn pipe_word(kind: Kind) -> &'static str {
         Kind::Fstat => "pipe fstat",
         Kind::List => "pipe list",
         Kind::Chmod => "pipe chmod",
-        Kind::Mknod | Kind::Dup | Kind::Notify => "no function",
+        Kind::Dup => "pipe dup",
+        Kind::Mknod | Kind::Notify => "no function",
     }
 }
 
@@ -205,13 +217,14 @@ pub fn waited_deed(plain: &Plain, thread: Thread) -> Option<Deed> {
     }
 }
 
-fn reply_word(kind: Kind, status: u64, bytes: &[u8]) -> &'static str {
-    match kind {
+fn reply_word(served: Served, status: u64, bytes: &[u8]) -> &'static str {
+    match served.kind {
         Kind::Read | Kind::Write | Kind::List => {
             if status == 0 { "nothing" } else { "something" }
         }
         Kind::Stat | Kind::Fstat => status_word(bytes),
         Kind::Notify => conditions_word(status),
+        Kind::Close if served.is_shared => "leaves the block",
         _ => "done",
     }
 }

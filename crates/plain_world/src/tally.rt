@@ -104,7 +104,7 @@ const DEEDS: [(&str, &str); 48] = [
 
 /// Each answer that has to come, by the manager and the kind of its message, and to those who waited; and which messages
 /// make one event due or several. None other may.
-const ANSWERS: [(&str, &str); 127] = [
+const ANSWERS: [(&str, &str); 135] = [
     ("no block", "EBADF"),
     ("open", "done"),
     ("open", "EINVAL"),
@@ -143,6 +143,10 @@ const ANSWERS: [(&str, &str); 127] = [
     ("write", "EFBIG"),
     ("write", "ENOSPC"),
     ("close", "done"),
+    ("close", "leaves the block"),
+    ("dup", "done"),
+    ("dup", "EINVAL"),
+    ("dup", "EBADF"),
     ("lseek", "done"),
     ("lseek", "EINVAL"),
     ("fstat", "of a file"),
@@ -199,6 +203,10 @@ const ANSWERS: [(&str, &str); 127] = [
     ("pipe write", "EAGAIN"),
     ("pipe write", "EINTR"),
     ("pipe close", "done"),
+    ("pipe close", "leaves the block"),
+    ("pipe dup", "done"),
+    ("pipe dup", "EINVAL"),
+    ("pipe dup", "EBADF"),
     ("pipe lseek", "ESPIPE"),
     ("pipe lseek", "EINVAL"),
     ("pipe fstat", "of a pipe"),
@@ -239,7 +247,7 @@ const ANSWERS: [(&str, &str); 127] = [
 pub struct Tally {
     outcomes: [bool; 43],
     deeds: [bool; 48],
-    answers: [bool; 127],
+    answers: [bool; 135],
     longest: usize,
 }
 
@@ -248,7 +256,7 @@ impl Tally {
         Tally {
             outcomes: [false; 43],
             deeds: [false; 48],
-            answers: [false; 127],
+            answers: [false; 135],
             longest: 0,
         }
     }
