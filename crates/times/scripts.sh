@@ -16,6 +16,9 @@ serve() { echo "$2 $1 ${*:3}"; echo "receive 1 ${manager-ram}"; echo 'perform 1 
 # A call of a user's first thread, received and performed; the thread takes its answer.
 ask() { serve "${from-a.1.1}" "$@"; echo "reply ${from-a.1.1}"; }
 
+# The same of a call with which a process' last connection goes: the disconnect pulse is received and performed too.
+last() { ask "$@"; echo "receive 1 ${manager-ram}"; echo 'perform 1 5'; }
+
 # Calls of a user's first thread in the beginning.
 first() { echo "do 5 $1 ${from-a.1.1} ${*:2}"; }
 
@@ -45,7 +48,7 @@ dup() { alone; first open /a r 000; echo 'show a'; ask dup 3; ask close 4; }
 
 # A thread opens COUNT connections, and closes them.
 opens() { for ((i = 0; i < $1; i++)); do ask open /a r 000; done; }
-closes() { for ((i = 0; i < $1; i++)); do ask close $((i + 3)); done; }
+closes() { for ((i = 1; i < $1; i++)); do ask close $((i + 2)); done; last close $(($1 + 2)); }
 open() { alone; echo 'show a'; opens "$1"; closes "$1"; }
 # The same in a new world in each round, without and with the closes.
 opened() { alone; opens "$1"; }
@@ -58,7 +61,7 @@ spawn() { users "$1"; spawns 16 "$1" 4; }
 stat() {
   users "$1"; spawns 1 "$1" 4
   for ((u = 1; u < $1; u++)); do for ((m = 1; m < $2; m++)); do echo "mount ${names[u]}.1.1 /${names[u]}/${names[m]} ram"; done; done
-  echo 'show a'; ask stat /a
+  echo 'show a'; last stat /a
 }
 # A stat of a name that is not there, in a path of BYTES bytes, with MOUNTS mounts that all fit it.
 resolve() {
@@ -66,7 +69,7 @@ resolve() {
   alone
   for ((m = 2; m <= $1; m++)); do echo "mount a.1.1 ${path:0:m * 2} ram"; done
   for ((m = 17; m <= $2; m++)); do if ((m % 65 == 17)); then path+=/; else path+=b; fi; done
-  echo 'show a'; ask stat "$path"
+  echo 'show a'; last stat "$path"
 }
 
 # The name of 16 letters of a number below 1,000.
@@ -88,17 +91,17 @@ transfer() {
 append() {
   alone; echo 'show a'; ask open /a/f rwc 644; writes ask "$1"
   for ((w = 0; w < $2; w++)); do ask fill 3 1 07; done
-  ask close 3; ask unlink /a/f
+  last close 3; last unlink /a/f
 }
 # A file is made, written in PIECES pieces of 4,096 bytes, read back, closed and removed.
 whole() {
   alone; echo 'show a'; ask open /a/f rwc 644; writes ask $(($1 * 4096)); ask seek 3 set 0
   for ((w = 0; w < $1; w++)); do ask read 3 4096; done
-  ask close 3; ask unlink /a/f
+  last close 3; last unlink /a/f
 }
 # An open for reading at a DEPTH, in a directory of ENTRIES names, and its close; or one that makes a file, which is removed.
-lookup() { alone; dirs "$1"; files "$dir" "$2"; echo 'show a'; name $(($2 / 2)); ask open "$dir/$name" r 000; ask close 3; }
-make() { alone; dirs "$1"; files "$dir" "$2"; echo 'show a'; ask open "$dir/f" rwc 644; ask close 3; ask unlink "$dir/f"; }
+lookup() { alone; dirs "$1"; files "$dir" "$2"; echo 'show a'; name $(($2 / 2)); ask open "$dir/$name" r 000; last close 3; }
+make() { alone; dirs "$1"; files "$dir" "$2"; echo 'show a'; ask open "$dir/f" rwc 644; last close 3; last unlink "$dir/f"; }
 # A list of the names behind the first BEHIND of ENTRIES; or lists from each PART of them on.
 behind() { if [ "$1" = 0 ]; then ask list 3; else name $(($1 - 1)); ask list 3 "$name"; fi; }
 list() { alone; files /a "$1"; first open /a r 000; echo 'show a'; behind "$2"; }
@@ -108,8 +111,8 @@ beside() {
   users "$1"; spawns 1 "$1" 4
   for ((v = 1; v < $1; v++)); do from=${names[v]}.1.1 files "/${names[v]}" "$2"; done
   echo 'show a'
-  ask mkdir /a/d 777; ask open /a/d/f rwc 644; ask fill 3 64 07; ask seek 3 set 0; ask read 3 64; ask chmod 3 644; ask fstat 3; ask close 3
-  ask open /a/d r 000; ask list 3; ask close 3; ask unlink /a/d/f; ask unlink /a/d
+  last mkdir /a/d 777; ask open /a/d/f rwc 644; ask fill 3 64 07; ask seek 3 set 0; ask read 3 64; ask chmod 3 644; ask fstat 3; last close 3
+  ask open /a/d r 000; ask list 3; last close 3; last unlink /a/d/f; last unlink /a/d
 }
 
 # USERS users with 16 processes and a pipe each, which the first PROCESSES processes of each have open.

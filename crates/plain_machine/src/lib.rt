@@ -4,14 +4,17 @@
 //!
 //! - `rows.rt`: the rows and the lines
 //! - `serving.rt`: what a performed message comes to
+//! - `servers.rt`: server connections, which outlast what is attached until their pulse is performed
 //! - `events.rt`: notifications, and the pulses that processes take
 //! - `steps.rt`: the steps that are tried: numbers of a linear congruential generator (`steps/dice.rt`), the steps that
-//!   they choose (`steps/choice.rt`), and what these ask: `steps/requests.rt`, `steps/dups.rt`, `steps/pipes.rt`,
-//!   `steps/events.rt`, `steps/paths.rt`, `steps/raws.rt`, `steps/texts.rt`
+//!   they choose (`steps/choice.rt`, and of a user of their own `steps/visits.rt`), and what these ask:
+//!   `steps/requests.rt`, `steps/dups.rt`, `steps/pipes.rt`, `steps/events.rt`, `steps/paths.rt`, `steps/raws.rt`,
+//!   `steps/texts.rt`
 #![tactic(auto)]
 
 mod events;
 mod rows;
+mod servers;
 mod serving;
 pub mod steps;
 
@@ -23,18 +26,18 @@ use qx_types::{
     Answer, Bytes, Coid, Config, Errno, Item, Manager, Outcome, Prio, Proc, Request, Step, Thread,
     User, Worker,
 };
-pub use rows::{Over, Post, Row, Sent, State};
-use rows::{Connection, Queued, first_out, line_up};
+pub use rows::{Over, Post, Row, Sent, ServerName, State};
+use rows::{Connection, Queued, ServerConnection, first_out, line_up};
 use std::alloc::{AllocError, Global};
 
-/// All rows of all users, one vector for each kind. Server connections have none: nothing shows them, and no user has
-/// more processes than the most of them.
+/// All rows of all users, one vector for each kind.
 pub struct Plain {
     alloc: Global,
     config: Config,
     processes: Vec<Proc>,
     threads: Vec<Row>,
     connections: Vec<Connection>,
+    servers: Vec<ServerConnection>,
     mounts: Mounts,
     files: Files,
     ram: Vec<Queued>,
@@ -51,6 +54,7 @@ impl Drop for Plain {
             processes: _,
             threads: _,
             connections: _,
+            servers: _,
             mounts: _,
             files: _,
             ram: _,
@@ -90,6 +94,7 @@ impl Plain {
             processes: Vec::new(alloc),
             threads: Vec::new(alloc),
             connections: Vec::new(alloc),
+            servers: Vec::new(alloc),
             files,
             ram: Vec::new(alloc),
             pipe: Vec::new(alloc),
@@ -174,6 +179,9 @@ impl Plain {
             Ok(target) => target,
             Err(error) => return Ok(Outcome::Refused(error)),
         };
+        if !self.may_connect(thread.proc, target.manager) {
+            return Ok(Outcome::Refused(Errno::EAGAIN));
+        }
         let sent = Sent {
             manager: target.manager,
             over: target.over,
@@ -188,6 +196,7 @@ impl Plain {
 
     /// Sends a message as a thread's call of that number.
     fn send(&mut self, thread: Thread, sent: Sent, calls: u64) -> Result<(), AllocError> {
+        self.connect(thread.proc, sent.manager)?;
         if let Over::New(coid) = sent.over {
             self.connections.push(Connection {
                 proc: thread.proc,
@@ -326,7 +335,7 @@ impl Plain {
             State::Queued(sent) => {
                 let (manager, over) = (sent.manager, sent.over);
                 self.drop_post(manager, Post::Message(thread));
-                self.end_call(thread, manager, over, Answer::Failed(Errno::EINTR));
+                self.end_call(thread, manager, over, Answer::Failed(Errno::EINTR))?;
             }
             State::Taken(sent) if !sent.is_asked => {
                 let (manager, prio) = (sent.manager, sent.prio);
@@ -382,6 +391,7 @@ impl Plain {
                 Ok(Outcome::Took(Item::Message(thread)))
             }
             Post::Unblock(thread, _) => Ok(Outcome::Took(Item::Unblock(thread))),
+            Post::Disconnect(name) => Ok(Outcome::Took(Item::Disconnect(name.proc))),
         }
     }
 
@@ -399,6 +409,7 @@ impl Plain {
                 let answers = self.files.unblock(thread, call, moment)?;
                 self.answer_all(answers);
             }
+            Post::Disconnect(name) => self.servers.retain(|server| server.name != name),
         }
         Ok(Outcome::Handled)
     }
@@ -414,18 +425,26 @@ impl Plain {
                 },
             );
             if let Some(answer) = self.answer(thread, &sent, moment)? {
-                self.end_call(thread, sent.manager, sent.over, answer);
+                self.end_call(thread, sent.manager, sent.over, answer)?;
             }
         }
         Ok(())
     }
 
-    /// Answers a thread. With an error goes the connection that the call made.
-    fn end_call(&mut self, thread: Thread, manager: Manager, over: Over, answer: Answer) {
+    /// Answers a thread. With an error goes the connection that the call made, and with any answer one for the message
+    /// alone.
+    fn end_call(
+        &mut self,
+        thread: Thread,
+        manager: Manager,
+        over: Over,
+        answer: Answer,
+    ) -> Result<(), AllocError> {
         if let (Over::New(coid), Answer::Failed(_)) = (over, &answer) {
             self.detach(thread.proc, coid);
         }
         self.give(thread, manager, answer);
+        self.settle_server(thread.proc, manager)
     }
 
     /// Answers those whose calls were in a pipe.
@@ -533,11 +552,11 @@ impl Plain {
                 State::Ready | State::Queued(_) | State::Waiting { .. } | State::Answered(_) =>
                     None,
             },
-            Post::Unblock(..) => Some(Held::Pulse),
+            Post::Unblock(..) | Post::Disconnect(_) => Some(Held::Pulse),
         }
     }
 
-    /// What a worker holds, by its thread.
+    /// What a worker holds, by its name.
     pub fn hand(&self, worker: Worker) -> Option<Post> {
         let (_, post) = self.hands.iter().find(|(holder, _)| *holder == worker)?;
         Some(*post)

@@ -51,12 +51,28 @@ pub struct Connection {
     pub block: Option<u16>,
 }
 
-/// What stands in a line and a worker holds: a thread's message, or the pulse to unblock a thread from its call of that
-/// number.
+/// A server connection of a process at a manager, by its number among those.
+#[derive(Clone, Copy, PartialEq, Eq)]
+pub struct ServerName {
+    pub proc: Proc,
+    pub manager: Manager,
+    pub number: u8,
+}
+
+/// A server connection. One that is leaving has its pulse in the line or in a worker's hand, and is not used again.
+#[derive(Drop)]
+pub struct ServerConnection {
+    pub name: ServerName,
+    pub is_leaving: bool,
+}
+
+/// What stands in a line and a worker holds: a thread's message, the pulse to unblock a thread from its call of that
+/// number, or the pulse of a server connection that is leaving.
 #[derive(Clone, Copy, PartialEq, Eq)]
 pub enum Post {
     Message(Thread),
     Unblock(Thread, u64),
+    Disconnect(ServerName),
 }
 
 /// An item of a line.

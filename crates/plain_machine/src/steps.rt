@@ -9,6 +9,8 @@ mod pipes;
 mod raws;
 mod requests;
 mod texts;
+mod visits;
 
 pub use choice::next_step;
 pub use dice::Dice;
+pub use visits::next_visit;

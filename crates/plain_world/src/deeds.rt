@@ -93,6 +93,10 @@ fn item_deed(plain: &Plain, worker: Worker) -> Option<Deed> {
             State::Ready | State::Queued(_) | State::Waiting { .. } | State::Answered(_) => None,
         },
         Post::Unblock(thread, call) => Some(("pulse", found_word(plain, thread, call)?)),
+        Post::Disconnect(name) if plain.is_connected(name.proc, name.manager) => {
+            Some(("disconnect", "another in use"))
+        }
+        Post::Disconnect(_) => Some(("disconnect", "none in use")),
     }
 }
 
@@ -181,6 +185,18 @@ pub fn due_deed(served: Option<Served>, count: usize) -> Option<Deed> {
         (1, None) => Some(("due", "no message")),
         (_, _) => Some(("due", "several")),
     }
+}
+
+/// What made a server connection leave: a new connection that was given back, one for a message alone, a close, or else
+/// an interrupt.
+pub fn leaving_deed(served: Option<Served>) -> Deed {
+    let word = match served.map(|served| served.kind) {
+        Some(Kind::Open | Kind::Dup) => "new connection",
+        Some(Kind::Stat | Kind::Unlink | Kind::Mknod) => "side connection",
+        Some(kind) => kind_word(kind),
+        None => "interrupt",
+    };
+    ("leaves", word)
 }
 
 /// The kind of a message of the pipe manager.

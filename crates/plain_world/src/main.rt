@@ -3,16 +3,16 @@
 //! Each step is taken in both. The program ends in an error, with status 1, at the first difference; at an outcome, a
 //! deed or an answer that is none of those that have to come (`tally.rt`); and where one of these did not come or the
 //! line stayed short. What a step is about to do, how a message and a call that waited were answered, and what made
-//! events due, is told in `deeds.rt`. A perform is tried first with other work, which has to be stale. What is printed
-//! doesn't change with the rules.
+//! events due and a server connection leave, is told in `deeds.rt`. A perform is tried first with other work, which has
+//! to be stale. What is printed doesn't change with the rules.
 #![tactic(auto)]
 
 mod deeds;
 mod tally;
 
 use anyhow::bail;
-use deeds::{Served, answer_deed, deed, due_deed, performed, waited_deed};
-use plain_machine::steps::{Dice, next_step};
+use deeds::{Served, answer_deed, deed, due_deed, leaving_deed, performed, waited_deed};
+use plain_machine::steps::{Dice, next_step, next_visit};
 use plain_machine::{Held, Plain, State};
 use qx_types::{
     Bytes, Config, Manager, MessageBytes, NoMemory, Outcome, Proc, Step, Thread, User, Worker,
@@ -28,8 +28,11 @@ const ROUND: u32 = 2_400;
 
 const BUSY: u32 = 800;
 
+/// Steps from one busy time with visits to the next.
+const VISITED: u32 = 4 * ROUND;
+
 /// With this seed the steps come to all that has to come.
-const SEED: u64 = 22;
+const SEED: u64 = 154;
 
 /// So many items have to stand in the line at some time.
 const LONG: usize = 100;
@@ -47,8 +50,8 @@ fn main(rt: HostRuntime) -> anyhow::Result<()> {
 
 /// Takes so many steps in both. A difference is an error, and so is an outcome or a deed that did not come.
 fn compare(alloc: Global, count: u32) -> anyhow::Result<()> {
-    let mut plain = Plain::new(alloc, three_users(alloc)?)?;
-    let Ok(mut world) = World::new(alloc, three_users(alloc)?) else {
+    let mut plain = Plain::new(alloc, four_users(alloc)?)?;
+    let Ok(mut world) = World::new(alloc, four_users(alloc)?) else {
         bail!("out of memory");
     };
     let mut tally = Tally::new();
@@ -76,9 +79,14 @@ fn take_steps(
 ) -> anyhow::Result<()> {
     let mut dice = Dice::new(SEED);
     for number in 0..count {
-        let step = next_step(alloc, &mut dice, plain, number % ROUND < BUSY)?;
+        let step = if number % VISITED < BUSY && dice.one_in(3) {
+            next_visit(alloc, &mut dice, plain)?
+        } else {
+            next_step(alloc, &mut dice, plain, number % ROUND < BUSY)?
+        };
         let (done, message) = (deed(plain, &step), performed(plain, &step));
         let (waiting, pulses) = (waiting_threads(alloc, plain)?, plain.pulses());
+        let leaving = plain.leaving();
         let outcome = take_both(alloc, world, plain, &step)?;
         if !tally.mark(&outcome, done, plain.waiting(Manager::Ram)) {
             bail!("{step:?}: {outcome:?}");
@@ -91,6 +99,7 @@ fn take_steps(
         }
         mark_woken(plain, tally, waiting.as_slice())?;
         mark_due(tally, message, plain.pulses().saturating_sub(pulses))?;
+        mark_leaving(tally, message, leaving < plain.leaving())?;
     }
     if !no_others(world, plain) {
         bail!("a thread is there that was not started");
@@ -131,6 +140,14 @@ fn mark_due(tally: &mut Tally, message: Option<Served>, count: usize) -> anyhow:
     Ok(())
 }
 
+/// Marks what made a server connection leave, if one does.
+fn mark_leaving(tally: &mut Tally, message: Option<Served>, leaves: bool) -> anyhow::Result<()> {
+    if leaves && !tally.mark_answer(leaving_deed(message)) {
+        bail!("{:?}", leaving_deed(message));
+    }
+    Ok(())
+}
+
 /// Takes a step in both, and compares outcomes and reads.
 fn take_both(
     alloc: Global,
@@ -152,10 +169,10 @@ fn take_both(
     Ok(outcome)
 }
 
-/// Three users and four workers.
-fn three_users(alloc: Global) -> anyhow::Result<Config> {
+/// Four users and four workers.
+fn four_users(alloc: Global) -> anyhow::Result<Config> {
     let mut names = Vec::new(alloc);
-    for name in ["ann", "bob", "cat"] {
+    for name in ["ann", "bob", "cat", "dan"] {
         names.push(Bytes::from_slice(alloc, name.as_bytes())?)?;
     }
     match Config::new(names, 4) {
@@ -293,7 +310,7 @@ fn worker_agrees(world: &World, plain: &Plain, worker: Worker) -> bool {
 
 /// Whether no thread but the started ones is answered or blocked.
 fn no_others(world: &World, plain: &Plain) -> bool {
-    for user in 0..5 {
+    for user in 0..6 {
         for num in 0..18 {
             for tid in 0..6 {
                 let proc = Proc {

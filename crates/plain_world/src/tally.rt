@@ -1,10 +1,10 @@
 //! Which outcomes came, and what was done.
 
 use crate::deeds::Deed;
-use qx_types::{Item, Outcome};
+use qx_types::{Errno, Item, Outcome};
 
 /// Each outcome that the steps have to come to, and its error. None other may come.
-const OUTCOMES: [(&str, &str); 43] = [
+const OUTCOMES: [(&str, &str); 44] = [
     ("spawned", ""),
     ("refused", "EINVAL"),
     ("refused", "ENAMETOOLONG"),
@@ -44,6 +44,7 @@ const OUTCOMES: [(&str, &str); 43] = [
     ("wrongstate", ""),
     ("took a message", ""),
     ("took an unblock", ""),
+    ("took a disconnect", ""),
     ("idle", ""),
     ("busy", ""),
     ("handled", ""),
@@ -51,7 +52,7 @@ const OUTCOMES: [(&str, &str); 43] = [
 ];
 
 /// Each deed that has to be done. None other may be.
-const DEEDS: [(&str, &str); 48] = [
+const DEEDS: [(&str, &str); 51] = [
     ("call", "open"),
     ("call", "stat"),
     ("call", "unlink"),
@@ -65,6 +66,7 @@ const DEEDS: [(&str, &str); 48] = [
     ("call", "list"),
     ("call", "chmod"),
     ("call", "notify"),
+    ("call", "no server connection"),
     ("raw", "malformed"),
     ("raw", "unknown"),
     ("raw", "open"),
@@ -100,11 +102,13 @@ const DEEDS: [(&str, &str); 48] = [
     ("pulse", "a later call in a line"),
     ("pulse", "a later call received"),
     ("pulse", "a later call in a pipe"),
+    ("disconnect", "another in use"),
+    ("disconnect", "none in use"),
 ];
 
-/// Each answer that has to come, by the manager and the kind of its message, and to those who waited; and which messages
-/// make one event due or several. None other may.
-const ANSWERS: [(&str, &str); 135] = [
+/// Each answer that has to come, by the manager and the kind of its message, and to those who waited; which messages
+/// make one event due or several; and what makes a server connection leave. None other may.
+const ANSWERS: [(&str, &str); 139] = [
     ("no block", "EBADF"),
     ("open", "done"),
     ("open", "EINVAL"),
@@ -234,6 +238,10 @@ const ANSWERS: [(&str, &str); 135] = [
     ("due", "pipe write"),
     ("due", "pipe close"),
     ("due", "several"),
+    ("leaves", "new connection"),
+    ("leaves", "side connection"),
+    ("leaves", "close"),
+    ("leaves", "interrupt"),
     ("waited", "read something"),
     ("waited", "read the end"),
     ("waited", "wrote something"),
@@ -245,18 +253,18 @@ const ANSWERS: [(&str, &str); 135] = [
 /// Which of the outcomes, deeds and answers came, and how long the line was.
 #[derive(Drop)]
 pub struct Tally {
-    outcomes: [bool; 43],
-    deeds: [bool; 48],
-    answers: [bool; 135],
+    outcomes: [bool; 44],
+    deeds: [bool; 51],
+    answers: [bool; 139],
     longest: usize,
 }
 
 impl Tally {
     pub fn new() -> Tally {
         Tally {
-            outcomes: [false; 43],
-            deeds: [false; 48],
-            answers: [false; 135],
+            outcomes: [false; 44],
+            deeds: [false; 51],
+            answers: [false; 139],
             longest: 0,
         }
     }
@@ -272,6 +280,9 @@ impl Tally {
         match (outcome, deed) {
             (Outcome::Sent | Outcome::Done | Outcome::Handled, Some(deed)) => {
                 mark_row(&DEEDS, &mut self.deeds, deed)
+            }
+            (Outcome::Refused(Errno::EAGAIN), Some((kind, _))) => {
+                mark_row(&DEEDS, &mut self.deeds, (kind, "no server connection"))
             }
             _ => true,
         }

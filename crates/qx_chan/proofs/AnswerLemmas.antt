@@ -1,77 +1,61 @@
 -- Rows, lines and nodes stand together still as a thread is answered: as its received message is, or as its queued message goes.
 use Rattle.std.proofs.Common.{◌≡◌, ◌≢◌, inl, inr, ℕ, ◌&&◌, ◌==◌, Bool, true, false, List, Option, Some, None, refl, sym, ◌∙◌, ap}
+use Rattle.std.specs.Option.{option_to_list}
 use Rattle.std.specs.Prelude.{option_map}
 use Rattle.std.proofs.lemmas.Bool.{eqb-true}
-use Rattle.qx_types.specs.Managers.{manager_number, managers}
+use Rattle.qx_types.specs.Managers.{manager_number}
 use Rattle.qx_types.specs.declared.errno.Errno.{Errno}
 use Rattle.qx_types.specs.declared.names.Manager.{Manager}
 use Rattle.qx_types.specs.declared.names.Thread.{Thread}
 use Rattle.qx_types.specs.declared.outcome.Answer.{Answer}
 use Rattle.qx_types.specs.declared.outcome.Answer.TheVariants.{Reply, Failed}
 use Rattle.qx_machine.specs.declared.rows.Effect.{Effect}
-use Rattle.qx_machine.specs.declared.rows.Effect.TheVariants.{Keeps, Opens, Closes}
 use Rattle.qx_machine.specs.declared.rows.Over.{Over}
 use Rattle.qx_machine.specs.declared.rows.OwnItem.TheVariants as item
 use Rattle.qx_machine.specs.declared.rows.Queued.{Queued}
+use Rattle.qx_machine.specs.declared.rows.ServerName.{ServerName}
 use Rattle.qx_machine.specs.declared.rows.ThreadRow.{ThreadRow}
 use Rattle.qx_machine.specs.Lines.{line_at}
 use Rattle.qx_machine.specs.Machine.{line_without}
 use Rattle.qx_machine.specs.Performing.{taken_in}
-use Rattle.qx_machine.specs.Processes.{Process, after_effect, after_error, after_reply, answered_thread, served_thread, with_thread}
+use Rattle.qx_machine.specs.Processes.{Process, after_error, after_reply, answered_thread, served_thread, with_thread}
 use Rattle.qx_machine.specs.Rows.{with_row}
 use Rattle.qx_queues.specs.Queues.{stands, unblock_call}
 use Rattle.qx_shared.specs.Shared.{Shared, with_shared_line}
 use Rattle.qx_queues.proofs.LineLemmas.{call-replied_other, call-withdrawn, replied-none, stands-replied, stands-withdrawn_other}
+use Rattle.qx_procs.specs.Calls.{LosesAt}
 use Rattle.qx_chan.specs.Calls.{queued_call}
 use Rattle.qx_chan.specs.inner.Calls.{taken_call}
 use Rattle.qx_chan.specs.Channel.{failed}
 use Rattle.qx_chan.specs.inner.Channel.{process_replied}
-use Rattle.qx_chan.specs.inner.Kept.{StandTogether, asked_call, servers_settled, stands_at, waits_for}
-use Rattle.qx_chan.specs.Nodes.{attached_at}
+use Rattle.qx_chan.specs.inner.Kept.{StandTogether, asked_call, stands_at, waits_for, with_lost}
 use Rattle.qx_chan.specs.Users.{Users, process_of, thread_row, with_process_of, with_thread_row}
 use Rattle.qx_chan.specs.declared.call.Call.{Call}
-use Rattle.qx_chan.proofs.AttachedLemmas.{fewer-done, fewer-given_back, fewer-let_go, threads-done, threads-given_back, threads-let_go}
+use Rattle.qx_chan.proofs.AttachedLemmas.{threads-given_back, threads-replied}
 use Rattle.qx_chan.proofs.CallLemmas.{queued-at_target, taken_is, waits}
 use Rattle.qx_chan.proofs.ReceiveLemmas.{queued-unasked, queued-unwaiting, stands_once}
 use Rattle.qx_chan.proofs.ProcessLemmas.{with_process-alike, with_process-twice}
 use Rattle.qx_chan.proofs.RowReads.{option_cases, with_row-twice}
-use Rattle.qx_chan.proofs.SettleLemmas.{Kept-settled}
-use Rattle.qx_chan.proofs.ThreadLemmas.{OneThread, Own, OwnLine, Unsettled-changed, one_thread, waits-told}
+use Rattle.qx_chan.proofs.LostLemmas.{Kept-lost}
+use Rattle.qx_chan.proofs.ThreadLemmas.{OneThread, Own, OwnLine, beside, one_thread, waits-told}
 use Rattle.qx_chan.proofs.WaitLemmas.{no-wait}
 
--- a change of a process that answers one of its threads, and attaches nothing
-pub record IsAnswer (thread : ℕ) (answer : Answer) (f : Process → Process) : Type 0 where
-  pub threads : (x : Process) → (f x).threads ≡ with_row x.threads thread (answered_thread answer)
-  pub fewer : (x : Process) (number : ℕ) → attached_at number (Some (f x)) ≡ true → attached_at number (Some x) ≡ true
+-- a change of a process that answers one of its threads
+abbrev pub IsAnswer : ℕ → Answer → (Process → Process) → Type 0
+IsAnswer thread answer f = (x : Process) → (f x).threads ≡ with_row x.threads thread (answered_thread answer)
 
 pub replies : (thread : ℕ) (effect : Effect) (status : ℕ) (bytes : List ℕ) (over : Over) → IsAnswer thread (Reply status bytes) (process_replied thread effect status bytes over)
-replies thread effect status bytes over = record {
-  threads = λ x. threads-let_go thread over (with_thread thread (answered_thread (Reply status bytes)) (after_effect effect x)) ∙ ap (λ t. with_row t thread (answered_thread (Reply status bytes))) (threads-done effect x);
-  fewer = λ x number is. fewer-done effect x number (fewer-let_go thread over (with_thread thread (answered_thread (Reply status bytes)) (after_effect effect x)) number is);
-}
+replies thread effect status bytes over x = threads-replied thread over effect (with_thread thread (answered_thread (Reply status bytes)) x)
 
 pub fails : (thread : ℕ) (error : Errno) (over : Over) → IsAnswer thread (Failed error) (failed thread error over)
-fails thread error over = record {
-  threads = λ x. threads-given_back thread over (with_thread thread (answered_thread (Failed error)) x);
-  fewer = λ x number is. fewer-given_back thread over (with_thread thread (answered_thread (Failed error)) x) number is;
-}
+fails thread error over x = threads-given_back thread over (with_thread thread (answered_thread (Failed error)) x)
 
 -- a message that is served before its thread gets a reply is replied to all the same
-done-served : (effect : Effect) (thread : ℕ) (x : Process) → after_effect effect (with_thread thread served_thread x) ≡ with_thread thread served_thread (after_effect effect x)
-done-served Keeps thread x = refl
-done-served (Opens coid block) thread x = refl
-done-served (Closes coid) thread x = refl
-
-replied-served : (thread : ℕ) (effect : Effect) (status : ℕ) (bytes : List ℕ) (over : Over) (x : Process) → process_replied thread effect status bytes over (with_thread thread served_thread x) ≡ process_replied thread effect status bytes over x
-replied-served thread effect status bytes over x =
-    ap (λ y. after_reply thread over (with_thread thread (answered_thread (Reply status bytes)) y)) (done-served effect thread x)
-    ∙ ap (λ threads. after_reply thread over (record (after_effect effect x) { threads = threads })) (with_row-twice (after_effect effect x).threads thread served_thread (answered_thread (Reply status bytes)))
-
 pub reply_served : (users : Users) (thread : Thread) (effect : Effect) (status : ℕ) (bytes : List ℕ) (over : Over)
     → with_process_of (with_thread_row users thread served_thread) thread.proc (process_replied thread.tid effect status bytes over) ≡ with_process_of users thread.proc (process_replied thread.tid effect status bytes over)
 reply_served users thread effect status bytes over =
     with_process-twice users thread.proc (with_thread thread.tid served_thread) (process_replied thread.tid effect status bytes over)
-    ∙ with_process-alike users thread.proc _ _ (replied-served thread.tid effect status bytes over)
+    ∙ with_process-alike users thread.proc _ _ (λ x. ap (λ threads. after_reply thread.tid over effect (record x { threads = threads })) (with_row-twice x.threads thread.tid served_thread (answered_thread (Reply status bytes))))
 
 -- and one that gets an error is answered so all the same
 pub fail_served : (users : Users) (thread : Thread) (error : Errno) (over : Over)
@@ -97,7 +81,7 @@ module _ (users : Users) (queues : Shared) (thread : Thread) (f : Process → Pr
   line = line_at queues.lines number
 
   one : OneThread new users thread f (answered_thread answer)
-  one = one_thread users thread f (answered_thread answer) answers.threads
+  one = one_thread users thread f (answered_thread answer) answers
 
   -- what the line tells, once the thread is answered
   pub record Left : Type 0 where
@@ -119,15 +103,9 @@ module _ (users : Users) (queues : Shared) (thread : Thread) (f : Process → Pr
       waits = waits-told users new queues thread f (answered_thread answer) one kept (no-wait (thread_row users thread) (option_map (answered_thread answer) (thread_row users thread)) left.unwaiting);
     }
 
-    pub Kept-left : StandTogether new (servers_settled thread.proc (process_of new thread.proc) managers (with_shared_line queues number change))
-    Kept-left = Kept-settled new (with_shared_line queues number change) thread.proc
-        (Unsettled-changed users new queues thread f (answered_thread answer) one kept manager change own
-        (with_shared_line queues number change) refl refl refl refl (λ t. refl) (λ other at differs. refl)
-        (λ m is. kept.servers thread.proc m ∙ as_before (manager_number m) (process_of users thread.proc) is))
-      where
-        as_before : (at : ℕ) (o : Option Process) → attached_at at (option_map f o) ≡ true → attached_at at o ≡ true
-        as_before at None is = is
-        as_before at (Some x) is = answers.fewer x at is
+    pub Kept-left : (lost : Option ServerName) → LosesAt lost (process_of users thread.proc) (process_of new thread.proc) → StandTogether new (with_lost thread.proc (option_to_list lost) (with_shared_line queues number change))
+    Kept-left lost loses = Kept-lost new (with_shared_line queues number change) thread.proc (process_of users thread.proc) lost
+        (beside users new queues thread f (answered_thread answer) one kept manager change own) (kept.servers thread.proc) loses
 
 -- ---- a queued message goes
 
@@ -142,7 +120,8 @@ module _ (users : Users) (queues : Shared) (thread : Thread) (call : Call) (is :
   at_target = queued-at_target (thread_row users thread) call is
 
   pub Kept-withdrawn : (f : Process → Process) (answer : Answer) → IsAnswer thread.tid answer f → stands (drop_message (line_at queues.lines its_line)) thread ≡ false
-      → StandTogether (with_process_of users thread.proc f) (servers_settled thread.proc (process_of (with_process_of users thread.proc f) thread.proc) managers
+      → (lost : Option ServerName) → LosesAt lost (process_of users thread.proc) (process_of (with_process_of users thread.proc f) thread.proc)
+      → StandTogether (with_process_of users thread.proc f) (with_lost thread.proc (option_to_list lost)
       (with_shared_line queues (manager_number call.target.manager) (line_without thread.proc.user.0 (item.Message thread.proc.num thread.tid))))
   Kept-withdrawn f answer answers gone = Kept-left users queues thread f answer answers kept call.target.manager drop_message
       (record {
@@ -201,7 +180,8 @@ module _ (users : Users) (queues : Shared) (thread : Thread) (call : Call) (is :
 
   pub Kept-answered : (f : Process → Process) (answer : Answer) → IsAnswer thread.tid answer f
       → (unblock_call (line_at queues.lines call_line) thread ≡ Some call.number → unblock_call (drop_pulse (line_at queues.lines call_line)) thread ≡ None)
-      → StandTogether (with_process_of users thread.proc f) (servers_settled thread.proc (process_of (with_process_of users thread.proc f) thread.proc) managers
+      → (lost : Option ServerName) → LosesAt lost (process_of users thread.proc) (process_of (with_process_of users thread.proc f) thread.proc)
+      → StandTogether (with_process_of users thread.proc f) (with_lost thread.proc (option_to_list lost)
       (with_shared_line queues (manager_number call.target.manager) (line_without thread.proc.user.0 (item.Unblock thread.proc.num thread.tid call.number))))
   Kept-answered f answer answers gone = Kept-left users queues thread f answer answers kept call.target.manager drop_pulse
       (record {

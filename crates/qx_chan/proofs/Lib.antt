@@ -1,4 +1,4 @@
--- where a process is attached, as connections come and go
+-- what a message goes over
 mod AttachedLemmas
 -- a thread is answered
 mod AnswerLemmas
@@ -38,8 +38,10 @@ mod ServeLemmas
 mod ServedLemmas
 -- what was done, once due events have given their pulses
 mod SettledLemmas
--- disconnect nodes are settled
-mod SettleLemmas
+-- a process has lost a server connection
+mod LostLemmas
+-- one that it has lost goes
+mod FreedLemmas
 -- a process starts, and no process is there
 mod StartLemmas
 -- one thread's row changes, and one line

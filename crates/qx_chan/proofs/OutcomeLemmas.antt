@@ -1,9 +1,11 @@
 -- A received message that was done is replied to, is left without a reply, or is refused: rows, lines and nodes stand together each time, but
 -- that answers are on their way, and once those are given all is as in the machine.
-use Rattle.std.proofs.Common.{◌≡◌, ◌⊎◌, subst, inl, inr, ℕ, ◌∷◌, ◌++◌, [], true, false, List, Option, Some, None, Result, Ok, Err, map, refl, sym, ◌∙◌, ap}
+use Rattle.std.proofs.Common.{◌≡◌, ◌⊎◌, subst, inl, inr, ℕ, ◌∷◌, ◌++◌, [], true, false, List, Option, Some, None, Result, Ok, Err, map, refl, sym, ◌∙◌, ap, ap₂}
 use Rattle.std.proofs.lemmas.Bool.{eq-eqb}
-use Rattle.std.specs.Prelude.{if◌then◌else◌, is_some, option_map}
-use Rattle.qx_types.specs.Managers.{manager_number, managers}
+use Rattle.std.specs.Option.{option_to_list}
+use Rattle.std.specs.Prelude.{if◌then◌else◌, is_some, option_map, take}
+use Rattle.std.proofs.lemmas.List.{append-nil}
+use Rattle.qx_types.specs.Managers.{manager_number}
 use Rattle.qx_types.specs.declared.errno.Errno.{Errno}
 use Rattle.qx_types.specs.declared.names.Manager.{Manager}
 use Rattle.qx_types.specs.declared.names.Manager.TheVariants.{Pipe, Ram}
@@ -14,6 +16,7 @@ use Rattle.qx_wire.specs.Reading.{meaning}
 use Rattle.qx_machine.specs.declared.rows.Effect.{Effect}
 use Rattle.qx_machine.specs.declared.rows.OwnItem.TheVariants as item
 use Rattle.qx_machine.specs.declared.rows.Queued as queued
+use Rattle.qx_machine.specs.declared.rows.ServerName.{ServerName}
 use Rattle.qx_machine.specs.declared.rows.State.{State}
 use Rattle.qx_machine.specs.declared.rows.State.TheVariants.{Answered, Queued, Ready, Taken, Waiting}
 use Rattle.qx_machine.specs.declared.rows.ThreadRow.{ThreadRow}
@@ -21,35 +24,37 @@ use Rattle.qx_machine.specs.Events.{Events}
 use Rattle.qx_machine.specs.Functions.{Deed, Reply}
 use Rattle.qx_machine.specs.Lines.{line_at, with_line}
 use Rattle.qx_machine.specs.Machine.{line_without, lines_after}
-use Rattle.qx_machine.specs.Parts.{Part, thread_of}
+use Rattle.qx_machine.specs.Parts.{Change, Part, disconnect, disconnects, thread_of}
 use Rattle.qx_machine.specs.Resources.{Resources}
-use Rattle.qx_machine.specs.Performing.{Served, after_answer, after_serving, answered_changes, or_kept, own_change, serve_message, served_changes, taken_in}
+use Rattle.qx_machine.specs.Performing.{Served, after_answer, after_message, after_serving, answered_changes, or_kept, own_change, serve_message, served_changes, taken_in}
 use Rattle.qx_machine.specs.Processes.{Process, served_state, served_thread, with_thread}
-use Rattle.qx_machine.specs.Rows.{with_row}
+use Rattle.qx_machine.specs.Rows.{row_at, with_row}
 use Rattle.qx_machine.proofs.Waiters.{InDeed, IsAlone, alone-answers, alone-replied, deed-keeps, deed-keeps_replied, ram_deed-alone}
 use Rattle.qx_queues.specs.Queues.{unblock_call}
-use Rattle.qx_shared.specs.Shared.{Shared, users_given, with_shared_line, without_shared_server}
+use Rattle.qx_shared.specs.Shared.{Shared, users_given, with_shared_line}
 use Rattle.qx_resmgr.specs.Deeds.{IsReplied}
 use Rattle.qx_resmgr.specs.declared.functions.Done.{Done}
 use Rattle.qx_resmgr.specs.declared.functions.Done.TheVariants as done
 use Rattle.qx_resources.specs.State as state
 use Rattle.qx_resources.specs.State.{told}
 use Rattle.qx_resources.specs.declared.waits.Waits.{Waits as AllWaits}
+use Rattle.qx_procs.specs.Calls.{LosesAt}
 use Rattle.qx_chan.specs.inner.Answers.{answered_queues, answered_users, given_lines, given_users, without_pulse}
 use Rattle.qx_chan.specs.inner.Calls.{taken_call}
 use Rattle.qx_chan.specs.Channel.{failed}
 use Rattle.qx_chan.specs.inner.Channel.{process_replied}
-use Rattle.qx_chan.specs.inner.Kept.{Answering, StandTogether, asked_call, is_asked_at, is_queued_at, is_waiting_for, stands_at, waits_for}
+use Rattle.qx_chan.specs.inner.Kept.{Answering, StandTogether, lost_of, with_lost, asked_call, is_asked_at, is_queued_at, is_waiting_for, stands_at, waits_for}
 use Rattle.qx_chan.specs.Serving.{Serves, settled}
 use Rattle.qx_chan.specs.inner.Serving.{Comes, Leaves, caller_of_call, deed_in}
 use Rattle.qx_chan.specs.Users.{Users, process_of_user, process_of, thread_row, with_process_of, with_thread_row}
 use Rattle.qx_chan.specs.declared.call.Call.{Call}
 use Rattle.qx_chan.proofs.AnswerLemmas.{IsAnswer, fail_served, fails, replies, reply_served}
 use Rattle.qx_chan.proofs.GivenLemmas.{resources-machine}
+use Rattle.qx_chan.proofs.LostLemmas.{loses-with_thread, lost-fields, lost-lines, lost-listed, lost-pulses, none-lost}
 use Rattle.qx_chan.proofs.MessageLemmas.{Received, received, serves-message}
 use Rattle.qx_chan.proofs.ServeLemmas.{Answering-left, Serves-given, Waits, given_all, left-same, nothing_done, shown, waits-before}
+use Rattle.qx_chan.proofs.ProcessLemmas.{process_of-same}
 use Rattle.qx_chan.proofs.ServedLemmas.{Answering-answered, lines-done, lines-others, users-done, users-refused}
-use Rattle.qx_chan.proofs.SettleLemmas.{settled-fields}
 use Rattle.qx_chan.proofs.ThreadLemmas.{Kept-thread, one_thread}
 
 -- ---- a message that is served stands in no line, is asked as it was, and its thread waits
@@ -113,7 +118,7 @@ module _ (users : Users) (w : AllWaits) (thread : Thread) (call : Call) (taken :
   abbrev served_users : Users
   served_users = with_thread_row users thread served_thread
 
-  Kept-served : StandTogether served_users w.shared
+  pub Kept-served : StandTogether (with_thread_row users thread served_thread) w.shared
   Kept-served = Kept-thread users w.shared thread served_thread kept (λ at. served-stands at (thread_row users thread)) (λ at call. served-asked at call (thread_row users thread)) (λ call. served-waits call (thread_row users thread))
 
   -- the thread waits for the answer to its call at the pipe manager
@@ -125,6 +130,27 @@ module _ (users : Users) (w : AllWaits) (thread : Thread) (call : Call) (taken :
       row_is = (one_thread users thread (with_thread thread.tid served_thread) served_thread (λ x. refl)).own
           ∙ ap (option_map served_thread) (ap (λ processes. thread_of thread.tid (process_of_user thread.proc.num processes)) its.user ∙ ap (thread_of thread.tid) its.there ∙ its.at)
           ∙ ap (λ (s : State). Some (record its.row { state = served_state s })) its.is
+
+  -- what its process has lost is told by the row before it was served as well
+  served_process : process_of served_users thread.proc ≡ option_map (with_thread thread.tid served_thread) (process_of users thread.proc)
+  served_process = (one_thread users thread (with_thread thread.tid served_thread) served_thread (λ x. refl)).here
+
+  lost_before : (after : Option Process) → lost_of (process_of served_users thread.proc) after ≡ lost_of (process_of users thread.proc) after
+  lost_before after = ap (λ o. lost_of o after) served_process ∙ by_rows (process_of users thread.proc) after
+    where
+      by_rows : (before after : Option Process) → lost_of (option_map (with_thread thread.tid served_thread) before) after ≡ lost_of before after
+      by_rows None after = refl
+      by_rows (Some before) None = refl
+      by_rows (Some before) (Some after) = refl
+
+  loses_before : (lost : Option ServerName) (after : Option Process) → LosesAt lost (process_of served_users thread.proc) after → LosesAt lost (process_of users thread.proc) after
+  loses_before lost after loses = by_rows (process_of users thread.proc) after (subst (λ o. LosesAt lost o after) served_process loses)
+    where
+      by_rows : (before after : Option Process) → LosesAt lost (option_map (with_thread thread.tid served_thread) before) after → LosesAt lost before after
+      by_rows None None loses = loses
+      by_rows (Some before) (Some after) loses = loses-with_thread thread.tid served_thread lost before after loses
+      by_rows None (Some after) loses = loses
+      by_rows (Some before) None loses = loses
 
   -- ---- what it comes to
 
@@ -142,13 +168,33 @@ module _ (users : Users) (w : AllWaits) (thread : Thread) (call : Call) (taken :
     served part = or_kept part (serve_message part thread.proc.num thread.tid moment)
 
     -- what the machine makes of the part, by what the message comes to
+    abbrev lost_by : Result (Deed Resources) Errno → List Change
+    lost_by r = disconnects thread.proc.num (after_message thread.tid call.target.over r) (row_at part.processes thread.proc.num)
+
     abbrev served_by : Result (Deed Resources) Errno → Served
-    served_by r = record { part = after_answer part thread.proc.num thread.tid call.target.over r; changes = served_changes manager (caller_of_call thread call) r }
+    served_by r = record { part = after_answer part thread.proc.num thread.tid call.target.over r; changes = served_changes manager (caller_of_call thread call) (lost_by r) r }
+
+    -- the disconnect pulse of what is lost
+    lost_pulses : (f : Process → Process) (lost : Option ServerName) → LosesAt lost (process_of users thread.proc) (process_of (with_process_of users thread.proc f) thread.proc)
+        → disconnects thread.proc.num f (row_at part.processes thread.proc.num) ≡ map (disconnect thread.proc.num) (option_to_list lost)
+    lost_pulses f lost loses =
+        ap (disconnects thread.proc.num f) (sym (ap (process_of_user thread.proc.num) its.user))
+        ∙ lost-pulses thread.proc.num f (process_of users thread.proc) lost (subst (LosesAt lost (process_of users thread.proc)) (process_of-same users thread.proc f) loses)
+
+    -- what is left without a reply loses nothing
+    nothing_lost : (deed : Deed Resources) → None ≡ deed.reply → [] ≡ lost_by (Ok deed)
+    nothing_lost deed reply_is = by_row (row_at part.processes thread.proc.num) ∙ ap (λ r. disconnects thread.proc.num (after_serving thread.tid call.target.over r) (row_at part.processes thread.proc.num)) reply_is
+      where
+        by_row : (row : Option Process) → [] ≡ disconnects thread.proc.num (after_serving thread.tid call.target.over None) row
+        by_row None = refl
+        by_row (Some process) = sym (ap (λ servers. map (disconnect thread.proc.num) (take 1 servers)) (none-lost process))
 
     served_is : served part ≡ served_by meant
     served_is = subst (λ (c : Call). served part ≡ record {
       part = after_answer part thread.proc.num thread.tid c.target.over (deed_in k w its.process (record { thread = thread; call = c; moment = moment }) its.sent.bytes);
-      changes = served_changes c.target.manager (caller_of_call thread c) (deed_in k w its.process (record { thread = thread; call = c; moment = moment }) its.sent.bytes);
+      changes = served_changes c.target.manager (caller_of_call thread c)
+          (disconnects thread.proc.num (after_message thread.tid c.target.over (deed_in k w its.process (record { thread = thread; call = c; moment = moment }) its.sent.bytes)) (row_at part.processes thread.proc.num))
+          (deed_in k w its.process (record { thread = thread; call = c; moment = moment }) its.sent.bytes);
     }) its.call_is
         (ap (or_kept part) (serves-message part thread.proc.num thread.tid moment its.process its.row its.sent its.there its.at (ap taken_in its.is)))
 
@@ -179,36 +225,47 @@ module _ (users : Users) (w : AllWaits) (thread : Thread) (call : Call) (taken :
 
       -- the thread is answered too
       answered : (f : Process → Process) (given : Answer) → IsAnswer thread.tid given f → InDeed (Waits users k.user) deed → Gone v.shared
+          → (lost : Option ServerName) → LosesAt lost (process_of users thread.proc) (process_of (with_process_of users thread.proc f) thread.proc)
           → given_users (with_process_of users thread.proc f) (map (users_given user) deed.answers) ≡ with_row users user (λ _. (served_by r).part.processes)
-          → given_lines (with_line w.shared.lines (manager_number manager) drop_pulse) (map (users_given user) deed.answers) ≡ lines_after user w.shared.lines (served_by r).changes
-          → After (with_process_of users thread.proc f) (without_pulse v.shared (with_process_of users thread.proc f) thread call) v.events.events k l served
-      answered f given answers keeps gone rows_are lines_are = (
-        Answering-answered users v.shared thread call taken (Answering-left users k.user w.shared v.shared deed kept left.shared keeps) f given answers gone,
-        serves rows (without_pulse v.shared rows thread call) (same (λ c. c.answered) (λ c number. refl)) (same (λ c. c.pipes) (λ c number. refl)) rows_are
-            (ap (λ lines. given_lines lines (map (users_given user) deed.answers)) (same (λ c. c.lines) (λ c number. refl) ∙ ap (λ q. with_line q.lines (manager_number manager) drop_pulse) left.shared) ∙ lines_are),
+          → given_lines (lines_after user (with_line w.shared.lines (manager_number manager) drop_pulse) (map (disconnect thread.proc.num) (option_to_list lost))) (map (users_given user) deed.answers) ≡ lines_after user w.shared.lines (served_by r).changes
+          → After (with_process_of users thread.proc f) (without_pulse v.shared users (with_process_of users thread.proc f) thread call) v.events.events k l served
+      answered f given answers keeps gone lost loses rows_are lines_are = rw (lost-listed lost (process_of users thread.proc) (process_of rows thread.proc) loses) (
+        Answering-answered users v.shared thread call taken (Answering-left users k.user w.shared v.shared deed kept left.shared keeps) f given answers gone lost loses,
+        serves rows after (lost-fields thread.proc (λ c. c.answered) (λ c server. refl) (option_to_list lost) dropped) (lost-fields thread.proc (λ c. c.pipes) (λ c server. refl) (option_to_list lost) dropped) rows_are
+            (ap (λ lines. given_lines lines (map (users_given user) deed.answers))
+            (lost-lines thread.proc (option_to_list lost) dropped ∙ ap (λ q. lines_after user (with_line q.lines (manager_number manager) drop_pulse) (map (disconnect thread.proc.num) (option_to_list lost))) left.shared)
+            ∙ lines_are),
       )
         where
           rows : Users
           rows = with_process_of users thread.proc f
 
-          same : {A : Type 0} (read : Shared → A) → ((c : Shared) (number : ℕ) → read (without_shared_server c thread.proc number) ≡ read c) → read (without_pulse v.shared rows thread call) ≡ read (with_shared_line v.shared (manager_number manager) drop_pulse)
-          same read alike = settled-fields thread.proc (process_of rows thread.proc) read alike managers (with_shared_line v.shared (manager_number manager) drop_pulse)
+          dropped : Shared
+          dropped = with_shared_line v.shared (manager_number manager) drop_pulse
+
+          after : Shared
+          after = with_lost thread.proc (option_to_list lost) dropped
 
     module _ (deed : Deed Resources) (left : Leaves k w l v deed) (is : meant ≡ Ok deed) where
       -- the rows and the lines, by the reply
       rows_by : (reply : Option Reply) → reply ≡ deed.reply → given_users (with_process_of users thread.proc (after_serving thread.tid call.target.over reply)) (map (users_given user) deed.answers) ≡ with_row users user (λ _. (served_by (Ok deed)).part.processes)
       rows_by reply reply_is = ap (λ r. given_users (with_process_of users thread.proc (after_serving thread.tid call.target.over r)) (map (users_given user) deed.answers)) reply_is ∙ users-done users thread.proc thread.tid call.target.over part its.user deed
 
-      lines_by : (reply : Option Reply) → reply ≡ deed.reply → lines_after user w.shared.lines ((if is_some reply then own_change manager (caller_of_call thread call) ∷ [] else []) ++ answered_changes manager deed.answers) ≡ lines_after user w.shared.lines (served_by (Ok deed)).changes
-      lines_by reply reply_is = ap (λ r. lines_after user w.shared.lines ((if is_some r then own_change manager (caller_of_call thread call) ∷ [] else []) ++ answered_changes manager deed.answers)) reply_is
+      lines_by : (reply : Option Reply) (lost : List Change) → reply ≡ deed.reply → lost ≡ lost_by (Ok deed)
+          → lines_after user w.shared.lines ((if is_some reply then own_change manager (caller_of_call thread call) ∷ [] else []) ++ lost ++ answered_changes manager deed.answers) ≡ lines_after user w.shared.lines (served_by (Ok deed)).changes
+      lines_by reply lost reply_is lost_is = ap₂ (λ r pulses. lines_after user w.shared.lines ((if is_some r then own_change manager (caller_of_call thread call) ∷ [] else []) ++ pulses ++ answered_changes manager deed.answers)) reply_is lost_is
 
       reply_after : (status : ℕ) (bytes : List ℕ) (effect : Effect) → Some (record { status = status; bytes = bytes; effect = effect }) ≡ deed.reply → Gone v.shared
-          → After (with_process_of users thread.proc (process_replied thread.tid effect status bytes call.target.over)) (without_pulse v.shared (with_process_of users thread.proc (process_replied thread.tid effect status bytes call.target.over)) thread call) v.events.events k l served
-      reply_after status bytes effect reply_is gone =
+          → (lost : Option ServerName) → LosesAt lost (process_of users thread.proc) (process_of (with_process_of users thread.proc (process_replied thread.tid effect status bytes call.target.over)) thread.proc)
+          → After (with_process_of users thread.proc (process_replied thread.tid effect status bytes call.target.over)) (without_pulse v.shared users (with_process_of users thread.proc (process_replied thread.tid effect status bytes call.target.over)) thread call) v.events.events k l served
+      reply_after status bytes effect reply_is gone lost loses =
           let reply : Reply = record { status = status; bytes = bytes; effect = effect } in
+          let pulses = map (disconnect thread.proc.num) (option_to_list lost) in
+          let pulses_are : pulses ≡ lost_by (Ok deed) =
+          sym (lost_pulses (process_replied thread.tid effect status bytes call.target.over) lost loses) ∙ ap (λ r. disconnects thread.proc.num (after_serving thread.tid call.target.over r) (row_at part.processes thread.proc.num)) reply_is in
           answered deed left (Ok deed) is (resources-machine deed.answers _) (process_replied thread.tid effect status bytes call.target.over) (answer.Reply status bytes) (replies thread.tid effect status bytes call.target.over)
           (deed-keeps_replied (told k w) its.process (caller_of_call thread call) call.target moment (meaning its.sent.bytes) deed is (Waits users k.user) (waits-before users k.user w.shared kept.waits) reply (sym reply_is))
-          gone (rows_by (Some reply) reply_is) (lines-done user manager deed.answers (only deed is) w.shared.lines (caller_of_call thread call) ∙ lines_by (Some reply) reply_is)
+          gone lost loses (rows_by (Some reply) reply_is) (lines-done user manager deed.answers (only deed is) w.shared.lines (caller_of_call thread call) pulses ∙ lines_by (Some reply) pulses reply_is pulses_are)
 
       -- where it is left without a reply, its own call waits or is answered
       waiting_after : None ≡ deed.reply → After served_users v.shared v.events.events k l served
@@ -217,34 +274,56 @@ module _ (users : Users) (w : AllWaits) (thread : Thread) (call : Call) (taken :
             (deed-keeps (told k w) its.process (caller_of_call thread call) call.target moment (meaning its.sent.bytes) deed is (Waits served_users k.user) (waits-before served_users k.user w.shared Kept-served.waits)
             (λ block wanted bytes. ap (λ u. waits_for call.number (thread_row served_users (record { proc = record { user = record { 0 = u }; num = thread.proc.num }; tid = thread.tid }))) of ∙ own-waits (piped deed is reply_is))),
         serves deed left (Ok deed) is (resources-machine deed.answers _) served_users v.shared refl refl (rows_by None reply_is)
-            (ap (λ q. given_lines q.lines (map (users_given user) deed.answers)) left.shared ∙ lines-others user manager deed.answers (only deed is) w.shared.lines ∙ lines_by None reply_is),
+            (ap (λ q. given_lines q.lines (map (users_given user) deed.answers)) left.shared ∙ lines-others user manager deed.answers (only deed is) w.shared.lines ∙ lines_by None [] reply_is (nothing_lost deed reply_is)),
       )
 
   -- it is refused, and nothing of the resources or what is shared is different
   error_after : (k : state.Kept) (of : k.user ≡ user) (moment : ℕ) (error : Errno) → meant k k w of moment ≡ Err error → Gone w.shared
-      → After (with_process_of users thread.proc (failed thread.tid error call.target.over)) (without_pulse w.shared (with_process_of users thread.proc (failed thread.tid error call.target.over)) thread call) w.events.events k k (served k k w of moment)
-  error_after k of moment error is gone =
+      → (lost : Option ServerName) → LosesAt lost (process_of users thread.proc) (process_of (with_process_of users thread.proc (failed thread.tid error call.target.over)) thread.proc)
+      → After (with_process_of users thread.proc (failed thread.tid error call.target.over)) (without_pulse w.shared users (with_process_of users thread.proc (failed thread.tid error call.target.over)) thread call) w.events.events k k (served k k w of moment)
+  error_after k of moment error is gone lost loses =
+      let pulses = map (disconnect thread.proc.num) (option_to_list lost) in
       answered k k w of moment (nothing_done (told k w)) (left-same k w) (Err error) is refl (failed thread.tid error call.target.over) (answer.Failed error) (fails thread.tid error call.target.over)
       (record { pipes = waits-before users k.user w.shared kept.waits; answers = tt })
-      gone (users-refused users thread.proc thread.tid call.target.over (part k k w of moment) its.user error) (lines-done user manager [] (inr refl) w.shared.lines (caller_of_call thread call))
+      gone lost loses (users-refused users thread.proc thread.tid call.target.over (part k k w of moment) its.user error)
+      (lines-done user manager [] (inr refl) w.shared.lines (caller_of_call thread call) pulses
+      ∙ ap (lines_after user w.shared.lines) (append-nil (own_change manager (caller_of_call thread call) ∷ pulses))
+      ∙ ap (λ lost. lines_after user w.shared.lines (own_change manager (caller_of_call thread call) ∷ lost)) (sym (lost_pulses k k w of moment (failed thread.tid error call.target.over) lost loses)))
 
   -- the rows and what is shared once the message is answered, unless it is left without a reply
+  abbrev rows_then : List ℕ → Result Done Errno → Users
+  rows_then bytes given = answered_users served_users thread call.target.over bytes given
+
   abbrev Outcome : state.Kept → state.Kept → AllWaits → ℕ → List ℕ → Result Done Errno → Type 0
   Outcome k l v moment bytes given =
-      After (answered_users served_users thread call.target.over bytes given) (answered_queues v.shared (answered_users served_users thread call.target.over bytes given) thread call given) v.events.events k l
+      After (rows_then bytes given) (answered_queues v.shared served_users (rows_then bytes given) thread call given) v.events.events k l
       (λ part. or_kept part (serve_message part thread.proc.num thread.tid moment))
 
+  -- its process has lost a server connection by that or none
+  abbrev pub HasLost : List ℕ → Result Done Errno → Type 0
+  HasLost bytes given = (lost : Option ServerName) × LosesAt lost (process_of served_users thread.proc) (process_of (rows_then bytes given) thread.proc)
+
+  -- the same, told from the rows before it was served
+  from_before : (k l : state.Kept) (v : AllWaits) (done : Part → Served) (f : Process → Process) → with_process_of served_users thread.proc f ≡ with_process_of users thread.proc f
+      → (lost : Option ServerName) → LosesAt lost (process_of served_users thread.proc) (process_of (with_process_of served_users thread.proc f) thread.proc)
+      → (LosesAt lost (process_of users thread.proc) (process_of (with_process_of users thread.proc f) thread.proc) → After (with_process_of users thread.proc f) (without_pulse v.shared users (with_process_of users thread.proc f) thread call) v.events.events k l done)
+      → After (with_process_of served_users thread.proc f) (without_pulse v.shared served_users (with_process_of served_users thread.proc f) thread call) v.events.events k l done
+  from_before k l v done f same lost loses after =
+      subst (λ rows. After rows (without_pulse v.shared served_users rows thread call) v.events.events k l done) (sym same)
+      (subst (λ servers. After (with_process_of users thread.proc f) (with_lost thread.proc servers (with_shared_line v.shared (manager_number manager) drop_pulse)) v.events.events k l done) (sym (lost_before (process_of (with_process_of users thread.proc f) thread.proc)))
+      (after (loses_before lost _ (subst (λ rows. LosesAt lost (process_of served_users thread.proc) (process_of rows thread.proc)) same loses))))
+
   pub outcome : (k l : state.Kept) (v : AllWaits) (of : k.user ≡ thread.proc.user.0) (moment : ℕ) (bytes : List ℕ) (given : Result Done Errno) (r : Result (Deed Resources) Errno) → meant k l v of moment ≡ r
-      → Comes k w l v bytes given r → (IsReplied given → Gone v.shared) → Outcome k l v moment bytes given
-  outcome k l v of moment bytes (Ok (done.Reply status effect)) (Ok deed) is did gone =
-      subst (λ rows. After rows (without_pulse v.shared rows thread call) v.events.events k l (served k l v of moment)) (sym (reply_served users thread effect status bytes call.target.over))
-      (reply_after k l v of moment deed did.1 is status bytes effect did.0 (gone tt))
-  outcome k l v of moment bytes (Ok done.NoReply) (Ok deed) is did gone = waiting_after k l v of moment deed did.1 is did.0
-  outcome k l v of moment bytes (Err error) (Err refused) is did gone =
+      → Comes k w l v bytes given r → (IsReplied given → Gone v.shared) → (IsReplied given → HasLost bytes given) → Outcome k l v moment bytes given
+  outcome k l v of moment bytes (Ok (done.Reply status effect)) (Ok deed) is did gone lost =
+      from_before k l v (served k l v of moment) (process_replied thread.tid effect status bytes call.target.over) (reply_served users thread effect status bytes call.target.over) (lost tt).0 (lost tt).1
+      (reply_after k l v of moment deed did.1 is status bytes effect did.0 (gone tt) (lost tt).0)
+  outcome k l v of moment bytes (Ok done.NoReply) (Ok deed) is did gone lost = waiting_after k l v of moment deed did.1 is did.0
+  outcome k l v of moment bytes (Err error) (Err refused) is did gone lost =
       subst (λ (l : state.Kept). Outcome k l v moment bytes (Err error)) (sym did.1)
       (subst (λ v. Outcome k k v moment bytes (Err error)) (sym did.2)
-      (subst (λ rows. After rows (without_pulse w.shared rows thread call) w.events.events k k (served k k w of moment)) (sym (fail_served users thread error call.target.over))
-      (error_after k of moment error (is ∙ ap Err (sym did.0)) (subst (λ (v : AllWaits). Gone v.shared) did.2 (gone tt)))))
-  outcome k l v of moment bytes (Ok (done.Reply status effect)) (Err error) is did gone = absurd did
-  outcome k l v of moment bytes (Ok done.NoReply) (Err error) is did gone = absurd did
-  outcome k l v of moment bytes (Err error) (Ok deed) is did gone = absurd did
+      (from_before k k w (served k k w of moment) (failed thread.tid error call.target.over) (fail_served users thread error call.target.over) (lost tt).0 (lost tt).1
+      (error_after k of moment error (is ∙ ap Err (sym did.0)) (subst (λ (v : AllWaits). Gone v.shared) did.2 (gone tt)) (lost tt).0)))
+  outcome k l v of moment bytes (Ok (done.Reply status effect)) (Err error) is did gone lost = absurd did
+  outcome k l v of moment bytes (Ok done.NoReply) (Err error) is did gone lost = absurd did
+  outcome k l v of moment bytes (Err error) (Ok deed) is did gone lost = absurd did

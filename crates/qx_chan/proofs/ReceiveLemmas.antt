@@ -1,5 +1,5 @@
 -- Rows, lines and nodes stand together still as a line's first item is received.
-use Rattle.std.proofs.Common.{◌≡◌, ◌≢◌, subst, ℕ, ◌∷◌, [], true, false, List, Option, Some, None, drop, slice_get, refl, sym, ◌∙◌, ap}
+use Rattle.std.proofs.Common.{◌≡◌, ◌≢◌, ◌⊎◌, inl, inr, subst, ℕ, ◌∷◌, [], true, false, List, Option, Some, None, drop, slice_get, refl, sym, ◌∙◌, ap}
 use Rattle.std.specs.Prelude.{option_map}
 use Rattle.std.proofs.lemmas.Bool.{eqb-true}
 use Rattle.qx_types.specs.Managers.{manager_number}
@@ -8,20 +8,21 @@ use Rattle.qx_types.specs.declared.names.Thread.{Thread}
 use Rattle.qx_machine.specs.declared.rows.OwnItem.{OwnItem}
 use Rattle.qx_machine.specs.declared.rows.OwnItem.TheVariants as item
 use Rattle.qx_machine.specs.declared.rows.Queued.{Queued}
+use Rattle.qx_machine.specs.declared.rows.ServerName.{ServerName}
 use Rattle.qx_machine.specs.declared.rows.State.{State}
 use Rattle.qx_machine.specs.declared.rows.State.TheVariants as state
 use Rattle.qx_machine.specs.declared.rows.ThreadRow.{ThreadRow}
 use Rattle.qx_machine.specs.Lines.{line_at}
 use Rattle.qx_machine.specs.Processes.{taken_state, taken_thread, with_thread}
 use Rattle.qx_queues.specs.Queues.{IsGone, sender, sender_of, stands, unblock_call}
-use Rattle.qx_shared.specs.Shared.{Shared, with_shared_line}
+use Rattle.qx_shared.specs.Shared.{Shared, with_shared_line, without_first_shared}
 use Rattle.qx_chan.specs.Channel.{users_with_taken}
 use Rattle.qx_chan.specs.Users.{Users, thread_row, with_thread_row}
 use Rattle.qx_chan.specs.inner.Kept.{StandTogether, asked_call, is_asked_at, is_queued_at, is_waiting_for, stands_at, waits_for}
 use Rattle.qx_queues.proofs.EntryLemmas.{is_same_thread-self}
 use Rattle.qx_queues.proofs.LineLemmas.{call-received, call-received_other, stands-received, stands-received_other}
 use Rattle.qx_chan.proofs.AttachedLemmas.{eqb-differs}
-use Rattle.qx_chan.proofs.ThreadLemmas.{Kept-changed, OneThread, Own, no_thread, one_thread, waits-told}
+use Rattle.qx_chan.proofs.ThreadLemmas.{Kept-changed, Kept-room, OneThread, Own, no_thread, one_thread, waits-told}
 use Rattle.qx_chan.proofs.WaitLemmas.{no-wait}
 
 pub first_of-line : (line : List Queued) (first : Queued) → Some first ≡ slice_get line 0 → line ≡ first ∷ drop 1 line
@@ -139,6 +140,27 @@ module _ (users : Users) (queues : Shared) (manager : Manager) (user : ℕ) (pri
     pulse-taken : StandTogether users (with_shared_line queues number (drop 1))
     pulse-taken = Kept-changed users users queues asked (λ x. x) (λ row. row) (no_thread users asked) kept manager (drop 1) pulse_own (λ x at. refl)
 
+  -- a disconnect pulse, which changes no row either
+  module _ (process : ℕ) (server : ServerName) (line : line_at queues.lines number ≡ entry (item.Disconnect process server) ∷ rest) where
+    abbrev left : Queued
+    left = entry (item.Disconnect process server)
+
+    left_own : Own users users queues (sender left) (λ x. x) (λ row. row) (no_thread users (sender left)) kept manager (drop 1)
+    left_own = record {
+      line = record {
+        stand = λ other differs. rw line (sym (stands-received left rest other refl));
+        calls = λ other differs. rw line (sym (call-received left rest other refl));
+      };
+      stand = rw line (sym (stands-received left rest (sender left) refl)) ∙ ap (λ l. stands l (sender left)) (sym line) ∙ kept.lines (sender left) number;
+      stand_other = λ at differs. kept.lines (sender left) at;
+      calls = λ its is. kept.pulses (sender left) number its (rw line (call-received left rest (sender left) refl ∙ (rw line at is)));
+      calls_other = λ at its differs is. kept.pulses (sender left) at its is;
+      waits = kept.waits;
+    }
+
+    left-taken : StandTogether users (with_shared_line queues number (drop 1))
+    left-taken = Kept-changed users users queues (sender left) (λ x. x) (λ row. row) (no_thread users (sender left)) kept manager (drop 1) left_own (λ x at. refl)
+
 pub Kept-taken : (users : Users) (queues : Shared) (manager : Manager) (first : Queued) (rest : List Queued) → line_at queues.lines (manager_number manager) ≡ first ∷ rest → IsGone first rest → StandTogether users queues
     → StandTogether (users_with_taken users (sender first) first.item) (with_shared_line queues (manager_number manager) (drop 1))
 Kept-taken users queues manager first rest line gone kept = by_item first.item line gone
@@ -147,10 +169,19 @@ Kept-taken users queues manager first rest line gone kept = by_item first.item l
         → StandTogether (users_with_taken users (sender_of first.user.0 own) own) (with_shared_line queues (manager_number manager) (drop 1))
     by_item (item.Message process tid) is gone = message-taken users queues manager first.user.0 first.prio.0 rest kept process tid is gone
     by_item (item.Unblock process tid call) is gone = pulse-taken users queues manager first.user.0 first.prio.0 rest kept process tid call is gone
+    by_item (item.Disconnect process server) is gone = left-taken users queues manager first.user.0 first.prio.0 rest kept process server is
 
 -- by what the first item is
 module _ (users : Users) (queues : Shared) (manager : Manager) (first : Queued) (own : OwnItem) (is : first.item ≡ own)
     (at_front : Some first ≡ slice_get (line_at queues.lines (manager_number manager)) 0) (gone : IsGone first (drop 1 (line_at queues.lines (manager_number manager)))) (kept : StandTogether users queues) where
-  pub Kept-received : StandTogether (users_with_taken users (sender_of first.user.0 own) own) (with_shared_line queues (manager_number manager) (drop 1))
-  Kept-received = subst (λ its. StandTogether (users_with_taken users (sender_of first.user.0 its) its) (with_shared_line queues (manager_number manager) (drop 1))) is
-      (Kept-taken users queues manager first (drop 1 (line_at queues.lines (manager_number manager))) (first_of-line _ first at_front) gone kept)
+  pub Kept-received : StandTogether (users_with_taken users (sender_of first.user.0 own) own) (without_first_shared queues (manager_number manager))
+  Kept-received = Kept-room _ (with_shared_line queues (manager_number manager) (drop 1)) _ (subst (λ its. StandTogether (users_with_taken users (sender_of first.user.0 its) its) (with_shared_line queues (manager_number manager) (drop 1))) is
+      (Kept-taken users queues manager first (drop 1 (line_at queues.lines (manager_number manager))) (first_of-line _ first at_front) gone kept))
+
+-- a pulse changes no row
+module _ (users : Users) (queues : Shared) (manager : Manager) (first : Queued)
+    (at_front : Some first ≡ slice_get (line_at queues.lines (manager_number manager)) 0) (gone : IsGone first (drop 1 (line_at queues.lines (manager_number manager)))) (kept : StandTogether users queues) where
+  pub Kept-pulse : ((process : ℕ) × (tid : ℕ) × (call : ℕ) × (first.item ≡ item.Unblock process tid call)) ⊎ ((process : ℕ) × (server : ServerName) × (first.item ≡ item.Disconnect process server))
+      → StandTogether users (without_first_shared queues (manager_number manager))
+  Kept-pulse (inl pulse) = Kept-received users queues manager first (item.Unblock pulse.0 pulse.1 pulse.2) pulse.3 at_front gone kept
+  Kept-pulse (inr pulse) = Kept-received users queues manager first (item.Disconnect pulse.0 pulse.1) pulse.2 at_front gone kept

@@ -1,30 +1,33 @@
 -- Rows, lines and nodes stand together still as a message goes out.
-use Rattle.std.proofs.Common.{◌≡◌, ◌≢◌, inl, inr, eq-eqb, ℕ, ◌||◌, true, false, List, Option, Some, None, is_some, refl, sym, ◌∙◌, ap}
+use Rattle.std.proofs.Common.{◌≡◌, ◌≢◌, inl, inr, eq-eqb, ℕ, ◌||◌, ◌&&◌, Bool, true, false, List, Option, Some, None, is_some, refl, sym, ◌∙◌, ap}
 use Rattle.std.specs.Prelude.{option_map}
-use Rattle.std.proofs.lemmas.Bool.{cases_Bool, cond_both}
+use Rattle.std.proofs.lemmas.Bool.{cases_eq, cond_both, false≢true}
 use Rattle.qx_types.specs.Managers.{manager_number}
 use Rattle.qx_types.specs.declared.names.Manager.{Manager}
 use Rattle.qx_types.specs.declared.names.Proc.{Proc}
 use Rattle.qx_types.specs.declared.names.Thread.{Thread}
 use Rattle.qx_machine.specs.declared.rows.Over.{Over}
+use Rattle.qx_machine.specs.declared.rows.Over.TheVariants.{Existing, New, Side}
 use Rattle.qx_machine.specs.declared.rows.Queued.{Queued}
 use Rattle.qx_machine.specs.declared.rows.Sent.{Sent}
+use Rattle.qx_machine.specs.declared.rows.Target.{Target}
 use Rattle.qx_machine.specs.declared.rows.ThreadRow.{ThreadRow}
 use Rattle.qx_machine.specs.Lines.{into, line_at}
 use Rattle.qx_machine.specs.Machine.{rank}
 use Rattle.qx_machine.specs.Processes.{Process, queued_thread, with_queued, with_thread}
-use Rattle.qx_machine.specs.Servers.{is_numbered}
+use Rattle.qx_machine.specs.Servers.{in_use, is_numbered}
+use Rattle.qx_process.specs.Reads.{UsesBy, is_served}
 use Rattle.qx_queues.specs.Queues.{caller, has_answer_among, message_of, stands, unblock_call}
 use Rattle.qx_shared.specs.Shared.{HasNoCall, Shared, has_disconnect_node, has_thread, waiting_in, with_shared_server, with_shared_line}
-use Rattle.qx_chan.specs.Users.{IsThreadReady, Users, process_of, thread_row, with_process_of}
-use Rattle.qx_chan.specs.inner.Kept.{StandTogether, asked_call, is_queued_at, stands_at, waits_for, with_attached, with_room}
-use Rattle.qx_chan.specs.Nodes.{attached_at, attaches}
+use Rattle.qx_chan.specs.Users.{IsThreadReady, Users, UsesAt, process_of, thread_row, with_process_of}
+use Rattle.qx_chan.specs.inner.Kept.{HasServerNodes, StandTogether, asked_call, is_queued_at, stands_at, waits_for, with_attached, with_room}
+use Rattle.qx_chan.specs.Nodes.{attaches, served_at}
 use Rattle.qx_queues.proofs.EntryLemmas.{is_same_thread-differs, is_same_thread-self, or_false, or_true}
 use Rattle.qx_queues.proofs.LineLemmas.{call-sent, stands-sent}
 use Rattle.qx_queues.proofs.SetLemmas.{has-server, is_same_server-differs}
-use Rattle.qx_chan.proofs.AttachedLemmas.{attached-connected, attached-existing, eqb-differs, same_server-self, threads-connected}
-use Rattle.qx_chan.proofs.SettleLemmas.{Kept-settled}
-use Rattle.qx_chan.proofs.ThreadLemmas.{Kept-changed, OneThread, Own, Unsettled-changed, one_thread, waits-told}
+use Rattle.qx_chan.proofs.AttachedLemmas.{eqb-differs, same_server-self, threads-connected}
+use Rattle.qx_chan.proofs.LostLemmas.{Kept-beside, StandBeside}
+use Rattle.qx_chan.proofs.ThreadLemmas.{Kept-room, OneThread, Own, beside, one_thread, waits-told}
 use Rattle.qx_chan.proofs.WaitLemmas.{no-call, no-wait}
 
 -- a thread that waits for nothing
@@ -60,10 +63,7 @@ calls-nowhere users queues thread ready kept = record {
   answered = ap (λ answers. has_answer_among answers thread) kept.answered;
 }
 
--- room changes nothing else
-pub Kept-room : (users : Users) (queues : Shared) (room : ℕ) → StandTogether users queues → StandTogether users (record queues { room = room })
-Kept-room users queues room kept = record { users = kept.users; managers = kept.managers; threads = kept.threads; lines = kept.lines; pulses = kept.pulses; servers = kept.servers; waits = kept.waits; answered = kept.answered }
-
+-- room for the disconnect node of what a message goes over changes nothing else
 pub Kept-with_room : (users : Users) (queues : Shared) (over : Over) → StandTogether users queues → StandTogether users (with_room over queues)
 Kept-with_room users queues over kept = cond_both {A = Shared} (attaches over) _ _ (λ q. StandTogether users q) (λ does. Kept-room users queues _ kept) (λ not. kept)
 
@@ -76,6 +76,43 @@ module _ (c : Shared) (proc : Proc) (manager : Manager) where
 
   pub has-with_server-self : (at : ℕ) → has_disconnect_node (with_shared_server c proc (manager_number manager)) proc at ≡ (has_disconnect_node c proc at || is_numbered at manager)
   has-with_server-self at = has-server c.servers proc (manager_number manager) proc at ∙ ap (λ b. has_disconnect_node c proc at || b) (same_server-self proc (manager_number manager) at)
+
+-- what a process uses once it has attached what a message goes over
+
+served-numbered : (one other : Manager) (process : Option Process) → manager_number one ≡ manager_number other → served_at one process ≡ served_at other process
+served-numbered one other None same = refl
+served-numbered one other (Some process) same = ap (λ number. is_some (in_use (line_at process.servers number))) same
+
+others-by : (over : Over) (manager : Manager) (before after : Process) → UsesBy over manager before after → (other : Manager) → manager_number other ≢ manager_number manager → is_served other after ≡ is_served other before
+others-by (New coid) manager before after uses other differs = uses.others other differs
+others-by (Existing coid) manager before after uses other differs = ap (λ servers. is_some (in_use (line_at servers (manager_number other)))) uses
+others-by Side manager before after uses other differs = uses.others other differs
+
+pub uses-others : (target : Target) (before after : Option Process) → UsesAt target before after → (other : Manager) → manager_number other ≢ manager_number target.manager → served_at other after ≡ served_at other before
+uses-others target (Some before) (Some after) uses other differs = others-by target.over target.manager before after uses other differs
+uses-others target None None uses other differs = refl
+uses-others target (Some before) None uses other differs = absurd uses
+uses-others target None (Some after) uses other differs = absurd uses
+
+unmade : (before after : Bool) → (before ≡ true → after ≡ true) → after ≡ false → before ≡ after
+unmade true after here none = absurd (false≢true (sym none ∙ here refl))
+unmade false after here none = sym none
+
+unmade-by : (over : Over) (manager : Manager) (before after : Process) → UsesBy over manager before after → (attaches over && is_served manager after) ≡ false → is_served manager before ≡ is_served manager after
+unmade-by (New coid) manager before after uses none = unmade _ _ uses.here none
+unmade-by (Existing coid) manager before after uses none = ap (λ servers. is_some (in_use (line_at servers (manager_number manager)))) (sym uses)
+unmade-by Side manager before after uses none = unmade _ _ uses.here none
+
+-- where no node is made, a server connection is in use as before
+pub uses-unmade : (target : Target) (before after : Option Process) → UsesAt target before after → (attaches target.over && served_at target.manager after) ≡ false → served_at target.manager before ≡ served_at target.manager after
+uses-unmade target (Some before) (Some after) uses none = unmade-by target.over target.manager before after uses none
+uses-unmade target None None uses none = refl
+uses-unmade target (Some before) None uses none = absurd uses
+uses-unmade target None (Some after) uses none = absurd uses
+
+pub and_second : (a b : Bool) → (a && b) ≡ true → b ≡ true
+and_second true b both = both
+and_second false b both = absurd (false≢true both)
 
 -- a process whose thread was ready, and whose message goes out
 
@@ -122,24 +159,40 @@ module _ (users : Users) (queues : Shared) (thread : Thread) (sent : Sent) (read
       none : (at call : ℕ) → unblock_call (line_at queues.lines at) thread ≡ Some call → ⊥
       none at call is = let clash : true ≡ false = sym (kept.pulses thread at call is) ∙ ready-unasked (thread_row users thread) ready at call in cc
 
-  -- what its message goes over is attached
-  attached_new : (m : Manager) (o : Option Process) → has_disconnect_node queues thread.proc (manager_number m) ≡ attached_at (manager_number m) o → attached_at (manager_number m) (option_map f o) ≡ true
-      → (has_disconnect_node queues thread.proc (manager_number m) || is_numbered (manager_number m) sent.target.manager) ≡ true
-  attached_new m None had is = cc
-  attached_new m (Some x) had is = elim (attached-connected thread.tid sent.target.manager sent.target.over (with_thread thread.tid (queued_thread sent) x) (manager_number m) is) [
-    | inl before ↦ rw (had, before) refl
-    | inr new ↦ rw new (or_true (has_disconnect_node queues thread.proc (manager_number m)))
-  ]
+  module _ (uses : UsesAt sent.target (process_of users thread.proc) (process_of new thread.proc)) where
+    abbrev queues_attached : Shared
+    queues_attached = with_attached thread.proc (process_of new thread.proc) sent.target queues_sent
 
-  pub Kept-sent : StandTogether (with_process_of users thread.proc (with_queued thread.tid sent))
-      (with_attached thread.proc (process_of (with_process_of users thread.proc (with_queued thread.tid sent)) thread.proc) sent.target
-      (with_shared_line queues (manager_number sent.target.manager) (λ line. into rank line (message_of thread sent.target.prio.0))))
-  Kept-sent = elim (cases_Bool (attaches sent.target.over)) [
-    | inr not ↦ rw not (Kept-changed users new queues thread f (queued_thread sent) one kept sent.target.manager change own
-        (λ x at. attached-existing thread.tid sent.target.manager sent.target.over (with_thread thread.tid (queued_thread sent) x) at not))
-    | inl does ↦ rw does (Kept-settled new (with_shared_server queues_sent thread.proc number) thread.proc
-        (Unsettled-changed users new queues thread f (queued_thread sent) one kept sent.target.manager change own (with_shared_server queues_sent thread.proc number) refl refl refl refl
-        (λ t. refl)
-        (has-with_server-other queues_sent thread.proc sent.target.manager)
-        (λ m is. has-with_server-self queues_sent thread.proc sent.target.manager (manager_number m) ∙ attached_new m (process_of users thread.proc) (kept.servers thread.proc m) is)))
-  ]
+    -- the process has the disconnect nodes of what it uses then
+    attached_nodes : HasServerNodes new queues_attached thread.proc
+    attached_nodes m = cond_both {A = Shared} (attaches sent.target.over && served_at sent.target.manager (process_of new thread.proc)) _ _ (λ q. has_disconnect_node q thread.proc (manager_number m) ≡ served_at m (process_of new thread.proc))
+        (λ made. has-with_server-self queues_sent thread.proc sent.target.manager (manager_number m) ∙ elim (cases_eq (manager_number m) number) [
+          | inl same ↦
+              let here : served_at m (process_of new thread.proc) ≡ true = served-numbered m sent.target.manager (process_of new thread.proc) same ∙ and_second (attaches sent.target.over) _ made in
+              rw (same, eq-eqb number number refl, here) (or_true (has_disconnect_node queues thread.proc number))
+          | inr differs ↦ rw (eqb-differs number (manager_number m) (λ is. differs (sym is))) (or_false (has_disconnect_node queues thread.proc (manager_number m)) ∙ kept.servers thread.proc m ∙ sym (uses-others sent.target _ _ uses m differs))
+        ])
+        (λ none. kept.servers thread.proc m ∙ elim (cases_eq (manager_number m) number) [
+          | inl same ↦ served-numbered m sent.target.manager (process_of users thread.proc) same ∙ uses-unmade sent.target _ _ uses none ∙ sym (served-numbered m sent.target.manager (process_of new thread.proc) same)
+          | inr differs ↦ sym (uses-others sent.target _ _ uses m differs)
+        ])
+
+    beside_attached : StandBeside new queues_attached thread.proc
+    beside_attached = cond_both {A = Shared} (attaches sent.target.over && served_at sent.target.manager (process_of new thread.proc)) _ _ (λ q. StandBeside new q thread.proc)
+        (λ made. let before = beside users new queues thread f (queued_thread sent) one kept sent.target.manager change own in
+        record {
+          users = before.users;
+          managers = before.managers;
+          threads = before.threads;
+          lines = before.lines;
+          pulses = before.pulses;
+          others = λ other differs m. has-with_server-other queues_sent thread.proc sent.target.manager other (manager_number m) differs ∙ before.others other differs m;
+          waits = before.waits;
+          answered = before.answered;
+        })
+        (λ none. beside users new queues thread f (queued_thread sent) one kept sent.target.manager change own)
+
+    pub Kept-sent : StandTogether (with_process_of users thread.proc (with_queued thread.tid sent))
+        (with_attached thread.proc (process_of (with_process_of users thread.proc (with_queued thread.tid sent)) thread.proc) sent.target
+        (with_shared_line queues (manager_number sent.target.manager) (λ line. into rank line (message_of thread sent.target.prio.0))))
+    Kept-sent = Kept-beside new queues_attached thread.proc beside_attached attached_nodes

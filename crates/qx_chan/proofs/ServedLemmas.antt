@@ -1,7 +1,8 @@
 -- A message is served: its thread is answered beside the calls that waited, as in the machine.
-use Rattle.std.proofs.Common.{◌≡◌, ◌⊎◌, inl, inr, ℕ, ◌∷◌, ◌++◌, [], Bool, true, false, List, Option, Some, None, map, refl, sym, ◌∙◌, ap}
-use Rattle.std.specs.Prelude.{Ok, Err, option_map, slice_set, if◌then◌else◌}
-use Rattle.qx_types.specs.Managers.{manager_number, managers}
+use Rattle.std.proofs.Common.{◌≡◌, ◌⊎◌, inl, inr, ℕ, ◌∷◌, ◌++◌, [], List, Option, Some, None, map, refl, sym, ◌∙◌, ap}
+use Rattle.std.specs.Option.{option_to_list}
+use Rattle.std.specs.Prelude.{Ok, Err, option_map, slice_set}
+use Rattle.qx_types.specs.Managers.{manager_number}
 use Rattle.qx_types.specs.declared.errno.Errno.{Errno}
 use Rattle.qx_types.specs.declared.names.Manager.{Manager}
 use Rattle.qx_types.specs.declared.names.Manager.TheVariants.{Pipe}
@@ -12,28 +13,29 @@ use Rattle.qx_machine.specs.declared.rows.Caller.{Caller}
 use Rattle.qx_machine.specs.declared.rows.Over.{Over}
 use Rattle.qx_machine.specs.declared.rows.OwnItem.TheVariants as item
 use Rattle.qx_machine.specs.declared.rows.Queued.{Queued}
+use Rattle.qx_machine.specs.declared.rows.ServerName.{ServerName}
 use Rattle.qx_machine.specs.declared.rows.WaitingCall.{WaitingCall}
 use Rattle.qx_machine.specs.Functions.{Deed}
 use Rattle.qx_machine.specs.Lines.{line_at, with_line}
-use Rattle.qx_machine.specs.Machine.{line_without, lines_after}
-use Rattle.qx_machine.specs.Parts.{Part, with_process}
+use Rattle.qx_machine.specs.Machine.{changed_manager, line_after, line_without, lines_after}
+use Rattle.qx_machine.specs.Parts.{Change, Part, with_process}
 use Rattle.qx_machine.specs.Resources.{Resources}
 use Rattle.qx_machine.specs.Performing.{after_answer, after_serving, answered_changes, own_change}
 use Rattle.qx_machine.specs.Processes.{Process, answered_thread}
 use Rattle.qx_machine.specs.Rows.{row_at, with_row}
 use Rattle.qx_queues.specs.Queues.{unblock_call}
-use Rattle.qx_shared.specs.Shared.{Shared, users_given, with_shared_line, without_shared_server}
+use Rattle.qx_shared.specs.Shared.{Shared, users_given, with_shared_disconnect, with_shared_line}
+use Rattle.qx_procs.specs.Calls.{LosesAt}
 use Rattle.qx_chan.specs.inner.Answers.{given_lines, given_users}
 use Rattle.qx_chan.specs.inner.Calls.{taken_call}
 use Rattle.qx_chan.specs.Channel.{failed}
-use Rattle.qx_chan.specs.inner.Kept.{Answering, servers_settled, settled_at}
-use Rattle.qx_chan.specs.Nodes.{attached_at}
+use Rattle.qx_chan.specs.inner.Kept.{Answering, with_lost}
 use Rattle.qx_chan.specs.Users.{Users, process_of, thread_row, with_process_of}
 use Rattle.qx_chan.specs.declared.call.Call.{Call}
 use Rattle.qx_chan.proofs.AnswerLemmas.{IsAnswer, Kept-answered, taken-unwaiting}
 use Rattle.qx_chan.proofs.GivenLemmas.{lines-machine, users-machine}
 use Rattle.qx_chan.proofs.RowReads.{row_at-with_same, with_row-twice}
-use Rattle.qx_chan.proofs.SettleLemmas.{settled-fields}
+use Rattle.qx_chan.proofs.LostLemmas.{lost-fields}
 use Rattle.qx_chan.proofs.ThreadLemmas.{OneThread, one_thread}
 use Rattle.qx_chan.proofs.WaitLemmas.{no-call, waits-others}
 
@@ -54,6 +56,10 @@ module _ (users : Users) (proc : Proc) (thread : ℕ) (over : Over) (part : Part
 
 -- ---- lines
 
+lines_after-append : (user : ℕ) (lines : List (List Queued)) (first rest : List Change) → lines_after user lines (first ++ rest) ≡ lines_after user (lines_after user lines first) rest
+lines_after-append user lines [] rest = refl
+lines_after-append user lines (change ∷ first) rest = lines_after-append user (with_line lines (manager_number (changed_manager change)) (line_after user change)) first rest
+
 module _ (user : ℕ) (manager : Manager) (answers : List (WaitingCall × Answer)) (only : (manager ≡ Pipe) ⊎ (answers ≡ [])) where
   -- those whom the pipe manager answers are all who are answered
   pub lines-others : (lines : List (List Queued)) → given_lines lines (map (users_given user) answers) ≡ lines_after user lines (answered_changes manager answers)
@@ -62,28 +68,23 @@ module _ (user : ℕ) (manager : Manager) (answers : List (WaitingCall × Answer
     | inr none ↦ rw none refl
   ]
 
-  -- where the message is replied to
-  pub lines-done : (lines : List (List Queued)) (caller : Caller)
-      → given_lines (with_line lines (manager_number manager) (line_without user (item.Unblock caller.process caller.thread caller.call))) (map (users_given user) answers)
-      ≡ lines_after user lines ((own_change manager caller ∷ []) ++ answered_changes manager answers)
-  lines-done lines caller = lines-others (with_line lines (manager_number manager) (line_without user (item.Unblock caller.process caller.thread caller.call)))
+  -- where the message is replied to, by which its process may have lost a server connection
+  pub lines-done : (lines : List (List Queued)) (caller : Caller) (lost : List Change)
+      → given_lines (lines_after user (with_line lines (manager_number manager) (line_without user (item.Unblock caller.process caller.thread caller.call))) lost) (map (users_given user) answers)
+      ≡ lines_after user lines ((own_change manager caller ∷ []) ++ lost ++ answered_changes manager answers)
+  lines-done lines caller lost =
+      lines-others (lines_after user (with_line lines (manager_number manager) (line_without user (item.Unblock caller.process caller.thread caller.call))) lost)
+      ∙ sym (lines_after-append user lines ((own_change manager caller ∷ []) ++ lost) (answered_changes manager answers))
 
 -- ---- what stands together
 
--- answers on their way change nothing of the disconnect nodes
+-- answers on their way change nothing of what is lost
 abbrev without_answers : Shared → Shared
 without_answers c = record c { answered = [] }
 
-settled_at-cleared : (proc : Proc) (process : Option Process) (manager : Manager) (c : Shared) → without_answers (settled_at proc process manager c) ≡ settled_at proc process manager (without_answers c)
-settled_at-cleared proc process manager c = by_test (attached_at (manager_number manager) process)
-  where
-    by_test : (b : Bool) → without_answers (if b then c else without_shared_server c proc (manager_number manager)) ≡ (if b then without_answers c else without_shared_server (without_answers c) proc (manager_number manager))
-    by_test true = refl
-    by_test false = refl
-
-settled-cleared : (proc : Proc) (process : Option Process) (all : List Manager) (c : Shared) → without_answers (servers_settled proc process all c) ≡ servers_settled proc process all (without_answers c)
-settled-cleared proc process [] c = refl
-settled-cleared proc process (manager ∷ all) c = settled-cleared proc process all (settled_at proc process manager c) ∙ ap (servers_settled proc process all) (settled_at-cleared proc process manager c)
+lost-cleared : (proc : Proc) (lost : List ServerName) (c : Shared) → without_answers (with_lost proc lost c) ≡ with_lost proc lost (without_answers c)
+lost-cleared proc [] c = refl
+lost-cleared proc (server ∷ lost) c = lost-cleared proc lost (with_shared_disconnect c proc server)
 
 module _ (users : Users) (queues : Shared) (thread : Thread) (call : Call) (is : Some call ≡ taken_call (thread_row users thread)) (answering : Answering users queues) where
   abbrev drop_pulse : List Queued → List Queued
@@ -92,11 +93,12 @@ module _ (users : Users) (queues : Shared) (thread : Thread) (call : Call) (is :
   -- a received message is answered while other answers are on their way
   pub Answering-answered : (f : Process → Process) (answer : Answer) → IsAnswer thread.tid answer f
       → (unblock_call (line_at queues.lines (manager_number call.target.manager)) thread ≡ Some call.number → unblock_call (drop_pulse (line_at queues.lines (manager_number call.target.manager))) thread ≡ None)
-      → Answering (with_process_of users thread.proc f) (servers_settled thread.proc (process_of (with_process_of users thread.proc f) thread.proc) managers
+      → (lost : Option ServerName) → LosesAt lost (process_of users thread.proc) (process_of (with_process_of users thread.proc f) thread.proc)
+      → Answering (with_process_of users thread.proc f) (with_lost thread.proc (option_to_list lost)
       (with_shared_line queues (manager_number call.target.manager) (line_without thread.proc.user.0 (item.Unblock thread.proc.num thread.tid call.number))))
-  Answering-answered f answer answers gone = record {
-    kept = rw (settled-cleared thread.proc (process_of new thread.proc) managers changed) (Kept-answered users (without_answers queues) thread call is answering.kept f answer answers gone);
-    answered = rw (settled-fields thread.proc (process_of new thread.proc) (λ c. c.answered) (λ c number. refl) managers changed)
+  Answering-answered f answer answers gone lost loses = record {
+    kept = rw (lost-cleared thread.proc (option_to_list lost) changed) (Kept-answered users (without_answers queues) thread call is answering.kept f answer answers gone lost loses);
+    answered = rw (lost-fields thread.proc (λ c. c.answered) (λ c server. refl) (option_to_list lost) changed)
         (waits-others (λ given. given.thread) (λ given. given.call) users new thread one.others queues.answered
         (no-call (λ given. given.thread) (λ given. given.call) users thread (taken-unwaiting (thread_row users thread) call is) queues.answered answering.answered) answering.answered);
   }
@@ -108,4 +110,4 @@ module _ (users : Users) (queues : Shared) (thread : Thread) (call : Call) (is :
       changed = with_shared_line queues (manager_number call.target.manager) drop_pulse
 
       one : OneThread new users thread f (answered_thread answer)
-      one = one_thread users thread f (answered_thread answer) answers.threads
+      one = one_thread users thread f (answered_thread answer) answers

@@ -10,6 +10,7 @@ use Rattle.qx_types.specs.Managers.{manager_number}
 use Rattle.qx_types.specs.declared.errno.Errno.TheVariants.{EAGAIN, EINVAL}
 use Rattle.qx_types.specs.declared.limits.TheConstants.Limits.{PRIORITY, PROCESSES, THREADS}
 use Rattle.qx_types.specs.declared.names.Manager.{Manager}
+use Rattle.qx_types.specs.declared.names.Manager.TheVariants.{Pipe, Ram}
 use Rattle.qx_types.specs.declared.names.TheConstants.Manager.{COUNT}
 use Rattle.qx_types.specs.declared.names.Proc.{Proc}
 use Rattle.qx_types.specs.declared.names.Thread.{Thread}
@@ -36,7 +37,7 @@ use Rattle.qx_chan.specs.inner.Users.{HasPlace}
 use Rattle.qx_chan.specs.Users.{Users, no_processes, process_of_user, process_of, spawn_number_in, thread_row}
 use Rattle.qx_process.proofs.RowLemmas.{row_at-get_or, set-row, with_row-none}
 use Rattle.qx_chan.specs.inner.Kept.{IsWaiting, StandTogether, asked_call, stands_at, waits_for}
-use Rattle.qx_chan.specs.Nodes.{attached_at, room_started}
+use Rattle.qx_chan.specs.Nodes.{room_started, served_at}
 use Rattle.qx_queues.proofs.EntryLemmas.{or_false}
 use Rattle.qx_queues.proofs.NodesLemmas.{same_proc}
 use Rattle.qx_chan.proofs.ProcessLemmas.{process_of-other}
@@ -140,8 +141,9 @@ new_waits threads (suc k) prio number = elim (cases_lt k threads) [
   | inr beyond ↦ rw (row_at-past (replicate threads (Some (new_thread prio))) k (omega (arith, beyond, length-replicate threads (Some (new_thread prio))))) refl
 ]
 
-new_attached : (threads prio : ℕ) (manager : Manager) → attached_at (manager_number manager) (Some (new_process threads prio)) ≡ false
-new_attached threads prio manager = refl
+new_served : (threads prio : ℕ) (manager : Manager) → served_at manager (Some (new_process threads prio)) ≡ false
+new_served threads prio Ram = refl
+new_served threads prio Pipe = refl
 
 module _ (users : Users) (proc : Proc) (threads prio : ℕ) (begun : Starts users proc threads prio) where
   abbrev started : List (Option Process) → List (Option Process)
@@ -199,8 +201,8 @@ module _ (users : Users) (proc : Proc) (threads prio : ℕ) (begun : Starts user
             | inl same ↦ let clash : false ≡ true = rw (same, old_none) at before in absurd (cc)
           ];
       servers = λ other manager. ap (λ s. set.contains s (other, manager_number manager)) (servers-process queues proc threads) ∙ kept.servers other manager ∙ elim (same_proc other proc) [
-        | inr differs ↦ ap (attached_at (manager_number manager)) (sym (elsewhere other differs))
-        | inl same ↦ rw (same, old_none, here) (sym (new_attached threads prio manager))
+        | inr differs ↦ ap (served_at manager) (sym (elsewhere other differs))
+        | inl same ↦ rw (same, old_none, here) (sym (new_served threads prio manager))
       ];
       waits = λ list. subst (λ p. AllByRecursion (IsWaiting new) (users_waiting p list)) (sym (pipes-process queues proc threads)) (waits-all users new still (waiting_in queues list) (kept.waits list));
       answered = answered-process queues proc threads ∙ kept.answered;
@@ -277,7 +279,7 @@ Kept-empty users = record {
   threads = λ thread. set.contains-empty thread_cmp thread ∙ sym (ap (λ o. is_some (thread_of thread.tid o)) (none_at_boot users thread.proc));
   lines = λ thread number. no_line COUNT number thread ∙ sym (ap (λ o. stands_at number (thread_of thread.tid o)) (none_at_boot users thread.proc));
   pulses = λ thread number call is. let clash : None ≡ Some call = sym (no_pulse COUNT number thread) ∙ is in absurd (cc);
-  servers = λ proc manager. set.contains-empty server_cmp (proc, manager_number manager) ∙ sym (ap (attached_at (manager_number manager)) (none_at_boot users proc));
+  servers = λ proc manager. set.contains-empty server_cmp (proc, manager_number manager) ∙ sym (ap (served_at manager) (none_at_boot users proc));
   waits = λ user. subst (AllByRecursion (IsWaiting (no_processes users))) (sym (none_waits (users + 1) user)) tt;
   answered = refl;
 }

@@ -1,5 +1,5 @@
 -- One thread's row changes, and its process with it, and one line: when rows, lines and nodes stand together still.
-use Rattle.std.proofs.Common.{◌≡◌, ◌≢◌, subst, inl, inr, ℕ, ◌<◌, List, true, Option, Some, None, length, is_some, refl, sym, ◌∙◌, ap}
+use Rattle.std.proofs.Common.{◌≡◌, ◌≢◌, inl, inr, ℕ, ◌<◌, List, true, Option, Some, None, length, is_some, refl, sym, ◌∙◌, ap}
 use Rattle.std.specs.List.{AllByRecursion}
 use Rattle.std.specs.Prelude.{option_map}
 use Rattle.std.proofs.lemmas.Bool.{cases_eq}
@@ -14,18 +14,23 @@ use Rattle.qx_machine.specs.Lines.{line_at, with_line}
 use Rattle.qx_machine.specs.Parts.{thread_of}
 use Rattle.qx_machine.specs.Processes.{Process, with_thread}
 use Rattle.qx_machine.specs.Rows.{with_row}
+use Rattle.qx_process.specs.Reads.{is_served}
 use Rattle.qx_queues.specs.Queues.{stands, unblock_call}
-use Rattle.qx_shared.specs.Shared.{Shared, has_disconnect_node, has_thread, waiting_in, users_waiting}
+use Rattle.qx_shared.specs.Shared.{Shared, has_thread, waiting_in}
 use Rattle.qx_chan.specs.Users.{Users, process_of, thread_row, with_process_of, with_thread_row}
 use Rattle.qx_chan.specs.inner.Kept.{IsWaiting, StandTogether, asked_call, stands_at, waits_for}
-use Rattle.qx_chan.specs.Nodes.{attached_at}
+use Rattle.qx_chan.specs.Nodes.{served_at}
 use Rattle.qx_queues.proofs.EntryLemmas.{line_at-other, line_at-same}
 use Rattle.qx_queues.proofs.NodesLemmas.{same_or_not, same_proc}
 use Rattle.qx_chan.proofs.AttachedLemmas.{number-below}
 use Rattle.qx_chan.proofs.ProcessLemmas.{process_of-other, process_of-same}
 use Rattle.qx_chan.proofs.RowReads.{length-with_row, row_at-with_other, row_at-with_same}
-use Rattle.qx_chan.proofs.SettleLemmas.{Unsettled}
+use Rattle.qx_chan.proofs.LostLemmas.{Kept-beside, StandBeside}
 use Rattle.qx_chan.proofs.WaitLemmas.{waits-all}
+
+-- room changes nothing else
+pub Kept-room : (users : Users) (queues : Shared) (room : ℕ) → StandTogether users queues → StandTogether users (record queues { room = room })
+Kept-room users queues room kept = record { users = kept.users; managers = kept.managers; threads = kept.threads; lines = kept.lines; pulses = kept.pulses; servers = kept.servers; waits = kept.waits; answered = kept.answered }
 
 there_with : {A : Type 0} (f : A → A) (o : Option A) → is_some (option_map f o) ≡ is_some o
 there_with f None = refl
@@ -110,9 +115,9 @@ module _ (users : Users) (queues : Shared) (thread : Thread) (g : ThreadRow → 
     | inl equal ↦ rw (equal, one.own) same
   ]
 
-  still_attached : (at : ℕ) (o : Option Process) → attached_at at (option_map (with_thread thread.tid g) o) ≡ attached_at at o
-  still_attached at None = refl
-  still_attached at (Some x) = refl
+  still_served : (manager : Manager) (o : Option Process) → served_at manager (option_map (with_thread thread.tid g) o) ≡ served_at manager o
+  still_served manager None = refl
+  still_served manager (Some x) = refl
 
   pub Kept-thread : StandTogether (with_thread_row users thread g) queues
   Kept-thread = record {
@@ -122,8 +127,8 @@ module _ (users : Users) (queues : Shared) (thread : Thread) (g : ThreadRow → 
     lines = λ other at. kept.lines other at ∙ sym (read_as (stands_at at) (stand at) other);
     pulses = λ other at call is. read_as (asked_call at call) (pulse at call) other ∙ kept.pulses other at call is;
     servers = λ other m. kept.servers other m ∙ elim (same_proc other thread.proc) [
-      | inr differs ↦ ap (attached_at (manager_number m)) (sym (one.elsewhere other differs))
-      | inl equal ↦ rw (equal, one.here) (sym (still_attached (manager_number m) (process_of users thread.proc)))
+      | inr differs ↦ ap (served_at m) (sym (one.elsewhere other differs))
+      | inl equal ↦ rw (equal, one.here) (sym (still_served m (process_of users thread.proc)))
     ];
     waits = waits-told users (with_thread_row users thread g) queues thread (with_thread thread.tid g) g one kept wait;
     answered = kept.answered;
@@ -197,39 +202,24 @@ module _ (users new : Users) (queues : Shared) (thread : Thread) (f : Process �
       | inl same ↦ rw (same, one.own) (sym (there_with g (thread_row users thread)))
     ]
 
-    -- where the process stays attached as it was
-    pub Kept-changed : ((x : Process) (at : ℕ) → attached_at at (Some (f x)) ≡ attached_at at (Some x)) → StandTogether new (record queues { lines = lines_after })
-    Kept-changed same = record {
+    -- but for the disconnect nodes of the process
+    pub beside : StandBeside new (record queues { lines = lines_after }) thread.proc
+    beside = record {
       users = kept.users ∙ sym one.users;
       managers = length-set _ number _ ∙ kept.managers;
       threads = there_told;
       lines = lines_told;
       pulses = pulses_told;
-      servers = λ other m. kept.servers other m ∙ elim (same_proc other thread.proc) [
-        | inr differs ↦ ap (attached_at (manager_number m)) (sym (one.elsewhere other differs))
-        | inl equal ↦ rw (equal, one.here) (sym (as_before (manager_number m) (process_of users thread.proc)))
-      ];
+      others = λ other differs manager. kept.servers other manager ∙ ap (served_at manager) (sym (one.elsewhere other differs));
       waits = own.waits;
       answered = kept.answered;
     }
-      where
-        as_before : (at : ℕ) (o : Option Process) → attached_at at (option_map f o) ≡ attached_at at o
-        as_before at None = refl
-        as_before at (Some x) = same x at
 
-    -- where the process has the disconnect nodes of all that is attached, and others what they had
-    pub Unsettled-changed : (after : Shared) → after.lines ≡ lines_after → length after.pipes ≡ length queues.pipes → after.pipes ≡ queues.pipes → after.answered ≡ queues.answered → ((t : Thread) → has_thread after t ≡ has_thread queues t)
-        → ((other : Proc) (at : ℕ) → other ≢ thread.proc → has_disconnect_node after other at ≡ has_disconnect_node queues other at)
-        → ((m : Manager) → attached_at (manager_number m) (option_map f (process_of users thread.proc)) ≡ true → has_disconnect_node after thread.proc (manager_number m) ≡ true)
-        → Unsettled new after thread.proc
-    Unsettled-changed after lines users pipes answered threads others attached = record {
-      users = users ∙ kept.users ∙ sym one.users;
-      managers = ap length lines ∙ length-set _ number _ ∙ kept.managers;
-      threads = λ t. threads t ∙ there_told t;
-      lines = λ t at. ap (λ l. stands (line_at l at) t) lines ∙ lines_told t at;
-      pulses = λ t at call is. pulses_told t at call (ap (λ l. unblock_call (line_at l at) t) (sym lines) ∙ is);
-      others = λ other m differs. others other (manager_number m) differs ∙ kept.servers other m ∙ ap (attached_at (manager_number m)) (sym (one.elsewhere other differs));
-      attached = λ m is. attached m (ap (attached_at (manager_number m)) (sym one.here) ∙ is);
-      waits = λ list. subst (λ p. AllByRecursion (IsWaiting new) (users_waiting p list)) (sym pipes) (own.waits list);
-      answered = answered ∙ kept.answered;
-    }
+    -- where the process uses the server connections that it used
+    pub Kept-changed : ((x : Process) (manager : Manager) → is_served manager (f x) ≡ is_served manager x) → StandTogether new (record queues { lines = lines_after })
+    Kept-changed same = Kept-beside new (record queues { lines = lines_after }) thread.proc beside
+        (λ manager. kept.servers thread.proc manager ∙ sym (ap (served_at manager) one.here ∙ as_before manager (process_of users thread.proc)))
+      where
+        as_before : (manager : Manager) (o : Option Process) → served_at manager (option_map f o) ≡ served_at manager o
+        as_before manager None = refl
+        as_before manager (Some x) = same x manager

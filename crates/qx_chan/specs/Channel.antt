@@ -1,5 +1,5 @@
 -- What contracts see of a channel, and what its calls make of it.
-use Rattle.std.specs.Prelude.{⊤, ℕ, ◌+◌, [], List, Option, Some, None, drop, get_or, replicate, slice_get, slice_set}
+use Rattle.std.specs.Prelude.{⊤, ℕ, ◌+◌, [], ◌∷◌, List, Option, Some, None, drop, get_or, replicate, slice_get, slice_set}
 use Rattle.qx_types.specs.Managers.{manager_number}
 use Rattle.qx_types.specs.declared.errno.Errno.{Errno}
 use Rattle.qx_types.specs.declared.errno.Errno.TheVariants.{EINTR}
@@ -21,17 +21,18 @@ use Rattle.qx_machine.specs.declared.rows.Sent.{Sent}
 use Rattle.qx_machine.specs.Clients.{spawn_number}
 use Rattle.qx_machine.specs.Events.{Events, first_pulse, no_events, without_first_pulse}
 use Rattle.qx_machine.specs.Lines.{into, line_at, with_line}
-use Rattle.qx_machine.specs.Machine.{line_without, rank}
+use Rattle.qx_machine.specs.Machine.{lines_after, rank}
+use Rattle.qx_machine.specs.Parts.{Remove, disconnects}
 use Rattle.qx_machine.specs.Processes.{Process, after_error, answered_thread, asked_thread, ready_thread, taken_thread, with_queued, with_thread}
 use Rattle.qx_machine.specs.Waiting.{Pipes, no_pipes}
 use Rattle.qx_machine.specs.Rows.{row_at, with_row}
 use Rattle.qx_procs.specs.Calls.{after_or, spawned, with_prio}
-use Rattle.qx_queues.specs.Queues.{message_of, sender, unblock_of}
+use Rattle.qx_queues.specs.Queues.{message_of, nodes_freed, sender, unblock_of}
 use Rattle.qx_resources.specs.declared.waits.Waits.{Waits}
 use Rattle.qx_shared.specs.Shared.{nothing_shared}
 use Rattle.qx_chan.specs.Calls.{answer_of, queued_call, unasked_call}
 use Rattle.qx_chan.specs.declared.call.Call.{Call}
-use Rattle.qx_chan.specs.Nodes.{room_for, room_settled, room_started}
+use Rattle.qx_chan.specs.Nodes.{room_for, room_started, room_used, served_at}
 use Rattle.qx_chan.specs.Users.{Users, no_processes, process_of, spawn_number_in, thread_row, with_process_of, with_thread_row}
 
 -- the processes of all users, both numbered from 1, the lines under their managers' numbers, the pipes and the events of each user, and how
@@ -64,9 +65,9 @@ abbrev pub IsExisting : Over → Type 0
 IsExisting (Existing coid) = ⊤
 IsExisting _ = ⊥
 
--- the disconnect nodes of a process are those of what it has attached then, where it was as in a channel before
-abbrev pub with_nodes_settled : Channel → Proc → Channel → Channel
-with_nodes_settled before proc c = record c { room = room_settled c.room (process_of before.users proc) (process_of c.users proc) }
+-- a process has a disconnect node at a manager if it has a server connection in use there, where it was as in a channel before
+abbrev pub with_server_used : Channel → Proc → Manager → Channel → Channel
+with_server_used before proc manager c = record c { room = room_used c.room (served_at manager (process_of before.users proc)) (served_at manager (process_of c.users proc)) }
 
 -- one process and one line change
 abbrev pub with_process_and_line : Channel → Thread → (Process → Process) → Manager → (List Queued → List Queued) → Channel
@@ -85,23 +86,24 @@ after_spawn c user threads prio = record c {
 -- once a thread's message is sent, with room for the disconnect node of what it goes over
 abbrev pub after_send : Channel → Thread → Sent → Channel
 after_send c thread sent =
-    with_nodes_settled c thread.proc
+    with_server_used c thread.proc sent.target.manager
     (with_process_and_line (record c { room = room_for sent.target.over c.room }) thread (with_queued thread.tid sent) sent.target.manager (λ line. into rank line (message_of thread sent.target.prio.0)))
 
 -- the thread of a message that is received waits for its answer
 abbrev pub users_with_taken : Users → Thread → OwnItem → Users
 users_with_taken users thread (item.Message process number) = with_thread_row users thread taken_thread
-users_with_taken users thread (item.Unblock process number call) = users
+users_with_taken users thread _ = users
 
 abbrev pub with_first_taken : Users → Option Queued → Users
 with_first_taken users None = users
 with_first_taken users (Some first) = users_with_taken users (sender first) first.item
 
--- once the first item of a line is received
+-- once the first item of a line is received; of a disconnect pulse the node makes room for another
 abbrev pub after_receive : Channel → Manager → Channel
 after_receive c manager = record c {
   users = with_first_taken c.users (slice_get (channel_line c manager) 0);
   lines = with_line c.lines (manager_number manager) (drop 1);
+  room = c.room + nodes_freed (slice_get (channel_line c manager) 0);
 }
 
 -- a thread of a process gets an error
@@ -119,11 +121,12 @@ after_asking c thread = asked c thread (unasked_call (thread_row c.users thread)
 
 abbrev pub withdrawn : Channel → Thread → Option Call → Channel
 withdrawn c thread None = c
-withdrawn c thread (Some call) =
-    with_nodes_settled c thread.proc
-    (with_process_and_line c thread (failed thread.tid EINTR call.target.over) call.target.manager (line_without thread.proc.user.0 (item.Message thread.proc.num thread.tid)))
+withdrawn c thread (Some call) = record c {
+  users = with_process_of c.users thread.proc (failed thread.tid EINTR call.target.over);
+  lines = lines_after thread.proc.user.0 c.lines (Remove call.target.manager (item.Message thread.proc.num thread.tid) ∷ disconnects thread.proc.num (failed thread.tid EINTR call.target.over) (process_of c.users thread.proc));
+}
 
--- once the message of a thread that stands in a line is gone
+-- once the message of a thread that stands in a line is gone, and with it what its call attached
 abbrev pub after_withdrawing : Channel → Thread → Channel
 after_withdrawing c thread = withdrawn c thread (queued_call (thread_row c.users thread))
 

@@ -1,29 +1,25 @@
 -- How many more nodes can be made with no memory, as threads start and disconnect nodes come and go.
-use Rattle.std.specs.Prelude.{ℕ, ◌+◌, ◌-◌, ◌*◌, Bool, true, false, Option, Some, None, Result, Ok, Err, count_by, if◌then◌else◌, max}
-use Rattle.qx_types.specs.Managers.{manager_number, managers}
+use Rattle.std.specs.Prelude.{ℕ, ◌-◌, ◌*◌, ◌&&◌, not, Bool, true, false, Option, Some, None, Result, Ok, Err, if◌then◌else◌, max}
+use Rattle.qx_types.specs.declared.names.Manager.{Manager}
 use Rattle.qx_types.specs.declared.outcome.Outcome.{Outcome}
 use Rattle.qx_machine.specs.declared.rows.Over.{Over}
 use Rattle.qx_machine.specs.declared.rows.Over.TheVariants.{Existing}
 use Rattle.qx_machine.specs.Processes.{Process}
-use Rattle.qx_machine.specs.Servers.{is_attached}
+use Rattle.qx_process.specs.Reads.{is_served}
 
--- something of the process is attached to the manager of that number
-abbrev pub attached_at : ℕ → Option Process → Bool
-attached_at number None = false
-attached_at number (Some process) = is_attached number process.connections process.sides
+-- a server connection of the process is in use at the manager
+abbrev pub served_at : Manager → Option Process → Bool
+served_at manager None = false
+served_at manager (Some process) = is_served manager process
 
 -- a call attaches what its message goes over
 abbrev pub attaches : Over → Bool
 attaches (Existing coid) = false
 attaches _ = true
 
--- how many disconnect nodes a process has: one for each manager to which something of it is attached
-abbrev pub disconnect_nodes : Option Process → ℕ
-disconnect_nodes process = count_by (λ manager. attached_at (manager_number manager) process) managers
-
--- the room once a process that was like that is like this: its disconnect nodes came out of the room, or went back
-abbrev pub room_settled : ℕ → Option Process → Option Process → ℕ
-room_settled room before after = room + disconnect_nodes before - disconnect_nodes after
+-- the room once a server connection is in use or not, as one was or was not before: the disconnect node of a new one came out of it
+abbrev pub room_used : ℕ → Bool → Bool → ℕ
+room_used room before after = if after && not before then room - 1 else room
 
 -- once two nodes for each thread of a process came out of it, if its start was not refused
 abbrev pub room_started : ℕ → ℕ → Result ℕ Outcome → ℕ

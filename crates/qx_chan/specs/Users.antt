@@ -1,15 +1,17 @@
 -- The processes of all users, and one process or thread among them.
-use Rattle.std.specs.Prelude.{◌≡◌, ℕ, [], ◌∷◌, List, Option, Some, None, Result, Err, replicate}
+use Rattle.std.specs.Prelude.{◌≡◌, ⊤, ℕ, [], ◌∷◌, List, Option, Some, None, Result, Err, replicate}
 use Rattle.qx_types.specs.declared.names.Proc.{Proc}
 use Rattle.qx_types.specs.declared.names.Thread.{Thread}
 use Rattle.qx_types.specs.declared.outcome.Outcome.{Outcome}
 use Rattle.qx_types.specs.declared.outcome.Outcome.TheVariants.{WrongState}
 use Rattle.qx_machine.specs.declared.rows.State.TheVariants.{Ready}
+use Rattle.qx_machine.specs.declared.rows.Target.{Target}
 use Rattle.qx_machine.specs.declared.rows.ThreadRow.{ThreadRow}
 use Rattle.qx_machine.specs.Clients.{spawn_number}
 use Rattle.qx_machine.specs.Parts.{thread_of}
 use Rattle.qx_machine.specs.Processes.{Process, with_thread}
 use Rattle.qx_machine.specs.Rows.{row_at, with_row}
+use Rattle.qx_process.specs.Reads.{UsesBy}
 use Rattle.qx_procs.specs.Calls.{done_or, with_prio}
 
 -- by user and by process, both from 1
@@ -54,3 +56,11 @@ prio_outcome_in process thread prio (Some processes) = done_or (with_prio proces
 abbrev pub IsThreadReady : Option ThreadRow → Type 0
 IsThreadReady None = ⊥
 IsThreadReady (Some row) = row.state ≡ Ready
+
+-- ---- server connections
+
+-- what a process that is there uses, once it has attached what a message goes over
+abbrev pub UsesAt : Target → Option Process → Option Process → Type 0
+UsesAt target (Some before) (Some after) = UsesBy target.over target.manager before after
+UsesAt target None None = ⊤
+UsesAt target _ _ = ⊥

@@ -5,19 +5,20 @@
 ghost use Rattle.std.specs.Prelude.{◌≡◌, ◌*◌, ◌<◌, ◌≤◌, Ok, length, max, slice_get, IfOk, IfSome, IsErr, IsOk, IsTrue, OnOk, OnErr};
 ghost use Rattle.std.specs.Option.{option_copied};
 ghost use Rattle.qx_machine.specs.Events.{first_pulse};
+ghost use Rattle.qx_machine.specs.Processes.{without_server};
 ghost use Rattle.qx_machine.specs.Rows.{row_at};
 ghost use Rattle.qx_process.specs.Reads.{CanCall, CanGo, IsPriority, IsRanked};
-ghost use Rattle.qx_procs.specs.Calls.{spawn_outcome};
+ghost use Rattle.qx_procs.specs.Calls.{CanAttachAt, spawn_outcome};
 ghost use Rattle.qx_chan.specs.Calls.{answer_of, queued_call, unasked_call};
 ghost use Rattle.qx_chan.specs.inner.Calls.{taken_call};
 ghost use Rattle.qx_chan.specs.Channel.{IsExisting, after_asking, after_pulse, after_ranking, after_receive, after_send, after_spawn, after_taking, after_withdrawing, channel_events, channel_line, empty_channel, pulse_outcome};
 ghost use Rattle.qx_chan.specs.Nodes.{room_for};
-ghost use Rattle.qx_chan.specs.Users.{IsThreadReady, prio_outcome_in, process_of, spawn_number_in, thread_row};
+ghost use Rattle.qx_chan.specs.Users.{IsThreadReady, prio_outcome_in, process_of, spawn_number_in, thread_row, with_process_of};
 
 use crate::call::{self, Call};
 use crate::servers;
 use crate::users::Users;
-use qx_machine::{OwnItem, Queued, Sent, ThreadRow};
+use qx_machine::{OwnItem, Queued, Sent, ServerName, ThreadRow};
 use qx_process::Process;
 use qx_procs::Processes;
 use qx_resources::Waits;
@@ -143,6 +144,7 @@ impl Channel {
         requires ready { IsThreadReady (thread_row self.old.users thread) }
         requires countable { CanCall (thread_row self.old.users thread) }
         requires target { CanGo sent.target }
+        requires place { CanAttachAt (process_of self.old.users thread.proc) sent.target }
         ensures ok { OnOk result (self.new ≡ after_send self.old thread sent) }
         ensures had_room { IsExisting sent.target.over → IfSome (thread_row self.old.users thread) (λ row. IsTrue row.has_room) → IsOk result }
         ensures err { OnErr result (self.new ≡ record self.old { room = self.new.room }) }
@@ -171,7 +173,7 @@ impl Channel {
                 },
                 tid: thread,
             }),
-            OwnItem::Unblock { .. } => {}
+            OwnItem::Unblock { .. } | OwnItem::Disconnect { .. } => {}
         }
         Some(first)
     }
@@ -193,7 +195,8 @@ impl Channel {
     }
 
     /// Takes a thread's message out of the line that it stands in: the thread is answered EINTR, and what its call attached
-    /// goes (C Library Reference: `MsgSend`, EINTR). Nothing happens where no message of the thread stands in a line.
+    /// goes, with the disconnect pulse of a process that has lost its last connection by that (C Library Reference: `MsgSend`,
+    /// EINTR). Nothing happens where no message of the thread stands in a line.
     pub fn withdraw(&mut self, thread: Thread)
         ensures withdrawn { self.new ≡ after_withdrawing self.old thread }
     {
@@ -201,9 +204,18 @@ impl Channel {
             return;
         };
         self.waits.shared.withdraw(call.target.manager, thread);
-        self.users
+        let lost = self
+            .users
             .fail(thread, call.target.over, Errno::EINTR, None);
-        servers::settle(&mut self.waits.shared, &self.users, thread.proc);
+        servers::disconnect(&mut self.waits.shared, thread.proc, lost);
+    }
+
+    /// A server connection of a process goes, as the disconnect pulse that was made for it is performed; nothing happens where it
+    /// was not left (Writing a Resource Manager: `_PULSE_CODE_DISCONNECT`).
+    pub fn free_server(&mut self, proc: Proc, server: ServerName)
+        ensures freed { self.new ≡ record self.old { users = with_process_of self.old.users proc (without_server server) } }
+    {
+        self.users.free_server(proc, server);
     }
 
     /// A thread takes its answer and is ready (C Library Reference: what `MsgSend` returns). None where it is not there or

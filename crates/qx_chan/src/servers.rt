@@ -1,14 +1,15 @@
-//! The disconnect nodes of server connections, which come and go with what a process has attached.
+//! The disconnect nodes of server connections, which come with what a process attaches, and go into lines as pulses.
 
-ghost use Rattle.std.specs.Prelude.{◌≡◌, ◌≤◌, slice_get, IsFalse, IsOk, IsTrue, OnOk, OnErr};
-ghost use Rattle.qx_types.specs.Managers.{manager_number, managers};
-ghost use Rattle.qx_shared.specs.Shared.{HasThread};
-ghost use Rattle.qx_chan.specs.inner.Kept.{servers_settled, settled_number, with_attached, with_room};
-ghost use Rattle.qx_chan.specs.Nodes.{attached_at, attaches};
+ghost use Rattle.std.specs.Prelude.{◌≡◌, ◌≤◌, IfSome, IsFalse, IsOk, IsTrue, OnOk, OnErr};
+ghost use Rattle.std.specs.Option.{option_to_list};
+ghost use Rattle.qx_types.specs.Managers.{manager_number};
+ghost use Rattle.qx_shared.specs.Shared.{HasThread, has_disconnect_node};
+ghost use Rattle.qx_chan.specs.inner.Kept.{with_attached, with_lost, with_room};
+ghost use Rattle.qx_chan.specs.Nodes.{attaches, served_at};
 ghost use Rattle.qx_chan.specs.Users.{process_of};
 
 use crate::users::Users;
-use qx_machine::{Over, Target};
+use qx_machine::{Over, ServerName, Target};
 use qx_shared::Shared;
 use qx_types::{Manager, Proc};
 use std::alloc::AllocError;
@@ -25,8 +26,8 @@ pub fn reserve(queues: &mut Shared, over: Over) -> Result<(), AllocError>
     queues.reserve(1)
 }
 
-/// A process has the disconnect nodes of what it has attached, once its call has attached what the message goes over. There
-/// is room for one.
+/// A process has the disconnect node of the server connection that is in use, once its call has attached what the message goes
+/// over. There is room for one.
 pub fn attach(queues: &mut Shared, users: &Users, proc: Proc, target: Target)
     requires started { HasThread queues.old proc }
     requires room { IsTrue (attaches target.over) → 1 ≤ queues.old.room }
@@ -35,39 +36,32 @@ pub fn attach(queues: &mut Shared, users: &Users, proc: Proc, target: Target)
     if let Over::Existing(_) = target.over {
         return;
     }
+    if !is_served(users, proc, target.manager) {
+        return;
+    }
     match queues.add_server(proc, target.manager) {
-        Ok(()) => settle(queues, users, proc),
+        Ok(()) => {}
         Err(_) => unreachable!(),
     }
 }
 
-/// A process keeps the disconnect nodes of the managers where something of it is attached, and no other.
-pub fn settle(queues: &mut Shared, users: &Users, proc: Proc)
-    ensures settled { queues.new ≡ servers_settled proc (process_of users.now proc) managers queues.old }
-{
-    for number in 0..Manager::COUNT {
-        settle_at(queues, users, proc, number);
-    }
-}
-
-/// The disconnect node at the manager of a number stays if something of the process is attached there.
-fn settle_at(queues: &mut Shared, users: &Users, proc: Proc, number: usize)
-    ensures settled { queues.new ≡ settled_number proc (process_of users.now proc) (slice_get managers number) queues.old }
-{
-    let Some(manager) = Manager::of_number(number) else {
-        return;
-    };
-    if !is_attached(users, proc, manager) {
-        queues.remove_server(proc, manager);
-    }
-}
-
-/// Whether something of a process is attached to a manager.
-fn is_attached(users: &Users, proc: Proc, manager: Manager) -> bool
-    ensures attached { result ≡ attached_at (manager_number manager) (process_of users.now proc) }
+/// Whether a process has a server connection in use at a manager.
+fn is_served(users: &Users, proc: Proc, manager: Manager) -> bool
+    ensures served { result ≡ served_at manager (process_of users.now proc) }
 {
     match users.process(proc) {
-        Some(process) => process.server(manager).is_some(),
+        Some(process) => process.is_served(manager),
         None => false,
+    }
+}
+
+/// The disconnect pulse of a process that has lost a server connection goes into its manager's line (Writing a Resource
+/// Manager: `_PULSE_CODE_DISCONNECT`).
+pub fn disconnect(queues: &mut Shared, proc: Proc, lost: Option<ServerName>)
+    requires there { IfSome lost (λ server. IsTrue (has_disconnect_node queues.old proc (manager_number server.manager))) }
+    ensures disconnected { queues.new ≡ with_lost proc (option_to_list lost) queues.old }
+{
+    if let Some(server) = lost {
+        queues.disconnect(proc, server);
     }
 }

@@ -1,6 +1,6 @@
 //! Messages and unblock pulses, as a worker performs them.
 
-ghost use Rattle.std.specs.Prelude.{◌≡◌, ◌≤◌, List, ℕ, Some, length, IfOk, IfSome, IsFalse, IsOk, IsSome, IsTrue, None, OnErr, OnOk};
+ghost use Rattle.std.specs.Prelude.{◌≡◌, ◌≤◌, List, ℕ, Option, Some, length, IfOk, IfSome, IsFalse, IsOk, IsSome, IsTrue, None, OnErr, OnOk};
 ghost use Rattle.std.specs.Option.{option_copied};
 ghost use Rattle.qx_types.specs.Managers.{manager_number};
 ghost use Rattle.qx_types.specs.declared.limits.TheConstants.Limits.{BODY};
@@ -11,17 +11,19 @@ ghost use Rattle.qx_machine.specs.Processes as machine;
 ghost use Rattle.qx_machine.specs.Processes.{served_thread};
 ghost use Rattle.qx_machine.specs.Wants.{bytes_want_memory, thread_wants_memory};
 ghost use Rattle.qx_machine.specs.declared.rows.OwnItem.TheVariants as item;
+ghost use Rattle.qx_machine.specs.declared.rows.ServerName.{ServerName};
 ghost use Rattle.qx_process.specs.Reads.{is_waiting};
 ghost use Rattle.qx_queues.specs.Queues.{unblock_call};
 ghost use Rattle.qx_shared.specs.Shared.{IsReceived, shared_line};
 ghost use Rattle.qx_resmgr.specs.Deeds.{IsReplied};
 ghost use Rattle.qx_resources.specs.Ranges.{IsInRanges};
 ghost use Rattle.qx_resources.specs.State.{HasUser, told};
+ghost use Rattle.qx_procs.specs.Calls.{LosesAt};
 ghost use Rattle.qx_chan.specs.inner.Answers.{answered_queues, answered_users};
 ghost use Rattle.qx_chan.specs.inner.Calls.{taken_call};
 ghost use Rattle.qx_chan.specs.Calls.{taken_of};
-ghost use Rattle.qx_chan.specs.Nodes.{room_settled};
 ghost use Rattle.qx_chan.specs.Serving.{IsReadOf, Serves, part_in, settled};
+ghost use Rattle.qx_chan.specs.inner.Kept.{HasServerNodes};
 ghost use Rattle.qx_chan.specs.inner.Serving.{Comes, Sends, caller_of_call, deed_in};
 ghost use Rattle.qx_chan.specs.Users.{process_of, thread_row, with_thread_row};
 
@@ -58,7 +60,7 @@ impl Channel {
         requires user { resources.old.user ≡ thread.proc.user.0 }
         requires read { IsReadOf (option_copied read) (taken_of (thread_row self.old.users thread)) }
         ensures ok { OnOk result (Serves self.old self.new resources.old resources.new (λ part. settled part (or_kept part (serve_message part thread.proc.num thread.tid moment)))) }
-        ensures room { OnOk result (self.new.room ≡ room_settled self.old.room (process_of self.old.users thread.proc) (process_of self.new.users thread.proc)) }
+        ensures room { OnOk result (self.new.room ≡ self.old.room) }
         ensures err { OnErr result ((self.new ≡ self.old) × (resources.new ≡ resources.old)) }
         ensures sure { IsFalse (thread_wants_memory (part_in self.old resources.old) thread.proc.num thread.tid moment) → IsOk result }
     {
@@ -161,13 +163,15 @@ fn answer(
     requires fits { length reply.now ≤ BODY }
     requires room { IsReplied given → IsSome room }
     requires served { IfSome (thread_row users.old message.thread) (λ row. IsTrue (is_waiting row.state)) }
+    requires nodes { HasServerNodes users.old queues.old message.thread.proc }
     ensures users { users.new ≡ answered_users users.old message.thread message.call.target.over reply.now given }
-    ensures queues { queues.new ≡ answered_queues queues.old users.new message.thread message.call given }
+    ensures queues { queues.new ≡ answered_queues queues.old users.old users.new message.thread message.call given }
+    ensures lost { IsReplied given → (lost : Option ServerName) × LosesAt lost (process_of users.old message.thread.proc) (process_of users.new message.thread.proc) }
     ensures gone { IsReplied given → unblock_call (shared_line queues.old (manager_number message.call.target.manager)) message.thread ≡ Some message.call.number → unblock_call (line_without message.thread.proc.user.0 (item.Unblock message.thread.proc.num message.thread.tid message.call.number) (shared_line queues.old (manager_number message.call.target.manager))) message.thread ≡ None }
 {
     let TakenMessage { thread, call, .. } = message;
     let over = call.target.over;
-    match given {
+    let lost = match given {
         Ok(Done::NoReply) => return,
         Ok(Done::Reply { status, effect }) => {
             let bytes = reply_bytes(&mut room, reply);
@@ -176,12 +180,12 @@ fn answer(
                 bytes,
                 effect,
             };
-            users.reply(thread, over, replied, room);
+            users.reply(thread, over, replied, room)
         }
         Err(error) => users.fail(thread, over, error, room),
-    }
+    };
     queues.reply(call.target.manager, thread, call.number);
-    servers::settle(queues, users, thread.proc);
+    servers::disconnect(queues, thread.proc, lost);
 }
 
 /// Whose message a call is.

@@ -6,18 +6,18 @@ ghost use Rattle.std.specs.Borrow.{sem};
 ghost use Rattle.qx_types.specs.declared.limits.TheConstants.Limits.{PROCESSES};
 ghost use Rattle.qx_types.specs.declared.outcome.Answer.TheVariants.{Failed, Reply};
 ghost use Rattle.qx_machine.specs.Clients.{spawn_number};
-ghost use Rattle.qx_machine.specs.Processes.{after_effect, answered_thread, asked_thread, served_thread, taken_thread, with_queued};
+ghost use Rattle.qx_machine.specs.Processes.{answered_thread, asked_thread, served_thread, taken_thread, with_queued, without_server};
 ghost use Rattle.qx_machine.specs.Rows.{row_at, with_row};
 ghost use Rattle.qx_process.specs.Reads.{unserved_thread, BringsRoom, CanCall, CanGo, IsRanked, has_own_room};
-ghost use Rattle.qx_procs.specs.Calls.{spawned};
+ghost use Rattle.qx_procs.specs.Calls.{CanAttachAt, LosesAt, spawned};
 ghost use Rattle.qx_chan.specs.inner.Calls.{taken_bytes};
 ghost use Rattle.qx_chan.specs.Channel.{failed};
 ghost use Rattle.qx_chan.specs.inner.Channel.{process_replied};
 ghost use Rattle.qx_chan.specs.inner.Users.{HasPlace};
-ghost use Rattle.qx_chan.specs.Users.{no_processes, process_of, thread_row, with_process_of, with_thread_row};
+ghost use Rattle.qx_chan.specs.Users.{UsesAt, no_processes, process_of, thread_row, with_process_of, with_thread_row};
 
 use crate::call::Replied;
-use qx_machine::{Effect, Over, Sent, ThreadRow};
+use qx_machine::{Over, Sent, ServerName, ThreadRow};
 use qx_process::{Process, Room, ThreadCell, places};
 use qx_procs::Processes;
 use qx_types::{Answer, Errno, MessageBytes, Prio, Proc, Thread, User};
@@ -119,7 +119,9 @@ impl Users {
     pub fn send(&mut self, alloc: Global, thread: Thread, sent: Sent) -> Result<(), AllocError>
         requires call { CanCall (thread_row self.old thread) }
         requires target { CanGo sent.target }
+        requires place { CanAttachAt (process_of self.old thread.proc) sent.target }
         ensures ok { OnOk result (self.new ≡ with_process_of self.old thread.proc (with_queued thread.tid sent)) }
+        ensures uses { OnOk result (UsesAt sent.target (process_of self.old thread.proc) (process_of self.new thread.proc)) }
         ensures had_room { IfSome (thread_row self.old thread) (λ row. IsTrue (has_own_room row)) → IsOk result }
         ensures err { OnErr result (self.new ≡ self.old) }
     {
@@ -182,44 +184,55 @@ impl Users {
         }
     }
 
-    /// A thread gets a reply, once its message has done what it does to the connection that it came over, with the room for
-    /// its replies, unless the reply took that along.
+    /// A thread gets a reply, with the room for its replies, unless the reply took that along, and its message does what it does
+    /// to what it came over. Gives the server connection that its process has lost with that.
     #[tactic(auto, using(crate::proofs::ProcessLemmas::lends))]
-    pub fn reply(&mut self, thread: Thread, over: Over, replied: Replied, room: Option<Room>)
+    pub fn reply(
+        &mut self,
+        thread: Thread,
+        over: Over,
+        replied: Replied,
+        room: Option<Room>,
+    ) -> Option<ServerName>
         requires room { BringsRoom (Reply replied.status replied.bytes) room (thread_row self.old thread) }
         ensures replied { self.new ≡ with_process_of self.old thread.proc (process_replied thread.tid replied.effect replied.status replied.bytes over) }
+        ensures lost { LosesAt result (process_of self.old thread.proc) (process_of self.new thread.proc) }
     {
         let Replied {
             status,
             bytes,
             effect,
         } = replied;
-        if let Some(process) = self.process_mut(thread.proc) {
-            apply(process, effect);
-            process.reply(thread.tid, over, status, bytes, room);
-        }
+        let process = self.process_mut(thread.proc)?;
+        process.answer(thread.tid, Answer::Reply(status, bytes), room);
+        process.conclude(thread.tid, over, effect)
     }
 
     /// A thread gets an error, which gives back what its call attached, with the room for its replies where that had gone.
+    /// Gives the server connection that its process has lost with that.
     #[tactic(auto, using(crate::proofs::ProcessLemmas::lends))]
-    pub fn fail(&mut self, thread: Thread, over: Over, error: Errno, room: Option<Room>)
+    pub fn fail(
+        &mut self,
+        thread: Thread,
+        over: Over,
+        error: Errno,
+        room: Option<Room>,
+    ) -> Option<ServerName>
         requires room { BringsRoom (Failed error) room (thread_row self.old thread) }
         ensures failed { self.new ≡ with_process_of self.old thread.proc (failed thread.tid error over) }
+        ensures lost { LosesAt result (process_of self.old thread.proc) (process_of self.new thread.proc) }
     {
-        if let Some(process) = self.process_mut(thread.proc) {
-            process.fail(thread.tid, over, error, room);
-        }
+        self.process_mut(thread.proc)?
+            .fail(thread.tid, over, error, room)
     }
-}
 
-/// What a message does to the connection that it came over.
-fn apply(process: &mut Process, effect: Effect)
-    ensures threads { process.new.threads ≡ process.old.threads }
-    ensures process { process.new ≡ after_effect effect process.old }
-{
-    match effect {
-        Effect::Keeps => {}
-        Effect::Opens { coid, block } => process.set_block(coid, block),
-        Effect::Closes(coid) => process.detach(coid),
+    /// A server connection of a process that was left goes.
+    #[tactic(auto, using(crate::proofs::ProcessLemmas::lends))]
+    pub fn free_server(&mut self, proc: Proc, server: ServerName)
+        ensures freed { self.new ≡ with_process_of self.old proc (without_server server) }
+    {
+        if let Some(process) = self.process_mut(proc) {
+            process.free_server(server);
+        }
     }
 }

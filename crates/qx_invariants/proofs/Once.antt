@@ -1,6 +1,6 @@
 -- Of each thread that waits one call waits in its user's pipes, and of any other none, whatever steps are taken.
 use Rattle.std.proofs.Common.{◌≡◌, ◌≢◌, ◌⊎◌, inl, inr, ℕ, zero, suc, ◌+◌, ◌<◌, ◌≤◌, ◌==◌, Bool, true, false, List, [], ◌∷◌, refl, sym, ap, ◌∙◌, subst, arith}
-use Rattle.std.specs.Prelude.{◌&&◌, Option, Some, None, Result, Ok, Err, nat_le, nat_lt, option_map, replicate}
+use Rattle.std.specs.Prelude.{◌&&◌, Option, Some, None, Result, Ok, Err, is_none, nat_le, nat_lt, option_map, replicate}
 use Rattle.std.specs.List.{count_by}
 use Rattle.std.proofs.lemmas.Bool.{cond_both}
 use Rattle.std.proofs.lemmas.List.Folds.{sum_by-replicate}
@@ -29,6 +29,7 @@ use Rattle.qx_machine.specs.declared.rows.OwnItem.{OwnItem}
 use Rattle.qx_machine.specs.declared.rows.OwnItem.TheVariants as item
 use Rattle.qx_machine.specs.declared.rows.Pulse.{Pulse}
 use Rattle.qx_machine.specs.declared.rows.Sent.{Sent}
+use Rattle.qx_machine.specs.declared.rows.ServerName.{ServerName}
 use Rattle.qx_machine.specs.declared.rows.State.{State}
 use Rattle.qx_machine.specs.declared.rows.State.TheVariants as state
 use Rattle.qx_machine.specs.declared.rows.ThreadRow.{ThreadRow}
@@ -40,11 +41,11 @@ use Rattle.qx_machine.specs.Functions.{Deed, Reply}
 use Rattle.qx_machine.specs.Judgements.{found, need}
 use Rattle.qx_machine.specs.Mounting.{with_mount}
 use Rattle.qx_machine.specs.Parts.{Part, thread_at, thread_of, with_process}
-use Rattle.qx_machine.specs.Performing.{Served, after_answer, after_serving, caller_of, serve_message, serve_pulse, taken_in, with_answers}
+use Rattle.qx_machine.specs.Performing.{Served, after_answer, after_serving, caller_of, serve_disconnect, serve_message, serve_pulse, taken_in, with_answers}
 use Rattle.qx_machine.specs.PipeManager.{cancel_call}
-use Rattle.qx_machine.specs.Processes.{Process, after_effect, after_error, after_reply, answered_thread, asked_state, asked_thread, new_process, queued_thread, ranked_thread, ready_thread, served_state, served_thread, taken_state, taken_thread, with_over, with_queued, with_thread}
+use Rattle.qx_machine.specs.Processes.{Process, after_effect, after_error, after_reply, answered_thread, asked_state, asked_thread, new_process, queued_thread, ranked_thread, ready_thread, served_state, served_thread, taken_state, taken_thread, with_over, with_queued, with_thread, without_server}
 use Rattle.qx_machine.specs.Resources.{Resources}
-use Rattle.qx_machine.specs.Rows.{lowest_from, put_row, row_at}
+use Rattle.qx_machine.specs.Rows.{lowest_from, put_row, row_at, with_row}
 use Rattle.qx_machine.specs.Pipes.{Pipe}
 use Rattle.qx_machine.specs.Waiting.{is_call}
 use Rattle.qx_machine.specs.Users.{boot_part, client, serve, settle_part, take}
@@ -65,18 +66,38 @@ same_once part now h pipes same = record { once = λ p t. ap (count_waiting (is_
 -- ---- what changes one thread
 
 over_changes : (thread : ℕ) (change : ThreadRow → ThreadRow) (over : Over) (manager : Manager) → ChangesThread thread change (λ process. with_over thread manager over (with_thread thread change process))
-over_changes thread change Side manager process = refl
-over_changes thread change _ manager process = refl
+over_changes thread change (New coid) manager process = refl
+over_changes thread change (Existing coid) manager process = refl
+over_changes thread change Side manager process = cond_both {A = Process} (is_none (row_at process.sides thread)) _ _ (λ now. now.threads ≡ with_row process.threads thread change) (λ none. refl) (λ some. refl)
 
 error_changes : (thread : ℕ) (change : ThreadRow → ThreadRow) (over : Over) → ChangesThread thread change (λ row. after_error thread over (with_thread thread change row))
 error_changes thread change Side process = refl
 error_changes thread change _ process = refl
 
-reply_changes : (thread : ℕ) (change : ThreadRow → ThreadRow) (over : Over) (effect : Effect) → ChangesThread thread change (λ process. after_reply thread over (with_thread thread change (after_effect effect process)))
-reply_changes thread change (New coid) Keeps process = refl
-reply_changes thread change (Existing coid) Keeps process = refl
-reply_changes thread change Side Keeps process = refl
-reply_changes thread change _ _ process = refl
+effect_changes : (effect : Effect) (process : Process) → (after_effect effect process).threads ≡ process.threads
+effect_changes Keeps process = refl
+effect_changes _ process = refl
+
+reply_changes : (thread : ℕ) (change : ThreadRow → ThreadRow) (over : Over) (effect : Effect) → ChangesThread thread change (λ process. after_reply thread over effect (with_thread thread change process))
+reply_changes thread change (New coid) effect process = effect_changes effect (with_thread thread change process)
+reply_changes thread change (Existing coid) effect process = effect_changes effect (with_thread thread change process)
+reply_changes thread change Side effect process = refl
+
+-- ---- what changes none
+
+-- a server connection goes with its disconnect pulse
+unserved_same : (processes : List (Option Process)) (number : ℕ) (server : ServerName) (p t : ℕ) → thread_of t (row_at (with_row processes number (without_server server)) p) ≡ thread_of t (row_at processes p)
+unserved_same [] number server p t = refl
+unserved_same (None ∷ rest) zero server zero t = refl
+unserved_same (Some process ∷ rest) zero server zero t = refl
+unserved_same (row ∷ rest) zero server (suc p) t = refl
+unserved_same (row ∷ rest) (suc number) server zero t = refl
+unserved_same (row ∷ rest) (suc number) server (suc p) t = unserved_same rest number server p t
+
+disconnect_once : (part : Part) → WaitsOnce part → (process : ℕ) (server : ServerName) → Gives (λ (served : Served). WaitsOnce served.part) (serve_disconnect part process server)
+disconnect_once part h process server =
+    gives_on _ (found (row_at part.processes process) WrongState) _ (λ row is.
+    gives_done _ _ (same_once part (with_process process (without_server server) part) h refl (λ p t. ap waits (unserved_same part.processes process server p t))))
 
 -- ---- states
 
@@ -199,12 +220,14 @@ pub serve_once : (config : Configuration) (user : ℕ) (held : List OwnItem) (pa
 unfolding serve
 serve_once config user held part (item.Message process thread) moment h = kept-keeps WaitsOnce part h.waits_once _ (message_once part h process thread moment)
 serve_once config user held part (item.Unblock process thread number) moment h = kept-keeps WaitsOnce part h.waits_once _ (pulse_once part h process thread number moment)
+serve_once config user held part (item.Disconnect process server) moment h = kept-keeps WaitsOnce part h.waits_once _ (disconnect_once part h.waits_once process server)
 
 pub take_once : (part : Part) (own : OwnItem) → WaitsOnce part → WaitsOnce (take part own)
 unfolding take
 take_once part (item.Message process thread) h =
     same_once part (with_process process (with_thread thread taken_thread) part) h refl (thread_same part process thread taken_thread (with_thread thread taken_thread) (λ row. refl) (λ row is. taken_same row.state))
 take_once part (item.Unblock process thread number) h = h
+take_once part (item.Disconnect process server) h = h
 
 pub settle_once : (before : Part) (held : List OwnItem) (after : Part) → WaitsOnce after → WaitsOnce (settle_part before held after)
 unfolding settle_part

@@ -33,7 +33,7 @@ use Rattle.qx_machine.specs.Judgements.{found, need, or_refused}
 use Rattle.qx_machine.specs.Mounting.{new_mount}
 use Rattle.qx_machine.specs.Notification.{block_conditions, events_settled}
 use Rattle.qx_machine.specs.Parts.{Part, thread_at, Change as LineChange}
-use Rattle.qx_machine.specs.Performing.{Served, after_answer, context_of, deed_of, dup_of, or_kept, read_message, serve_message, serve_pulse, taken_in, with_answers}
+use Rattle.qx_machine.specs.Performing.{Served, after_answer, context_of, deed_of, dup_of, or_kept, read_message, serve_disconnect, serve_message, serve_pulse, taken_in, with_answers}
 use Rattle.qx_machine.specs.PipeManager.{cancel_call}
 use Rattle.qx_machine.specs.Processes.{Process}
 use Rattle.qx_machine.specs.Resources.{Resources}
@@ -48,6 +48,7 @@ use Rattle.std.proofs.lemmas.Option.{same_Some}
 use Rattle.qx_types.specs.Step.{actor_of, user_of}
 use Rattle.qx_types.specs.declared.names.Actor.{Actor}
 use Rattle.qx_machine.specs.declared.rows.Held.{Held}
+use Rattle.qx_machine.specs.declared.rows.ServerName.{ServerName}
 use Rattle.qx_machine.specs.Machine.{World, boot, boot_parts, client_step, own_held, performed_part, received_part, server_step, step, step_end, step_of, with_empty_hand, with_taken}
 use Rattle.qx_machine.specs.Runs.{run, world_after}
 use Rattle.qx_machine.proofs.Places.{row_at-set_cases, row_at-set_other}
@@ -107,15 +108,20 @@ module _ (K : Resources → Type 0) (keeps : (change : ResourceChange) (r : Reso
       gives_by (λ (deed : Deed Resources). K deed.state) _ (cancel_call part.resources process thread number moment) _ (cancel-gives (λ r told. K r) (λ change r told. keeps change r) (record { process = process; thread = thread; call = number; is_asked = true }) part.resources h process thread number moment) (λ deed kept.
       gives_done _ _ (subst K (sym (answers-resources deed.answers _)) kept))
 
+  disconnect-gives : (part : Part) → Keeps part → (process : ℕ) (server : ServerName) → Gives (λ (served : Served). Keeps served.part) (serve_disconnect part process server)
+  disconnect-gives part h process server = gives_on _ (found (row_at part.processes process) WrongState) _ (λ row is. gives_done _ _ h)
+
   pub serve-keeps : (config : Configuration) (user : ℕ) (held : List OwnItem) (part : Part) (own : OwnItem) (moment : ℕ) → Keeps part → Keeps (serve config user held part own moment).part
   unfolding serve
   serve-keeps config user held part (item.Message process thread) moment h = kept-keeps Keeps part h _ (message-gives part h process thread moment)
   serve-keeps config user held part (item.Unblock process thread number) moment h = kept-keeps Keeps part h _ (pulse-gives part h process thread number moment)
+  serve-keeps config user held part (item.Disconnect process server) moment h = kept-keeps Keeps part h _ (disconnect-gives part h process server)
 
   pub take-keeps : (part : Part) (own : OwnItem) → Keeps part → Keeps (take part own)
   unfolding take
   take-keeps part (item.Message process thread) h = h
   take-keeps part (item.Unblock process thread number) h = h
+  take-keeps part (item.Disconnect process server) h = h
 
   -- ---- what the end of a step settles
 

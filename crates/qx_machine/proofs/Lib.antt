@@ -8,6 +8,8 @@ pub mod Listings
 pub mod Orders
 -- a perform, in its user's view and in others'
 pub mod Performs
+-- how many items the performing of an item puts into lines
+pub mod Puts
 -- rows under numbers
 pub mod Places
 -- a receive, in its user's view and in others'

@@ -1,7 +1,6 @@
 -- How a call of a thread is judged, and what it sends.
-use Rattle.std.specs.Prelude.{ℕ, ⊤, List, [], ◌&&◌, ◌||◌, Bool, true, false, Option, Some, None, Result, Ok, length, nat_le, nat_lt, count_by, is_some}
+use Rattle.std.specs.Prelude.{ℕ, ⊤, List, [], ◌&&◌, ◌||◌, Bool, true, false, Option, Some, None, Result, Ok, length, nat_le, nat_lt, count_by, is_some, sum_by}
 use Rattle.qx_types.specs.Configuration.{Configuration, name_bytes}
-use Rattle.qx_types.specs.Managers.{manager_number}
 use Rattle.qx_types.specs.declared.errno.Errno.{Errno}
 use Rattle.qx_types.specs.declared.errno.Errno.TheVariants.{EAGAIN, EBADF, EINVAL, EMFILE}
 use Rattle.qx_types.specs.declared.limits.TheConstants.Limits.{CALLS, FIRST_CONNECTION, LAST_CONNECTION, MESSAGE, SERVERS}
@@ -27,8 +26,9 @@ use Rattle.qx_machine.specs.declared.rows.State.{State}
 use Rattle.qx_machine.specs.declared.rows.State.TheVariants.{Ready}
 use Rattle.qx_machine.specs.declared.rows.ThreadRow.{ThreadRow}
 use Rattle.qx_machine.specs.Judgements.{◌>>=◌, found, need, or_refused}
-use Rattle.qx_machine.specs.Processes.{Process}
+use Rattle.qx_machine.specs.Processes.{Process, servers_at}
 use Rattle.qx_machine.specs.Rows.{row_at, lowest_from}
+use Rattle.qx_machine.specs.Servers.{in_use}
 
 -- what a request sends; of a path, what is behind its mount
 abbrev pub content_of : Request → List (List ℕ) → Content
@@ -86,14 +86,14 @@ address (request.Chmod coid mode) = Uses coid.0
 address (request.Notify coid action conds code value) = Uses coid.0
 address (request.Raw coid bytes) = Uses coid.0
 
-abbrev pub has_server : ℕ → Option Process → Bool
-has_server number None = false
-has_server number (Some process) = is_some (row_at process.servers number)
+-- how many server connections a process has at a manager, those whose disconnect pulse was made among them
+abbrev pub server_count : Manager → Option Process → ℕ
+server_count manager None = 0
+server_count manager (Some process) = count_by is_some (servers_at manager process)
 
--- the process has a server connection at the manager, or the user may have one more there
+-- the process has a server connection in use at the manager, or the user may have one more there
 abbrev pub can_serve : List (Option Process) → Process → Manager → Bool
-can_serve processes process manager =
-    is_some (row_at process.servers (manager_number manager)) || nat_lt (count_by (has_server (manager_number manager)) processes) SERVERS
+can_serve processes process manager = is_some (in_use (servers_at manager process)) || nat_lt (sum_by (server_count manager) processes) SERVERS
 
 -- the lowest free connection (C Library Reference: EMFILE)
 abbrev pub free_connection : Process → Result ℕ Outcome

@@ -26,8 +26,8 @@ use Rattle.qx_machine.specs.Calls.{address, bytes_of, content_of, is_ready, may_
 use Rattle.qx_machine.specs.Events.{first_pulse, without_first_pulse}
 use Rattle.qx_machine.specs.Judgements.{◌>>=◌, found, need, or_refused}
 use Rattle.qx_machine.specs.Mounting.{new_mount, with_mount}
-use Rattle.qx_machine.specs.Parts.{Part, Change, Put, Remove, thread_at, with_process, with_thread_of}
-use Rattle.qx_machine.specs.Performing.{after_answer}
+use Rattle.qx_machine.specs.Parts.{Part, Change, Put, Remove, disconnects, thread_at, with_process, with_thread_of}
+use Rattle.qx_machine.specs.Performing.{after_answer, after_message}
 use Rattle.qx_machine.specs.Processes.{Process, asked_thread, new_process, with_queued, ranked_thread, ready_thread}
 use Rattle.qx_machine.specs.Rows.{lowest_from, put_row, row_at}
 
@@ -109,12 +109,13 @@ set_prio part thread prio = do
   Ok (record { outcome = Done; part = with_thread_of thread (ranked_thread prio) part; changes = [] })
 
 -- an interrupt of a thread whose message stands in a line: the message goes, the thread is answered EINTR, and what its call attached
--- goes too (C Library Reference: MsgSend, EINTR)
+-- goes too, with the disconnect pulse of a process that lost its last connection by that (C Library Reference: MsgSend, EINTR)
 abbrev pub dismiss : Part → Thread → Sent → ClientStep
 dismiss part thread sent = record {
   outcome = Done;
   part = after_answer part thread.proc.num thread.tid sent.target.over (Err EINTR);
-  changes = Remove sent.target.manager (item.Message thread.proc.num thread.tid) ∷ [];
+  changes = Remove sent.target.manager (item.Message thread.proc.num thread.tid) ∷
+      disconnects thread.proc.num (after_message thread.tid sent.target.over (Err EINTR)) (row_at part.processes thread.proc.num);
 }
 
 -- of one whose message was received: the message is marked, and a pulse asks its manager to unblock the thread from the call, with the

@@ -1,7 +1,7 @@
 -- A first script: one user's process opens its root, closes it, opens it again and asks for its status.
 use Rattle.std.specs.Prelude.{ℕ, List, [], ◌∷◌, ◌++◌, map, replicate}
 use Rattle.qx_types.specs.Configuration.{Configuration}
-use Rattle.qx_types.specs.declared.names.Item.TheVariants.{Message}
+use Rattle.qx_types.specs.declared.names.Item.TheVariants.{Message, Disconnect}
 use Rattle.qx_types.specs.declared.names.Manager.TheVariants.{Ram}
 use Rattle.qx_types.specs.declared.names.Thread.{Thread}
 use Rattle.qx_types.specs.declared.outcome.Outcome.{Outcome}
@@ -25,6 +25,10 @@ abbrev pub exchange : Request → ℕ → List Step
 exchange request moment =
     Call ann request ∷ Receive (record { 0 = 1 }) Ram ∷ Perform (record { 0 = 1 }) moment ∷ TakeReply ann ∷ []
 
+-- what the worker does for a disconnect pulse at a moment
+abbrev pub pulse : ℕ → List Step
+pulse moment = Receive (record { 0 = 1 }) Ram ∷ Perform (record { 0 = 1 }) moment ∷ []
+
 -- an open of ann's root, /ann, to read
 abbrev pub open_root : Request
 open_root = OpenPath (47 ∷ 97 ∷ 110 ∷ 110 ∷ []) (record { 0 = 1 }) 0
@@ -34,6 +38,7 @@ first_script =
     Spawn (record { 0 = 1 }) 1 (record { 0 = 10 }) ∷
     exchange open_root 5 ++
     exchange (Close (record { 0 = 3 })) 6 ++
+    pulse 6 ++
     exchange open_root 7 ++
     exchange (Fstat (record { 0 = 3 })) 8
 
@@ -41,12 +46,16 @@ first_script =
 abbrev pub exchanged : ℕ → List ℕ → List Outcome
 exchanged status bytes = Sent ∷ Took (Message ann) ∷ Handled ∷ Reply status bytes ∷ []
 
+-- the outcomes of a disconnect pulse, once the process has no connection any more
+abbrev pub pulsed : List Outcome
+pulsed = Took (Disconnect ann.proc) ∷ Handled ∷ []
+
 -- the status of ann's root: inode 1, a directory of mode 0700 with one link, of user 1, empty, never changed
 abbrev pub root_status : List ℕ
 root_status = 1 ∷ 0 ∷ 0 ∷ 0 ∷ 2 ∷ 0 ∷ 192 ∷ 1 ∷ 1 ∷ 0 ∷ 0 ∷ 0 ∷ 1 ∷ 0 ∷ 0 ∷ 0 ∷ replicate 24 0
 
 abbrev pub first_outcomes : List Outcome
-first_outcomes = Spawned 1 ∷ exchanged 3 [] ++ exchanged 0 [] ++ exchanged 3 [] ++ exchanged 0 root_status
+first_outcomes = Spawned 1 ∷ exchanged 3 [] ++ exchanged 0 [] ++ pulsed ++ exchanged 3 [] ++ exchanged 0 root_status
 
 -- the outcomes that a run stored
 abbrev pub outcomes_of : Run → List Outcome

@@ -1,11 +1,14 @@
 -- The words of the machine's laws.
-use Rattle.std.specs.Prelude.{◌≡◌, ℕ, ◌≤◌, Bool, true, false, List, [], ◌∷◌, AllPairs, if◌then◌else◌}
+use Rattle.std.specs.Prelude.{◌≡◌, ℕ, ◌≤◌, Bool, true, false, List, [], ◌∷◌, AllPairs, count_by, if◌then◌else◌}
 use Rattle.qx_types.specs.Configuration.{Configuration}
 use Rattle.qx_types.specs.declared.outcome.Outcome.{Outcome}
 use Rattle.qx_types.specs.declared.outcome.Outcome.TheVariants.{Refused, WrongState, Idle, Busy, Nothing}
 use Rattle.qx_types.specs.declared.step.Step.{Step}
 use Rattle.qx_machine.specs.declared.rows.Entry.{Entry}
+use Rattle.qx_machine.specs.declared.rows.OwnItem.{OwnItem}
+use Rattle.qx_machine.specs.declared.rows.OwnItem.TheVariants.{Message}
 use Rattle.qx_machine.specs.Machine.{World, step, owner}
+use Rattle.qx_machine.specs.Parts.{Change, Put, Remove}
 use Rattle.qx_machine.specs.Runs.{run, is_owner}
 
 -- no item has a higher priority than one before it
@@ -23,6 +26,19 @@ own_entries user w (e ∷ steps) =
 -- this holds in each world that a run reaches, of each step that is taken by or for the user there
 abbrev pub HoldsOfOwnSteps : (ℕ → World → Step → Type 0) → Type 0
 HoldsOfOwnSteps Holds = (config : Configuration) (steps : List Step) (user : ℕ) (e : Step) → is_owner user (owner (run config steps).world e) ≡ true → Holds user (run config steps).world e
+
+-- how many items changes put into lines
+abbrev pub is_put : Change → Bool
+is_put (Put manager item prio) = true
+is_put (Remove manager item) = false
+
+abbrev pub put_count : List Change → ℕ
+put_count changes = count_by is_put changes
+
+-- how many items the performing of an item may put into lines: that of a message one pulse, that of a pulse none
+abbrev pub most_put : OwnItem → ℕ
+most_put (Message process thread) = 1
+most_put _ = 0
 
 -- a step was refused at once
 abbrev pub is_refusal : Outcome → Bool

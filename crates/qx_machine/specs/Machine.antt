@@ -15,7 +15,7 @@ use Rattle.qx_types.specs.declared.step.Step.{Step}
 use Rattle.qx_types.specs.declared.step.Step.TheVariants.{Receive, Perform}
 use Rattle.qx_machine.specs.declared.rows.Held.{Held}
 use Rattle.qx_machine.specs.declared.rows.OwnItem.{OwnItem}
-use Rattle.qx_machine.specs.declared.rows.OwnItem.TheVariants.{Message, Unblock}
+use Rattle.qx_machine.specs.declared.rows.OwnItem.TheVariants.{Message, Unblock, Disconnect}
 use Rattle.qx_machine.specs.declared.rows.Queued.{Queued}
 use Rattle.qx_machine.specs.Clients.{ClientStep}
 use Rattle.qx_machine.specs.Judgements.{◌>>=◌, found, need}
@@ -55,6 +55,8 @@ abbrev pub is_same_item : OwnItem → OwnItem → Bool
 is_same_item (Message process thread) (Message other_process other_thread) = (process == other_process) && (thread == other_thread)
 is_same_item (Unblock process thread call) (Unblock other_process other_thread other_call) =
     (process == other_process) && (thread == other_thread) && (call == other_call)
+is_same_item (Disconnect process server) (Disconnect other_process other) =
+    (process == other_process) && (manager_number server.manager == manager_number other.manager) && (server.number == other.number)
 is_same_item _ _ = false
 
 -- the place of an item in a line's order
@@ -125,10 +127,11 @@ with_taken w worker manager taken = record w {
 abbrev pub named_thread : ℕ → ℕ → ℕ → Thread
 named_thread user process thread = record { proc = record { user = record { 0 = user }; num = process }; tid = thread }
 
--- the item as it is shown; of an unblock pulse, the thread
+-- the item as it is shown; of an unblock pulse, the thread, and of a disconnect pulse, the process
 abbrev pub shown_item : ℕ → OwnItem → Item
 shown_item user (Message process thread) = public.Message (named_thread user process thread)
 shown_item user (Unblock process thread call) = public.Unblock (named_thread user process thread)
+shown_item user (Disconnect process server) = public.Disconnect (record { user = record { 0 = user }; num = process })
 
 -- the item that a worker takes, the first of the line, or the outcome where it takes none
 abbrev pub item_to_take : World → ℕ → Manager → Result Held Outcome

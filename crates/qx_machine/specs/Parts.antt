@@ -1,11 +1,14 @@
 -- All rows of one user, and what a step changes in the lines.
-use Rattle.std.specs.Prelude.{ℕ, List, Option, Some, None}
+use Rattle.std.specs.Prelude.{ℕ, List, [], Option, Some, None, map, take}
+use Rattle.qx_types.specs.declared.limits.TheConstants.Limits.{PRIORITY}
 use Rattle.qx_types.specs.declared.names.Manager.{Manager}
 use Rattle.qx_types.specs.declared.names.Thread.{Thread}
 use Rattle.qx_machine.specs.declared.rows.Connection.{Connection}
 use Rattle.qx_machine.specs.declared.rows.OwnItem.{OwnItem}
+use Rattle.qx_machine.specs.declared.rows.OwnItem.TheVariants as item
+use Rattle.qx_machine.specs.declared.rows.ServerName.{ServerName}
 use Rattle.qx_machine.specs.declared.rows.ThreadRow.{ThreadRow}
-use Rattle.qx_machine.specs.Processes.{Process, with_thread}
+use Rattle.qx_machine.specs.Processes.{Process, lost_servers, with_thread}
 use Rattle.qx_machine.specs.Resources.{Resources}
 use Rattle.qx_machine.specs.Rows.{row_at, with_row}
 
@@ -38,3 +41,15 @@ with_process process change part = record part { processes = with_row part.proce
 -- one of the threads changes
 abbrev pub with_thread_of : Thread → (ThreadRow → ThreadRow) → Part → Part
 with_thread_of thread change part = with_process thread.proc.num (with_thread thread.tid change) part
+
+-- ---- disconnect pulses
+
+-- the pulse that a process has lost a server connection, with the highest priority (Writing a Resource Manager: _PULSE_CODE_DISCONNECT; its
+-- priority is this profile)
+abbrev pub disconnect : ℕ → ServerName → Change
+disconnect process server = Put server.manager (item.Disconnect process server) PRIORITY
+
+-- that of a process whose message changes it so; a message goes to one manager, so there is one at most
+abbrev pub disconnects : ℕ → (Process → Process) → Option Process → List Change
+disconnects number change None = []
+disconnects number change (Some process) = map (disconnect number) (take 1 (lost_servers process (change process)))

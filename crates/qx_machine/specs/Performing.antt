@@ -22,6 +22,7 @@ use Rattle.qx_machine.specs.declared.rows.Opened.{Opened}
 use Rattle.qx_machine.specs.declared.rows.Over.{Over}
 use Rattle.qx_machine.specs.declared.rows.OwnItem.TheVariants as item
 use Rattle.qx_machine.specs.declared.rows.Sent.{Sent}
+use Rattle.qx_machine.specs.declared.rows.ServerName.{ServerName}
 use Rattle.qx_machine.specs.declared.rows.State.{State}
 use Rattle.qx_machine.specs.declared.rows.State.TheVariants.{Taken}
 use Rattle.qx_machine.specs.declared.rows.Target.{Target}
@@ -30,9 +31,9 @@ use Rattle.qx_machine.specs.declared.rows.WaitingCall.{WaitingCall}
 use Rattle.qx_machine.specs.Functions.{Deed, Reply, existing_coid}
 use Rattle.qx_machine.specs.Judgements.{◌>>=◌, found, need}
 use Rattle.qx_machine.specs.Managers.{manager_deed}
-use Rattle.qx_machine.specs.Parts.{Part, Change, Remove, with_process}
+use Rattle.qx_machine.specs.Parts.{Part, Change, Remove, disconnects, with_process}
 use Rattle.qx_machine.specs.PipeManager.{cancel_call}
-use Rattle.qx_machine.specs.Processes.{Process, after_effect, after_error, after_reply, answered_thread, served_thread, with_thread}
+use Rattle.qx_machine.specs.Processes.{Process, after_error, after_reply, answered_thread, served_thread, with_thread, without_server}
 use Rattle.qx_machine.specs.Resources.{Resources}
 use Rattle.qx_machine.specs.Rows.{row_at}
 use Rattle.qx_machine.specs.Servers.{is_numbered}
@@ -83,7 +84,12 @@ deed_of resources context given = do
 -- the row of a process once its message is replied to, or is left without a reply (C Library Reference: MsgReply)
 abbrev pub after_serving : ℕ → Over → Option Reply → Process → Process
 after_serving thread over None process = with_thread thread served_thread process
-after_serving thread over (Some reply) process = after_reply thread over (with_thread thread (answered_thread (answer.Reply reply.status reply.bytes)) (after_effect reply.effect process))
+after_serving thread over (Some reply) process = after_reply thread over reply.effect (with_thread thread (answered_thread (answer.Reply reply.status reply.bytes)) process)
+
+-- the row of a process once its message comes to that (C Library Reference: MsgReply, MsgError)
+abbrev pub after_message : ℕ → Over → Result (Deed Resources) Errno → Process → Process
+after_message thread over (Ok deed) process = after_serving thread over deed.reply process
+after_message thread over (Err error) process = after_error thread over (with_thread thread (answered_thread (Failed error)) process)
 
 -- a call that waited is answered; it came over a connection that is there, so nothing is given back
 abbrev pub with_answer : WaitingCall × Answer → Part → Part
@@ -96,9 +102,8 @@ with_answers (first ∷ rest) part = with_answers rest (with_answer first part)
 -- the rows once a message is served (C Library Reference: MsgReply, MsgError)
 abbrev pub after_answer : Part → ℕ → ℕ → Over → Result (Deed Resources) Errno → Part
 after_answer part process thread over (Ok deed) =
-    with_answers deed.answers (with_process process (after_serving thread over deed.reply) (record part { resources = deed.state }))
-after_answer part process thread over (Err error) =
-    with_process process (λ row. after_error thread over (with_thread thread (answered_thread (Failed error)) row)) part
+    with_answers deed.answers (with_process process (after_message thread over (Ok deed)) (record part { resources = deed.state }))
+after_answer part process thread over (Err error) = with_process process (after_message thread over (Err error)) part
 
 -- an answer takes an unblock pulse of its call out of the line, if one stands there
 abbrev pub answered_changes : Manager → List (WaitingCall × Answer) → List Change
@@ -107,10 +112,10 @@ answered_changes manager answers = map (λ answer. Remove manager (item.Unblock 
 abbrev pub own_change : Manager → Caller → Change
 own_change manager caller = Remove manager (item.Unblock caller.process caller.thread caller.call)
 
--- what changes in the line as a message is served
-abbrev pub served_changes : Manager → Caller → Result (Deed Resources) Errno → List Change
-served_changes manager caller (Ok deed) = (if is_some deed.reply then own_change manager caller ∷ [] else []) ++ answered_changes manager deed.answers
-served_changes manager caller (Err error) = own_change manager caller ∷ []
+-- what changes in the lines as a message is served, its process' disconnect pulse among it
+abbrev pub served_changes : Manager → Caller → List Change → Result (Deed Resources) Errno → List Change
+served_changes manager caller lost (Ok deed) = (if is_some deed.reply then own_change manager caller ∷ [] else []) ++ lost ++ answered_changes manager deed.answers
+served_changes manager caller lost (Err error) = own_change manager caller ∷ lost
 
 -- ---- what a worker does
 
@@ -124,7 +129,7 @@ caller_of process thread row sent = record { process = process; thread = thread;
 abbrev pub served_by : Part → Caller → Sent → Result (Deed Resources) Errno → Served
 served_by part caller sent given = record {
   part = after_answer part caller.process caller.thread sent.target.over given;
-  changes = served_changes sent.target.manager caller given;
+  changes = served_changes sent.target.manager caller (disconnects caller.process (after_message caller.thread sent.target.over given) (row_at part.processes caller.process)) given;
 }
 
 -- only a message that was received and not answered is performed
@@ -143,6 +148,12 @@ serve_pulse part process thread call moment = do
     part = with_answers deed.answers (record part { resources = deed.state });
     changes = answered_changes Pipe deed.answers;
   })
+
+-- with a disconnect pulse goes its server connection (Writing a Resource Manager: _PULSE_CODE_DISCONNECT)
+abbrev pub serve_disconnect : Part → ℕ → ServerName → Result Served Outcome
+serve_disconnect part number server = do
+  process ← found (row_at part.processes number) WrongState
+  Ok (record { part = with_process number (without_server server) part; changes = [] })
 
 -- else nothing is done
 abbrev pub or_kept : Part → Result Served Outcome → Served

@@ -1,6 +1,8 @@
 -- Processes with their threads and connections, and how these change.
-use Rattle.std.specs.Prelude.{ℕ, Bool, false, true, ◌+◌, ◌&&◌, List, [], ◌∷◌, Option, Some, None, length, nat_le, replicate, slice_set}
+use Rattle.std.specs.Prelude.{ℕ, Bool, false, true, ◌+◌, ◌&&◌, List, [], ◌∷◌, Option, Some, None, if◌then◌else◌, is_none, length, nat_le, replicate, slice_set}
+use Rattle.std.specs.List.{flat_map}
 use Rattle.qx_bytes.specs.declared.message.TheConstants.MessageBytes.{INLINE}
+use Rattle.qx_types.specs.Managers.{manager_number, managers}
 use Rattle.qx_types.specs.declared.limits.TheConstants.Limits.{FIRST_CONNECTION, THREADS}
 use Rattle.qx_types.specs.declared.names.Manager.{Manager}
 use Rattle.qx_types.specs.declared.names.TheConstants.Manager.{COUNT}
@@ -12,19 +14,21 @@ use Rattle.qx_machine.specs.declared.rows.Effect.TheVariants.{Keeps, Opens, Clos
 use Rattle.qx_machine.specs.declared.rows.Over.{Over}
 use Rattle.qx_machine.specs.declared.rows.Over.TheVariants.{New, Existing, Side}
 use Rattle.qx_machine.specs.declared.rows.Sent.{Sent}
-use Rattle.qx_machine.specs.declared.rows.ServerConnection.{ServerConnection}
+use Rattle.qx_machine.specs.declared.rows.ServerName.{ServerName}
 use Rattle.qx_machine.specs.declared.rows.State.{State}
 use Rattle.qx_machine.specs.declared.rows.State.TheVariants.{Answered, Queued, Ready, Taken, Waiting}
 use Rattle.qx_machine.specs.declared.rows.ThreadRow.{ThreadRow}
-use Rattle.qx_machine.specs.Rows.{put_row, with_row}
-use Rattle.qx_machine.specs.Servers.{servers_from}
+use Rattle.qx_machine.specs.Lines.{line_at, with_line}
+use Rattle.qx_machine.specs.Rows.{put_row, row_at, with_row}
+use Rattle.qx_machine.specs.Servers.{Servers, in_use, is_attached, lost_by, no_servers, servers_from, without_left}
 
--- threads from 1 and connections from 3; at which manager each thread has a side connection; and the server connections
+-- threads from 1 and connections from 3; at which manager each thread has a side connection; and the server connections at each manager,
+-- under its number
 pub record Process : Type 0 where
   pub threads : List (Option ThreadRow)
   pub connections : List (Option Connection)
   pub sides : List (Option Manager)
-  pub servers : List (Option ServerConnection)
+  pub servers : List Servers
 
 abbrev pub new_thread : ℕ → ThreadRow
 new_thread prio = record { state = Ready; prio = record { 0 = prio }; calls = 0; has_room = false }
@@ -35,12 +39,12 @@ new_process threads prio = record {
   threads = None ∷ replicate threads (Some (new_thread prio));
   connections = replicate FIRST_CONNECTION None;
   sides = replicate (THREADS + 1) None;
-  servers = replicate COUNT None;
+  servers = replicate COUNT no_servers;
 }
 
 -- the server connections follow what is attached
 abbrev pub with_servers : Process → Process
-with_servers process = record process { servers = servers_from 0 process.connections process.sides process.servers }
+with_servers process = record process { servers = servers_from (λ number. is_attached number process.connections process.sides) 0 process.servers }
 
 -- a new connection, with no open control block yet
 abbrev pub with_connection : ℕ → Manager → Process → Process
@@ -54,15 +58,37 @@ without_connection coid process = with_servers (record process { connections = s
 abbrev pub with_side : ℕ → Option Manager → Process → Process
 with_side thread side process = with_servers (record process { sides = slice_set process.sides thread side })
 
+-- a thread gets a side connection, of which it has one at most
+abbrev pub with_new_side : ℕ → Manager → Process → Process
+with_new_side thread manager process = if is_none (row_at process.sides thread) then with_side thread (Some manager) process else process
+
+-- the server connections at a manager
+abbrev pub servers_at : Manager → Process → Servers
+servers_at manager process = line_at process.servers (manager_number manager)
+
+-- a server connection that was left goes
+abbrev pub without_server : ServerName → Process → Process
+without_server server process = record process { servers = with_line process.servers (manager_number server.manager) (without_left server.number) }
+
+-- the server connections that a process has lost that was like that and is like this: each was in use, and none is any more at its manager
+abbrev pub lost_servers : Process → Process → List ServerName
+lost_servers before after = flat_map (λ manager. lost_by manager (in_use (servers_at manager before)) (in_use (servers_at manager after))) managers
+
 -- a connection has its open control block
 abbrev pub with_block : ℕ → ℕ → Process → Process
 with_block coid block process = record process { connections = with_row process.connections coid (λ connection. record connection { block = Some block }) }
 
--- what a message that is done does to the connection that it came over
+-- what a message that is done does to a connection
 abbrev pub after_effect : Effect → Process → Process
 after_effect Keeps process = process
 after_effect (Opens coid block) process = with_block coid.0 block process
 after_effect (Closes coid) process = without_connection coid.0 process
+
+-- what a message does to what it came over, once it is replied to: a side connection goes
+abbrev pub after_reply : ℕ → Over → Effect → Process → Process
+after_reply thread (New coid) effect process = after_effect effect process
+after_reply thread (Existing coid) effect process = after_effect effect process
+after_reply thread Side effect process = with_side thread None process
 
 -- one of the threads changes
 abbrev pub with_thread : ℕ → (ThreadRow → ThreadRow) → Process → Process
@@ -72,17 +98,13 @@ with_thread thread change process = record process { threads = with_row process.
 abbrev pub with_over : ℕ → Manager → Over → Process → Process
 with_over thread manager (New coid) process = with_connection coid.0 manager process
 with_over thread manager (Existing coid) process = process
-with_over thread manager Side process = with_side thread (Some manager) process
+with_over thread manager Side process = with_new_side thread manager process
 
--- what is attached for one message alone goes with its answer
-abbrev pub after_reply : ℕ → Over → Process → Process
-after_reply thread Side process = with_side thread None process
-after_reply thread _ process = process
-
--- an error gives a new connection back too
+-- an error gives a new connection back, and a side connection goes with it
 abbrev pub after_error : ℕ → Over → Process → Process
 after_error thread (New coid) process = without_connection coid.0 process
-after_error thread over process = after_reply thread over process
+after_error thread (Existing coid) process = process
+after_error thread Side process = with_side thread None process
 
 -- a thread that sent a message: there is room for its reply from then on
 abbrev pub queued_thread : Sent → ThreadRow → ThreadRow

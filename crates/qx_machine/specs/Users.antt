@@ -3,12 +3,12 @@ use Rattle.std.specs.Prelude.{ℕ, List, [], ◌∷◌, None}
 use Rattle.qx_types.specs.Configuration.{Configuration, name_bytes}
 use Rattle.qx_types.specs.declared.step.Step.{Step}
 use Rattle.qx_machine.specs.declared.rows.OwnItem.{OwnItem}
-use Rattle.qx_machine.specs.declared.rows.OwnItem.TheVariants.{Message, Unblock}
+use Rattle.qx_machine.specs.declared.rows.OwnItem.TheVariants.{Message, Unblock, Disconnect}
 use Rattle.qx_machine.specs.Clients.{ClientStep, client_given, or_unchanged}
 use Rattle.qx_machine.specs.Mounting.{new_resources}
 use Rattle.qx_machine.specs.Notification.{events_settled}
 use Rattle.qx_machine.specs.Parts.{Part, with_process}
-use Rattle.qx_machine.specs.Performing.{Served, or_kept, serve_message, serve_pulse}
+use Rattle.qx_machine.specs.Performing.{Served, or_kept, serve_disconnect, serve_message, serve_pulse}
 use Rattle.qx_machine.specs.Processes.{taken_thread, with_thread}
 
 -- the rows of a user at boot
@@ -23,11 +23,13 @@ client config user held part e = or_unchanged part (client_given config user hel
 unfoldable pub take : Part → OwnItem → Part
 take part (Message process thread) = with_process process (with_thread thread taken_thread) part
 take part (Unblock process thread call) = part
+take part (Disconnect process server) = part
 
 -- what a worker does with an item that it holds, at a moment
 unfoldable pub serve : Configuration → ℕ → List OwnItem → Part → OwnItem → ℕ → Served
 serve config user held part (Message process thread) moment = or_kept part (serve_message part process thread moment)
 serve config user held part (Unblock process thread call) moment = or_kept part (serve_pulse part process thread call moment)
+serve config user held part (Disconnect process server) moment = or_kept part (serve_disconnect part process server)
 
 -- what the end of each step of a user settles, from the rows before it: due events give their pulses
 unfoldable pub settle_part : Part → List OwnItem → Part → Part

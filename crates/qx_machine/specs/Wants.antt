@@ -70,10 +70,10 @@ thread_wants_memory rows number thread moment = or_false (do
   Ok (bytes_want_memory sent.target.manager part.resources (meaning sent.bytes)
       (deed_of part.resources (context_of process (caller_of number thread row sent) sent.target moment (meaning sent.bytes)) (meaning sent.bytes))))
 
--- an unblock pulse wants none
+-- a pulse wants none
 abbrev pub item_wants_memory : Option Part → OwnItem → ℕ → Bool
 item_wants_memory rows (item.Message process thread) moment = thread_wants_memory rows process thread moment
-item_wants_memory rows (item.Unblock process thread call) moment = false
+item_wants_memory rows _ moment = false
 
 -- in this world, a step that may be refused for want of memory: a spawn, a call and a mount that are not refused otherwise, and a
 -- perform of an open, a mkdir or a write that makes a file longer that is not answered an error

@@ -11,15 +11,18 @@ ghost use Rattle.qx_types.specs.declared.names.Manager.{Manager};
 ghost use Rattle.qx_types.specs.declared.step.Step.{Step};
 ghost use Rattle.qx_machine.specs.declared.rows.Conditions.{Conditions};
 ghost use Rattle.qx_machine.specs.declared.rows.Event.{Event};
+ghost use Rattle.qx_machine.specs.declared.rows.OwnItem.{OwnItem};
 ghost use Rattle.qx_machine.specs.Events.{Events, is_due, is_on, polled, triggered};
-ghost use Rattle.qx_machine.specs.Laws.{HoldsOfOwnSteps, IsInOrder, is_refusal, own_entries};
+ghost use Rattle.qx_machine.specs.Laws.{HoldsOfOwnSteps, IsInOrder, is_refusal, most_put, own_entries, put_count};
 ghost use Rattle.qx_machine.specs.Listings.{HasAtMostOnePath, HasSizedNames, IsZeroFree, listed_by, listed_next};
 ghost use Rattle.qx_machine.specs.Machine.{World, boot, line_of, owner, rank, step, view};
 ghost use Rattle.qx_machine.specs.Names.{Names, listing, names_in};
 ghost use Rattle.qx_machine.specs.Notification.{events_settled};
+ghost use Rattle.qx_machine.specs.Parts.{Part};
 ghost use Rattle.qx_machine.specs.Resources.{Resources};
 ghost use Rattle.qx_machine.specs.Rows.{lowest_from, row_at};
 ghost use Rattle.qx_machine.specs.Runs.{erase, is_owner, received, run};
+ghost use Rattle.qx_machine.specs.Users.{serve};
 
 /// A user receives the same if all steps that are not taken by or for that user are left out.
 pub fn isolation()
@@ -81,6 +84,12 @@ pub fn poll_disarms()
 /// An event that is due is armed no more.
 pub fn due_events_are_unarmed()
     ensures { (before after : ℕ → Conditions) (events : Events) → filter (is_due before after) (triggered before after events).armed ≡ [] }
+{}
+
+/// Performing a message puts one pulse into a line at most, and performing a pulse puts none, so that serving all that waits
+/// ends.
+pub fn few_pulses_are_put()
+    ensures { (config : Configuration) (user : ℕ) (held : List OwnItem) (part : Part) (item : OwnItem) (moment : ℕ) → put_count (serve config user held part item moment).changes ≤ most_put item }
 {}
 
 /// Each line is in order of priority.

@@ -28,5 +28,6 @@ pub mod rows;
 pub use rows::{
     Access, Addressed, Attribute, Caller, Conditions, Connection, Content, Context, Effect, Entry,
     Event, Held, Kind, Manner, NewDup, NewOpen, Ocb, Opened, Over, OwnItem, Pulse, PulseWish,
-    Queued, Seen, Sent, ServerConnection, Sides, State, Target, ThreadRow, WaitingCall, Wish,
+    Queued, Seen, Sent, ServerConnection, ServerName, Sides, State, Target, ThreadRow, WaitingCall,
+    Wish,
 };

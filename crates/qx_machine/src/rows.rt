@@ -80,9 +80,18 @@ pub struct Connection {
     pub block: Option<u16>,
 }
 
-/// A server connection: a process, as a manager knows it that something of the process is attached to.
+/// A server connection: a process, as a manager knows it that something of the process is attached to, or was until its
+/// disconnect pulse was made (Writing a Resource Manager: `_PULSE_CODE_DISCONNECT`).
 #[derive(Clone, Copy, Debug, PartialEq, Eq)]
 pub struct ServerConnection {
+    /// Its disconnect pulse was made, and it is not used again.
+    pub is_leaving: bool,
+}
+
+/// Which server connection of a process: at which manager, and its number there.
+#[derive(Clone, Copy, Debug, PartialEq, Eq)]
+pub struct ServerName {
+    pub manager: Manager,
     pub number: u8,
 }
 
@@ -267,6 +276,8 @@ pub enum OwnItem {
     Message { process: u8, thread: u8 },
     /// The pulse that asks to unblock a thread of a process from the call of that number.
     Unblock { process: u8, thread: u8, call: u64 },
+    /// The pulse that a process has lost the last connection of a server connection.
+    Disconnect { process: u8, server: ServerName },
 }
 
 /// An item in a line, with its user and its priority.

@@ -2,3 +2,4 @@ pub mod PlayedSteps
 pub mod Rounds
 pub mod Serving
 pub mod Shown
+pub mod Weights

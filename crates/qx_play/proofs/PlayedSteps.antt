@@ -1,5 +1,5 @@
 -- The steps that a script takes are such that a line can say them.
-use Rattle.std.proofs.Common.{◌≡◌, ℕ, zero, suc, Bool, true, false, cond, List, [], ◌∷◌, ◌++◌, Option, Some, None, arith}
+use Rattle.std.proofs.Common.{◌≡◌, ℕ, zero, suc, ◌*◌, Bool, true, false, cond, List, [], ◌∷◌, ◌++◌, Option, Some, None, arith}
 use Rattle.std.specs.Prelude.{All}
 use Rattle.std.proofs.lemmas.List.Elements.{All-append, All-cons, All-head, All-nil, All-push, All-tail}
 use Rattle.qx_types.specs.Configuration.{Configuration}
@@ -39,16 +39,16 @@ round_said config moment steps manager within all =
     All-append say steps (Receive first_worker manager ∷ does ∷ []) all
     (All-cons say (Receive first_worker manager) (does ∷ []) (omega arith, (tt, tt)) (All-cons say does [] (omega arith, (within, tt)) (All-nil say)))
 
-rounds_said : (items : ℕ) (config : Configuration) (moment : ℕ) (steps : List Step) → IsMoment moment → AllSaid config steps → AllSaid config (rounds items config moment steps)
+rounds_said : (left : ℕ) (config : Configuration) (moment : ℕ) (steps : List Step) → IsMoment moment → AllSaid config steps → AllSaid config (rounds left config moment steps)
 rounds_said zero config moment steps within all = all
-rounds_said (suc items) config moment steps within all =
-    managed config (next_manager (world_played config steps)) steps (λ manager. rounds items config moment (round moment steps manager)) all
-    (λ manager. rounds_said items config moment (round moment steps manager) within (round_said config moment steps manager within all))
+rounds_said (suc left) config moment steps within all =
+    managed config (next_manager (world_played config steps)) steps (λ manager. rounds left config moment (round moment steps manager)) all
+    (λ manager. rounds_said left config moment (round moment steps manager) within (round_said config moment steps manager within all))
 
 served_said : (config : Configuration) (moment : ℕ) (steps : List Step) → IsMoment moment → AllSaid config steps → AllSaid config (with_lines_served config moment steps)
 unfolding with_lines_served all_served hand_emptied
 served_said config moment steps within all =
-    rounds_said (items_waiting (world_played config (hand_emptied config moment steps))) config moment (hand_emptied config moment steps) within
+    rounds_said (2 * items_waiting (world_played config (hand_emptied config moment steps))) config moment (hand_emptied config moment steps) within
     (either config (is_holding (world_played config steps)) _ steps (pushed config steps (Perform first_worker moment) all (omega arith, (within, tt))) all)
 
 replied_said : (config : Configuration) (thread : Thread) (steps : List Step) → CanNameThread config.users thread → AllSaid config steps → AllSaid config (with_reply_taken config thread steps)

@@ -1,6 +1,6 @@
 -- Serving leaves no item waiting.
-use Rattle.std.proofs.Common.{◌≡◌, ◌⊎◌, inl, inr, ℕ, suc, zero, ◌+◌, ◌≤◌, ◌<◌, Bool, true, false, List, [], ◌∷◌, ◌++◌, Option, Some, None, length, refl, sym, ap, ◌∙◌, subst, arith, if◌then◌else◌, slice_set, cond, is_some}
-use Rattle.std.specs.Prelude.{⊤, ◌==◌, ◌&&◌, drop, find, map, nat_lt, slice_get, sum_by, Result, Ok, Err}
+use Rattle.std.proofs.Common.{◌≡◌, ◌⊎◌, inl, inr, ℕ, suc, zero, ◌+◌, ◌*◌, ◌≤◌, ◌<◌, true, List, [], ◌∷◌, ◌++◌, Option, Some, None, length, refl, sym, ap, ◌∙◌, subst, arith, if◌then◌else◌, slice_set, cond, is_some}
+use Rattle.std.specs.Prelude.{find, map, nat_lt, slice_get, sum_by}
 use Rattle.std.specs.List.{range_with_len}
 use Rattle.std.proofs.lemmas.Grind.{common_steps}
 use Rattle.std.proofs.lemmas.List.{length-replicate, length-set}
@@ -9,35 +9,21 @@ use Rattle.qx_types.specs.Configuration.{Configuration}
 use Rattle.qx_types.specs.Managers.{manager_number, managers}
 use Rattle.qx_types.specs.Step.{actor_of, user_of}
 use Rattle.qx_types.specs.declared.names.Actor.{Actor}
-use Rattle.qx_types.specs.declared.errno.Errno.{Errno}
 use Rattle.qx_types.specs.declared.names.Manager.{Manager}
-use Rattle.qx_types.specs.declared.names.Manager.TheVariants.{Pipe}
 use Rattle.qx_types.specs.declared.names.TheConstants.Manager.{COUNT}
-use Rattle.qx_types.specs.declared.outcome.Answer.{Answer}
-use Rattle.qx_types.specs.declared.outcome.Outcome.{Outcome}
-use Rattle.qx_types.specs.declared.outcome.Outcome.TheVariants.{WrongState}
 use Rattle.qx_types.specs.declared.step.Step.{Step}
 use Rattle.qx_types.specs.declared.step.Step.TheVariants.{Receive, Perform}
 use Rattle.qx_machine.specs.declared.rows.Held.{Held}
-use Rattle.qx_machine.specs.declared.rows.OwnItem.{OwnItem}
-use Rattle.qx_machine.specs.declared.rows.OwnItem.TheVariants.{Message, Unblock}
 use Rattle.qx_machine.specs.declared.rows.Queued.{Queued}
 use Rattle.qx_machine.specs.Lines.{line_at, with_line}
-use Rattle.qx_machine.specs.Machine.{World, step_end, changed_manager, line_after, own_held, step, step_of, server_step, boot, client_step, received_part, with_taken, performed_part, with_empty_hand, is_same_item, is_worker, line_of, line_without, lines_after}
-use Rattle.qx_wire.specs.Reading.{meaning}
-use Rattle.qx_machine.specs.declared.rows.Caller.{Caller}
-use Rattle.qx_machine.specs.declared.rows.WaitingCall.{WaitingCall}
-use Rattle.qx_machine.specs.Functions.{Deed}
-use Rattle.qx_machine.specs.Parts.{Part, Change, Put, Remove}
-use Rattle.qx_machine.specs.Resources.{Resources}
-use Rattle.qx_machine.specs.PipeManager.{cancel_call}
-use Rattle.qx_machine.specs.Judgements.{◌>>=◌, found}
-use Rattle.qx_machine.specs.Performing.{Served, answered_changes, caller_of, context_of, deed_of, or_kept, own_change, served_changes, taken_in}
+use Rattle.qx_machine.specs.Machine.{World, step_end, changed_manager, line_after, own_held, step, step_of, server_step, boot, client_step, received_part, with_taken, performed_part, with_empty_hand, is_worker, line_of, lines_after}
+use Rattle.qx_machine.specs.Parts.{Part, Change}
 use Rattle.qx_machine.specs.Rows.{row_at}
 use Rattle.qx_machine.specs.Runs.{world_after}
 use Rattle.qx_machine.specs.Users as users
 use Rattle.qx_machine.specs.Users.{serve}
 use Rattle.qx_machine.proofs.Workers.{after_doing, after_item, after_taking, item_done, item_taken, server_leaves}
+use Rattle.qx_play.proofs.Weights.{first_weighs, performed_weighs, waiting_weighs, waiting_weighs_at_most, weight_of, weight_of_lines, weight_waiting}
 use Rattle.qx_play.specs.Play.{first_worker, has_waiting, items_waiting, next_manager, round, rounds, world_played, hand_emptied, all_served, with_lines_served}
 
 -- what each step keeps: the number of workers, a place for each one's hand and a line for each manager
@@ -94,69 +80,6 @@ pub after_append : (w : World) (xs ys : List Step) → world_after w (xs ++ ys) 
 after_append w [] ys = refl
 after_append w (e ∷ xs) ys = after_append (step w e).world xs ys
 
--- a change that puts nothing into a line
-
-abbrev TakesOut : List Change → Type 0
-TakesOut [] = ⊤
-TakesOut (Put manager item prio ∷ changes) = ⊥
-TakesOut (Remove manager item ∷ changes) = TakesOut changes
-
-takes_on : {A : Type 0} (part : Part) (first : Result A Outcome) (next : A → Result Served Outcome) → ((value : A) → TakesOut (or_kept part (next value)).changes) → TakesOut (or_kept part (first >>= next)).changes
-takes_on part (Ok value) next h = h value
-takes_on part (Err outcome) next h = tt
-
-takes_both : (first rest : List Change) → TakesOut first → TakesOut rest → TakesOut (first ++ rest)
-takes_both [] rest one two = two
-takes_both (Put manager item prio ∷ first) rest one two = absurd one
-takes_both (Remove manager item ∷ first) rest one two = takes_both first rest one two
-
-answers_take : (manager : Manager) (answers : List (WaitingCall × Answer)) → TakesOut (answered_changes manager answers)
-answers_take manager [] = tt
-answers_take manager (first ∷ rest) = answers_take manager rest
-
-own_takes : (manager : Manager) (caller : Caller) (is_replied : Bool) → TakesOut (if is_replied then own_change manager caller ∷ [] else [])
-own_takes manager caller true = tt
-own_takes manager caller false = tt
-
-served_takes : (manager : Manager) (caller : Caller) (given : Result (Deed Resources) Errno) → TakesOut (served_changes manager caller given)
-served_takes manager caller (Ok deed) = takes_both (if is_some deed.reply then own_change manager caller ∷ [] else []) (answered_changes manager deed.answers) (own_takes manager caller (is_some deed.reply)) (answers_take manager deed.answers)
-served_takes manager caller (Err error) = tt
-
--- what a worker does puts nothing into a line
-serve_takes : (c : Configuration) (user : ℕ) (held : List OwnItem) (part : Part) (item : OwnItem) (moment : ℕ) → TakesOut (serve c user held part item moment).changes
-unfolding serve
-serve_takes c user held part (Message process thread) moment =
-    takes_on part (found (row_at part.processes process) WrongState) _ (λ its. takes_on part (found (row_at its.threads thread) WrongState) _ (λ row. takes_on part (found (taken_in row.state) WrongState) _ (λ sent.
-    served_takes sent.target.manager (caller_of process thread row sent) (deed_of part.resources (context_of its (caller_of process thread row sent) sent.target moment (meaning sent.bytes)) (meaning sent.bytes)))))
-serve_takes c user held part (Unblock process thread call) moment =
-    takes_on part (cancel_call part.resources process thread call moment) _ (λ deed. answers_take Pipe deed.answers)
-
-without_fewer : (user : ℕ) (item : OwnItem) (line : List Queued) → length (line_without user item line) ≤ length line
-without_fewer user item [] = omega arith
-without_fewer user item (first ∷ line) = by_first (first.user.0 == user && is_same_item first.item item) (line_without user item line) (without_fewer user item line)
-  where
-    by_first : (b : Bool) (rest : List Queued) → length rest ≤ length line → length (if b then line else first ∷ rest) ≤ length (first ∷ line)
-    by_first true rest fewer = omega arith
-    by_first false rest fewer = omega (arith, fewer)
-
-line_fewer : (lines : List (List Queued)) (number : ℕ) (change : List Queued → List Queued) → ((line : List Queued) → length (change line) ≤ length line) → sum_by length (with_line lines number change) ≤ sum_by length lines
-line_fewer [] number change fewer = omega arith
-line_fewer (line ∷ lines) zero change fewer =
-    omega (arith, sum_by-cons length (change line) lines, sum_by-cons length line lines, fewer line)
-line_fewer (line ∷ lines) (suc number) change fewer =
-    omega (arith, sum_by-cons length line (with_line lines number change), sum_by-cons length line lines, line_fewer lines number change fewer)
-
-lines_fewer : (user : ℕ) (lines : List (List Queued)) (changes : List Change) → TakesOut changes → sum_by length (lines_after user lines changes) ≤ sum_by length lines
-lines_fewer user lines [] takes = omega arith
-lines_fewer user lines (Put manager item prio ∷ changes) takes = absurd takes
-lines_fewer user lines (Remove manager item ∷ changes) takes =
-    let after = with_line lines (manager_number manager) (line_without user item) in
-    omega (arith, lines_fewer user after changes takes, line_fewer lines (manager_number manager) (line_without user item) (without_fewer user item))
-
-performed_fewer : (w : World) (held : Held) (moment : ℕ) (part : Option Part) → items_waiting (performed_part w held moment part) ≤ items_waiting w
-performed_fewer w held moment None = omega arith
-performed_fewer w held moment (Some part) = lines_fewer held.user.0 w.lines (serve w.config held.user.0 (own_held held.user.0 w.hands) part held.item moment).changes (serve_takes w.config held.user.0 (own_held held.user.0 w.hands) part held.item moment)
-
 is_first : (n : ℕ) (w : World) → 1 ≤ n → Keeps w n → is_worker w.config 1 ≡ true
 is_first n w some k = let more : 1 ≤ w.config.workers = omega (arith, k.same) in grind (arith, common_steps)
 
@@ -188,40 +111,30 @@ at_one [] row room = absurd (omega arith)
 at_one (first ∷ []) row room = absurd (omega arith)
 at_one (first ∷ second ∷ rest) row room = refl
 
--- the first worker does what it holds: its hand is empty, and no more waits
-pub record Emptied (w u : World) : Type 0 where
-  pub lines : items_waiting u ≤ items_waiting w
+-- the first worker does what it holds: its hand is empty, and what was put into lines weighs less than what it held
+pub record Emptied (w u : World) (held : Held) : Type 0 where
+  pub less : weight_waiting u + 1 ≤ weight_waiting w + weight_of held.item
   pub free : row_at u.hands 1 ≡ None
 
-pub does_item : (n : ℕ) (w : World) (moment : ℕ) (held : Held) → 1 ≤ n → Keeps w n → row_at w.hands 1 ≡ Some held → Emptied w (step w (Perform first_worker moment)).world
+pub does_item : (n : ℕ) (w : World) (moment : ℕ) (held : Held) → 1 ≤ n → Keeps w n → row_at w.hands 1 ≡ Some held → Emptied w (step w (Perform first_worker moment)).world held
 does_item n w moment held some k full =
     let u = performed_is n w moment held some k full in
     let part = row_at w.parts held.user.0 in
     let room : 1 < length w.hands = omega (arith, k.hands) in
     record {
-      lines = subst (λ v. items_waiting v ≤ items_waiting w) (sym u) (performed_fewer (with_empty_hand w 1) held moment part);
+      less = subst (λ v. weight_waiting v + 1 ≤ weight_waiting w + weight_of held.item) (sym u) (performed_weighs (with_empty_hand w 1) held moment part);
       free = ap (λ v. row_at v.hands 1) u ∙ ap (λ hands. row_at hands 1) (performed_hands (with_empty_hand w 1) held moment part) ∙ at_one w.hands None room;
     }
 
--- the hand is empty, and fewer items wait
+-- the hand is empty, and what waits weighs less
 pub record Round (w u : World) : Type 0 where
-  pub fewer : items_waiting u + 1 ≤ items_waiting w
+  pub less : weight_waiting u + 1 ≤ weight_waiting w
   pub free : row_at u.hands 1 ≡ None
 
 -- the first worker takes the first item of a line
 record Took (w u : World) (first : Queued) : Type 0 where
-  fewer : items_waiting u + 1 ≡ items_waiting w
+  less : weight_waiting u + weight_of first.item ≡ weight_waiting w
   full : row_at u.hands 1 ≡ Some (record { user = first.user; item = first.item })
-
--- a line without its first item is one item shorter, and so are all lines together
-shorter : (lines : List (List Queued)) (number : ℕ) (first : Queued) (rest : List Queued) → line_at lines number ≡ first ∷ rest
-    → sum_by length (with_line lines number (drop 1)) + 1 ≡ sum_by length lines
-shorter [] number first rest e = cc
-shorter (line ∷ lines) zero first rest e =
-    let one_less : length (drop 1 line) + 1 ≡ length line = rw e (omega arith) in
-    omega (arith, sum_by-cons length (drop 1 line) lines, sum_by-cons length line lines, one_less)
-shorter (line ∷ lines) (suc number) first rest e =
-    omega (arith, sum_by-cons length line (with_line lines number (drop 1)), sum_by-cons length line lines, shorter lines number first rest e)
 
 took : (w : World) (manager : Manager) (first : Queued) (rest : List Queued) → 1 < length w.hands → line_of w manager ≡ first ∷ rest
     → Took w (after_taking w 1 manager (record { user = first.user; item = first.item })).world first
@@ -230,7 +143,7 @@ took w manager first rest room e =
     let v = with_taken w 1 manager held in
     let part = row_at w.parts first.user.0 in
     record {
-      fewer = ap (λ lines. sum_by length lines + 1) (given_lines v held part) ∙ shorter w.lines (manager_number manager) first rest e;
+      less = ap (λ lines. weight_of_lines lines + weight_of first.item) (given_lines v held part) ∙ first_weighs w.lines (manager_number manager) first rest e;
       full = ap (λ hands. row_at hands 1) (given_hands v held part) ∙ at_one w.hands _ room;
     }
 
@@ -243,7 +156,7 @@ one_round n w moment manager first rest some k free e =
     let t : Took w v first = subst (λ x. Took w x first) (sym (received_is n w manager first rest some k free e)) (took w manager first rest room e) in
     let d = does_item n v moment _ some (kept n w _ k) t.full in
     record {
-      fewer = omega (arith, d.lines, t.fewer);
+      less = omega (arith, d.less, t.less);
       free = d.free;
     }
 
@@ -329,26 +242,27 @@ none_next w (manager ∷ others) e =
     ap (λ count. cond (nat_lt 0 count) (Some manager) (find (has_waiting w) others)) empty ∙ rest
 
 -- and no round is taken
-pub stays : (items : ℕ) (config : Configuration) (moment : ℕ) (steps : List Step) → next_manager (world_played config steps) ≡ None → rounds (suc items) config moment steps ≡ steps
-stays items config moment steps e =
-    ap (λ next. elim next as (λ _. List Step) [ None ↦ steps | Some other ↦ rounds items config moment (round moment steps other) ]) e
+pub stays : (left : ℕ) (config : Configuration) (moment : ℕ) (steps : List Step) → next_manager (world_played config steps) ≡ None → rounds (suc left) config moment steps ≡ steps
+stays left config moment steps e =
+    ap (λ next. elim next as (λ _. List Step) [ None ↦ steps | Some other ↦ rounds left config moment (round moment steps other) ]) e
 
-pub turn : (items : ℕ) (config : Configuration) (moment : ℕ) (steps : List Step) (manager : Manager) → next_manager (world_played config steps) ≡ Some manager
-    → rounds (suc items) config moment steps ≡ rounds items config moment (round moment steps manager)
-turn items config moment steps manager e =
-    ap (λ next. elim next as (λ _. List Step) [ None ↦ steps | Some other ↦ rounds items config moment (round moment steps other) ]) e
+pub turn : (left : ℕ) (config : Configuration) (moment : ℕ) (steps : List Step) (manager : Manager) → next_manager (world_played config steps) ≡ Some manager
+    → rounds (suc left) config moment steps ≡ rounds left config moment (round moment steps manager)
+turn left config moment steps manager e =
+    ap (λ next. elim next as (λ _. List Step) [ None ↦ steps | Some other ↦ rounds left config moment (round moment steps other) ]) e
 
 some_or_none : (n : ℕ) → (n ≡ 0) ⊎ ((m : ℕ) × (n ≡ suc m))
 some_or_none zero = inl refl
 some_or_none (suc m) = inr (m, refl)
 
-all_rounds : (items n : ℕ) (config : Configuration) (moment : ℕ) (steps : List Step) → 1 ≤ n → Keeps (world_played config steps) n → row_at (world_played config steps).hands 1 ≡ None
-    → items_waiting (world_played config steps) ≤ items → items_waiting (world_played config (rounds items config moment steps)) ≡ 0
-all_rounds zero n config moment steps some k free few = omega (arith, few)
-all_rounds (suc items) n config moment steps some k free few = elim (some_or_none (items_waiting (world_played config steps))) [
+-- each round makes the weight less, so as many rounds as it are enough
+all_rounds : (left n : ℕ) (config : Configuration) (moment : ℕ) (steps : List Step) → 1 ≤ n → Keeps (world_played config steps) n → row_at (world_played config steps).hands 1 ≡ None
+    → weight_waiting (world_played config steps) ≤ left → items_waiting (world_played config (rounds left config moment steps)) ≡ 0
+all_rounds zero n config moment steps some k free few = omega (arith, few, waiting_weighs (world_played config steps))
+all_rounds (suc left) n config moment steps some k free few = elim (some_or_none (items_waiting (world_played config steps))) [
   | inl e ↦
       let none : next_manager (world_played config steps) ≡ None = none_next (world_played config steps) managers (ap (sum_by length) (line_of_each (world_played config steps) k.lines) ∙ e) in
-      ap (λ taken. items_waiting (world_played config taken)) (stays items config moment steps none) ∙ e
+      ap (λ taken. items_waiting (world_played config taken)) (stays left config moment steps none) ∙ e
   | inr more_wait ↦
       let w = world_played config steps in
       let f = some_next n w more_wait.0 k more_wait.1 in
@@ -356,8 +270,8 @@ all_rounds (suc items) n config moment steps some k free few = elim (some_or_non
       let same : world_after w last ≡ world_played config (round moment steps f.manager) = sym (after_append (boot config) steps last) in
       let r : Round w (world_played config (round moment steps f.manager)) = subst (λ u. Round w u) same (one_round n w moment f.manager f.first f.rest some k free f.there) in
       let more : Keeps (world_played config (round moment steps f.manager)) n = subst (λ u. Keeps u n) same (kept_after n w last k) in
-      subst (λ l. items_waiting (world_played config l) ≡ 0) (sym (turn items config moment steps f.manager f.next))
-      (all_rounds items n config moment (round moment steps f.manager) some more r.free (omega (arith, r.fewer, few)))
+      subst (λ l. items_waiting (world_played config l) ≡ 0) (sym (turn left config moment steps f.manager f.next))
+      (all_rounds left n config moment (round moment steps f.manager) some more r.free (omega (arith, r.less, few)))
 ]
 
 booted : (config : Configuration) → Keeps (boot config) config.workers
@@ -382,5 +296,5 @@ pub none_waits : (config : Configuration) (moment : ℕ) (steps : List Step) →
 unfolding with_lines_served all_served
 none_waits config moment steps some =
     let begun = hand_emptied config moment steps in
-    all_rounds (items_waiting (world_played config begun)) config.workers config moment begun some (keeps_all config begun)
-    (hand_free config moment steps (row_at (world_played config steps).hands 1) some refl) (omega arith)
+    all_rounds (2 * items_waiting (world_played config begun)) config.workers config moment begun some (keeps_all config begun)
+    (hand_free config moment steps (row_at (world_played config steps).hands 1) some refl) (waiting_weighs_at_most (world_played config begun))

@@ -1,5 +1,5 @@
 -- What the lines of a script do: the steps that they take and the text that they print.
-use Rattle.std.specs.Prelude.{ℕ, zero, suc, Bool, true, false, List, [], ◌∷◌, ◌++◌, Option, Some, None, find, length, if◌then◌else◌, is_some, nat_lt, sum_by}
+use Rattle.std.specs.Prelude.{ℕ, zero, suc, ◌*◌, Bool, true, false, List, [], ◌∷◌, ◌++◌, Option, Some, None, find, length, if◌then◌else◌, is_some, nat_lt, sum_by}
 use Rattle.qx_types.specs.Configuration.{Configuration}
 use Rattle.qx_types.specs.Managers.{managers}
 use Rattle.qx_types.specs.declared.names.Manager.{Manager}
@@ -45,11 +45,11 @@ next_manager w = find (has_waiting w) managers
 abbrev pub round : ℕ → List Step → Manager → List Step
 round moment steps manager = steps ++ Receive first_worker manager ∷ Perform first_worker moment ∷ []
 
--- so many items are served, as long as one waits
+-- so many rounds, as long as an item waits
 abbrev pub rounds : ℕ → Configuration → ℕ → List Step → List Step
 rounds zero config moment steps = steps
-rounds (suc items) config moment steps =
-    elim (next_manager (world_played config steps)) [ None ↦ steps | Some manager ↦ rounds items config moment (round moment steps manager) ]
+rounds (suc left) config moment steps =
+    elim (next_manager (world_played config steps)) [ None ↦ steps | Some manager ↦ rounds left config moment (round moment steps manager) ]
 
 -- the first worker does what it holds
 unfoldable pub hand_emptied : Configuration → ℕ → List Step → List Step
@@ -60,10 +60,10 @@ hand_emptied config moment steps =
 abbrev pub items_waiting : World → ℕ
 items_waiting w = sum_by length w.lines
 
--- every item that waits is served: each round takes one from its line, and what is done puts none there; an answer may take an unblock
--- pulse out
+-- every item that waits is served, and so is what serving puts into a line: each round takes one item from its line, and a message that is
+-- done may put one disconnect pulse there, a pulse nothing; so twice as many rounds as items wait are enough
 unfoldable pub all_served : Configuration → ℕ → List Step → List Step
-all_served config moment steps = rounds (items_waiting (world_played config steps)) config moment steps
+all_served config moment steps = rounds (2 * items_waiting (world_played config steps)) config moment steps
 
 unfoldable pub with_lines_served : Configuration → ℕ → List Step → List Step
 with_lines_served config moment steps = all_served config moment (hand_emptied config moment steps)

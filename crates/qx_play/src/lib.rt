@@ -6,7 +6,7 @@
 //!   others' steps
 //!
 //! What lines do and print is told in `Play.antt` and `Printed.antt`. In `proofs/`, `Serving.antt` has that serving
-//! comes to an end, `Shown.antt` what `show` prints.
+//! comes to an end, by the weight of what waits (`Weights.antt`), `Shown.antt` what `show` prints.
 #![tactic(auto)]
 
 pub mod laws;

@@ -1,6 +1,6 @@
 //! What the lines of a script do: the steps that they take and the text that they print.
 
-ghost use Rattle.std.specs.Prelude.{◌≡◌, ◌≤◌, ◌++◌, ◌∷◌, [], ℕ, List, IfOk, OnOk, find, length, slice_get};
+ghost use Rattle.std.specs.Prelude.{◌≡◌, ◌≤◌, ◌<◌, ◌^◌, ◌++◌, ◌∷◌, [], ℕ, List, IfOk, OnOk, find, length, slice_get};
 ghost use Rattle.std.specs.Option.{option_to_list};
 ghost use Rattle.qx_types.specs.Configuration.{Configuration};
 ghost use Rattle.qx_types.specs.Managers.{managers};
@@ -127,14 +127,14 @@ fn empty_hand(traced: &mut Traced, moment: u64) -> Result<(), NoMemory>
     Ok(())
 }
 
-/// The first worker takes and does all that waits.
+/// The first worker takes and does all that waits, and what that puts into lines.
 #[tactic(auto, unfolding(crate::specs::Play::all_served))]
 fn serve_waiting(traced: &mut Traced, moment: u64) -> Result<(), NoMemory>
     ensures config { traced.new.config ≡ traced.old.config }
     ensures steps { OnOk result (traced.new.steps ≡ all_served traced.old.config moment traced.old.steps) }
 {
-    let items = waiting(traced.world());
-    'rounds: for _ in 0..items {
+    let most = 2 * waiting(traced.world());
+    'rounds: for _ in 0..most {
         let Some(manager) = next_manager(traced.world()) else {
             return Ok(());
         };
@@ -148,7 +148,8 @@ fn serve_waiting(traced: &mut Traced, moment: u64) -> Result<(), NoMemory>
 /// How many items wait in all lines.
 fn waiting(world: &World) -> u128
     requires { length world.now.lines ≡ COUNT }
-    ensures { result ≡ play.items_waiting world.now }
+    ensures number { result ≡ play.items_waiting world.now }
+    ensures few { result < 2 ^ 127 }
 {
     let mut waiting = 0;
     'lines: for number in 0..Manager::COUNT {

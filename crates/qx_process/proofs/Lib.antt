@@ -2,3 +2,5 @@
 pub mod RowLemmas
 -- server connections stand and fall with what is attached: the invariant of a process
 pub mod ServerLemmas
+-- what a process uses and loses as something is attached, or goes
+pub mod AttachLemmas

@@ -1,14 +1,20 @@
 -- What rows are asked.
-use Rattle.std.specs.Prelude.{ℕ, ◌≡◌, ◌<◌, ◌≤◌, ◌&&◌, Bool, true, false, not, List, Option, Some, None, is_some, ⊤}
-use Rattle.qx_types.specs.declared.limits.TheConstants.Limits.{CALLS, LAST_CONNECTION, PRIORITY}
+use Rattle.std.specs.Prelude.{ℕ, ◌≡◌, ◌≢◌, ◌<◌, ◌≤◌, ◌==◌, ◌&&◌, Bool, true, false, not, List, Option, Some, None, IfSome, is_some, ⊤}
+use Rattle.std.specs.Option.{option_to_list}
+use Rattle.qx_types.specs.Managers.{manager_number}
+use Rattle.qx_types.specs.declared.limits.TheConstants.Limits.{CALLS, LAST_CONNECTION, PRIORITY, SERVERS}
 use Rattle.qx_types.specs.declared.outcome.Answer.{Answer}
 use Rattle.qx_machine.specs.declared.rows.Over.{Over}
-use Rattle.qx_machine.specs.declared.rows.Over.TheVariants.{New}
+use Rattle.qx_machine.specs.declared.rows.Over.TheVariants.{New, Existing, Side}
 use Rattle.qx_machine.specs.declared.rows.State.{State}
 use Rattle.qx_machine.specs.declared.rows.State.TheVariants.{Queued, Taken, Waiting}
 use Rattle.qx_machine.specs.declared.rows.Target.{Target}
 use Rattle.qx_machine.specs.declared.rows.ThreadRow.{ThreadRow}
-use Rattle.qx_machine.specs.Processes.{keeps_room}
+use Rattle.qx_machine.specs.declared.rows.ServerName.{ServerName}
+use Rattle.qx_machine.specs.Processes.{Process, keeps_room, lost_servers, servers_at}
+use Rattle.qx_machine.specs.Rows.{lowest_from, row_at}
+use Rattle.qx_machine.specs.Servers.{Servers, in_use}
+use Rattle.qx_types.specs.declared.names.Manager.{Manager}
 
 -- a message of the thread is in a line, or was received and not yet answered
 abbrev pub is_blocked : State → Bool
@@ -77,3 +83,43 @@ unserved_state bytes state = state
 
 abbrev pub unserved_thread : List ℕ → ThreadRow → ThreadRow
 unserved_thread bytes row = record row { state = unserved_state bytes row.state }
+
+-- ---- server connections
+
+-- one is in use, or there is a number for one more
+abbrev pub HasPlace : Servers → Type 0
+HasPlace servers = in_use servers ≡ None → lowest_from 1 servers ≤ SERVERS
+
+abbrev pub named : Manager → ℕ → ServerName
+named manager number = record { manager = manager; number = number }
+
+-- what a message goes over can be attached to a manager
+abbrev pub CanAttach : Process → Manager → Over → Type 0
+CanAttach process manager (New coid) = (row_at process.connections coid.0 ≡ None) × HasPlace (servers_at manager process)
+CanAttach process manager (Existing coid) = ⊤
+CanAttach process manager Side = HasPlace (servers_at manager process)
+
+-- a server connection is in use at a manager
+abbrev pub is_served : Manager → Process → Bool
+is_served manager process = is_some (in_use (servers_at manager process))
+
+-- one may come into use at that manager, and at any other it is as before
+pub record Uses (manager : Manager) (before after : Process) : Type 0 where
+  pub here : is_served manager before ≡ true → is_served manager after ≡ true
+  pub others : (other : Manager) → manager_number other ≢ manager_number manager → is_served other after ≡ is_served other before
+
+-- so it is with what a message goes over
+abbrev pub UsesBy : Over → Manager → Process → Process → Type 0
+UsesBy (Existing coid) manager before after = after.servers ≡ before.servers
+UsesBy _ manager before after = Uses manager before after
+
+-- the server connection is one at the manager
+abbrev pub is_at : Manager → Option ServerName → Bool
+is_at manager None = false
+is_at manager (Some server) = manager_number server.manager == manager_number manager
+
+-- a process has lost that server connection or none, and at any other manager one is in use as before
+pub record Loses (lost : Option ServerName) (before after : Process) : Type 0 where
+  pub lost_is : lost_servers before after ≡ option_to_list lost
+  pub was_used : IfSome lost (λ server. is_served server.manager before ≡ true)
+  pub uses : (manager : Manager) → is_served manager after ≡ (is_served manager before && not (is_at manager lost))

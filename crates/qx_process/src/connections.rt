@@ -1,8 +1,7 @@
 //! The connections of a process, from 3: a place for each number.
 
-ghost use Rattle.std.specs.Prelude.{◌≡◌, ◌≤◌, ◌∷◌, [], Some, None, slice_set};
-ghost use Rattle.qx_types.specs.declared.limits.TheConstants.Limits.{LAST_CONNECTION};
-ghost use Rattle.qx_machine.specs.Rows.{put_row, with_row};
+ghost use Rattle.std.specs.Prelude.{◌≡◌, ◌∷◌, [], Some, None, slice_set};
+ghost use Rattle.qx_machine.specs.Rows.{with_row};
 
 use arrayvec::ArrayVec;
 use qx_machine::Connection;
@@ -23,19 +22,6 @@ pub fn no_connections() -> Connections
     connections.push(None);
     connections.push(None);
     connections
-}
-
-/// A new connection.
-pub fn put(connections: &mut Connections, coid: Coid, connection: Connection)
-    requires within { coid.0 ≤ LAST_CONNECTION }
-    ensures put { connections.new.items ≡ put_row connections.old.items coid.0 connection }
-{
-    let place = coid.0 as usize;
-    if place < connections.len() {
-        connections[place] = Some(connection);
-    } else {
-        connections.push(Some(connection));
-    }
 }
 
 /// The open control block of a connection.

@@ -4,6 +4,7 @@ ghost use Rattle.std.specs.Prelude.{◌≡◌, ◌+◌, ◌<◌, ◌≤◌, ◌^
 ghost use Rattle.std.specs.Option.{option_copied};
 ghost use Rattle.qx_machine.specs.Rows.{row_at, lowest_from, put_row};
 
+use arrayvec::ArrayVec;
 use std::alloc::{AllocError, Global};
 
 /// The row under a number.
@@ -54,6 +55,22 @@ pub fn put_reserved<T: Drop>(places: &mut Vec<Option<T>>, number: usize, row: T)
         places[number] = Some(row);
     } else {
         places.push_reserved(Some(row));
+    }
+}
+
+/// Puts a row under a number, where the table may have so many places.
+pub fn put_within<T: Drop, const N: usize>(
+    places: &mut ArrayVec<Option<T>, N>,
+    number: usize,
+    row: T,
+)
+    requires within { number < N }
+    ensures row { places.new.items ≡ put_row places.old.items number row }
+{
+    if number < places.len() {
+        places[number] = Some(row);
+    } else {
+        places.push(Some(row));
     }
 }
 

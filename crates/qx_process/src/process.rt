@@ -1,22 +1,20 @@
-ghost use Rattle.std.specs.Prelude.{◌≡◌, ◌≤◌, is_some, IfSome, IsOk, IsTrue, OnSome, OnOk, OnErr, Some, None};
+ghost use Rattle.std.specs.Prelude.{◌≡◌, ◌+◌, ◌≤◌, count_by, is_some, IfSome, IsOk, IsTrue, OnSome, OnOk, OnErr, Some, None, true};
 ghost use Rattle.std.specs.Option.{option_copied, option_copied_mut};
 ghost use Rattle.std.specs.Borrow.{sem};
-ghost use Rattle.qx_types.specs.Managers.{manager_number};
-ghost use Rattle.qx_types.specs.declared.limits.TheConstants.Limits.{FIRST_CONNECTION, LAST_CONNECTION, THREADS};
+ghost use Rattle.qx_types.specs.declared.limits.TheConstants.Limits.{FIRST_CONNECTION, LAST_CONNECTION, SERVERS, THREADS};
 ghost use Rattle.qx_machine.specs.Processes as machine;
-ghost use Rattle.qx_machine.specs.Processes.{answered_thread, with_thread};
+ghost use Rattle.qx_machine.specs.Processes.{answered_thread, servers_at, with_thread};
 ghost use Rattle.qx_machine.specs.Rows.{row_at, lowest_from};
-ghost use Rattle.qx_machine.specs.Servers.{is_attached};
-ghost use Rattle.qx_process.specs.Reads.{BringsRoom, CanCall, CanGo, HasNumber, IsPriority, IsRanked, has_own_room};
+ghost use Rattle.qx_process.specs.Reads.{BringsRoom, CanAttach, CanCall, CanGo, HasNumber, HasPlace, IsPriority, IsRanked, Loses, Uses, UsesBy, has_own_room, is_served};
 
 use crate::connections::{self, Connections};
 use crate::places;
 use crate::room::Room;
-use crate::servers::{self, Servers, Sides};
+use crate::servers::{self, AllServers, Sides};
 use crate::thread::ThreadCell;
 use crate::threads::{self, PLACES, Threads};
-use qx_machine::{Connection, Over, Sent, ServerConnection, ThreadRow};
-use qx_types::{Answer, Coid, Errno, Limits, Manager, MessageBytes, Prio};
+use qx_machine::{Connection, Effect, Over, Sent, ServerName, ThreadRow};
+use qx_types::{Answer, Coid, Errno, Limits, Manager, Prio};
 use std::alloc::{AllocError, Global};
 use std::marker::Model;
 
@@ -27,19 +25,20 @@ pub struct Process {
     threads: Threads,
     connections: Connections,
     sides: Sides,
-    servers: Servers,
+    servers: AllServers,
 }
 
 impl Model for Process {
-    ghost use Rattle.std.specs.Prelude.{◌≡◌};
+    ghost use Rattle.std.specs.Prelude.{◌≡◌, length};
     ghost use Rattle.qx_machine.specs.Processes as machine;
-    ghost use Rattle.qx_machine.specs.Servers.{servers_from};
+    ghost use Rattle.qx_types.specs.declared.names.TheConstants.Manager.{COUNT};
+    ghost use Rattle.qx_machine.specs.Servers.{is_attached, servers_from};
 
     ghost Value = { machine.Process };
 
-    ghost view = { λ p. record { threads = p.threads.items; connections = p.connections.items; sides = p.sides; servers = p.servers } };
+    ghost view = { λ p. record { threads = p.threads.items; connections = p.connections.items; sides = p.sides; servers = p.servers.items } };
 
-    ghost invariant = { λ p. p.servers ≡ servers_from 0 p.connections.items p.sides p.servers };
+    ghost invariant = { λ p. (p.servers.items ≡ servers_from (λ number. is_attached number p.connections.items p.sides) 0 p.servers.items) × (length p.servers.items ≡ COUNT) };
 }
 
 impl Process {
@@ -55,7 +54,7 @@ impl Process {
             threads: threads::new_threads(threads, prio),
             connections: connections::no_connections(),
             sides: [None; PLACES],
-            servers: [None; Manager::COUNT],
+            servers: servers::no_servers(),
         }
     }
 
@@ -79,6 +78,7 @@ impl Process {
     pub fn conn_of(&self, coid: Coid) -> Option<&Connection>
         ensures row { option_copied result ≡ row_at self.now.connections coid.0 }
         ensures within { OnSome result (coid.0 ≤ LAST_CONNECTION) }
+        ensures served { IfSome result (λ connection. is_served connection.now.manager self.now ≡ true) }
     {
         places::row(self.connections.as_slice(), coid.0 as usize)
     }
@@ -93,60 +93,88 @@ impl Process {
     /// At which manager a thread has a side connection; none where it has none.
     pub fn side(&self, thread: u8) -> Option<Manager>
         ensures side { result ≡ row_at self.now.sides thread }
+        ensures served { IfSome result (λ manager. is_served manager self.now ≡ true) }
     {
         places::row(&self.sides, thread as usize).copied()
     }
 
-    /// The server connection at a manager; none where nothing is attached there.
-    pub fn server(&self, manager: Manager) -> Option<ServerConnection>
-        ensures server { result ≡ row_at self.now.servers (manager_number manager) }
-        ensures attached { is_some result ≡ is_attached (manager_number manager) self.now.connections self.now.sides }
+    /// Whether a server connection is in use at a manager: something is attached there.
+    pub fn is_served(&self, manager: Manager) -> bool
+        ensures { result ≡ is_served manager self.now }
     {
-        places::row(&self.servers, manager.number()).copied()
+        servers::servers_at(&self.servers, manager)
+            .in_use()
+            .is_some()
     }
 
-    /// A new connection, for which the server connection at its manager is used or made (C Library Reference:
+    /// How many server connections there are at a manager, those whose disconnect pulse was made among them.
+    pub fn server_count(&self, manager: Manager) -> usize
+        ensures count { result ≡ count_by is_some (servers_at manager self.now) }
+        ensures few { result ≤ SERVERS + 1 }
+    {
+        servers::servers_at(&self.servers, manager).count()
+    }
+
+    /// A new connection, for which the server connection in use at its manager is used or one is made (C Library Reference:
     /// `ConnectAttach`).
-    #[tactic(auto, using(crate::proofs::ServerLemmas::servers_from_again))]
     pub fn attach(&mut self, coid: Coid, manager: Manager)
         requires within { coid.0 ≤ LAST_CONNECTION }
+        requires free { row_at self.old.connections coid.0 ≡ None }
+        requires place { HasPlace (servers_at manager self.old) }
         ensures process { self.new ≡ machine.with_connection coid.0 manager self.old }
+        ensures uses { Uses manager self.old self.new }
     {
         let connection = Connection {
             manager,
             block: None,
         };
-        connections::put(&mut self.connections, coid, connection);
-        servers::settle(&mut self.servers, self.connections.as_slice(), &self.sides);
+        places::put_within(&mut self.connections, coid.0 as usize, connection);
+        let is_attached = servers::is_attached(manager, self.connections.as_slice(), &self.sides);
+        servers::settle(&mut self.servers, manager, is_attached);
     }
 
-    /// A connection goes, and the server connection at its manager with the last that is attached there (C Library
-    /// Reference: `ConnectDetach`).
-    #[tactic(auto, using(crate::proofs::ServerLemmas::servers_from_again))]
-    pub fn detach(&mut self, coid: Coid)
+    /// A connection goes; gives the server connection that the process has lost with it, if it was the last that is attached to
+    /// its manager (C Library Reference: `ConnectDetach`).
+    pub fn detach(&mut self, coid: Coid) -> Option<ServerName>
         ensures process { self.new ≡ machine.without_connection coid.0 self.old }
+        ensures lost { Loses result self.old self.new }
     {
+        let manager = self.conn_of(coid)?.manager;
         connections::free(&mut self.connections, coid);
-        servers::settle(&mut self.servers, self.connections.as_slice(), &self.sides);
+        let is_attached = servers::is_attached(manager, self.connections.as_slice(), &self.sides);
+        servers::settle(&mut self.servers, manager, is_attached)
     }
 
-    /// A side connection of a thread, for which the server connection at its manager is used or made (C Library Reference:
-    /// `_NTO_SIDE_CHANNEL`).
-    #[tactic(auto, using(crate::proofs::ServerLemmas::servers_from_again))]
+    /// A side connection of a thread, for which the server connection in use at its manager is used or one is made (C Library
+    /// Reference: `_NTO_SIDE_CHANNEL`).
     pub fn attach_side(&mut self, thread: u8, manager: Manager)
+        requires free { row_at self.old.sides thread ≡ None }
+        requires place { HasPlace (servers_at manager self.old) }
         ensures process { self.new ≡ machine.with_side thread (Some manager) self.old }
+        ensures uses { Uses manager self.old self.new }
     {
         servers::set_side(&mut self.sides, thread, Some(manager));
-        servers::settle(&mut self.servers, self.connections.as_slice(), &self.sides);
+        let is_attached = servers::is_attached(manager, self.connections.as_slice(), &self.sides);
+        servers::settle(&mut self.servers, manager, is_attached);
     }
 
-    /// A side connection goes, and the server connection at its manager with the last that is attached there.
-    #[tactic(auto, using(crate::proofs::ServerLemmas::servers_from_again))]
-    pub fn detach_side(&mut self, thread: u8)
+    /// A side connection goes; gives the server connection that the process has lost with it, if it was the last that is
+    /// attached to its manager.
+    pub fn detach_side(&mut self, thread: u8) -> Option<ServerName>
         ensures process { self.new ≡ machine.with_side thread None self.old }
+        ensures lost { Loses result self.old self.new }
     {
+        let manager = self.side(thread)?;
         servers::set_side(&mut self.sides, thread, None);
-        servers::settle(&mut self.servers, self.connections.as_slice(), &self.sides);
+        let is_attached = servers::is_attached(manager, self.connections.as_slice(), &self.sides);
+        servers::settle(&mut self.servers, manager, is_attached)
+    }
+
+    /// A server connection goes, if it was left, as its disconnect pulse is performed (C Library Reference: `ConnectDetach`).
+    pub fn free_server(&mut self, server: ServerName)
+        ensures process { self.new ≡ machine.without_server server self.old }
+    {
+        servers::free(&mut self.servers, server);
     }
 
     /// A connection has its open control block (Writing a Resource Manager: `iofunc_ocb_t`).
@@ -162,7 +190,9 @@ impl Process {
     pub fn send(&mut self, alloc: Global, thread: u8, sent: Sent) -> Result<(), AllocError>
         requires call { CanCall (row_at self.old.threads thread) }
         requires target { CanGo sent.target }
+        requires place { CanAttach self.old sent.target.manager sent.target.over }
         ensures ok { OnOk result (self.new ≡ machine.with_queued thread sent self.old) }
+        ensures uses { OnOk result (UsesBy sent.target.over sent.target.manager self.old self.new) }
         ensures had_room { IfSome (row_at self.old.threads thread) (λ row. IsTrue (has_own_room row)) → IsOk result }
         ensures err { OnErr result (self.new ≡ self.old) }
     {
@@ -174,39 +204,57 @@ impl Process {
         Ok(())
     }
 
-    /// A thread gets a reply, with the room for its replies, unless the reply took that along; what was attached for its
-    /// message alone goes (C Library Reference: `MsgReply`).
-    pub fn reply(
-        &mut self,
-        thread: u8,
-        over: Over,
-        status: u64,
-        bytes: MessageBytes,
-        room: Option<Room>,
-    )
-        requires room { BringsRoom (Answer.Reply status bytes) room (row_at self.old.threads thread) }
-        ensures process { self.new ≡ machine.after_reply thread over (with_thread thread (answered_thread (Answer.Reply status bytes)) self.old) }
+    /// A message of a thread is replied to: what it came over becomes as its effect says, and a side connection goes (C Library
+    /// Reference: `MsgReply`). Gives the server connection that the process has lost with that.
+    pub fn conclude(&mut self, thread: u8, over: Over, effect: Effect) -> Option<ServerName>
+        ensures process { self.new ≡ machine.after_reply thread over effect self.old }
+        ensures lost { Loses result self.old self.new }
     {
-        self.answer(thread, Answer::Reply(status, bytes), room);
-        self.let_go(thread, over);
+        match over {
+            Over::Side => self.detach_side(thread),
+            _ => self.apply(effect),
+        }
+    }
+
+    /// What a message does to a connection.
+    fn apply(&mut self, effect: Effect) -> Option<ServerName>
+        ensures process { self.new ≡ machine.after_effect effect self.old }
+        ensures lost { Loses result self.old self.new }
+    {
+        match effect {
+            Effect::Keeps => None,
+            Effect::Opens { coid, block } => {
+                self.set_block(coid, block);
+                None
+            }
+            Effect::Closes(coid) => self.detach(coid),
+        }
     }
 
     /// A thread gets an error, with the room for its replies where that had gone; what its call attached goes (C Library
-    /// Reference: `MsgError`).
-    pub fn fail(&mut self, thread: u8, over: Over, error: Errno, room: Option<Room>)
+    /// Reference: `MsgError`). Gives the server connection that the process has lost with that.
+    pub fn fail(
+        &mut self,
+        thread: u8,
+        over: Over,
+        error: Errno,
+        room: Option<Room>,
+    ) -> Option<ServerName>
         requires room { BringsRoom (Answer.Failed error) room (row_at self.old.threads thread) }
         ensures process { self.new ≡ machine.after_error thread over (with_thread thread (answered_thread (Answer.Failed error)) self.old) }
+        ensures lost { Loses result self.old self.new }
     {
         self.answer(thread, Answer::Failed(error), room);
         match over {
             Over::New(coid) => self.detach(coid),
-            _ => self.let_go(thread, over),
+            Over::Side => self.detach_side(thread),
+            Over::Existing(_) => None,
         }
     }
 
     /// A thread gets an answer, with the room for its replies where that comes back with it.
     #[tactic(auto, using(crate::proofs::RowLemmas::thread_absent))]
-    fn answer(&mut self, thread: u8, answer: Answer, room: Option<Room>)
+    pub fn answer(&mut self, thread: u8, answer: Answer, room: Option<Room>)
         requires room { BringsRoom answer room (row_at self.old.threads thread) }
         ensures process { self.new ≡ with_thread thread (answered_thread answer) self.old }
     {
@@ -218,21 +266,25 @@ impl Process {
     /// What a message goes over is attached.
     fn connect(&mut self, thread: u8, manager: Manager, over: Over)
         requires number { HasNumber over }
+        requires place { CanAttach self.old manager over }
         ensures process { self.new ≡ machine.with_over thread manager over self.old }
+        ensures uses { UsesBy over manager self.old self.new }
     {
         match over {
             Over::New(coid) => self.attach(coid, manager),
-            Over::Side => self.attach_side(thread, manager),
+            Over::Side => self.connect_side(thread, manager),
             Over::Existing(_) => {}
         }
     }
 
-    /// What was attached for one message alone goes.
-    fn let_go(&mut self, thread: u8, over: Over)
-        ensures process { self.new ≡ machine.after_reply thread over self.old }
+    /// A thread gets a side connection, unless it has one.
+    fn connect_side(&mut self, thread: u8, manager: Manager)
+        requires place { HasPlace (servers_at manager self.old) }
+        ensures process { self.new ≡ machine.with_new_side thread manager self.old }
+        ensures uses { Uses manager self.old self.new }
     {
-        if let Over::Side = over {
-            self.detach_side(thread);
+        if self.side(thread).is_none() {
+            self.attach_side(thread, manager);
         }
     }
 }

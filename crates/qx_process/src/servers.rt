@@ -1,18 +1,194 @@
-//! The server connections of a process, under the numbers of their managers, and the side connections of its threads.
+//! The server connections of a process at each manager, and the side connections of its threads.
 
-ghost use Rattle.std.specs.Prelude.{◌≡◌, slice_set};
+ghost use Rattle.std.specs.Prelude.{◌≡◌, ◌+◌, ◌≤◌, IsTrue, None, count_by, is_some, length, map, option_map, replicate, slice_set};
 ghost use Rattle.std.specs.List.{list_any};
+ghost use Rattle.std.specs.Option.{option_to_list};
+ghost use Rattle.qx_types.specs.Managers.{manager_number};
+ghost use Rattle.qx_types.specs.declared.limits.TheConstants.Limits.{SERVERS};
+ghost use Rattle.qx_types.specs.declared.names.Manager.{Manager as TheManager};
+ghost use Rattle.qx_types.specs.declared.names.TheConstants.Manager.{COUNT};
+ghost use Rattle.qx_machine.specs.Lines.{line_at, with_line};
+ghost use Rattle.qx_machine.specs.Rows.{lowest_from, put_row};
 ghost use Rattle.qx_machine.specs.Servers as machine;
+ghost use Rattle.qx_process.specs.Reads.{HasPlace, named};
 
-use crate::threads::PLACES;
-use qx_machine::{Connection, ServerConnection};
-use qx_types::Manager;
+use crate::{places, threads};
+use arrayvec::ArrayVec;
+use qx_machine::{Connection, ServerConnection, ServerName};
+use qx_types::{Limits, Manager};
+use std::marker::Model;
 
-/// The server connection at each manager.
-pub type Servers = [Option<ServerConnection>; Manager::COUNT];
+/// A place for each number up to the last; place 0 is no server connection's.
+const PLACES: usize = Limits::SERVERS + 1;
+
+const MANAGERS: usize = Manager::COUNT;
+
+/// The server connections of a process at one manager.
+#[derive(Drop)]
+pub struct Servers {
+    places: ArrayVec<Option<ServerConnection>, PLACES>,
+}
+
+impl Model for Servers {
+    ghost use Rattle.qx_machine.specs.Servers as machine;
+
+    ghost Value = { machine.Servers };
+
+    ghost view = { λ s. s.places.items };
+}
+
+/// Those at each manager.
+pub type AllServers = ArrayVec<Servers, MANAGERS>;
 
 /// At which manager each thread has a side connection.
-pub type Sides = [Option<Manager>; PLACES];
+pub type Sides = [Option<Manager>; threads::PLACES];
+
+/// None at any manager.
+pub fn no_servers() -> AllServers
+    ensures none { result.items ≡ replicate COUNT machine.no_servers }
+{
+    let mut servers = ArrayVec::new();
+    for _ in 0..MANAGERS {
+        servers.push(Servers::default());
+    }
+    servers
+}
+
+impl Default for Servers {
+    /// No server connection.
+    fn default() -> Self
+        ensures none { result ≡ machine.no_servers }
+    {
+        let mut places = ArrayVec::new();
+        places.push(None);
+        Servers { places }
+    }
+}
+
+impl Servers {
+    /// The number of the one in use, if one is.
+    pub fn in_use(&self) -> Option<u8>
+        ensures number { result ≡ machine.in_use self.now }
+    {
+        for number in 0..self.places.len() {
+            if is_in_use(&self.places[number]) {
+                return Some(number as u8);
+            }
+        }
+        None
+    }
+
+    /// How many there are, those whose disconnect pulse was made among them.
+    pub fn count(&self) -> usize
+        ensures count { result ≡ count_by is_some self.now }
+        ensures few { result ≤ SERVERS + 1 }
+    {
+        self.places.iter().filter(|place| place.is_some()).count()
+    }
+
+    /// One is used or made while something is attached, and left with the last; gives the number of the one that is left.
+    fn settle(&mut self, is_attached: bool) -> Option<u8>
+        requires place { IsTrue is_attached → HasPlace self.old }
+        ensures servers { self.new ≡ machine.servers_while is_attached self.old }
+        ensures lost { (manager : TheManager) → machine.lost_by manager (machine.in_use self.old) (machine.in_use self.new) ≡ map (named manager) (option_to_list result) }
+    {
+        let in_use = self.in_use();
+        if !is_attached {
+            self.leave();
+            return in_use;
+        }
+        if in_use.is_none() {
+            self.make();
+        }
+        None
+    }
+
+    /// A new one, under the lowest free number.
+    fn make(&mut self)
+        requires place { HasPlace self.old }
+        requires none { machine.in_use self.old ≡ None }
+        ensures made { self.new ≡ put_row self.old (lowest_from 1 self.old) machine.new_server }
+    {
+        let number = places::lowest_free(self.places.as_slice(), 1);
+        places::put_within(
+            &mut self.places,
+            number,
+            ServerConnection { is_leaving: false },
+        );
+    }
+
+    /// None is in use any more.
+    fn leave(&mut self)
+        ensures left { self.new ≡ map (option_map machine.leaving) self.old }
+    {
+        for number in 0..self.places.len() {
+            if let Some(server) = self.places[number].as_mut() {
+                server.is_leaving = true;
+            }
+        }
+    }
+
+    /// The one of a number goes, if it was left.
+    fn free(&mut self, number: u8)
+        ensures freed { self.new ≡ machine.without_left number self.old }
+    {
+        let place = number as usize;
+        if place >= self.places.len() {
+            return;
+        }
+        if is_left(&self.places[place]) {
+            self.places[place] = None;
+        }
+    }
+}
+
+/// The server connections at a manager.
+pub fn servers_at(servers: &AllServers, manager: Manager) -> &Servers
+    requires all { length servers.now.items ≡ COUNT }
+    ensures servers { result.now ≡ line_at servers.now.items (manager_number manager) }
+{
+    &servers[manager.number()]
+}
+
+/// At a manager a server connection is used or made while something is attached, and left with the last; gives the one that is
+/// left.
+pub fn settle(servers: &mut AllServers, manager: Manager, is_attached: bool) -> Option<ServerName>
+    requires all { length servers.old.items ≡ COUNT }
+    requires place { IsTrue is_attached → HasPlace (line_at servers.old.items (manager_number manager)) }
+    ensures servers { servers.new.items ≡ with_line servers.old.items (manager_number manager) (machine.servers_while is_attached) }
+    ensures lost { option_to_list result ≡ machine.lost_by manager (machine.in_use (line_at servers.old.items (manager_number manager))) (machine.in_use (line_at servers.new.items (manager_number manager))) }
+{
+    let number = servers[manager.number()].settle(is_attached)?;
+    Some(ServerName { manager, number })
+}
+
+/// A server connection goes, if it was left.
+pub fn free(servers: &mut AllServers, server: ServerName)
+    requires all { length servers.old.items ≡ COUNT }
+    ensures servers { servers.new.items ≡ with_line servers.old.items (manager_number server.manager) (machine.without_left server.number) }
+{
+    servers[server.manager.number()].free(server.number);
+}
+
+/// Whether a server connection is in use.
+fn is_in_use(place: &Option<ServerConnection>) -> bool
+    ensures { result ≡ machine.is_in_use place.now }
+{
+    match place {
+        Some(server) => !server.is_leaving,
+        None => false,
+    }
+}
+
+/// Whether a server connection was left.
+fn is_left(place: &Option<ServerConnection>) -> bool
+    ensures { result ≡ machine.is_left place.now }
+{
+    match place {
+        Some(server) => server.is_leaving,
+        None => false,
+    }
+}
 
 /// A thread has a side connection at a manager, or none.
 pub fn set_side(sides: &mut Sides, thread: u8, side: Option<Manager>)
@@ -24,33 +200,11 @@ pub fn set_side(sides: &mut Sides, thread: u8, side: Option<Manager>)
     }
 }
 
-/// A server connection comes with the first that is attached to its manager, and goes with the last.
-pub fn settle(servers: &mut Servers, connections: &[Option<Connection>], sides: &Sides)
-    ensures servers { servers.new ≡ machine.servers_from 0 connections.now sides.now servers.old }
+/// Whether something of a process is attached to a manager.
+pub fn is_attached(manager: Manager, connections: &[Option<Connection>], sides: &Sides) -> bool
+    ensures attached { result ≡ machine.is_attached (manager_number manager) connections.now sides.now }
 {
-    for number in 0..Manager::COUNT {
-        servers[number] = server_while(is_attached(number, connections, sides), servers[number]);
-    }
-}
-
-/// The server connection that was there, or a new one; none where nothing is attached.
-fn server_while(is_attached: bool, server: Option<ServerConnection>) -> Option<ServerConnection>
-    ensures server { result ≡ machine.server_while is_attached server }
-{
-    if !is_attached {
-        return None;
-    }
-    match server {
-        Some(server) => Some(server),
-        None => Some(ServerConnection { number: 1 }),
-    }
-}
-
-/// Whether something of a process is attached to the manager of a number.
-fn is_attached(number: usize, connections: &[Option<Connection>], sides: &Sides) -> bool
-    ensures attached { result ≡ machine.is_attached number connections.now sides.now }
-{
-    has_connection(number, connections) || has_side(number, sides)
+    has_connection(manager.number(), connections) || has_side(manager.number(), sides)
 }
 
 /// Whether a process has a connection at the manager of a number.
@@ -61,7 +215,7 @@ fn has_connection(number: usize, connections: &[Option<Connection>]) -> bool
 }
 
 /// Whether a thread of a process has a side connection at the manager of a number.
-fn has_side(number: usize, sides: &[Option<Manager>]) -> bool
+fn has_side(number: usize, sides: &Sides) -> bool
     ensures side { result ≡ list_any (machine.sides_with number) sides.now }
 {
     sides.iter().any(|place| sides_with(number, place))

@@ -1,16 +1,19 @@
 -- How calls on a user's processes are judged, and what the processes are then.
-use Rattle.std.specs.Prelude.{ℕ, List, Option, Some, Result, Ok, Err, nat_le, is_none}
+use Rattle.std.specs.Prelude.{ℕ, ◌≡◌, List, Option, Some, None, Result, Ok, Err, nat_le, is_none}
 use Rattle.qx_types.specs.declared.errno.Errno.TheVariants.{EAGAIN, EINVAL, EMFILE}
 use Rattle.qx_types.specs.declared.limits.TheConstants.Limits.{FIRST_CONNECTION, LAST_CONNECTION}
 use Rattle.qx_types.specs.declared.names.Coid.{Coid}
 use Rattle.qx_types.specs.declared.names.Manager.{Manager}
 use Rattle.qx_types.specs.declared.outcome.Outcome.{Outcome}
 use Rattle.qx_types.specs.declared.outcome.Outcome.TheVariants.{Spawned, Refused, Done, WrongState}
+use Rattle.qx_machine.specs.declared.rows.ServerName.{ServerName}
+use Rattle.qx_machine.specs.declared.rows.Target.{Target}
 use Rattle.qx_machine.specs.Calls.{can_serve}
 use Rattle.qx_machine.specs.Clients.{is_prio}
 use Rattle.qx_machine.specs.Judgements.{◌>>=◌, found, need}
 use Rattle.qx_machine.specs.Processes.{Process, new_process, ranked_thread, with_side, with_thread}
 use Rattle.qx_machine.specs.Rows.{row_at, lowest_from, put_row, with_row}
+use Rattle.qx_process.specs.Reads.{CanAttach, Loses}
 
 -- the outcome of a spawn, by the number of the new process
 abbrev pub spawn_outcome : Result ℕ Outcome → Outcome
@@ -56,3 +59,14 @@ with_new_side processes number thread manager = do
   free ← need (is_none (row_at process.sides thread)) WrongState
   served ← need (can_serve processes process manager) (Refused EAGAIN)
   Ok (with_row processes number (with_side thread (Some manager)))
+
+-- the process is there, and what a message goes over can be attached to the target's manager
+abbrev pub CanAttachAt : Option Process → Target → Type 0
+CanAttachAt None target = ⊥
+CanAttachAt (Some process) target = CanAttach process target.manager target.over
+
+-- the process under a number has lost that server connection or none; where no process is there, none is lost
+abbrev pub LosesAt : Option ServerName → Option Process → Option Process → Type 0
+LosesAt lost None None = lost ≡ None
+LosesAt lost (Some before) (Some after) = Loses lost before after
+LosesAt lost _ _ = ⊥

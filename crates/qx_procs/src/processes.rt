@@ -1,19 +1,19 @@
 //! The processes of a user, from 1: a place for each number.
 
-ghost use Rattle.std.specs.Prelude.{◌≡◌, ◌∷◌, ◌<◌, ◌≤◌, [], None, length, count_by, IsErr, IsOk, IfSome, IfOk, OnOk, OnErr, OnSome};
+ghost use Rattle.std.specs.Prelude.{◌≡◌, ◌∷◌, ◌<◌, ◌≤◌, [], None, length, IsErr, IsOk, IfSome, IfOk, OnOk, OnErr, OnSome};
 ghost use Rattle.std.specs.Option.{option_copied, option_copied_mut};
 ghost use Rattle.std.specs.Borrow.{sem};
-ghost use Rattle.qx_types.specs.Managers.{manager_number};
+ghost use Rattle.std.specs.List.{sum_by};
 ghost use Rattle.qx_types.specs.declared.limits.TheConstants.Limits.{PROCESSES};
 ghost use Rattle.qx_machine.specs.Calls as calls;
 ghost use Rattle.qx_machine.specs.Clients as clients;
 ghost use Rattle.qx_machine.specs.Processes.{with_connection, without_connection, with_side};
 ghost use Rattle.qx_machine.specs.Rows.{row_at, with_row};
-ghost use Rattle.qx_procs.specs.Calls.{spawn_outcome, spawned, done_or, after_or, with_prio, new_connection_number, with_new_side};
+ghost use Rattle.qx_procs.specs.Calls.{spawn_outcome, spawned, done_or, after_or, with_prio, new_connection_number, with_new_side, LosesAt};
 ghost use Rattle.qx_machine.specs.Parts.{connection_of, thread_of};
 ghost use Rattle.qx_process.specs.Reads.{IsRanked};
 
-use qx_machine::{Connection, ThreadRow};
+use qx_machine::{Connection, ServerName, ThreadRow};
 use qx_process::{Process, ThreadCell, places};
 use qx_types::{Coid, Errno, Limits, Manager, Outcome, Prio};
 use std::alloc::{AllocError, Global};
@@ -139,26 +139,30 @@ impl Processes {
         Outcome::Done
     }
 
-    /// Whether a process has a server connection at a manager, or the user fewer than 64 there.
+    /// Whether a process has a server connection in use at a manager, or the user fewer than 64 there.
     pub fn can_serve(&self, process: &Process, manager: Manager) -> bool
         ensures served { result ≡ calls.can_serve self.now process.now manager }
     {
-        process.server(manager).is_some() || self.server_count(manager) < Limits::SERVERS
+        process.is_served(manager) || self.server_count(manager) < Limits::SERVERS
     }
 
-    /// How many server connections the user has at a manager.
+    /// How many server connections the user has at a manager, those whose disconnect pulse was made among them.
     fn server_count(&self, manager: Manager) -> usize
-        ensures count { result ≡ count_by (calls.has_server (manager_number manager)) self.now }
+        ensures count { result ≡ sum_by (calls.server_count manager) self.now }
     {
-        self.rows
-            .iter()
-            .filter(|place| has_server(manager, place))
-            .count()
+        let mut count = 0;
+        for place in &self.rows {
+            if let Some(row) = place {
+                count += row.server_count(manager);
+            }
+        }
+        count
     }
 
     /// A new connection of a process to a manager, under the lowest free number from 3; the server connection there is used
     /// or made (C Library Reference: `ConnectAttach`). `WrongState` where there is no such process, EMFILE where no
-    /// connection is free, EAGAIN where the user has 64 server connections at the manager and the process none.
+    /// connection is free, EAGAIN where the user has 64 server connections at the manager and the process none in use.
+    #[tactic(auto, using(crate::proofs::ServeLemmas::new_connection))]
     pub fn attach(&mut self, process: u8, manager: Manager) -> Result<Coid, Outcome>
         ensures coid { result ≡ new_connection_number self.old process manager }
         ensures ok { IfOk result (λ coid. self.new ≡ with_row self.old process (with_connection coid.0 manager)) }
@@ -188,20 +192,20 @@ impl Processes {
         Ok(Coid(number as u8))
     }
 
-    /// A connection goes, and the server connection at its manager with the last that is attached there (C Library
-    /// Reference: `ConnectDetach`).
-    #[tactic(auto, using(crate::proofs::LendLemmas::row_lends))]
-    pub fn detach(&mut self, process: u8, coid: Coid)
+    /// A connection goes; gives the server connection that the process has lost with it, if it was the last that is attached to
+    /// its manager (C Library Reference: `ConnectDetach`).
+    #[tactic(auto, using(crate::proofs::LendLemmas::row_lends, crate::proofs::ServeLemmas::row_loses))]
+    pub fn detach(&mut self, process: u8, coid: Coid) -> Option<ServerName>
         ensures rows { self.new ≡ with_row self.old process (without_connection coid.0) }
+        ensures lost { LosesAt result (row_at self.old process) (row_at self.new process) }
     {
-        if let Some(row) = self.process_mut(process) {
-            row.detach(coid);
-        }
+        self.process_mut(process)?.detach(coid)
     }
 
     /// A side connection of a thread to a manager, which has no number; the server connection there is used or made (C
     /// Library Reference: `_NTO_SIDE_CHANNEL`). `WrongState` where the thread is not there or has a side connection, EAGAIN
-    /// where the user has 64 server connections at the manager and the process none.
+    /// where the user has 64 server connections at the manager and the process none in use.
+    #[tactic(auto, using(crate::proofs::ServeLemmas::can_attach))]
     pub fn attach_side(&mut self, process: u8, thread: u8, manager: Manager) -> Outcome
         ensures outcome { result ≡ done_or (with_new_side self.old process thread manager) }
         ensures rows { self.new ≡ after_or self.old (with_new_side self.old process thread manager) }
@@ -221,14 +225,14 @@ impl Processes {
         Outcome::Done
     }
 
-    /// A side connection goes, and the server connection at its manager with the last that is attached there.
-    #[tactic(auto, using(crate::proofs::LendLemmas::row_lends))]
-    pub fn detach_side(&mut self, process: u8, thread: u8)
+    /// A side connection goes; gives the server connection that the process has lost with it, if it was the last that is
+    /// attached to its manager.
+    #[tactic(auto, using(crate::proofs::LendLemmas::row_lends, crate::proofs::ServeLemmas::row_loses))]
+    pub fn detach_side(&mut self, process: u8, thread: u8) -> Option<ServerName>
         ensures rows { self.new ≡ with_row self.old process (with_side thread None) }
+        ensures lost { LosesAt result (row_at self.old process) (row_at self.new process) }
     {
-        if let Some(row) = self.process_mut(process) {
-            row.detach_side(thread);
-        }
+        self.process_mut(process)?.detach_side(thread)
     }
 }
 
@@ -237,14 +241,4 @@ fn is_prio(prio: Prio) -> bool
     ensures priority { result ≡ clients.is_prio prio.0 }
 {
     1 <= prio.0 && prio.0 <= Limits::PRIORITY
-}
-
-/// Whether a process is there, with a server connection at the manager.
-fn has_server(manager: Manager, place: &Option<Process>) -> bool
-    ensures server { result ≡ calls.has_server (manager_number manager) place.now }
-{
-    match place {
-        Some(row) => row.server(manager).is_some(),
-        None => false,
-    }
 }

@@ -191,6 +191,13 @@ no_pipes-line old new lines line answered elsewhere before list pipes =
     both false true c is = absurd (cc)
     both true b c is = absurd (cc)
 
+-- and no list has a node
+pub empty-line : (old new : Table Waiting) (line : Line) → nodes_of new line.list ≡ [] → ((list : ℕ) → (IsOwn line list → ⊥) → maps.get new.lists list ≡ maps.get old.lists list) → ((list : ℕ) → nodes_of old list ≡ []) → (list : ℕ) → nodes_of new list ≡ []
+empty-line old new line none elsewhere before list = elim (eqb_tells list line.list) [
+  | inl same ↦ rw same.1 none
+  | inr differs ↦ ap (λ o. unwrap_or o []) (elsewhere list differs.1) ∙ before list
+]
+
 -- so nobody waits
 pub waiting-none : (t : Table Waiting) (lines : List Line) (answered : ℕ) → NoPipes t lines answered → waiting_lists t lines answered ≡ maps.empty
 waiting-none t lines answered none = same_map _ _ (λ list. get-waiting_lists t lines answered list ∙ nothing list ∙ sym (maps.get-empty nat_cmp list))

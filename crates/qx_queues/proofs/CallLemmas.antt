@@ -12,7 +12,7 @@ use Rattle.qx_lists.proofs.ListLemmas.{absent_without, contains_without}
 use Rattle.qx_lines.specs.declared.Line.{Line}
 use Rattle.qx_lines.proofs.LineFacts.{IsLineOf-same}
 use Rattle.qx_machine.specs.Machine.{rank}
-use Rattle.qx_queues.specs.inner.Kept.{Carries, AreListsOfTable, KnowsPulses, Moved, answered_calls, call_at, entries, entry_of_node, given_at, is_line, is_pipes, node_owner, users_call_carried, waiting_of_node, waiting_lists}
+use Rattle.qx_queues.specs.inner.Kept.{Carries, AreListsOfTable, IsOwners, KnowsPulses, Moved, answered_calls, call_at, entries, entry_of_node, given_at, is_line, is_pipes, node_owner, users_call_carried, waiting_of_node, waiting_lists}
 use Rattle.qx_queues.specs.Queues.{Queues, UsersAnswer, with_waiting, without_list}
 use Rattle.qx_queues.specs.Waiting.{Load, Nothing, Waiting, carrying, idle, rank_of}
 use Rattle.qx_queues.specs.inner.Waiting.{given_of}
@@ -20,13 +20,13 @@ use Rattle.qx_queues.specs.declared.nodes.UserNodes.{UserNodes}
 use Rattle.qx_queues.specs.Nodes.{Owner, servers_of, threads_of}
 use Rattle.qx_queues.proofs.BesideLemmas.{get-waiting_lists, is_line-numbered, line_numbered, pipes_apart, same_mapped, same_waiting}
 use Rattle.qx_queues.proofs.EntryLemmas.{map-agree, or_true}
-use Rattle.qx_queues.proofs.KeptLemmas.{line_of, list_of}
+use Rattle.qx_queues.proofs.KeptLemmas.{line_of, list_of, same-owners}
 use Rattle.qx_queues.proofs.PresenceLemmas.{same_queues}
 use Rattle.qx_queues.proofs.TableLemmas.{absent_is, contains-self, entry-other, entry-same, inserted, nowhere, rank_at-entry, waiting-other, waiting-same}
 
 -- the lines stay as they are, and so does whose each node is
 module _ {answered : ℕ} (old new : Table Waiting) (lines : List Line) (node_of : Owner → Option ℕ) (kept : AreListsOfTable old lines answered node_of) (line_lists : (list : ℕ) → is_line lines list ≡ true → maps.get new.lists list ≡ maps.get old.lists list) (same_entries : (node : ℕ) → entry_of_node new node ≡ entry_of_node old node) where
-  pub Kept-beside : ContainsList new answered → ((node : ℕ) → is_some (maps.get new.values node) ≡ is_some (maps.get old.values node)) → ((list node : ℕ) → is_line lines list ≡ false → IsIn new list node → Carries (list == answered) (waiting_of_node new node) × (node_of (node_owner (entry_of_node old node)) ≡ Some node)) → AreListsOfTable new lines answered node_of
+  pub Kept-beside : ContainsList new answered → ((node : ℕ) → is_some (maps.get new.values node) ≡ is_some (maps.get old.values node)) → ((list node : ℕ) → is_line lines list ≡ false → IsIn new list node → Carries (list == answered) (waiting_of_node new node) × IsOwners node_of node (node_owner (entry_of_node old node))) → AreListsOfTable new lines answered node_of
   Kept-beside answers same carries = record {
     line = λ number line at. IsLineOf-same rank_of old new line (kept.line number line at) (λ list own. line_lists list (is_line-numbered lines number list (list_of lines number line at ∙ ap Some (sym own)))) (λ node in_line. rank_at-entry new node ∙ ap rank (same_entries node) ∙ sym (rank_at-entry old node));
     apart = kept.apart;
@@ -34,13 +34,12 @@ module _ {answered : ℕ} (old new : Table Waiting) (lines : List Line) (node_of
     off_lines = kept.off_lines;
     there = λ owner node has. same node ∙ kept.there owner node has;
     names = λ owner node has. ap node_owner (same_entries node) ∙ kept.names owner node has;
-    owned = λ node there. kept.owned node (sym (same node) ∙ there);
     once = kept.once;
     listed = λ list node at. elim (cases_Bool (is_line lines list)) [
       | inl is ↦
           let earlier : IsIn old list node = rw (ap (λ o. unwrap_or o []) (line_lists list is)) at at in
-          (λ apart. let clash : true ≡ false = sym is ∙ apart in absurd (cc), ap (λ entry. node_of (node_owner entry)) (same_entries node) ∙ (kept.listed list node earlier).1)
-      | inr apart ↦ let now = carries list node apart at in (λ again. now.0, ap (λ entry. node_of (node_owner entry)) (same_entries node) ∙ now.1)
+          (λ apart. let clash : true ≡ false = sym is ∙ apart in absurd (cc), same-owners old new node_of node (same_entries node) (kept.listed list node earlier).1)
+      | inr apart ↦ let now = carries list node apart at in (λ again. now.0, same-owners old new node_of node (same_entries node) now.1)
     ];
   }
 
@@ -73,7 +72,7 @@ module _ {answered : ℕ} (old new : Table Waiting) (lines : List Line) (node_of
   line_lists : (other : ℕ) → is_line lines other ≡ true → maps.get new.lists other ≡ maps.get old.lists other
   line_lists other is = moved.lists other (λ same. let clash : true ≡ false = sym is ∙ ap (is_line lines) same ∙ off in cc)
 
-  pub Kept-moved : (list ≡ answered → is_some nodes ≡ true) → ((node : ℕ) → Contains (unwrap_or nodes []) node → Carries (list == answered) (waiting_of_node new node) × (node_of (node_owner (entry_of_node old node)) ≡ Some node)) → AreListsOfTable new lines answered node_of
+  pub Kept-moved : (list ≡ answered → is_some nodes ≡ true) → ((node : ℕ) → Contains (unwrap_or nodes []) node → Carries (list == answered) (waiting_of_node new node) × IsOwners node_of node (node_owner (entry_of_node old node))) → AreListsOfTable new lines answered node_of
   Kept-moved there carries = Kept-beside old new lines node_of kept line_lists moved.entries answers moved.there (λ other node apart at. elim (eqb_tells other list) [
     | inl same ↦ let here : Contains (unwrap_or nodes []) node = rw (same.1, moved.here) at at in rw same.1 (carries node here)
     | inr differs ↦
@@ -194,7 +193,7 @@ module _ {answered : ℕ} (old new : Table Waiting) (lines : List Line) (node_of
   pub Kept-in : is_line lines list ≡ false → Carries (list == answered) (carrying (entry_of_node old node) load) → node_of (node_owner (entry_of_node old node)) ≡ Some node → AreListsOfTable new lines answered node_of
   Kept-in off carries own = Kept-moved old new lines node_of list _ kept Moved-in off (λ same. refl) (λ other now. elim (Contains-push_cases (nodes_of old list) node other now) [
     | inl before ↦ let was = kept.listed list other before in (rw (stays_before other before) (was.0 off), was.1)
-    | inr same ↦ rw (← same) (rw (carries-then old new list node _ load is free.there) carries, own)
+    | inr same ↦ rw (← same) (rw (carries-then old new list node _ load is free.there) carries, λ own_name. own)
   ])
 
   pub more-in : {B : Type 0} (read : Waiting → B) → map (λ other. read (waiting_of_node new other)) (nodes_of old list ++ node ∷ []) ≡ map (λ other. read (waiting_of_node old other)) (nodes_of old list) ++ read (carrying (entry_of_node old node) load) ∷ []

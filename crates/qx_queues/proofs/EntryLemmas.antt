@@ -16,7 +16,7 @@ use Rattle.qx_machine.specs.declared.rows.OwnItem.TheVariants as item
 use Rattle.qx_machine.specs.declared.rows.Queued.{Queued}
 use Rattle.qx_machine.specs.Lines.{into, line_at, with_line}
 use Rattle.qx_queues.specs.Queues.{pulse_call, first_field, is_same_thread, as_message, sender_of, own_field}
-use Rattle.qx_queues.specs.inner.Kept.{nobodys, owner_in, node_owner}
+use Rattle.qx_queues.specs.inner.Kept.{named, nobodys, owner_in, node_owner}
 use Rattle.qx_queues.specs.Waiting.{Waiting}
 use Rattle.qx_queues.specs.Nodes.{Disconnect, Message, Owner, Unblock}
 
@@ -100,6 +100,7 @@ or_none (Some x) = refl
 
 -- a thread's messages, or its unblock pulses, are told by an owner
 pub record Reads {A : Type 0} (part : OwnItem → Option A) (thread : Thread) (owner : Owner) : Type 0 where
+  pub own_name : named owner ≡ owner
   pub of : (entry : Queued) → is_some (own_field part thread entry) ≡ true → node_owner entry ≡ owner
   pub from : (entry : Queued) → node_owner entry ≡ owner → is_some (own_field part thread entry) ≡ true
 
@@ -120,25 +121,29 @@ module _ {A : Type 0} (one other : Thread) where
   field_same x same some = rw (same, is_same_thread-self other) some
 
 pub reads-message : (thread : Thread) → Reads as_message thread (Message thread)
-reads-message thread = record { of = λ entry. of entry.user.0 entry.item; from = λ entry. from entry.user.0 entry.item }
+reads-message thread = record { own_name = refl; of = λ entry. of entry.user.0 entry.item; from = λ entry. from entry.user.0 entry.item }
   where
     of : (user : ℕ) (it : OwnItem) → is_some (if is_same_thread (sender_of user it) thread then as_message it else None) ≡ true → owner_in (sender_of user it) it ≡ Message thread
     of user (item.Message p n) is = ap Message (field_if (sender_of user (item.Message p n)) thread (Some tt) is).0
     of user (item.Unblock p n call) is = let clash : false ≡ true = (field_if (sender_of user (item.Unblock p n call)) thread None is).1 in cc
+    of user (item.Disconnect p server) is = let clash : false ≡ true = (field_if (sender_of user (item.Disconnect p server)) thread None is).1 in cc
 
     from : (user : ℕ) (it : OwnItem) → owner_in (sender_of user it) it ≡ Message thread → is_some (if is_same_thread (sender_of user it) thread then as_message it else None) ≡ true
     from user (item.Message p n) is = field_same (sender_of user (item.Message p n)) thread (Some tt) (ap (λ owner. owned_thread owner thread) is) refl
     from user (item.Unblock p n call) is = absurd (cc)
+    from user (item.Disconnect p server) is = absurd (cc)
 
 pub reads-call : (thread : Thread) → Reads pulse_call thread (Unblock thread)
-reads-call thread = record { of = λ entry. of entry.user.0 entry.item; from = λ entry. from entry.user.0 entry.item }
+reads-call thread = record { own_name = refl; of = λ entry. of entry.user.0 entry.item; from = λ entry. from entry.user.0 entry.item }
   where
     of : (user : ℕ) (it : OwnItem) → is_some (if is_same_thread (sender_of user it) thread then pulse_call it else None) ≡ true → owner_in (sender_of user it) it ≡ Unblock thread
     of user (item.Message p n) is = let clash : false ≡ true = (field_if (sender_of user (item.Message p n)) thread None is).1 in cc
     of user (item.Unblock p n call) is = ap Unblock (field_if (sender_of user (item.Unblock p n call)) thread (Some call) is).0
+    of user (item.Disconnect p server) is = let clash : false ≡ true = (field_if (sender_of user (item.Disconnect p server)) thread None is).1 in cc
 
     from : (user : ℕ) (it : OwnItem) → owner_in (sender_of user it) it ≡ Unblock thread → is_some (if is_same_thread (sender_of user it) thread then pulse_call it else None) ≡ true
     from user (item.Message p n) is = absurd (cc)
+    from user (item.Disconnect p server) is = absurd (cc)
     from user (item.Unblock p n call) is = field_same (sender_of user (item.Unblock p n call)) thread (Some call) (ap (λ owner. owned_thread owner thread) is) refl
 
 module _ {A : Type 0} (f : ℕ → Queued) (part : OwnItem → Option A) (thread : Thread) where

@@ -1,7 +1,6 @@
 -- How the lines and the nodes stand in the table, as a node is made, put into a line, taken out of one or given back.
 use Rattle.std.proofs.Common.{◌≡◌, ◌≢◌, ◌⊎◌, ◌==◌, ◌||◌, ◌++◌, subst, inl, inr, ℕ, zero, suc, Bool, true, false, nat_eq, List, [], ◌∷◌, Contains, Option, Some, None, option_map, map, drop, length, replicate, slice_get, slice_set, unwrap_or, is_some, IfSome, refl, sym, ◌∙◌, ap, arith}
 use Rattle.std.specs.FinMap as maps
-use Rattle.std.specs.Ordering.{nat_cmp}
 use Rattle.std.specs.List.{IsDistinct, AllByRecursion}
 use Rattle.std.proofs.lemmas.Bool.{cases_Bool}
 use Rattle.std.proofs.lemmas.Bool.Decides.{eqb_tells}
@@ -9,27 +8,27 @@ use Rattle.std.proofs.lemmas.Option.{same_Some, slice_get-map}
 use Rattle.qx_types.specs.declared.names.Proc.{Proc}
 use Rattle.qx_types.specs.declared.names.Thread.{Thread}
 use Rattle.qx_lists.specs.Table.{Table, ContainsList, ContainsNode, IsFree, IsIn, nodes_of, without}
-use Rattle.qx_lists.proofs.ListLemmas.{contains_cases, contains_first, contains_later, nowhere_from}
-use Rattle.qx_lists.proofs.MapLemmas.{get-remove_same}
+use Rattle.qx_lists.proofs.ListLemmas.{contains_cases, contains_first, contains_later, contains_rest, nowhere_from}
 use Rattle.qx_lines.specs.declared.Line.{Line}
 use Rattle.qx_lines.specs.Line.{IsInLine, IsLineOf, IsOwn, SameElsewhere, nodes_in}
 use Rattle.qx_lines.proofs.LineFacts.{IsLineOf-same, IsLineOf-elsewhere, apart_from_new}
 use Rattle.qx_machine.specs.declared.rows.OwnItem.{OwnItem}
 use Rattle.qx_machine.specs.declared.rows.OwnItem.TheVariants as item
 use Rattle.qx_machine.specs.declared.rows.Queued.{Queued}
+use Rattle.qx_machine.specs.declared.rows.ServerName.{ServerName}
 use Rattle.qx_machine.specs.Machine.{line_without, rank}
 use Rattle.qx_machine.specs.Lines.{into, line_at, with_line}
-use Rattle.qx_queues.specs.Queues.{IsGone, UsersAnswer, UsersCall, caller, has_call, has_answer_among, pulse_call, first_field, is_same_thread, as_message, no_other, sender, stands, own_field, unblock_call}
-use Rattle.qx_queues.specs.inner.Kept.{Carries, AreListsOfTable, PutIn, TakenOut, answered_calls, call_at, given_at, waiting_lists, entries, entry_of_node, is_line, list_of_line, named, owner_in, node_owner, users_call_carried, waiting_of_node}
+use Rattle.qx_queues.specs.Queues.{IsGone, UsersAnswer, UsersCall, caller, has_call, has_answer_among, pulse_call, first_field, is_same_thread, as_message, no_other, sender, sender_of, stands, own_field, unblock_call}
+use Rattle.qx_queues.specs.inner.Kept.{Carries, AreListsOfTable, IsOwners, PutIn, TakenOut, answered_calls, call_at, given_at, waiting_lists, entries, entry_of_node, is_line, list_of_line, named, owner_in, node_owner, users_call_carried, waiting_of_node}
 use Rattle.qx_queues.specs.Kept.{HasLoad}
 use Rattle.qx_queues.specs.Waiting.{Answered, Load, Nothing, Waiting, Waits, carried, no_call, rank_of}
 use Rattle.qx_queues.specs.inner.Waiting.{thread_of_load, thread_carried, given_in, given_of}
 use Rattle.qx_queues.specs.Nodes.{Disconnect, Message, Owner, Unblock}
 use Rattle.qx_queues.proofs.BesideLemmas.{SameCalls, is_line-more, is_line-numbered, is_line-set, line_numbered, nodes_waiting, same_calls}
-use Rattle.qx_queues.proofs.EntryLemmas.{Reads, differs_from, is_same_thread-self, or_true, owned_thread, reads-call, reads-message, some_of, field-entry, field-find, field-part}
+use Rattle.qx_queues.proofs.EntryLemmas.{Reads, differs_from, is_same_thread-self, map-drop, or_true, owned_thread, reads-call, reads-message, some_of, field-entry, field-find, field-part}
 use Rattle.qx_queues.proofs.LineLemmas.{is_this, other-unblock, owner-this, this-message, this-unblock, without-absent, without-map}
 use Rattle.qx_queues.proofs.NodesLemmas.{none_of}
-use Rattle.qx_queues.proofs.TableLemmas.{absent_is, contained-other, contains-insert, contains-other, contains-self, entries-kept, entry-other, entry-same, inserted, line-kept, none_some, nowhere, removed, some_same, waiting-other}
+use Rattle.qx_queues.proofs.TableLemmas.{absent_is, contains-insert, contains-other, contains-self, entries-kept, entry-other, entry-same, inserted, line-kept, none_some, nowhere, removed, some_same, waiting-other}
 
 -- a place that was written, and the others
 pub slice_get-set : {A : Type 0} (xs : List A) (i j : ℕ) (x y : A) → slice_get (slice_set xs i x) j ≡ Some y → ((j ≡ i) × (y ≡ x)) ⊎ ((j ≢ i) × (slice_get xs j ≡ Some y))
@@ -96,7 +95,6 @@ Kept-room old new lines node_of same_lists values kept = record {
   off_lines = kept.off_lines;
   there = rw values kept.there;
   names = rw values kept.names;
-  owned = rw values kept.owned;
   once = kept.once;
   listed = rw (same_lists, values) kept.listed;
 }
@@ -107,9 +105,9 @@ Kept-owners {answered} t lines node_of after same kept =
     let all : node_of ≡ after = λ i owner. sym (same owner) i in
     subst (AreListsOfTable t lines answered) all kept
 
-not_disconnect : (thread : Thread) (it : OwnItem) (proc : Proc) (number : ℕ) → owner_in thread it ≡ Disconnect proc number → ⊥
-not_disconnect thread (item.Message process n) proc number is = cc
-not_disconnect thread (item.Unblock process n call) proc number is = cc
+-- a node that stands in a list is its owner's, where that is a thread
+pub owners-node : {answered : ℕ} (t : Table Waiting) (lines : List Line) (node_of : Owner → Option ℕ) → AreListsOfTable t lines answered node_of → (list node : ℕ) → IsIn t list node → (owner : Owner) → named owner ≡ owner → node_owner (entry_of_node t node) ≡ owner → node_of owner ≡ Some node
+owners-node t lines node_of kept list node at owner own_name is = ap node_of (sym is) ∙ (kept.listed list node at).1 (ap named is ∙ own_name ∙ sym is)
 
 -- a node of unblock pulses carries no call
 pub no_call-unblock : {answered : ℕ} (t : Table Waiting) (lines : List Line) (node_of : Owner → Option ℕ) (thread : Thread) (node : ℕ) → AreListsOfTable t lines answered node_of → node_of (Unblock thread) ≡ Some node → (list : ℕ) → IsIn t list node → is_line lines list ≡ false → Carries (list == answered) (waiting_of_node t node) → ⊥
@@ -167,11 +165,26 @@ module _ {answered : ℕ} (t : Table Waiting) (lines : List Line) (node_of : Own
         | inr later ↦ rw (is_answered-given f xs later is) (or_true (is_same_thread (f x).thread thread))
       ]
 
--- a disconnect node stands in no list
+-- and stays so while it stands for the same
+pub same-owners : (old new : Table Waiting) (node_of : Owner → Option ℕ) (node : ℕ) → entry_of_node new node ≡ entry_of_node old node → IsOwners node_of node (node_owner (entry_of_node old node)) → IsOwners node_of node (node_owner (entry_of_node new node))
+same-owners old new node_of node same was = subst (λ entry. IsOwners node_of node (node_owner entry)) (sym same) was
+
+-- one that stands for a disconnect pulse is nobody's
+pub nobodys-disconnect : (entry : Queued) (process : ℕ) (server : ServerName) → entry.item ≡ item.Disconnect process server → named (node_owner entry) ≢ node_owner entry
+nobodys-disconnect entry process server is = subst (λ it. named (owner_in (sender_of entry.user.0 it) it) ≢ owner_in (sender_of entry.user.0 it) it) (sym is) (λ same. cc)
+
+named-twice : (owner : Owner) → named (named owner) ≡ named owner
+named-twice (Message thread) = refl
+named-twice (Unblock thread) = refl
+named-twice (Disconnect proc number) = refl
+
+-- a disconnect node stands in no list before its pulse does
 pub IsFree-disconnect : {answered : ℕ} (t : Table Waiting) (lines : List Line) (node_of : Owner → Option ℕ) (proc : Proc) (number node : ℕ) → AreListsOfTable t lines answered node_of → node_of (Disconnect proc number) ≡ Some node → IsFree t node
 IsFree-disconnect t lines node_of proc number node kept has = record {
   there = kept.there (Disconnect proc number) node has;
-  in_no_list = nowhere_from t.lists node (λ list at. not_disconnect _ _ proc number (kept.once (Disconnect proc number) (node_owner (entry_of_node t node)) node has (kept.listed list node at).1));
+  in_no_list = nowhere_from t.lists node (λ list at.
+      let clash : Message (record { proc = proc; tid = 0 }) ≡ Disconnect proc number = kept.once (Disconnect proc number) _ node has (owners-node t lines node_of kept list node at _ refl (kept.names (Disconnect proc number) node has)) in
+      cc);
 }
 
 -- what a line tells of a thread is told by the node of its messages or of its unblock pulses
@@ -180,7 +193,7 @@ module _ {A : Type 0} {answered : ℕ} (part : OwnItem → Option A) (thread : T
   found-own a line xs members is =
       let found = field-find (entry_of_node t) part thread a xs is in
       let own = reads.of (entry_of_node t found.0) (ap is_some found.1.1) in
-      (found.0, (found.1.0, (ap node_of (sym own) ∙ (kept.listed line.list found.0 (members found.0 found.1.0)).1, field-part (is_same_thread (sender (entry_of_node t found.0)) thread) (part (entry_of_node t found.0).item) a found.1.1)))
+      (found.0, (found.1.0, (owners-node t lines node_of kept line.list found.0 (members found.0 found.1.0) owner reads.own_name own, field-part (is_same_thread (sender (entry_of_node t found.0)) thread) (part (entry_of_node t found.0).item) a found.1.1)))
 
   pub stands-owned : (number : ℕ) → is_some (first_field part thread (line_at (map (entries t) lines) number)) ≡ true → node_of owner ≡ None → ⊥
   stands-owned number some none =
@@ -195,9 +208,9 @@ module _ {A : Type 0} {answered : ℕ} (part : OwnItem → Option A) (thread : T
       line_there (line ∷ lines) (suc number) some = line_there lines number some
 
 -- what the lines tell of a thread, and the node of its messages or of its unblock pulses
-module _ {A : Type 0} {answered : ℕ} (part : OwnItem → Option A) (thread : Thread) (owner : Owner) (reads : Reads part thread owner) (own_name : named owner ≡ owner) (t : Table Waiting) (lines : List Line) (node_of : Owner → Option ℕ) (node : ℕ) (kept : AreListsOfTable t lines answered node_of) (has : node_of owner ≡ Some node) where
+module _ {A : Type 0} {answered : ℕ} (part : OwnItem → Option A) (thread : Thread) (owner : Owner) (reads : Reads part thread owner) (t : Table Waiting) (lines : List Line) (node_of : Owner → Option ℕ) (node : ℕ) (kept : AreListsOfTable t lines answered node_of) (has : node_of owner ≡ Some node) where
   tells : is_some (own_field part thread (entry_of_node t node)) ≡ true
-  tells = reads.from (entry_of_node t node) (kept.names owner node has ∙ own_name)
+  tells = reads.from (entry_of_node t node) (kept.names owner node has ∙ reads.own_name)
 
   -- where nothing is told of the thread, the node stands in no list, unless it carries a call
   pub IsFree-own : ((number : ℕ) → is_some (first_field part thread (line_at (map (entries t) lines) number)) ≡ false) → ((list : ℕ) → IsIn t list node → is_line lines list ≡ false → Carries (list == answered) (waiting_of_node t node) → ⊥) → IsFree t node
@@ -215,8 +228,8 @@ module _ {A : Type 0} {answered : ℕ} (part : OwnItem → Option A) (thread : T
     ]);
   }
 
-  only : (x : ℕ) → node_of (node_owner (entry_of_node t x)) ≡ Some x → node_owner (entry_of_node t x) ≡ owner → x ≡ node
-  only x own is = some_same x node (node_of owner) (ap node_of (sym is) ∙ own) has
+  only : (list x : ℕ) → IsIn t list x → node_owner (entry_of_node t x) ≡ owner → x ≡ node
+  only list x at is = some_same x node (node_of owner) (owners-node t lines node_of kept list x at owner reads.own_name is) has
 
   -- where something is, the node stands in that line
   pub in_line-own : (line : Line) → is_some (first_field part thread (entries t line)) ≡ true → IsInLine t line node
@@ -249,7 +262,7 @@ module _ {A : Type 0} {answered : ℕ} (part : OwnItem → Option A) (thread : T
     | inl same ↦ rw same.0 (ap (λ y. is_this user it (entry_of_node t y)) same.1 ∙ this)
     | inr differs ↦ rw differs.0 (elim (cases_Bool (is_this user it (entry_of_node t x))) [
       | inr other ↦ other
-      | inl is ↦ absurd (differs.1 (only x (kept.listed line.list x at).1 (names (entry_of_node t x) is)))
+      | inl is ↦ absurd (differs.1 (only line.list x at (names (entry_of_node t x) is)))
     ])
   ])
 
@@ -258,7 +271,7 @@ module _ {A : Type 0} {answered : ℕ} (part : OwnItem → Option A) (thread : T
   items-other line user it not names = without-absent (entry_of_node t) user it (nodes_in t line) (λ x at. elim (cases_Bool (is_this user it (entry_of_node t x))) [
     | inr other ↦ other
     | inl is ↦
-        let same = only x (kept.listed line.list x at).1 (names (entry_of_node t x) is) in
+        let same = only line.list x at (names (entry_of_node t x) is) in
         let clash : true ≡ false = sym is ∙ ap (λ y. is_this user it (entry_of_node t y)) same ∙ not in
         absurd (cc)
   ])
@@ -266,17 +279,17 @@ module _ {A : Type 0} {answered : ℕ} (part : OwnItem → Option A) (thread : T
 -- a thread's message goes out of a line as its node does, and so does the pulse that names a call
 module _ {answered : ℕ} (t : Table Waiting) (lines : List Line) (node_of : Owner → Option ℕ) (thread : Thread) (node : ℕ) (kept : AreListsOfTable t lines answered node_of) (line : Line) where
   pub message-leaves : node_of (Message thread) ≡ Some node → IsDistinct nat_eq (nodes_in t line) → map (entry_of_node t) (without node (nodes_in t line)) ≡ line_without thread.proc.user.0 (item.Message thread.proc.num thread.tid) (entries t line)
-  message-leaves has distinct = items-without as_message thread (Message thread) (reads-message thread) refl t lines node_of node kept has line thread.proc.user.0 (item.Message thread.proc.num thread.tid) distinct
+  message-leaves has distinct = items-without as_message thread (Message thread) (reads-message thread) t lines node_of node kept has line thread.proc.user.0 (item.Message thread.proc.num thread.tid) distinct
       (this-message thread (entry_of_node t node) (kept.names (Message thread) node has)) (λ entry at. owner-this thread.proc.user.0 (item.Message thread.proc.num thread.tid) entry at)
 
   module _ (has : node_of (Unblock thread) ≡ Some node) (call : ℕ) where
     pub pulse-leaves : pulse_call (entry_of_node t node).item ≡ Some call → IsDistinct nat_eq (nodes_in t line) → map (entry_of_node t) (without node (nodes_in t line)) ≡ line_without thread.proc.user.0 (item.Unblock thread.proc.num thread.tid call) (entries t line)
-    pulse-leaves names distinct = items-without pulse_call thread (Unblock thread) (reads-call thread) refl t lines node_of node kept has line thread.proc.user.0 (item.Unblock thread.proc.num thread.tid call) distinct
+    pulse-leaves names distinct = items-without pulse_call thread (Unblock thread) (reads-call thread) t lines node_of node kept has line thread.proc.user.0 (item.Unblock thread.proc.num thread.tid call) distinct
         (this-unblock thread call (entry_of_node t node) (kept.names (Unblock thread) node has) names) (λ entry at. owner-this thread.proc.user.0 (item.Unblock thread.proc.num thread.tid call) entry at)
 
     -- where the pulse names another call, nothing goes
     pub pulse-stays : (other : ℕ) → pulse_call (entry_of_node t node).item ≡ Some other → other ≢ call → line_without thread.proc.user.0 (item.Unblock thread.proc.num thread.tid call) (entries t line) ≡ entries t line
-    pulse-stays other names differs = items-other pulse_call thread (Unblock thread) (reads-call thread) refl t lines node_of node kept has line thread.proc.user.0 (item.Unblock thread.proc.num thread.tid call)
+    pulse-stays other names differs = items-other pulse_call thread (Unblock thread) (reads-call thread) t lines node_of node kept has line thread.proc.user.0 (item.Unblock thread.proc.num thread.tid call)
         (other-unblock thread call other (entry_of_node t node) names differs) (λ entry at. owner-this thread.proc.user.0 (item.Unblock thread.proc.num thread.tid call) entry at)
 
 -- what holds of no items and of the items of each line, holds of the line of each number
@@ -292,7 +305,7 @@ module _ {answered : ℕ} (t : Table Waiting) (lines : List Line) (node_of : Own
 
   pub other-field : unblock_call (line_at (map (entries t) lines) number) thread ≢ Some call
   other-field is =
-      let part : pulse_call (entry_of_node t node).item ≡ Some call = at_any t (λ l. unblock_call l thread ≡ Some call → pulse_call (entry_of_node t node).item ≡ Some call) (λ none. absurd (none_some call None refl none)) (λ line is. part-own pulse_call thread (Unblock thread) (reads-call thread) refl t lines node_of node kept has call line is) lines number is in
+      let part : pulse_call (entry_of_node t node).item ≡ Some call = at_any t (λ l. unblock_call l thread ≡ Some call → pulse_call (entry_of_node t node).item ≡ Some call) (λ none. absurd (none_some call None refl none)) (λ line is. part-own pulse_call thread (Unblock thread) (reads-call thread) t lines node_of node kept has call line is) lines number is in
       differs (some_same other call (pulse_call (entry_of_node t node).item) names part)
 
 -- one line changes
@@ -312,8 +325,8 @@ module _ {answered : ℕ} (old new : Table Waiting) (lines : List Line) (number 
     nodes = same_waiting;
   })
 
-  changed : IsLineOf rank_of new after → ((line : Line) → IsLineOf rank_of old line → maps.get new.lists line.list ≡ maps.get old.lists line.list → IsLineOf rank_of new line) → ((node : ℕ) → is_some (maps.get new.values node) ≡ is_some (maps.get old.values node)) → ((node : ℕ) → node_owner (entry_of_node new node) ≡ node_owner (entry_of_node old node)) → ((list node : ℕ) → IsIn old list node → waiting_of_node new node ≡ waiting_of_node old node) → ((node : ℕ) → Contains (nodes_in new after) node → Contains (nodes_in old before) node ⊎ (node_of (node_owner (entry_of_node old node)) ≡ Some node)) → AreListsOfTable new (slice_set lines number after) answered node_of
-  changed line others same same_owner same_waiting among = record {
+  changed : IsLineOf rank_of new after → ((line : Line) → IsLineOf rank_of old line → maps.get new.lists line.list ≡ maps.get old.lists line.list → IsLineOf rank_of new line) → ((node : ℕ) → is_some (maps.get new.values node) ≡ is_some (maps.get old.values node)) → ((owner : Owner) (node : ℕ) → node_of owner ≡ Some node → node_owner (entry_of_node new node) ≡ named owner) → ((list node : ℕ) → IsIn old list node → waiting_of_node new node ≡ waiting_of_node old node) → ((node : ℕ) → Contains (nodes_in new after) node → Contains (nodes_in old before) node ⊎ IsOwners node_of node (node_owner (entry_of_node new node))) → AreListsOfTable new (slice_set lines number after) answered node_of
+  changed line others same names same_waiting among = record {
     line = λ other found at. elim (slice_get-set lines number other after found at) [
       | inl here ↦ rw here.1 line
       | inr there ↦ others found (kept.line other found there.1) (elsewhere found.list (not_own other found there.0 there.1))
@@ -322,29 +335,28 @@ module _ {answered : ℕ} (old new : Table Waiting) (lines : List Line) (number 
     answers = ap is_some (elsewhere answered (off_line answered kept.off_lines)) ∙ kept.answers;
     off_lines = same_lines answered ∙ kept.off_lines;
     there = λ owner node has. same node ∙ kept.there owner node has;
-    names = λ owner node has. same_owner node ∙ kept.names owner node has;
-    owned = λ node there. kept.owned node (sym (same node) ∙ there);
+    names = names;
     once = kept.once;
     listed = λ list node at. elim (eqb_tells list before.list) [
       | inl here ↦
           let in_after : Contains (nodes_in new after) node = rw (own ∙ sym here.1) at in (
             λ apart. absurd (off_line list (sym (same_lines list) ∙ apart) here.1),
-            ap node_of (same_owner node) ∙ elim (among node in_after) [
-              | inl earlier ↦ (kept.listed before.list node earlier).1
+            elim (among node in_after) [
+              | inl earlier ↦ same-owners old new node_of node (ap (λ w. w.queued) (same_waiting before.list node earlier)) (kept.listed before.list node earlier).1
               | inr it ↦ it
             ],
           )
       | inr differs ↦
           let earlier : IsIn old list node = rw (ap (λ o. unwrap_or o []) (elsewhere list differs.1)) at at in
           let was = kept.listed list node earlier in
-          (λ apart. rw (same_waiting list node earlier) (was.0 (sym (same_lines list) ∙ apart)), ap node_of (same_owner node) ∙ was.1)
+          (λ apart. rw (same_waiting list node earlier) (was.0 (sym (same_lines list) ∙ apart)), same-owners old new node_of node (ap (λ w. w.queued) (same_waiting list node earlier)) was.1)
     ];
   }
     where
       stays : (other : ℕ) → list_of_line (slice_set lines number after) other ≡ list_of_line lines other
       stays other = list_at-set before after own lines number other is
 
--- a free node is put into a line, and stands for another item of its owner
+-- an owner's free node is put into a line, and stands for another item
 module _ {answered : ℕ} (old new : Table Waiting) (lines : List Line) (number : ℕ) (before after : Line) (node_of : Owner → Option ℕ) (owner : Owner) (node : ℕ) (waiting : Waiting) (kept : AreListsOfTable old lines answered node_of) (is : slice_get lines number ≡ Some before) (own : node_of owner ≡ Some node) (free : IsFree old node) (put : PutIn old new before after node waiting) where
   others_stay : (list other : ℕ) → IsIn old list other → waiting_of_node new other ≡ waiting_of_node old other
   others_stay list other at = waiting-other old new node (inserted old new _ _ put.values) other (λ same. nowhere old free list (rw same at at))
@@ -352,25 +364,58 @@ module _ {answered : ℕ} (old new : Table Waiting) (lines : List Line) (number 
   pub calls-put : SameCalls old new lines (slice_set lines number after) answered
   calls-put = calls-changed old new lines number before after node_of kept is put.own put.lists others_stay
 
-  pub Kept-put : node_owner waiting.queued ≡ owner → named owner ≡ owner → AreListsOfTable new (slice_set lines number after) answered node_of
-  Kept-put names own_name = changed old new lines number before after node_of kept is put.own put.lists put.line
+  here : entry_of_node new node ≡ waiting.queued
+  here = entry-same old new node waiting put.values
+
+  -- and whose it is agrees with what it stands for
+  placed : (after_of : Owner → Option ℕ) → AreListsOfTable old lines answered after_of → ((one : Owner) → after_of one ≡ Some node → node_owner waiting.queued ≡ named one) → IsOwners after_of node (node_owner waiting.queued) → AreListsOfTable new (slice_set lines number after) answered after_of
+  placed after_of then names owns = changed old new lines number before after after_of then is put.own put.lists put.line
       (λ line stands lists. line-kept old new node (inserted old new _ _ put.values) line stands lists (nowhere old free line.list))
       (λ other. elim (eqb_tells other node) [
         | inl same ↦ rw same.1 (contains-self old new node waiting put.values ∙ sym free.there)
         | inr differs ↦ ap is_some (inserted old new node waiting put.values other differs.1)
       ])
-      (λ other. elim (eqb_tells other node) [
-        | inl same ↦ rw same.1 (ap node_owner (entry-same old new node waiting put.values) ∙ names ∙ sym was)
-        | inr differs ↦ ap node_owner (entry-other old new node (inserted old new _ _ put.values) other differs.1)
+      (λ one other has. elim (eqb_tells other node) [
+        | inl same ↦ rw same.1 (ap node_owner here ∙ names one (rw same.1 at has))
+        | inr differs ↦ ap node_owner (entry-other old new node (inserted old new _ _ put.values) other differs.1) ∙ then.names one other has
       ])
       others_stay
       (λ other at. elim (put.among other at) [
         | inl earlier ↦ inl earlier
-        | inr same ↦ inr (rw same (ap node_of was ∙ own))
+        | inr same ↦ inr (rw (same, here) owns)
       ])
+
+  -- of its owner
+  pub Kept-put : node_owner waiting.queued ≡ owner → named owner ≡ owner → AreListsOfTable new (slice_set lines number after) answered node_of
+  Kept-put names own_name = placed node_of kept (λ one has. names ∙ sym own_name ∙ ap named (kept.once one owner node has own)) (λ again. ap node_of names ∙ own)
+
+  -- or a pulse that tells of what the owner lost, with its node
+  pub Kept-lost : (after_of : Owner → Option ℕ) → after_of owner ≡ None → ((other : Owner) → (other ≡ owner) ⊎ ((other ≢ owner) × (after_of other ≡ node_of other))) → named owner ≢ owner → named (node_owner waiting.queued) ≢ node_owner waiting.queued → AreListsOfTable new (slice_set lines number after) answered after_of
+  Kept-lost after_of gone others off pulse = placed after_of
+      (record {
+        line = kept.line;
+        apart = kept.apart;
+        answers = kept.answers;
+        off_lines = kept.off_lines;
+        there = λ one x has. kept.there one x (had one x has).1;
+        names = λ one x has. kept.names one x (had one x has).1;
+        once = λ one other x has also. kept.once one other x (had one x has).1 (had other x also).1;
+        listed = λ list x at. let was = kept.listed list x at in (was.0, still (node_owner (entry_of_node old x)) x was.1);
+      })
+      (λ one has. let was = had one node has in absurd (was.0 (kept.once owner one node own was.1)))
+      (λ again. absurd (pulse again))
     where
-      was : node_owner (entry_of_node old node) ≡ owner
-      was = kept.names owner node own ∙ own_name
+      had : (one : Owner) (x : ℕ) → after_of one ≡ Some x → (one ≢ owner) × (node_of one ≡ Some x)
+      had one x has = elim (others one) [
+        | inl same ↦ absurd (none_some x _ gone (rw same at has))
+        | inr other ↦ (other.0, sym other.1 ∙ has)
+      ]
+
+      still : (one : Owner) (x : ℕ) → IsOwners node_of x one → IsOwners after_of x one
+      still one x was own_name = elim (others one) [
+        | inl same ↦ absurd (off (rw same at own_name))
+        | inr other ↦ other.1 ∙ was own_name
+      ]
 
   pub shown-put : map (entries new) (slice_set lines number after) ≡ with_line (map (entries old) lines) number (λ line. into rank line waiting.queued)
   shown-put =
@@ -383,7 +428,7 @@ module _ {answered : ℕ} (old new : Table Waiting) (lines : List Line) (number 
   Kept-taken fewer = changed old new lines number before after node_of kept is taken.own taken.lists taken.line
       (λ line stands lists. IsLineOf-same rank_of old new line stands (λ list own. rw own lists) (λ node at. rw taken.values refl))
       (λ node. rw taken.values refl)
-      (λ node. rw taken.values refl)
+      (λ owner node has. rw taken.values (kept.names owner node has))
       (λ list node at. rw taken.values refl)
       (λ node at. let rest : Contains (change (nodes_in old before)) node = rw taken.nodes at at in inl (fewer node rest))
 
@@ -397,6 +442,14 @@ module _ {answered : ℕ} (old new : Table Waiting) (lines : List Line) (number 
       let nodes : nodes_in new line ≡ nodes_in old line = ap (λ o. unwrap_or o []) (taken.lists line.list (not_own old new lines number before after node_of kept is taken.own taken.lists other line differs at)) in
       rw (nodes, taken.values) refl)
       ∙ ap (slice_set (map (entries old) lines) number) (rest ∙ ap items (sym (line_at-shown old lines number before is)))
+
+-- the first leaves it
+module _ {answered : ℕ} (old new : Table Waiting) (lines : List Line) (number : ℕ) (before after : Line) (node_of : Owner → Option ℕ) (kept : AreListsOfTable old lines answered node_of) (is : slice_get lines number ≡ Some before) (taken : TakenOut old new before after (drop 1)) where
+  pub Kept-first : AreListsOfTable new (slice_set lines number after) answered node_of
+  Kept-first = Kept-taken old new lines number before after (drop 1) node_of kept is taken (λ x at. contains_rest x _ at)
+
+  pub shown-first : map (entries new) (slice_set lines number after) ≡ with_line (map (entries old) lines) number (drop 1)
+  shown-first = shown-taken old new lines number before after (drop 1) node_of kept is taken (drop 1) (map-drop (entry_of_node old) _)
 
 -- an owner that had no node gets a new one
 module _ (old new : Table Waiting) (node : ℕ) (waiting : Waiting) (room : ℕ) (is : new ≡ record old { values = maps.insert old.values node waiting; room = room }) (absent : maps.get old.values node ≡ None) (contained : (list other : ℕ) → IsIn old list other → ContainsNode old other) where
@@ -435,10 +488,6 @@ module _ (old new : Table Waiting) (node : ℕ) (waiting : Waiting) (room : ℕ)
       | inl made ↦ rw (made.0, made.1) (ap node_owner (entry-same old new node waiting values_made) ∙ names)
       | inr was ↦ ap node_owner (entry-other old new node (inserted old new _ _ values_made) x (was_there x (kept.there one x was))) ∙ kept.names one x was
     ];
-    owned = λ x there. elim (eqb_tells x node) [
-      | inl same ↦ (owner, rw same.1 gets)
-      | inr differs ↦ let was = kept.owned x (contained-other old new node (inserted old new _ _ values_made) x differs.1 there) in (was.0, still was.0 x was.1)
-    ];
     once = λ one other x has also. elim (whose one x has) [
       | inl made ↦ elim (whose other x also) [
         | inl again ↦ again.0 ∙ sym made.0
@@ -453,7 +502,7 @@ module _ (old new : Table Waiting) (node : ℕ) (waiting : Waiting) (room : ℕ)
         let earlier : IsIn old list x = rw (ap (λ o. unwrap_or o []) (lists_made list)) at at in
         let was = kept.listed list x earlier in
         let same = waiting-other old new node (inserted old new _ _ values_made) x (was_there x (contained list x earlier)) in
-        (rw same was.0, still (node_owner (entry_of_node new x)) x (ap (λ waiting. node_of (node_owner waiting.queued)) same ∙ was.1));
+        (rw same was.0, same-owners old new after x (ap (λ w. w.queued) same) (λ own_name. still (node_owner (entry_of_node old x)) x (was.1 own_name)));
   }
     where
       whose : (one : Owner) (x : ℕ) → after one ≡ Some x → ((one ≡ owner) × (x ≡ node)) ⊎ (node_of one ≡ Some x)
@@ -468,7 +517,7 @@ module _ (old new : Table Waiting) (node : ℕ) (waiting : Waiting) (room : ℕ)
         | inr other ↦ other.1 ∙ has
       ]
 
--- an owner gives its node back, which stands in no list
+-- a node that is nobody's is given back, and stands in no list
 module _ (old new : Table Waiting) (node room : ℕ) (is : new ≡ record old { values = maps.remove old.values node; room = room }) (free : IsFree old node) where
   values_freed : new.values ≡ maps.remove old.values node
   values_freed = ap (λ t. t.values) is
@@ -485,38 +534,26 @@ module _ (old new : Table Waiting) (node room : ℕ) (is : new ≡ record old { 
     nodes = λ list x at. waiting-other old new node (removed old new node values_freed) x (λ same. nowhere old free list (rw same at at));
   })
 
-  pub Kept-freed : {answered : ℕ} (lines : List Line) (node_of after : Owner → Option ℕ) (owner : Owner) → node_of owner ≡ Some node → after owner ≡ None → ((other : Owner) → (other ≡ owner) ⊎ ((other ≢ owner) × (after other ≡ node_of other))) → AreListsOfTable old lines answered node_of → AreListsOfTable new lines answered after
-  Kept-freed {answered} lines node_of after owner had gone others kept = record {
+  pub Kept-freed : {answered : ℕ} (lines : List Line) (node_of : Owner → Option ℕ) → named (node_owner (entry_of_node old node)) ≢ node_owner (entry_of_node old node) → AreListsOfTable old lines answered node_of → AreListsOfTable new lines answered node_of
+  Kept-freed {answered} lines node_of nobodys kept = record {
     line = λ number line at. line-kept old new node (removed old new node values_freed) line (kept.line number line at) (lists_freed line.list) (nowhere old free line.list);
     apart = kept.apart;
     answers = ap is_some (lists_freed answered) ∙ kept.answers;
     off_lines = kept.off_lines;
-    there = λ one x has. let was = before one x has in contains-other old new node (removed old new node values_freed) x was.0 (kept.there one x was.1);
-    names = λ one x has. let was = before one x has in ap node_owner (entry-other old new node (removed old new node values_freed) x was.0) ∙ kept.names one x was.1;
-    owned = λ x there.
-        let differs : x ≢ node = λ same. absent_is (maps.get new.values node) (rw same at there) (rw values_freed (get-remove_same old.values node)) in
-        let was = kept.owned x (contained-other old new node (removed old new node values_freed) x differs there) in
-        (was.0, still was.0 x differs was.1);
-    once = λ one other x has also. kept.once one other x (before one x has).1 (before other x also).1;
+    there = λ one x has. contains-other old new node (removed old new node values_freed) x (other one x has) (kept.there one x has);
+    names = λ one x has. ap node_owner (entry-other old new node (removed old new node values_freed) x (other one x has)) ∙ kept.names one x has;
+    once = kept.once;
     listed = λ list x at.
         let earlier : IsIn old list x = rw (ap (λ o. unwrap_or o []) (lists_freed list)) at at in
         let was = kept.listed list x earlier in
-        let differs : x ≢ node = λ same. nowhere old free list (rw same at earlier) in
-        let same = waiting-other old new node (removed old new node values_freed) x differs in
-        (rw same was.0, still (node_owner (entry_of_node new x)) x differs (ap (λ waiting. node_of (node_owner waiting.queued)) same ∙ was.1));
+        let same = waiting-other old new node (removed old new node values_freed) x (λ same. nowhere old free list (rw same at earlier)) in
+        (rw same was.0, same-owners old new node_of x (ap (λ w. w.queued) same) was.1);
   }
     where
-      before : (one : Owner) (x : ℕ) → after one ≡ Some x → (x ≢ node) × (node_of one ≡ Some x)
-      before one x has = elim (others one) [
-        | inl same ↦ let here : after owner ≡ Some x = rw same at has in absurd (none_some x _ gone here)
-        | inr other ↦ let was = sym other.1 ∙ has in (λ same. other.0 (kept.once owner one node had (rw same at was)), was)
-      ]
-
-      still : (one : Owner) (x : ℕ) → x ≢ node → node_of one ≡ Some x → after one ≡ Some x
-      still one x differs has = elim (others one) [
-        | inl same ↦ let here : node_of owner ≡ Some x = rw same at has in absurd (differs (some_same x node _ here had))
-        | inr other ↦ other.1 ∙ has
-      ]
+      other : (one : Owner) (x : ℕ) → node_of one ≡ Some x → x ≢ node
+      other one x has same =
+          let names = kept.names one node (rw same at has) in
+          nobodys (ap named names ∙ named-twice one ∙ sym names)
 
 -- nobody has a node at first, and there are no lines
 pub Kept-none : (t : Table Waiting) (answered : ℕ) (node_of : Owner → Option ℕ) → t.values ≡ maps.empty → ((list : ℕ) → nodes_of t list ≡ []) → ContainsList t answered → ((owner : Owner) → node_of owner ≡ None) → AreListsOfTable t [] answered node_of
@@ -527,7 +564,6 @@ Kept-none t answered node_of values no_list answers none = record {
   off_lines = refl;
   there = λ owner node has. absurd (none_some node _ (none owner) has);
   names = λ owner node has. absurd (none_some node _ (none owner) has);
-  owned = λ node there. absurd (absent_is (maps.get t.values node) there (rw values (maps.get-empty nat_cmp node)));
   once = λ owner other node has also. absurd (none_some node _ (none owner) has);
   listed = λ list node at. absurd (nothing_in node (rw (no_list list) at at));
 }
@@ -559,7 +595,6 @@ Kept-line {answered} old new lines line node_of none stands was_new elsewhere ke
   off_lines = is_line-more lines line answered ∙ rw (kept.off_lines, differs_new) refl;
   there = rw elsewhere.values kept.there;
   names = rw elsewhere.values kept.names;
-  owned = rw elsewhere.values kept.owned;
   once = kept.once;
   listed = λ list node at. elim (eqb_tells list line.list) [
     | inl own ↦ let here : Contains [] node = rw (own.1, none) at at in absurd (omega (arith, here.1))
@@ -583,53 +618,40 @@ Kept-line {answered} old new lines line node_of none stands was_new elsewhere ke
     unlike : (number : ℕ) (found : Line) → slice_get lines number ≡ Some found → (list : ℕ) → IsOwn found list → IsOwn line list → ⊥
     unlike number found at = apart_from_new rank_of old found line (kept.line number found at) was_new
 
-no_nodes : (xs : List ℕ) → ((x : ℕ) → Contains xs x → ⊥) → xs ≡ []
-no_nodes [] empty = refl
-no_nodes (x ∷ xs) empty = absurd (empty x (contains_first x xs))
-
--- where nobody has a node, no list has one
-module _ {answered : ℕ} (t : Table Waiting) (lines : List Line) (node_of : Owner → Option ℕ) (kept : AreListsOfTable t lines answered node_of) (none : (owner : Owner) → node_of owner ≡ None) where
-  list-none : (list : ℕ) → nodes_of t list ≡ []
-  list-none list = no_nodes (nodes_of t list) (λ node at. none_some node _ (none (node_owner (entry_of_node t node))) (kept.listed list node at).1)
-
-  pub shown-none : map (entries t) lines ≡ replicate (length lines) []
-  shown-none = all lines
-    where
-      all : (lines : List Line) → map (entries t) lines ≡ replicate (length lines) []
-      all [] = refl
-      all (line ∷ lines) = rw (list-none line.list, all lines) refl
-
-  pub answered-none : answered_calls t answered ≡ []
-  answered-none = rw (list-none answered) refl
+-- where no list has a node, the lines are empty
+pub shown-none : (t : Table Waiting) → ((list : ℕ) → nodes_of t list ≡ []) → (lines : List Line) → map (entries t) lines ≡ replicate (length lines) []
+shown-none t none [] = refl
+shown-none t none (line ∷ lines) = rw (none line.list, shown-none t none lines) refl
 
 gone_by : (it : OwnItem) (thread : Thread) (line : List Queued) → (owner_in thread it ≡ Message thread → stands line thread ≡ false) → (owner_in thread it ≡ Unblock thread → unblock_call line thread ≡ None) → no_other it thread line
 gone_by (item.Message process number) thread line message pulse = message refl
 gone_by (item.Unblock process number call) thread line message pulse = pulse refl
+gone_by (item.Disconnect process server) thread line message pulse = tt
 
 -- the first item of a line stands there once
 module _ {answered : ℕ} (t : Table Waiting) (lines : List Line) (node_of : Owner → Option ℕ) (line : Line) (kept : AreListsOfTable t lines answered node_of) where
   gone_from : (x : ℕ) (xs : List ℕ) (first : Queued) → x ∷ xs ≡ nodes_in t line → AllByRecursion (λ y. nat_eq x y ≡ false) xs → entry_of_node t x ≡ first → IsGone first (map (entry_of_node t) xs)
   gone_from x xs first nodes apart is =
       let inside : (y : ℕ) → Contains (x ∷ xs) y → IsInLine t line y = λ y at. rw (← nodes) at in
-      let own : node_of (node_owner first) ≡ Some x = ap (λ entry. node_of (node_owner entry)) (sym is) ∙ (kept.listed line.list x (inside x (contains_first x xs))).1 in
+      let own : (owner : Owner) → named owner ≡ owner → node_owner first ≡ owner → node_of owner ≡ Some x = λ owner own_name owns. owners-node t lines node_of kept line.list x (inside x (contains_first x xs)) owner own_name (ap node_owner is ∙ owns) in
       gone_by first.item (sender first) (map (entry_of_node t) xs)
-      (λ message. gone-own as_message (sender first) (Message (sender first)) (reads-message (sender first)) refl t lines node_of x kept (ap node_of (sym message) ∙ own) line xs (λ y at. inside y (contains_later x y xs at)) (λ at. differs_from x x xs apart at refl))
-      (λ pulse. none_of _ (gone-own pulse_call (sender first) (Unblock (sender first)) (reads-call (sender first)) refl t lines node_of x kept (ap node_of (sym pulse) ∙ own) line xs (λ y at. inside y (contains_later x y xs at)) (λ at. differs_from x x xs apart at refl)))
+      (λ message. gone-own as_message (sender first) (Message (sender first)) (reads-message (sender first)) t lines node_of x kept (own (Message (sender first)) refl message) line xs (λ y at. inside y (contains_later x y xs at)) (λ at. differs_from x x xs apart at refl))
+      (λ pulse. none_of _ (gone-own pulse_call (sender first) (Unblock (sender first)) (reads-call (sender first)) t lines node_of x kept (own (Unblock (sender first)) refl pulse) line xs (λ y at. inside y (contains_later x y xs at)) (λ at. differs_from x x xs apart at refl)))
 
   gone_first : (nodes : List ℕ) (first : Queued) → nodes ≡ nodes_in t line → IsDistinct nat_eq nodes → slice_get (map (entry_of_node t) nodes) 0 ≡ Some first → IsGone first (drop 1 (map (entry_of_node t) nodes))
   unfolding IsDistinct
   gone_first [] first same distinct is = absurd (none_some first None refl is)
   gone_first (x ∷ xs) first same distinct is = gone_from x xs first same distinct.0 (same_Some (entry_of_node t x) first is)
 
-  -- and the node of its owner stands for it
-  pub first-owned : (first : Queued) → Some first ≡ slice_get (entries t line) 0 → (node : ℕ) × (node_of (node_owner first) ≡ Some node)
-  first-owned first is = of (nodes_in t line) refl (sym is)
+  -- and the node of its owner stands for it, where that is a thread
+  pub first-owned : (first : Queued) → Some first ≡ slice_get (entries t line) 0 → (owner : Owner) → named owner ≡ owner → node_owner first ≡ owner → (node : ℕ) × (node_of owner ≡ Some node)
+  first-owned first is owner own_name owns = of (nodes_in t line) refl (sym is)
     where
-      of : (nodes : List ℕ) → nodes ≡ nodes_in t line → slice_get (map (entry_of_node t) nodes) 0 ≡ Some first → (node : ℕ) × (node_of (node_owner first) ≡ Some node)
+      of : (nodes : List ℕ) → nodes ≡ nodes_in t line → slice_get (map (entry_of_node t) nodes) 0 ≡ Some first → (node : ℕ) × (node_of owner ≡ Some node)
       of [] same is = absurd (none_some first None refl is)
       of (x ∷ xs) same is =
           let inside : IsInLine t line x = rw (← same) (contains_first x xs) in
-          (x, ap (λ entry. node_of (node_owner entry)) (sym (same_Some (entry_of_node t x) first is)) ∙ (kept.listed line.list x inside).1)
+          (x, owners-node t lines node_of kept line.list x inside owner own_name (ap node_owner (same_Some (entry_of_node t x) first is) ∙ owns))
 
   pub gone-if : (first : Option Queued) → IsDistinct nat_eq (nodes_in t line) → first ≡ slice_get (entries t line) 0 → IfSome first (λ taken. IsGone taken (drop 1 (entries t line)))
   gone-if None distinct is = tt

@@ -5,15 +5,20 @@ use Rattle.std.specs.Option.{option_or}
 use Rattle.std.proofs.lemmas.Bool.{cases_Bool}
 use Rattle.std.proofs.lemmas.Bool.Decides.{eqb_tells, nat_tests}
 use Rattle.std.proofs.lemmas.Option.{same_Some}
+use Rattle.qx_types.specs.Managers.{manager_number}
+use Rattle.qx_types.specs.declared.names.Manager.{Manager}
+use Rattle.qx_types.specs.declared.names.Manager.TheVariants as manager
+use Rattle.qx_types.specs.declared.names.Proc.{Proc}
 use Rattle.qx_types.specs.declared.names.Thread.{Thread}
 use Rattle.qx_lists.specs.Table.{without}
 use Rattle.qx_lists.proofs.ListLemmas.{contains_first, contains_later}
 use Rattle.qx_machine.specs.declared.rows.OwnItem.{OwnItem}
 use Rattle.qx_machine.specs.declared.rows.OwnItem.TheVariants as item
 use Rattle.qx_machine.specs.declared.rows.Queued.{Queued}
+use Rattle.qx_machine.specs.declared.rows.ServerName.{ServerName}
 use Rattle.qx_machine.specs.Lines.{into}
 use Rattle.qx_machine.specs.Machine.{is_same_item, line_without}
-use Rattle.qx_queues.specs.Queues.{pulse_call, first_field, is_same_thread, as_message, message_of, no_other, sender, sender_of, stands, own_field, unblock_call, unblock_of}
+use Rattle.qx_queues.specs.Queues.{disconnect_of, pulse_call, first_field, is_same_thread, as_message, message_of, no_other, sender, sender_of, stands, own_field, unblock_call, unblock_of}
 use Rattle.qx_queues.specs.inner.Kept.{owner_in, node_owner}
 use Rattle.qx_queues.specs.Nodes.{Message, Owner, Unblock}
 use Rattle.qx_queues.proofs.EntryLemmas.{owned_thread, differs_from, is_same_thread-differs, is_same_thread-same, is_same_thread-self, or_none}
@@ -43,11 +48,34 @@ same_unblock p q n m c d is = elim (eqb_tells p q) [
   ]
 ]
 
+same_manager : (one other : Manager) → manager_number one ≡ manager_number other → one ≡ other
+same_manager manager.Ram manager.Ram same = refl
+same_manager manager.Ram manager.Pipe same = absurd (omega (arith, same))
+same_manager manager.Pipe manager.Ram same = absurd (omega (arith, same))
+same_manager manager.Pipe manager.Pipe same = refl
+
+same_disconnect : (p q : ℕ) (s r : ServerName) → ((p == q) && (manager_number s.manager == manager_number r.manager) && (s.number == r.number)) ≡ true → ◌≡◌ {A = OwnItem} (item.Disconnect p s) (item.Disconnect q r)
+same_disconnect p q s r is = elim (eqb_tells p q) [
+  | inr differs ↦ let clash : false ≡ true = rw differs.0 at is in cc
+  | inl one ↦ elim (eqb_tells (manager_number s.manager) (manager_number r.manager)) [
+    | inr differs ↦ let clash : false ≡ true = rw (one.0, differs.0) at is in cc
+    | inl two ↦ elim (eqb_tells s.number r.number) [
+      | inr differs ↦ let clash : false ≡ true = rw (one.0, two.0, differs.0) at is in cc
+      | inl three ↦ λ i. item.Disconnect (one.1 i) (record { manager = same_manager s.manager r.manager two.1 i; number = three.1 i })
+    ]
+  ]
+]
+
 same_item : (one other : OwnItem) → is_same_item one other ≡ true → one ≡ other
 same_item (item.Message p n) (item.Message q m) is = same_message p q n m is
 same_item (item.Message p n) (item.Unblock q m d) is = cc
+same_item (item.Message p n) (item.Disconnect q r) is = cc
 same_item (item.Unblock p n c) (item.Message q m) is = cc
 same_item (item.Unblock p n c) (item.Unblock q m d) is = same_unblock p q n m c d is
+same_item (item.Unblock p n c) (item.Disconnect q r) is = cc
+same_item (item.Disconnect p s) (item.Message q m) is = cc
+same_item (item.Disconnect p s) (item.Unblock q m d) is = cc
+same_item (item.Disconnect p s) (item.Disconnect q r) is = same_disconnect p q s r is
 
 pub this_is : (user : ℕ) (it : OwnItem) (entry : Queued) → is_this user it entry ≡ true → (entry.user.0 ≡ user) × (entry.item ≡ it)
 this_is user it entry is = elim (eqb_tells entry.user.0 user) [
@@ -68,12 +96,14 @@ this-message thread entry = by_item entry.user.0 entry.item
     by_item : (user : ℕ) (it : OwnItem) → item_owner user it ≡ Message thread → ((user == thread.proc.user.0) && is_same_item it (item.Message thread.proc.num thread.tid)) ≡ true
     by_item user (item.Message p n) is = let same : sender_of user (item.Message p n) ≡ thread = ap (λ owner. owned_thread owner thread) is in rw (← same) (grind (arith, nat_tests))
     by_item user (item.Unblock p n c) is = absurd (cc)
+    by_item user (item.Disconnect p server) is = absurd (cc)
 
 pub this-unblock : (thread : Thread) (call : ℕ) (entry : Queued) → node_owner entry ≡ Unblock thread → pulse_call entry.item ≡ Some call → is_this thread.proc.user.0 (item.Unblock thread.proc.num thread.tid call) entry ≡ true
 this-unblock thread call entry = by_item entry.user.0 entry.item
   where
     by_item : (user : ℕ) (it : OwnItem) → item_owner user it ≡ Unblock thread → pulse_call it ≡ Some call → ((user == thread.proc.user.0) && is_same_item it (item.Unblock thread.proc.num thread.tid call)) ≡ true
     by_item user (item.Message p n) is names = absurd (cc)
+    by_item user (item.Disconnect p server) is names = absurd (cc)
     by_item user (item.Unblock p n c) is names =
         let same : sender_of user (item.Unblock p n c) ≡ thread = ap (λ owner. owned_thread owner thread) is in
         let here : c ≡ call = same_Some c call names in
@@ -228,6 +258,14 @@ module _ (rank : Queued → ℕ) (line : List Queued) (thread : Thread) (call pr
       field_here : own_field pulse_call thread (unblock_of thread call prio) ≡ Some call
       field_here = rw (is_same_thread-self thread) refl
 
+-- a disconnect pulse goes into a line
+module _ (rank : Queued → ℕ) (line : List Queued) (proc : Proc) (server : ServerName) (other : Thread) where
+  pub stands-disconnected : stands (into rank line (disconnect_of proc server)) other ≡ stands line other
+  stands-disconnected = ap is_some (field-into_none as_message other rank line (disconnect_of proc server) (field-nothing (is_same_thread (sender (disconnect_of proc server)) other)))
+
+  pub call-disconnected : unblock_call (into rank line (disconnect_of proc server)) other ≡ unblock_call line other
+  call-disconnected = field-into_none pulse_call other rank line (disconnect_of proc server) (field-nothing (is_same_thread (sender (disconnect_of proc server)) other))
+
 -- a thread's message goes out of a line
 module _ (line : List Queued) (thread other : Thread) where
   abbrev withdrawn : List Queued
@@ -261,13 +299,14 @@ module _ (first : Queued) (line : List Queued) (other : Thread) where
   pub call-received_other : sender first ≢ other → unblock_call (first ∷ line) other ≡ unblock_call line other
   call-received_other differs = rw (is_same_thread-differs (sender first) other differs) refl
 
-  -- of a message, and of an unblock pulse
+  -- of what is no unblock pulse, and of what is no message
   pub call-received : pulse_call first.item ≡ None → unblock_call (first ∷ line) other ≡ unblock_call line other
   call-received none = ap (λ o. option_or o (unblock_call line other)) (ap (λ o. if is_same_thread (sender first) other then o else None) none ∙ field-nothing (is_same_thread (sender first) other))
 
   pub stands-received : as_message first.item ≡ None → stands (first ∷ line) other ≡ stands line other
   stands-received none = ap (λ o. is_some (option_or o (first_field as_message other line))) (ap (λ o. if is_same_thread (sender first) other then o else None) none ∙ field-nothing (is_same_thread (sender first) other))
 
-pub gone-pulse : (it : OwnItem) (thread : Thread) (line : List Queued) → as_message it ≡ None → no_other it thread line → unblock_call line thread ≡ None
-gone-pulse (item.Message process number) thread line none gone = cc
-gone-pulse (item.Unblock process number call) thread line none gone = gone
+pub gone-pulse : (it : OwnItem) (thread : Thread) (line : List Queued) (call : ℕ) → pulse_call it ≡ Some call → no_other it thread line → unblock_call line thread ≡ None
+gone-pulse (item.Message process number) thread line call names gone = cc
+gone-pulse (item.Unblock process number other) thread line call names gone = gone
+gone-pulse (item.Disconnect process server) thread line call names gone = cc

@@ -17,12 +17,12 @@ use Rattle.qx_machine.specs.declared.rows.Queued.{Queued}
 use Rattle.qx_queues.specs.declared.nodes.ProcessNodes.{ProcessNodes}
 use Rattle.qx_queues.specs.declared.nodes.ThreadNodes.{ThreadNodes}
 use Rattle.qx_queues.specs.declared.nodes.UserNodes.{UserNodes}
-use Rattle.qx_queues.specs.Queues.{Queues, UsersAnswer, UsersCall, has_thread_nodes, is_same_thread, server_cmp, thread_cmp, with_process_nodes, with_server_node, without_server_node}
+use Rattle.qx_queues.specs.Queues.{Queues, UsersAnswer, UsersCall, has_thread_nodes, is_same_thread, server_cmp, thread_cmp, with_process_nodes, with_server_node}
 use Rattle.qx_queues.specs.inner.Queues.{is_thread_of}
 use Rattle.qx_queues.specs.Nodes.{Asked, Disconnect, Message, Owner, Unblock, asked_in, disconnect_at, if_there, keys_in, no_nodes, no_process, no_process_nodes, node_of, nodes_of_thread, told_by_number, process_at, process_nodes_in, servers_of, threads_of, with_disconnect_at, with_nodes_at}
 use Rattle.qx_queues.proofs.EntryLemmas.{or_false}
 use Rattle.qx_queues.proofs.NodesLemmas.{default_of, disconnect_at-none, disconnect_at-other, disconnect_at-with_nodes, length-with_nodes, none_of, nodes_at-none, nodes_at-other, nodes_at-with_disconnect, same_or_not, started-thread}
-use Rattle.qx_queues.proofs.SetLemmas.{has-thread, insert-there, insert_is, other_key, remove-absent, remove_is, server_exact, server_total, thread_exact, thread_total}
+use Rattle.qx_queues.proofs.SetLemmas.{has-thread, insert-there, insert_is, other_key, remove_is, server_exact, server_total, thread_exact, thread_total}
 
 -- what numbered places tell
 module _ {A K : Type 0} (keys : ℕ → A → List K) (P : K → Bool) where
@@ -197,16 +197,11 @@ module _ (lines : List (List Queued)) (nodes : List UserNodes) (room : ℕ) (pip
   abbrev shown : Queues
   shown = record { lines = lines; threads = threads_of nodes; servers = servers_of nodes; users = length nodes; room = room; pipes = pipes; answered = answered }
 
-  -- a server connection that has its disconnect node gets none, and one that has none gives none back
+  -- a server connection that has its disconnect node gets none
   pub server-had : is_some (disconnect_at nodes proc number) ≡ true → shown ≡ with_server_node shown proc number
   server-had had =
       let there : set.contains (servers_of nodes) (proc, number) ≡ true = servers-nodes nodes proc number ∙ had in
       same_queues refl refl (insert-there server_total server_exact (servers_of nodes) (proc, number) there) refl (sym (rw there refl)) refl refl
-
-  pub server-lacked : is_some (disconnect_at nodes proc number) ≡ false → shown ≡ without_server_node shown proc number
-  server-lacked lacked =
-      let absent : set.contains (servers_of nodes) (proc, number) ≡ false = servers-nodes nodes proc number ∙ lacked in
-      same_queues refl refl (remove-absent server_total server_exact (servers_of nodes) (proc, number) absent) refl (sym (rw absent refl)) refl refl
 
 -- a thread is none of those before it
 pub not_earlier : (proc : Proc) (threads : ℕ) → (threads ≡ 0 → ⊥) → is_thread_of proc (threads - 1) (record { proc = proc; tid = threads }) ≡ false

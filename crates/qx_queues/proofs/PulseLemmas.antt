@@ -2,15 +2,17 @@
 use Rattle.std.proofs.Common.{◌≡◌, ◌≢◌, inl, inr, ℕ, ◌<◌, true, false, List, [], ◌∷◌, Option, Some, None, is_some, length, drop, slice_get, replicate, refl, sym, ◌∙◌, ap, arith}
 use Rattle.std.proofs.lemmas.Bool.Decides.{eqb_tells, nat_tests}
 use Rattle.std.proofs.lemmas.Option.{same_Some, unwrap_or-slice_get}
+use Rattle.qx_types.specs.declared.names.Proc.{Proc}
 use Rattle.qx_types.specs.declared.names.Thread.{Thread}
 use Rattle.qx_machine.specs.declared.rows.OwnItem.TheVariants as item
 use Rattle.qx_machine.specs.declared.rows.Queued.{Queued}
+use Rattle.qx_machine.specs.declared.rows.ServerName.{ServerName}
 use Rattle.qx_machine.specs.Lines.{into, line_at, with_line}
 use Rattle.qx_machine.specs.Machine.{line_without}
-use Rattle.qx_queues.specs.Queues.{pulse_call, message_of, sender, unblock_call, unblock_of}
+use Rattle.qx_queues.specs.Queues.{disconnect_of, pulse_call, message_of, sender, unblock_call, unblock_of}
 use Rattle.qx_queues.specs.inner.Kept.{KnowsPulses, is_line_at}
 use Rattle.qx_queues.proofs.EntryLemmas.{is_same_thread-differs, is_same_thread-self, line_at-other, line_at-same, with_line-same}
-use Rattle.qx_queues.proofs.LineLemmas.{call-asked, call-received, call-received_other, call-replied_other, replied-none, call-sent, call-withdrawn}
+use Rattle.qx_queues.proofs.LineLemmas.{call-asked, call-disconnected, call-received, call-received_other, call-replied_other, replied-none, call-sent, call-withdrawn}
 use Rattle.qx_queues.proofs.NodesLemmas.{default_of, none_of, same_or_not}
 
 pub is_at-self : (number : ℕ) → is_line_at number (Some number) ≡ true
@@ -77,6 +79,9 @@ module _ (lines : List (List Queued)) (number : ℕ) (asked : Thread → Option 
 
   pub pulses-sent : (rank : Queued → ℕ) (thread : Thread) (prio : ℕ) → KnowsPulses (with_line lines number (λ line. into rank line (message_of thread prio))) asked
   pulses-sent rank thread prio = kept (λ line. into rank line (message_of thread prio)) (λ other. call-sent rank (line_at lines number) thread prio other)
+
+  pub pulses-disconnected : (rank : Queued → ℕ) (proc : Proc) (server : ServerName) → KnowsPulses (with_line lines number (λ line. into rank line (disconnect_of proc server))) asked
+  pulses-disconnected rank proc server = kept (λ line. into rank line (disconnect_of proc server)) (λ other. call-disconnected rank (line_at lines number) proc server other)
 
   pub pulses-withdrawn : (thread : Thread) → KnowsPulses (with_line lines number (line_without thread.proc.user.0 (item.Message thread.proc.num thread.tid))) asked
   pulses-withdrawn thread = kept (line_without thread.proc.user.0 (item.Message thread.proc.num thread.tid)) (λ other. call-withdrawn (line_at lines number) thread other)

@@ -57,9 +57,6 @@ module _ {K : Type 0} {R : K → K → Ordering} (total : IsTotalOrder R) (exact
   pub insert-there : (s : set.FinSet R) (k : K) → set.contains s k ≡ true → s ≡ set.insert s k
   insert-there s k there = insert_is s s k there (λ q differs. refl)
 
-  pub remove-absent : (s : set.FinSet R) (k : K) → set.contains s k ≡ false → s ≡ set.remove s k
-  remove-absent s k absent = remove_is s s k absent (λ q differs. refl)
-
 -- the orders of threads and of server connections
 proc_total : IsTotalOrder proc_cmp
 proc_total = then_total (on_total (λ p. p.user.0) nat_cmp_total) (on_total (λ p. p.num) nat_cmp_total)

@@ -55,9 +55,6 @@ module _ (old new : Table Waiting) (node : ℕ) (same : SameBut old new node) wh
   pub contains-other : (other : ℕ) → other ≢ node → ContainsNode old other → ContainsNode new other
   contains-other other differs there = ap is_some (same other differs) ∙ there
 
-  pub contained-other : (other : ℕ) → other ≢ node → ContainsNode new other → ContainsNode old other
-  contained-other other differs there = sym (ap is_some (same other differs)) ∙ there
-
   -- a line keeps its items as a node that isn't in it changes
   pub entries-kept : (line : Line) → maps.get new.lists line.list ≡ maps.get old.lists line.list → (Contains (nodes_in old line) node → ⊥) → entries new line ≡ entries old line
   entries-kept line lists absent =

@@ -24,7 +24,7 @@ use Rattle.qx_queues.specs.Waits.{is_users_call, users_call}
 use Rattle.qx_queues.proofs.BesideLemmas.{get-waiting_lists, nodes_waiting, pipes_apart}
 use Rattle.qx_queues.proofs.CallLemmas.{differs_of, equal_itself, value_of}
 use Rattle.qx_queues.proofs.EntryLemmas.{is_same_thread-same, owned_thread, reads-message}
-use Rattle.qx_queues.proofs.KeptLemmas.{IsFree-own, answered-owner, at_any, gone-own, no_call-message, waits-owner}
+use Rattle.qx_queues.proofs.KeptLemmas.{IsFree-own, answered-owner, at_any, gone-own, no_call-message, owners-node, waits-owner}
 use Rattle.qx_queues.proofs.TableLemmas.{nowhere, some_same}
 
 -- one that passes a test, among what nodes stand for
@@ -53,7 +53,7 @@ module _ {answered : ℕ} (t : Table Waiting) (lines : List Line) (node_of : Own
     waiting-are = let off = pipes_apart lines answered list pipes in nodes_waiting t lines answered list (differs_of list answered off.1) off.0
 
     pub caller-owns : (node : ℕ) → IsIn t list node → node_of (Message (caller (call_at t node))) ≡ Some node
-    caller-owns node at = ap node_of (sym (waits-owner (waiting_of_node t node) (carries-call node at))) ∙ (kept.listed list node at).1
+    caller-owns node at = owners-node t lines node_of kept list node at (Message (caller (call_at t node))) refl (waits-owner (waiting_of_node t node) (carries-call node at))
 
   pub found : (list : ℕ) (test : UsersCall → Bool) → list_any test (unwrap_or (maps.get (waiting_lists t lines answered) list) []) ≡ true → Found t node_of list test
   found list test some = elim (cases_Bool (is_pipes lines answered list)) [
@@ -68,7 +68,7 @@ module _ {answered : ℕ} (t : Table Waiting) (lines : List Line) (node_of : Own
   carries-answer node at = rw (equal_itself answered) at ((kept.listed answered node at).0 kept.off_lines)
 
   pub given-owns : (node : ℕ) → IsIn t answered node → node_of (Message (given_at t node).thread) ≡ Some node
-  given-owns node at = ap node_of (sym (answered-owner (waiting_of_node t node) (carries-answer node at))) ∙ (kept.listed answered node at).1
+  given-owns node at = owners-node t lines node_of kept answered node at (Message (given_at t node).thread) refl (answered-owner (waiting_of_node t node) (carries-answer node at))
 
   -- a thread whose node stands in no list has no message in a line and no call that waits or has an answer
   module _ (thread : Thread) (node : ℕ) (has : node_of (Message thread) ≡ Some node) (free : IsFree t node) where
@@ -78,7 +78,7 @@ module _ {answered : ℕ} (t : Table Waiting) (lines : List Line) (node_of : Own
         nowhere t free list (rw is at at)
 
     pub received-idle : (number : ℕ) → stands (line_at (map (entries t) lines) number) thread ≡ false
-    received-idle number = at_any t (λ line. stands line thread ≡ false) refl (λ line. gone-own as_message thread (Message thread) (reads-message thread) refl t lines node_of node kept has line (nodes_in t line) (λ other at. at) (nowhere t free line.list)) lines number
+    received-idle number = at_any t (λ line. stands line thread ≡ false) refl (λ line. gone-own as_message thread (Message thread) (reads-message thread) t lines node_of node kept has line (nodes_in t line) (λ other at. at) (nowhere t free line.list)) lines number
 
     pub received-waits : (list : ℕ) → has_call (unwrap_or (maps.get (waiting_lists t lines answered) list) []) thread ≡ false
     received-waits list = elim (cases_Bool (has_call (unwrap_or (maps.get (waiting_lists t lines answered) list) []) thread)) [
@@ -94,7 +94,7 @@ module _ {answered : ℕ} (t : Table Waiting) (lines : List Line) (node_of : Own
 
 -- and the node of a thread whose message was received stands in none
 pub IsFree-received : {answered : ℕ} (t : Table Waiting) (lines : List Line) (own : List UserNodes) (thread : Thread) (node : ℕ) → AreListsOfTable t lines answered (node_of own) → node_of own (Message thread) ≡ Some node → IsMessageReceived (value_of t lines answered own) thread → IsFree t node
-IsFree-received t lines own thread node kept has received = IsFree-own as_message thread (Message thread) (reads-message thread) refl t lines (node_of own) node kept has received.idle (no_call-message t lines (node_of own) thread node kept has received.no_call.waiting received.no_call.answered)
+IsFree-received t lines own thread node kept has received = IsFree-own as_message thread (Message thread) (reads-message thread) t lines (node_of own) node kept has received.idle (no_call-message t lines (node_of own) thread node kept has received.no_call.waiting received.no_call.answered)
 
 -- whose the node is that a call comes to wait with, and what it carries then
 module _ (entry : Queued) (user : ℕ) (call : WaitingCall) (own : node_owner entry ≡ Message (caller (users_call user call))) where
@@ -104,6 +104,7 @@ module _ (entry : Queued) (user : ℕ) (call : WaitingCall) (own : node_owner en
       of : (it : OwnItem) → owner_in (sender_of entry.user.0 it) it ≡ Message (caller (users_call user call)) → entry.user.0 ≡ user
       of (item.Message process number) is = ap (λ owner. (owned_thread owner nobody).proc.user.0) is
       of (item.Unblock process number asked) is = absurd (cc)
+      of (item.Disconnect process server) is = absurd (cc)
 
   pub call-carried : call_with (carrying entry (Waits call)) ≡ users_call user call
   call-carried = ap (λ u. users_call u call) user_is

@@ -1,5 +1,5 @@
 -- What contracts see of the managers' lines, and what its calls make of it.
-use Rattle.std.specs.Prelude.{◌≡◌, ℕ, zero, suc, ◌+◌, ◌-◌, ◌==◌, ◌&&◌, if◌then◌else◌, refl, IsTrue, Bool, false, List, [], ◌∷◌, ◌++◌, Option, Some, None, is_some, replicate, unwrap_or}
+use Rattle.std.specs.Prelude.{⊤, ◌≡◌, ℕ, zero, suc, ◌+◌, ◌-◌, ◌==◌, ◌&&◌, if◌then◌else◌, refl, IsTrue, Bool, false, List, [], ◌∷◌, ◌++◌, Option, Some, None, drop, is_some, replicate, slice_get, unwrap_or}
 use Rattle.std.specs.Coded.{Coded, code_by, coded×, coded_ℕ, coded_list}
 use Rattle.std.specs.FinMap as maps
 use Rattle.std.specs.FinSet as set
@@ -10,6 +10,8 @@ use Rattle.std.specs.declared.cmp.Ordering.{Ordering}
 use Rattle.qx_types.specs.contracts.names.Proc as proc_row
 use Rattle.qx_types.specs.contracts.names.Thread as thread_row
 use Rattle.qx_types.specs.contracts.outcome.Answer as answer_row
+use Rattle.qx_types.specs.Managers.{manager_number}
+use Rattle.qx_types.specs.declared.limits.TheConstants.Limits.{PRIORITY}
 use Rattle.qx_types.specs.declared.names.Proc.{Proc}
 use Rattle.qx_types.specs.declared.names.TheConstants.Manager.{COUNT}
 use Rattle.qx_types.specs.declared.names.Thread.{Thread}
@@ -19,9 +21,10 @@ use Rattle.qx_machine.specs.contracts.rows.WaitingCall as call_row
 use Rattle.qx_machine.specs.declared.rows.OwnItem.{OwnItem}
 use Rattle.qx_machine.specs.declared.rows.OwnItem.TheVariants as item
 use Rattle.qx_machine.specs.declared.rows.Queued.{Queued}
+use Rattle.qx_machine.specs.declared.rows.ServerName.{ServerName}
 use Rattle.qx_machine.specs.declared.rows.WaitingCall.{WaitingCall}
-use Rattle.qx_machine.specs.Lines.{line_at, with_line}
-use Rattle.qx_machine.specs.Machine.{queued_item}
+use Rattle.qx_machine.specs.Lines.{into, line_at, with_line}
+use Rattle.qx_machine.specs.Machine.{queued_item, rank}
 
 -- processes in order
 abbrev pub proc_cmp : Proc → Proc → Ordering
@@ -96,11 +99,17 @@ message_of thread prio = queued_item thread.proc.user.0 (item.Message thread.pro
 abbrev pub unblock_of : Thread → ℕ → ℕ → Queued
 unblock_of thread call prio = queued_item thread.proc.user.0 (item.Unblock thread.proc.num thread.tid call) prio
 
+-- the disconnect pulse of a process as it stands in a line
+abbrev pub disconnect_of : Proc → ServerName → Queued
+disconnect_of proc server = queued_item proc.user.0 (item.Disconnect proc.num server) PRIORITY
+
 abbrev pub sender_of : ℕ → OwnItem → Thread
 sender_of user (item.Message process thread) = record { proc = record { user = record { 0 = user }; num = process }; tid = thread }
 sender_of user (item.Unblock process thread call) = record { proc = record { user = record { 0 = user }; num = process }; tid = thread }
+sender_of user (item.Disconnect process server) = record { proc = record { user = record { 0 = user }; num = process }; tid = 0 }
 
--- the thread that an item is of: the one that sent a message, or the one that a pulse asks to unblock
+-- the thread that an item is of: the one that sent a message, or the one that a pulse asks to unblock; a disconnect pulse is of none, so that
+-- of number 0 stands for its process
 abbrev pub sender : Queued → Thread
 sender entry = sender_of entry.user.0 entry.item
 
@@ -119,10 +128,12 @@ first_field field thread (first ∷ line) = option_or (own_field field thread fi
 abbrev pub as_message : OwnItem → Option Unit
 as_message (item.Message process thread) = Some tt
 as_message (item.Unblock process thread call) = None
+as_message (item.Disconnect process server) = None
 
 abbrev pub pulse_call : OwnItem → Option ℕ
 pulse_call (item.Message process thread) = None
 pulse_call (item.Unblock process thread call) = Some call
+pulse_call (item.Disconnect process server) = None
 
 -- a message of the thread stands in the line
 abbrev pub stands : List Queued → Thread → Bool
@@ -135,8 +146,9 @@ unblock_call line thread = first_field pulse_call thread line
 abbrev pub no_other : OwnItem → Thread → List Queued → Type 0
 no_other (item.Message process thread) sender line = stands line sender ≡ false
 no_other (item.Unblock process thread call) sender line = unblock_call line sender ≡ None
+no_other (item.Disconnect process server) sender line = ⊤
 
--- no item of the same thread and kind stands in the line
+-- no item of the same thread and kind stands in the line; disconnect pulses of a process may stand there beside each other
 abbrev pub IsGone : Queued → List Queued → Type 0
 IsGone entry line = no_other entry.item (sender entry) line
 
@@ -212,6 +224,20 @@ with_process_nodes c proc (suc threads) = with_thread_nodes (with_process_nodes 
 abbrev pub with_server_node : Queues → Proc → ℕ → Queues
 with_server_node c proc number = record c { servers = set.insert c.servers (proc, number); room = if has_server_node c proc number then c.room else c.room - 1 }
 
--- and has none any more
-abbrev pub without_server_node : Queues → Proc → ℕ → Queues
-without_server_node c proc number = record c { servers = set.remove c.servers (proc, number); room = if has_server_node c proc number then c.room + 1 else c.room }
+-- it has none any more, and its disconnect pulse stands in the manager's line
+abbrev pub with_disconnect : Queues → Proc → ServerName → Queues
+with_disconnect c proc server = record (with_queues_line c (manager_number server.manager) (λ line. into rank line (disconnect_of proc server))) { servers = set.remove c.servers (proc, manager_number server.manager) }
+
+abbrev pub nodes_freed_by : OwnItem → ℕ
+nodes_freed_by (item.Message process thread) = 0
+nodes_freed_by (item.Unblock process thread call) = 0
+nodes_freed_by (item.Disconnect process server) = 1
+
+-- how many nodes are given back as an item is received: that of a disconnect pulse is
+abbrev pub nodes_freed : Option Queued → ℕ
+nodes_freed None = 0
+nodes_freed (Some first) = nodes_freed_by first.item
+
+-- the first item of a line is taken, and there is room for the node that is given back
+abbrev pub without_first_item : Queues → ℕ → Queues
+without_first_item c number = record (with_queues_line c number (drop 1)) { room = c.room + nodes_freed (slice_get (queues_line c number) 0) }

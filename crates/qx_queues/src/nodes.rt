@@ -145,7 +145,7 @@ impl Nodes {
         self.set(thread, ThreadNodes { asked, ..own });
     }
 
-    /// The disconnect node of a process' server connection at a manager.
+    /// The disconnect node of a process' server connection at a manager, until it goes into the line there.
     pub fn disconnect(&self, proc: Proc, manager: Manager) -> Option<usize>
         ensures node { result ≡ disconnect_at self.now proc (manager_number manager) }
     {
@@ -156,7 +156,7 @@ impl Nodes {
             .disconnect(manager)
     }
 
-    /// A process gets another disconnect node at a manager, or none.
+    /// A process has another disconnect node at a manager from now on, or none.
     pub fn set_disconnect(&mut self, proc: Proc, manager: Manager, node: Option<usize>)
         ensures set { self.new ≡ with_disconnect_at self.old proc (manager_number manager) node }
         ensures there { process_at self.old proc ≢ no_process → disconnect_at self.new proc (manager_number manager) ≡ node }

@@ -1,7 +1,7 @@
 //! The managers' lines and the lists of calls that wait or were answered, over one table, in which the nodes of all users'
 //! threads and server connections stand.
 
-ghost use Rattle.std.specs.Prelude.{◌≡◌, ℕ, ◌-◌, ◌*◌, ◌<◌, ◌≤◌, true, false, option_map, length, drop, slice_get, is_some, max, IfErr, IfOk, IsOk, OnOk, OnErr, IfSome, IsSome, IsTrue, MatchResult, None, Some};
+ghost use Rattle.std.specs.Prelude.{◌≡◌, ℕ, ◌+◌, ◌-◌, ◌*◌, ◌<◌, ◌≤◌, true, false, option_map, length, drop, slice_get, is_some, max, IfErr, IfOk, IsOk, OnOk, OnErr, IfSome, IsSome, IsTrue, MatchResult, None, Some};
 ghost use Rattle.std.specs.FinMap as maps;
 ghost use Rattle.qx_types.specs.Managers.{manager_number};
 ghost use Rattle.qx_types.specs.declared.limits.TheConstants.Limits.{PRIORITY, PROCESSES, THREADS, TRANSFER};
@@ -10,7 +10,7 @@ ghost use Rattle.qx_lines.specs.Line.{IsInLine, IsLineOf};
 ghost use Rattle.qx_machine.specs.Lines.{into};
 ghost use Rattle.qx_machine.specs.Machine as machine;
 ghost use Rattle.qx_machine.specs.declared.rows.OwnItem.TheVariants as item;
-ghost use Rattle.qx_queues.specs.Queues.{HasNoListedCall, HasThreadNodes, IsGone, IsMessageReceived, pulse_call, queues_line, has_server_node, has_thread_nodes, message_of, no_queues, stands, unblock_call, unblock_of, with_queues_line, with_process_nodes, with_server_node, with_thread_nodes, without_server_node};
+ghost use Rattle.qx_queues.specs.Queues.{HasNoListedCall, HasThreadNodes, IsGone, IsMessageReceived, disconnect_of, pulse_call, queues_line, has_server_node, has_thread_nodes, message_of, no_queues, stands, unblock_call, unblock_of, with_disconnect, with_queues_line, with_process_nodes, with_server_node, with_thread_nodes, without_first_item};
 ghost use Rattle.qx_queues.specs.inner.Kept.{PutIn, TakenOut, entries, entry_of_node, node_owner, waiting_of_node};
 ghost use Rattle.qx_queues.specs.Nodes.{Unblock};
 ghost use Rattle.qx_queues.specs.Waiting.{ComesWithRoom, addressed_by, idle, rank_of};
@@ -20,7 +20,7 @@ use crate::nodes::{Nodes, ThreadNodes};
 use crate::waiting::{Answered, Slot, Waiting};
 use qx_lines::Line;
 use qx_lists::Table;
-use qx_machine::{OwnItem, Queued};
+use qx_machine::{OwnItem, Queued, ServerName};
 use qx_types::{Limits, Manager, Prio, Proc, Thread};
 use std::alloc::{AllocError, Global};
 use std::marker::Model;
@@ -98,25 +98,31 @@ impl Queues {
         put_in(&mut self.table, line, own.message, waiting);
     }
 
-    /// Takes the first item of a line, a message or an unblock pulse (C Library Reference: `MsgReceive`).
+    /// Takes the first item of a line, a message or a pulse (C Library Reference: `MsgReceive`); the node of a disconnect pulse
+    /// is given back, and room is kept for it.
     pub fn receive(&mut self, manager: Manager) -> Option<Queued>
         ensures first { result ≡ slice_get (queues_line self.old (manager_number manager)) 0 }
-        ensures rest { self.new ≡ with_queues_line self.old (manager_number manager) (drop 1) }
+        ensures rest { self.new ≡ without_first_item self.old (manager_number manager) }
         ensures gone { IfSome result (λ first. IsGone first (drop 1 (queues_line self.old (manager_number manager)))) }
     {
         self.table.know();
-        let first = take_out(&mut self.table, &mut self.lines[manager.number()])?;
-        if let OwnItem::Unblock {
-            process,
-            thread,
-            ..
-        } = first.item
-        {
-            let proc = Proc {
-                user: first.user,
-                num: process,
-            };
-            self.nodes.set_asked(Thread { proc, tid: thread }, None);
+        let (node, first) = take_out(&mut self.table, &mut self.lines[manager.number()])?;
+        match first.item {
+            OwnItem::Message { .. } => {}
+            OwnItem::Unblock {
+                process,
+                thread,
+                ..
+            } => {
+                let proc = Proc {
+                    user: first.user,
+                    num: process,
+                };
+                self.nodes.set_asked(Thread { proc, tid: thread }, None);
+            }
+            OwnItem::Disconnect { .. } => {
+                give_back(&mut self.table, node);
+            }
         }
         Some(first)
     }
@@ -286,14 +292,19 @@ impl Queues {
         Ok(())
     }
 
-    /// A process has no disconnect node at a manager from now on, and room is kept for the one that it had.
-    pub fn remove_server(&mut self, proc: Proc, manager: Manager)
-        ensures removed { self.new ≡ without_server_node self.old proc (manager_number manager) }
+    /// A process has lost a server connection: its disconnect node at that manager goes into the manager's line as the pulse
+    /// that tells so (Writing a Resource Manager: `_PULSE_CODE_DISCONNECT`).
+    pub fn disconnect(&mut self, proc: Proc, server: ServerName)
+        requires there { IsTrue (has_server_node self.old proc (manager_number server.manager)) }
+        ensures disconnected { self.new ≡ with_disconnect self.old proc server }
     {
-        if let Some(node) = self.nodes.disconnect(proc, manager) {
-            self.table.free_node(node);
-            self.nodes.set_disconnect(proc, manager, None);
-        }
+        let Some(node) = self.nodes.disconnect(proc, server.manager) else {
+            unreachable!();
+        };
+        let waiting = Waiting::new(queued_disconnect(proc, server));
+        let line = &mut self.lines[server.manager.number()];
+        put_in(&mut self.table, line, node, waiting);
+        self.nodes.set_disconnect(proc, server.manager, None);
     }
 }
 
@@ -323,6 +334,20 @@ fn queued_unblock(thread: Thread, call: u64, prio: Prio) -> Queued
             call,
         },
         prio,
+    }
+}
+
+/// The disconnect pulse of a process, as it stands in a line.
+fn queued_disconnect(proc: Proc, server: ServerName) -> Queued
+    ensures pulse { result ≡ disconnect_of proc server }
+{
+    Queued {
+        user: proc.user,
+        item: OwnItem::Disconnect {
+            process: proc.num,
+            server,
+        },
+        prio: Prio(Limits::PRIORITY),
     }
 }
 
@@ -356,15 +381,25 @@ fn put_in(table: &mut Table<Waiting>, line: &mut Line, node: usize, waiting: Wai
     line.put(table, node);
 }
 
-/// Takes the first node out of a line, and tells what it stands for.
-fn take_out(table: &mut Table<Waiting>, line: &mut Line) -> Option<Queued>
+/// Takes the first node out of a line, with what it stands for.
+fn take_out(table: &mut Table<Waiting>, line: &mut Line) -> Option<(usize, Queued)>
     requires line { IsLineOf rank_of table.old line.old }
     requires there { (list node : ℕ) → IsIn table.old list node → ContainsNode table.old node }
     ensures out { TakenOut table.old table.new line.old line.new (drop 1) }
-    ensures first { result ≡ slice_get (entries table.old line.old) 0 }
+    ensures first { option_map (λ taken. taken.1) result ≡ slice_get (entries table.old line.old) 0 }
+    ensures entry { IfSome result (λ taken. entry_of_node table.new taken.0 ≡ taken.1) }
+    ensures free { IfSome result (λ taken. IsFree table.new taken.0) }
 {
     let node = line.take(table)?;
-    Some(table.value(node).queued())
+    Some((node, table.value(node).queued()))
+}
+
+/// Gives a node back that stands in no list.
+fn give_back(table: &mut Table<Waiting>, node: usize)
+    requires free { IsFree table.old node }
+    ensures freed { table.new ≡ record table.old { values = maps.remove table.old.values node; room = table.old.room + 1 } }
+{
+    table.free_node(node);
 }
 
 /// Takes a node out of its line.
@@ -397,7 +432,7 @@ fn asked_call(table: &Table<Waiting>, node: usize) -> u64
 {
     match table.value(node).queued().item {
         OwnItem::Unblock { call, .. } => call,
-        OwnItem::Message { .. } => unreachable!(),
+        OwnItem::Message { .. } | OwnItem::Disconnect { .. } => unreachable!(),
     }
 }
 

@@ -1,2 +1,2 @@
--- what a judged request sends
+-- what a judged request sends, and over what
 mod SendLemmas

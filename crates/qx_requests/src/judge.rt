@@ -1,6 +1,6 @@
 //! How a call of a thread is judged, by the mounts and the processes of its user.
 
-ghost use Rattle.std.specs.Prelude.{◌≡◌, ◌<◌, ◌≤◌, IsTrue, IfOk, Some, option_map, true};
+ghost use Rattle.std.specs.Prelude.{◌≡◌, ◌<◌, ◌≤◌, IsTrue, IfOk, None, Some, option_map, true};
 ghost use Rattle.qx_types.specs.declared.limits.TheConstants.Limits.{LAST_CONNECTION};
 ghost use Rattle.qx_wire.specs.Rests.{is_rest};
 ghost use Rattle.qx_machine.specs.declared.rows.State.TheVariants.{Ready};
@@ -10,7 +10,8 @@ ghost use Rattle.qx_machine.specs.Clients as clients;
 ghost use Rattle.qx_machine.specs.Judgements.{or_refused};
 ghost use Rattle.qx_machine.specs.Parts.{thread_of};
 ghost use Rattle.qx_machine.specs.Rows.{row_at};
-ghost use Rattle.qx_process.specs.Reads.{CanCall, CanGo};
+ghost use Rattle.qx_process.specs.Reads.{CanCall, CanGo, is_served};
+ghost use Rattle.qx_procs.specs.Calls.{CanAttachAt};
 ghost use Rattle.qx_requests.specs.Targets.{HasRest};
 ghost use Rattle.qx_requests.specs.inner.Targets.{IsConnection};
 
@@ -25,7 +26,7 @@ use qx_types::{Coid, Config, Errno, Limits, Outcome, Prio, Request, Thread, User
 /// `WrongState` where the thread is not there or not ready; then EINVAL for fields out of their ranges, EAGAIN where the
 /// thread's calls are used up; for a path, the errors of `read_path`, then those of `Mounts::resolve`; for a connection,
 /// EBADF where it is not there; EMFILE where no connection is free for a new one; EAGAIN where the user has all its server
-/// connections at the manager. What is judged so can be sent.
+/// connections at the manager. What is judged so can be sent, and what it goes over can be attached.
 pub fn target_by<'a>(
     config: &Config,
     mounts: &Mounts,
@@ -38,6 +39,7 @@ pub fn target_by<'a>(
     ensures goes { IfOk result (λ addressed. CanGo addressed.target) }
     ensures sendable { IfOk result (λ addressed. IsTrue (can_send (content_of request.now addressed.rest))) }
     ensures rest { IfOk result (λ addressed. HasRest addressed.target.over addressed.rest) }
+    ensures place { IfOk result (λ addressed. CanAttachAt (row_at processes.now thread.proc.num) addressed.target) }
     ensures target { result ≡ clients.target_by config.now thread.proc.user.0 mounts.now processes.now thread request.now }
 {
     let Some(process) = processes.process(thread.proc.num) else {
@@ -153,6 +155,7 @@ fn to_connection<'a>(connection: Connection, over: Over, prio: Prio) -> Addresse
 /// A connection that is there, which has a number from 3 to 66.
 fn connection_at(process: &Process, coid: Coid) -> Result<Connection, Outcome>
     ensures number { IfOk result (λ _. IsConnection coid.0) }
+    ensures served { IfOk result (λ connection. is_served connection.manager process.now ≡ true) }
     ensures connection { result ≡ calls.connection_at coid.0 process.now }
 {
     let number = usize::from(coid.0);
@@ -168,6 +171,7 @@ fn connection_at(process: &Process, coid: Coid) -> Result<Connection, Outcome>
 /// The number of a connection that is free.
 fn free_connection(process: &Process) -> Result<u8, Outcome>
     ensures number { IfOk result (λ coid. coid ≤ LAST_CONNECTION) }
+    ensures unused { IfOk result (λ coid. row_at process.now.connections coid ≡ None) }
     ensures free { result ≡ calls.free_connection process.now }
 {
     let number = process.free_connection();

@@ -1,10 +1,11 @@
 -- What contracts see of what all users share, and what its calls make of it.
-use Rattle.std.specs.Prelude.{◌≡◌, ℕ, zero, suc, unwrap_or, IsSome, ◌+◌, ◌-◌, if◌then◌else◌, refl, IsTrue, Bool, false, List, [], ◌∷◌, ◌++◌, drop, take, length, Option, Some, None, Result, Ok, Err, get_or, map, replicate, slice_set}
+use Rattle.std.specs.Prelude.{◌≡◌, ℕ, zero, suc, unwrap_or, IsSome, ◌+◌, ◌-◌, if◌then◌else◌, refl, IsTrue, Bool, false, List, [], ◌∷◌, ◌++◌, drop, take, length, Option, Some, None, Result, Ok, Err, get_or, map, replicate, slice_get, slice_set}
 use Rattle.std.specs.Coded.{Coded, code_by, coded×, coded_ℕ, coded_list, coded_option}
 use Rattle.std.specs.FinSet as set
 use Rattle.std.specs.List.{flat_map, list_any}
 use Rattle.qx_types.specs.contracts.names.Proc as proc_row
 use Rattle.qx_types.specs.contracts.names.Thread as thread_row
+use Rattle.qx_types.specs.Managers.{manager_number}
 use Rattle.qx_types.specs.declared.names.Proc.{Proc}
 use Rattle.qx_types.specs.declared.names.TheConstants.Manager.{COUNT}
 use Rattle.qx_types.specs.declared.names.Thread.{Thread}
@@ -13,14 +14,16 @@ use Rattle.qx_types.specs.declared.outcome.Answer.TheVariants.{Reply}
 use Rattle.qx_machine.specs.contracts.rows.Queued as queued_row
 use Rattle.qx_machine.specs.contracts.rows.WaitingCall as call_row
 use Rattle.qx_machine.specs.declared.rows.Queued.{Queued}
+use Rattle.qx_machine.specs.declared.rows.ServerName.{ServerName}
 use Rattle.qx_machine.specs.declared.rows.WaitingCall.{WaitingCall}
 use Rattle.qx_machine.specs.Functions.{Deed}
-use Rattle.qx_machine.specs.Lines.{line_at, with_line}
+use Rattle.qx_machine.specs.Lines.{into, line_at, with_line}
+use Rattle.qx_machine.specs.Machine.{rank}
 use Rattle.qx_machine.specs.Waiting.{Pipes, is_written, no_pipes}
 use Rattle.qx_machine.specs.Pipes.{PipeAfter, Pipe, pipe_of, readers_dismissed, writers_dismissed}
 use Rattle.qx_machine.specs.Resources.{Resources}
 use Rattle.qx_machine.specs.Rows.{row_at}
-use Rattle.qx_queues.specs.Queues.{UsersAnswer, UsersCall, answer_code, answer_to, caller, has_call, has_answer_among, server_cmp, stands, thread_cmp}
+use Rattle.qx_queues.specs.Queues.{UsersAnswer, UsersCall, answer_code, answer_to, caller, disconnect_of, has_call, has_answer_among, nodes_freed, server_cmp, stands, thread_cmp}
 use Rattle.qx_queues.specs.Waits.{users_call}
 use Rattle.qx_shared.specs.declared.side.Side.{Side}
 use Rattle.qx_shared.specs.declared.side.Side.TheVariants.{Reading, Writing}
@@ -96,9 +99,13 @@ with_shared_process c proc (suc threads) = with_shared_thread (with_shared_proce
 abbrev pub with_shared_server : Shared → Proc → ℕ → Shared
 with_shared_server c proc number = record c { servers = set.insert c.servers (proc, number); room = if has_disconnect_node c proc number then c.room else c.room - 1 }
 
--- and has none any more
-abbrev pub without_shared_server : Shared → Proc → ℕ → Shared
-without_shared_server c proc number = record c { servers = set.remove c.servers (proc, number); room = if has_disconnect_node c proc number then c.room + 1 else c.room }
+-- it has none any more, and its disconnect pulse stands in the manager's line
+abbrev pub with_shared_disconnect : Shared → Proc → ServerName → Shared
+with_shared_disconnect c proc server = record (with_shared_line c (manager_number server.manager) (λ line. into rank line (disconnect_of proc server))) { servers = set.remove c.servers (proc, manager_number server.manager) }
+
+-- the first item of a line is taken, and there is room for the node that is given back
+abbrev pub without_first_shared : Shared → ℕ → Shared
+without_first_shared c number = record (with_shared_line c number (drop 1)) { room = c.room + nodes_freed (slice_get (shared_line c number) 0) }
 
 -- ---- pipes
 

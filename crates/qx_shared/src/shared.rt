@@ -9,10 +9,10 @@ ghost use Rattle.qx_machine.specs.Machine as machine;
 ghost use Rattle.qx_machine.specs.declared.rows.OwnItem.TheVariants as item;
 ghost use Rattle.qx_queues.specs.Queues.{IsGone, message_of, stands, unblock_call, unblock_of};
 ghost use Rattle.qx_queues.specs.Waiting.{ComesWithRoom, addressed_by};
-ghost use Rattle.qx_shared.specs.Shared.{HasNoCall, HasThread, has_disconnect_node, has_thread, nothing_shared, shared_line, with_shared_process, with_shared_server, with_shared_line, without_shared_server};
+ghost use Rattle.qx_shared.specs.Shared.{HasNoCall, HasThread, has_disconnect_node, has_thread, nothing_shared, shared_line, with_shared_disconnect, with_shared_process, with_shared_server, with_shared_line, without_first_shared};
 
 use crate::row::UserPipes;
-use qx_machine::Queued;
+use qx_machine::{Queued, ServerName};
 use qx_queues::{Answered, Queues};
 use qx_types::{Manager, Prio, Proc, Thread};
 use std::alloc::{AllocError, Global};
@@ -66,10 +66,11 @@ impl Shared {
         self.queues.send(manager, thread, prio);
     }
 
-    /// Takes the first item of a line, a message or an unblock pulse (C Library Reference: `MsgReceive`).
+    /// Takes the first item of a line, a message or a pulse (C Library Reference: `MsgReceive`); the node of a disconnect pulse
+    /// is given back, and room is kept for it.
     pub fn receive(&mut self, manager: Manager) -> Option<Queued>
         ensures first { result ≡ slice_get (shared_line self.old (manager_number manager)) 0 }
-        ensures rest { self.new ≡ with_shared_line self.old (manager_number manager) (drop 1) }
+        ensures rest { self.new ≡ without_first_shared self.old (manager_number manager) }
         ensures gone { IfSome result (λ first. IsGone first (drop 1 (shared_line self.old (manager_number manager)))) }
     {
         self.queues.receive(manager)
@@ -165,10 +166,12 @@ impl Shared {
         self.queues.add_server(proc, manager)
     }
 
-    /// A process has no disconnect node at a manager from now on, and room is kept for the one that it had.
-    pub fn remove_server(&mut self, proc: Proc, manager: Manager)
-        ensures removed { self.new ≡ without_shared_server self.old proc (manager_number manager) }
+    /// A process has lost a server connection: its disconnect node at that manager goes into the manager's line as the pulse
+    /// that tells so (Writing a Resource Manager: `_PULSE_CODE_DISCONNECT`).
+    pub fn disconnect(&mut self, proc: Proc, server: ServerName)
+        requires there { IsTrue (has_disconnect_node self.old proc (manager_number server.manager)) }
+        ensures disconnected { self.new ≡ with_shared_disconnect self.old proc server }
     {
-        self.queues.remove_server(proc, manager);
+        self.queues.disconnect(proc, server);
     }
 }

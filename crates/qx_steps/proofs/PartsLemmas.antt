@@ -139,6 +139,9 @@ module _ (c : Channel) (ks : List (Option Kept)) where
   pub same-told : AreResourcesOf c ks → SameUsers c.users (told_all c ks)
   same-told of user = of.same user ∙ (there-mapped tell (row_at ks user) ∙ sym (ap is_some (row_at-told user)))
 
+  pub process-told : (proc : Proc) → AreResourcesOf c ks → process_among_parts (parts_of c.users (told_all c ks)) proc ≡ users.process_of c.users proc
+  process-told proc of = process_of-parts c.users (told_all c ks) proc (same-told of)
+
   pub thread_row-told : (thread : Thread) → AreResourcesOf c ks → row_among_parts (parts_of c.users (told_all c ks)) thread ≡ users.thread_row c.users thread
   thread_row-told thread of = thread_row-parts c.users (told_all c ks) thread (same-told of)
 

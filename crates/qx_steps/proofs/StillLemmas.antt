@@ -13,16 +13,17 @@ use Rattle.qx_machine.specs.declared.rows.OwnItem.TheVariants as item
 use Rattle.qx_machine.specs.declared.rows.Pulse.{Pulse}
 use Rattle.qx_machine.specs.declared.rows.Queued.{Queued}
 use Rattle.qx_machine.specs.declared.rows.Sent.{Sent}
+use Rattle.qx_machine.specs.declared.rows.ServerName.{ServerName}
 use Rattle.qx_machine.specs.Clients.{spawn_number}
 use Rattle.qx_machine.specs.Events.{first_pulse}
-use Rattle.qx_machine.specs.Processes.{Process, asked_thread, ready_thread, taken_thread, with_queued, with_thread}
+use Rattle.qx_machine.specs.Processes.{Process, asked_thread, ready_thread, taken_thread, with_queued, with_thread, without_server}
 use Rattle.qx_machine.specs.Rows.{with_row}
 use Rattle.qx_procs.specs.Calls.{after_or, spawned, with_prio}
 use Rattle.qx_resources.specs.State.{told, Kept}
 use Rattle.qx_chan.specs.Calls.{answer_of, queued_call, unasked_call}
 use Rattle.qx_chan.specs.Channel.{Channel, after_asking, after_pulse, after_ranking, after_receive, after_send, after_spawn, after_taking, after_withdrawing, asked, channel_events, channel_line, failed, lists, readied, with_first_taken, with_pulse_taken, withdrawn}
 use Rattle.qx_chan.specs.declared.call.Call.{Call}
-use Rattle.qx_chan.specs.Users.{process_of, thread_row}
+use Rattle.qx_chan.specs.Users.{process_of, thread_row, with_process_of}
 use Rattle.qx_steps.specs.inner.Parts.{told_all, told_world, world_of, AreResourcesOf, SameUsers}
 use Rattle.qx_steps.proofs.PartsLemmas.{same-with_processes}
 
@@ -64,9 +65,14 @@ module _ (c : Channel) (ks : List (Option Kept)) (of : AreResourcesOf c ks) wher
       by_item : (own : OwnItem) → SameUsers (with_first_taken c.users (Some (record { user = first.user; item = own; prio = first.prio }))) ks
       by_item (item.Message process thread) = one first.user.0 (λ processes. with_row processes process (with_thread thread taken_thread))
       by_item (item.Unblock process thread call) = of.same
+      by_item (item.Disconnect process server) = of.same
 
   pub still-receive : (manager : Manager) → AreResourcesOf (after_receive c manager) ks
   still-receive manager = of-users c (after_receive c manager) ks of (taken (slice_get (channel_line c manager) 0))
+
+  -- a server connection of a process is freed
+  pub still-freeing : (proc : Proc) (server : ServerName) → AreResourcesOf (record c { users = with_process_of c.users proc (without_server server) }) ks
+  still-freeing proc server = of-users c (record c { users = with_process_of c.users proc (without_server server) }) ks of (one proc.user.0 (λ processes. with_row processes proc.num (without_server server)))
 
   -- where a thread has a call, or an answer, its process changes
 

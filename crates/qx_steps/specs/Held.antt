@@ -21,7 +21,7 @@ work_of_sent (Some sent) = Some (work.Message sent.bytes)
 -- the work of an item of a user: the bytes of a received message, or a pulse
 abbrev pub work_of : List (Option Part) → ℕ → OwnItem → Option Work
 work_of parts user (item.Message process thread) = work_of_sent (taken_of (row_among_parts parts (named_thread user process thread)))
-work_of parts user (item.Unblock process thread call) = Some work.Pulse
+work_of parts user _ = Some work.Pulse
 
 abbrev pub work_in_hand : World → Option Held → Option Work
 work_in_hand w None = None

@@ -12,18 +12,19 @@ ghost use Rattle.qx_process.specs.Reads.{is_thread_blocked, CanCall, CanGo};
 ghost use Rattle.qx_chan.specs.Users.{IsThreadReady};
 ghost use Rattle.qx_chan.specs.Calls.{taken_of};
 ghost use Rattle.qx_chan.specs.Serving.{IsReadOf};
+ghost use Rattle.qx_procs.specs.Calls.{CanAttachAt};
 ghost use Rattle.qx_requests.specs.Targets.{HasRest};
 ghost use Rattle.qx_steps.specs.Held.{bytes_of_work, held_work, work_now, IsReadFor, IsStale};
 ghost use Rattle.qx_steps.specs.inner.Held.{taken_item};
-ghost use Rattle.qx_steps.specs.Reads.{is_thread_answered, row_among_parts};
+ghost use Rattle.qx_steps.specs.Reads.{is_thread_answered, process_among_parts, row_among_parts};
 ghost use Rattle.qx_steps.specs.inner.Reads.{is_thread_ready};
-ghost use Rattle.qx_steps.specs.inner.Steps.{after_message, after_mount, after_pulse, mount_in, CanMount};
+ghost use Rattle.qx_steps.specs.inner.Steps.{after_disconnect, after_message, after_mount, after_pulse, mount_in, CanMount};
 ghost use Rattle.qx_steps.specs.Steps.{target_in, HasMemory};
 
 use crate::work::{PerformFault, Work, WorkRef};
 use qx_attr::Reply;
 use qx_chan::Channel;
-use qx_machine::{Addressed, Held, OwnItem, Queued, Sent, State};
+use qx_machine::{Addressed, Held, OwnItem, Queued, Sent, ServerName, State};
 use qx_process::places;
 use qx_requests::{encoded, target_by};
 use qx_resources::{AllResources, NewMount};
@@ -137,9 +138,10 @@ impl World {
     }
 
     /// Asks to unblock a thread (System Architecture: the unblock pulse; C Library Reference: `MsgSend`, EINTR). A thread
-    /// whose message stands in a line is answered EINTR, and the message goes, with what its call attached. One whose
-    /// message was received, or whose call waits in a pipe, stays blocked, and its manager gets an unblock pulse, once a
-    /// call. `WrongState` where the thread is not there; nothing happens where it waits for nothing.
+    /// whose message stands in a line is answered EINTR, and the message goes, with what its call attached; a process that
+    /// has lost a server connection by that gives its manager a disconnect pulse. One whose message was received, or whose
+    /// call waits in a pipe, stays blocked, and its manager gets an unblock pulse, once a call. `WrongState` where the
+    /// thread is not there; nothing happens where it waits for nothing.
     pub fn interrupt(&mut self, thread: Thread) -> Outcome
         ensures outcome { result ≡ (machine.step self.old (Step.Interrupt thread)).outcome }
         ensures world { self.new ≡ (machine.step self.old (Step.Interrupt thread)).world }
@@ -189,6 +191,7 @@ impl World {
         ensures goes { IfOk result (λ addressed. CanGo addressed.target) }
         ensures sendable { IfOk result (λ addressed. IsTrue (can_send (content_of request.now addressed.rest))) }
         ensures rest { IfOk result (λ addressed. HasRest addressed.target.over addressed.rest) }
+        ensures place { IfOk result (λ addressed. CanAttachAt (process_among_parts self.now.parts thread.proc) addressed.target) }
         ensures target { result ≡ target_in self.now thread request.now }
     {
         let user = thread.proc.user;
@@ -305,9 +308,10 @@ impl World {
     }
 
     /// A worker does what it holds (C Library Reference: `MsgReply`, `MsgError`), at a moment that becomes the times of
-    /// what it changes; the user's events that are due by that give their pulses. `WrongState` where there is no such
-    /// worker, `Nothing` where it holds nothing. Only an open, a mkdir, a write that makes a file longer and a notification
-    /// that leaves more events may want memory; one that is answered an error wants none.
+    /// what it changes; the user's events that are due by that give their pulses. With a disconnect pulse goes the server
+    /// connection that it was made for (Writing a Resource Manager: `_PULSE_CODE_DISCONNECT`). `WrongState` where there is
+    /// no such worker, `Nothing` where it holds nothing. Only an open, a mkdir, a write that makes a file longer and a
+    /// notification that leaves more events may want memory; one that is answered an error wants none.
     pub fn perform_held(&mut self, worker: Worker, moment: u64) -> Result<Outcome, NoMemory>
         ensures outcome { IfOk result (λ outcome. outcome ≡ (machine.step self.old (Step.Perform worker moment)).outcome) }
         ensures world { OnOk result (self.new ≡ (machine.step self.old (Step.Perform worker moment)).world) }
@@ -383,6 +387,13 @@ impl World {
                 thread,
                 call,
             } => self.cancel(named_thread(held.user, process, thread), call, moment),
+            OwnItem::Disconnect { process, server } => {
+                let proc = Proc {
+                    user: held.user,
+                    num: process,
+                };
+                self.disconnect(proc, server);
+            }
         }
         places::free(&mut self.hands, worker.0 as usize);
         Ok(())
@@ -414,6 +425,13 @@ impl World {
         if let Some(resources) = self.resources.user_mut(thread.proc.user) {
             self.channel.cancel(resources, thread, call, moment);
         }
+    }
+
+    /// A server connection of a process goes, as the disconnect pulse that was made for it is done.
+    fn disconnect(&mut self, proc: Proc, server: ServerName)
+        ensures { self.new ≡ after_disconnect self.old proc server }
+    {
+        self.channel.free_server(proc, server);
     }
 
     /// Whether something is held that the work is not.
@@ -589,6 +607,7 @@ fn shown_item(user: User, item: OwnItem) -> Item
             thread,
             ..
         } => Item::Unblock(named_thread(user, process, thread)),
+        OwnItem::Disconnect { process, .. } => Item::Disconnect(Proc { user, num: process }),
     }
 }
 

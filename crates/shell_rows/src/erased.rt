@@ -75,14 +75,14 @@ fn ends_in_sent(traced: &Traced) -> bool {
 }
 
 /// The first worker does what it holds, and then all that waits: first for the RAM manager, then for the pipe manager.
-/// No perform puts an item into a line.
+/// A message that is performed puts one pulse into its own line at most, and a pulse none.
 fn serve(traced: &mut Traced, moment: u64) -> Result<(), NoMemory> {
     let worker = FIRST;
     if traced.world().holds(worker) {
         store(traced, Step::Perform { worker, moment })?;
     }
     for manager in [Manager::Ram, Manager::Pipe] {
-        for _ in 0..traced.world().waiting(manager) {
+        for _ in 0..traced.world().waiting(manager).saturating_mul(2) {
             if traced.world().waiting(manager) == 0 {
                 break;
             }

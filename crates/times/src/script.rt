@@ -120,8 +120,12 @@ fn serve(world: &mut World, moment: u64) -> Result<(), NoMemory> {
     serve_line(world, Manager::Pipe, moment)
 }
 
+/// Serves a line until nothing waits there. A message that is performed puts one pulse there at most, and a pulse none.
 fn serve_line(world: &mut World, manager: Manager, moment: u64) -> Result<(), NoMemory> {
-    for _ in 0..world.waiting(manager) {
+    for _ in 0..world.waiting(manager).saturating_mul(2) {
+        if world.waiting(manager) == 0 {
+            break;
+        }
         let _ = world.receive(FIRST, manager);
         let _ = world.perform_held(FIRST, moment)?;
     }

@@ -4,7 +4,7 @@
 //!   them
 //! - `memory.rt`, `served.rt`: the steps whose memory is refused; those that are taken with no memory at all
 //! - `reads.rt`: what a script does not ask a trace and a world for
-//! - `nodes.rt`: nodes of `Queues` that come back
+//! - `nodes.rt`: a node of `Queues` that comes back
 //! - `asked.rt`: a request that `calling` takes from its call to its answer
 #![tactic(auto)]
 

@@ -9,7 +9,7 @@ use qx_world::Traced;
 use std::alloc::{AllocError, Global};
 use std::process::Abort;
 
-/// Every kind of step but an interrupt, and every way of a call, for two users and two workers.
+/// Every kind of step but an interrupt, every way of a call, and a disconnect pulse, for two users and two workers.
 const KINDS: &str = "\
     spawn bob 4 10\n\
     spawn ann 1 10\n\
@@ -35,6 +35,8 @@ const KINDS: &str = "\
     raw bob.1.4 3 00\n\
     write bob.1.1 3 01020304\n\
     reply ann.1.1\n\
+    receive 1 ram\n\
+    perform 1 9\n\
     pulse ann.1\n\
     mount ann.1.1 /ann/m/n pipe\n";
 

@@ -1,9 +1,10 @@
-//! Nodes of queues that are given back, and made again with no memory.
+//! A node of queues that is given back, and made again with no memory.
 
 ghost use Rattle.std.specs.Prelude.{◌<◌, IfOk, OnOk};
 ghost use Rattle.qx_queues.specs.Queues.{HasThreadNodes};
 
 use all_memory::take_all_memory;
+use qx_machine::ServerName;
 use qx_queues::Queues;
 use qx_types::{Manager, Prio, Proc, Thread, User};
 use std::alloc::{AllocError, Global};
@@ -21,13 +22,19 @@ fn with_thread(alloc: Global, thread: Thread) -> Result<Queues, AllocError>
     Ok(queues)
 }
 
-/// A process gets its disconnect node at a manager, and gives it back.
+/// A process gets its disconnect node at a manager, which goes into the manager's line as its pulse, and is given back as that is
+/// received.
 fn take_and_give_back(queues: &mut Queues, proc: Proc) -> Result<(), AllocError>
     requires { HasThreadNodes queues.old proc }
     ensures { OnOk result (HasThreadNodes queues.new proc) }
 {
     queues.add_server(proc, Manager::Ram)?;
-    queues.remove_server(proc, Manager::Ram);
+    let server = ServerName {
+        manager: Manager::Ram,
+        number: 1,
+    };
+    queues.disconnect(proc, server);
+    queues.receive(Manager::Ram);
     Ok(())
 }
 

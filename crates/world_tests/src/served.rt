@@ -67,7 +67,8 @@ const USES: &str = "\
     dup ann.3.1 3\n\
     close ann.3.2 4\n";
 
-/// The calls are received, performed and answered.
+/// The calls are received, performed and answered; with the close goes the last connection of the second process, whose
+/// disconnect pulse is received before what waits, and performed.
 const USES_SERVED: &str = "\
     receive 1 ram\nperform 1 5\nreply ann.1.1\n\
     receive 1 ram\nperform 1 6\nreply ann.1.2\n\
@@ -77,6 +78,7 @@ const USES_SERVED: &str = "\
     receive 1 ram\nperform 1 10\nreply ann.2.2\n\
     receive 1 ram\nperform 1 11\nreply ann.2.3\n\
     receive 1 ram\nperform 1 12\nreply ann.2.4\n\
+    receive 1 ram\nperform 1 12\n\
     receive 1 ram\nperform 1 13\nreply ann.3.1\n\
     receive 1 ram\nperform 1 14\nreply ann.3.2\n";
 
@@ -159,13 +161,15 @@ const DUPS: &str = "\
     close ann.1.3 3\n\
     close ann.1.4 4\n";
 
-/// The first close leaves the read, and the second one answers it.
+/// The first close leaves the read, and the second one answers it. With that goes the process' last connection, whose
+/// disconnect pulse is received and performed.
 const DUPS_SERVED: &str = "\
     receive 1 pipe\nperform 1 5\nreply ann.1.1\n\
     receive 1 pipe\nperform 1 6\n\
     receive 1 pipe\nperform 1 7\nreply ann.1.3\n\
     receive 1 pipe\nperform 1 8\nreply ann.1.4\n\
-    reply ann.1.2\n";
+    reply ann.1.2\n\
+    receive 1 pipe\nperform 1 9\n";
 
 /// Lines after which a process has five connections to one empty pipe, with an event armed over each.
 const EVENTS: &str = "\
@@ -217,7 +221,7 @@ const CASES: [(&str, &str, &str, u64); 10] = [
 fn sent(rt: &impl Abort, alloc: Global, before: &str, calls: &str) -> Result<Traced, NoMemory> {
     let mut traced = ran(rt, alloc, before)?;
     run(rt, alloc, &mut traced, calls)?;
-    traced.reserve(30)?;
+    traced.reserve(32)?;
     Ok(traced)
 }
 

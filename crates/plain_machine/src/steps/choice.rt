@@ -175,10 +175,10 @@ fn next_kind(dice: &mut Dice, busy: bool) -> Kind {
     }
 }
 
-/// Of the three users the first most often, and now and then a number that may be no user's.
+/// Of the first three users the first most often, and now and then a number that is no user's.
 fn next_user(dice: &mut Dice) -> User {
     if dice.one_in(32) {
-        return User(dice.below(5));
+        return User(5 * dice.below(2));
     }
     match dice.below(8) {
         0 => User(2),
@@ -323,7 +323,7 @@ fn is_late(plain: &Plain, post: Post) -> bool {
             Some(row) => matches!(&row.state, State::Taken(sent) if sent.is_asked),
             None => true,
         },
-        Post::Unblock(..) => true,
+        Post::Unblock(..) | Post::Disconnect(_) => true,
     }
 }
 

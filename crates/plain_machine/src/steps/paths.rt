@@ -133,7 +133,7 @@ fn top_word(dice: &mut Dice, user: User) -> &'static str {
     user_word(user)
 }
 
-/// The name of one of the three users.
+/// The name of one of the first three users.
 pub fn user_word(user: User) -> &'static str {
     match user.0 {
         1 => "ann",

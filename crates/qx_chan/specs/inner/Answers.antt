@@ -1,6 +1,6 @@
 -- What the answers to a message that was served, and to calls that waited, make of the threads' rows and of the lines.
 use Rattle.std.specs.Prelude.{ℕ, List, [], ◌∷◌, Result, Ok, Err}
-use Rattle.qx_types.specs.Managers.{manager_number, managers}
+use Rattle.qx_types.specs.Managers.{manager_number}
 use Rattle.qx_types.specs.declared.errno.Errno.{Errno}
 use Rattle.qx_types.specs.declared.names.Manager.TheVariants.{Pipe}
 use Rattle.qx_types.specs.declared.names.Thread.{Thread}
@@ -16,7 +16,7 @@ use Rattle.qx_resmgr.specs.declared.functions.Done.{Done}
 use Rattle.qx_resmgr.specs.declared.functions.Done.TheVariants.{Reply, NoReply}
 use Rattle.qx_chan.specs.Channel.{failed}
 use Rattle.qx_chan.specs.inner.Channel.{process_replied}
-use Rattle.qx_chan.specs.inner.Kept.{servers_settled}
+use Rattle.qx_chan.specs.inner.Kept.{lost_of, with_lost}
 use Rattle.qx_chan.specs.Users.{Users, process_of, with_process_of, with_thread_row}
 use Rattle.qx_chan.specs.declared.call.Call.{Call}
 
@@ -26,15 +26,15 @@ answered_users users thread over bytes (Ok NoReply) = users
 answered_users users thread over bytes (Ok (Reply status effect)) = with_process_of users thread.proc (process_replied thread.tid effect status bytes over)
 answered_users users thread over bytes (Err error) = with_process_of users thread.proc (failed thread.tid error over)
 
--- its call has no unblock pulse any more, and its process has the disconnect nodes of what it has attached then
-abbrev pub without_pulse : Shared → Users → Thread → Call → Shared
-without_pulse queues users thread call =
-    servers_settled thread.proc (process_of users thread.proc) managers (with_shared_line queues (manager_number call.target.manager) (line_without thread.proc.user.0 (item.Unblock thread.proc.num thread.tid call.number)))
+-- its call has no unblock pulse any more, and the disconnect pulse of what its process has lost by that stands in its line
+abbrev pub without_pulse : Shared → Users → Users → Thread → Call → Shared
+without_pulse queues before after thread call =
+    with_lost thread.proc (lost_of (process_of before thread.proc) (process_of after thread.proc)) (with_shared_line queues (manager_number call.target.manager) (line_without thread.proc.user.0 (item.Unblock thread.proc.num thread.tid call.number)))
 
-abbrev pub answered_queues : Shared → Users → Thread → Call → Result Done Errno → Shared
-answered_queues queues users thread call (Ok NoReply) = queues
-answered_queues queues users thread call (Ok (Reply status effect)) = without_pulse queues users thread call
-answered_queues queues users thread call (Err error) = without_pulse queues users thread call
+abbrev pub answered_queues : Shared → Users → Users → Thread → Call → Result Done Errno → Shared
+answered_queues queues before after thread call (Ok NoReply) = queues
+answered_queues queues before after thread call (Ok (Reply status effect)) = without_pulse queues before after thread call
+answered_queues queues before after thread call (Err error) = without_pulse queues before after thread call
 
 -- each thread whose call waited has its answer
 abbrev pub given_users : Users → List UsersAnswer → Users

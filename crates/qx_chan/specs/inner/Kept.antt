@@ -1,23 +1,24 @@
 -- How the rows of threads and processes, the lines and the nodes stand together. No public clause of the channel cites this module.
 use Rattle.std.specs.Prelude.{◌≡◌, ℕ, ◌==◌, ◌&&◌, if◌then◌else◌, Bool, true, false, List, [], ◌∷◌, Option, Some, None, length, is_some, max}
 use Rattle.std.specs.List.{AllByRecursion}
-use Rattle.qx_types.specs.Managers.{manager_number, managers}
+use Rattle.qx_types.specs.Managers.{manager_number}
 use Rattle.qx_types.specs.declared.names.Manager.{Manager}
 use Rattle.qx_types.specs.declared.names.Manager.TheVariants.{Pipe}
 use Rattle.qx_types.specs.declared.names.TheConstants.Manager.{COUNT}
 use Rattle.qx_types.specs.declared.names.Proc.{Proc}
 use Rattle.qx_types.specs.declared.names.Thread.{Thread}
 use Rattle.qx_machine.specs.declared.rows.Over.{Over}
+use Rattle.qx_machine.specs.declared.rows.ServerName.{ServerName}
 use Rattle.qx_machine.specs.declared.rows.State.{State}
 use Rattle.qx_machine.specs.declared.rows.State.TheVariants.{Queued, Taken, Waiting}
 use Rattle.qx_machine.specs.declared.rows.Target.{Target}
 use Rattle.qx_machine.specs.declared.rows.ThreadRow.{ThreadRow}
 use Rattle.qx_machine.specs.Lines.{line_at}
-use Rattle.qx_machine.specs.Processes.{Process}
+use Rattle.qx_machine.specs.Processes.{Process, lost_servers}
 use Rattle.qx_queues.specs.Queues.{UsersAnswer, UsersCall, caller, stands, unblock_call}
 use Rattle.qx_resources.specs.declared.waits.Waits.{Waits}
-use Rattle.qx_shared.specs.Shared.{Shared, has_disconnect_node, has_thread, waiting_in, with_shared_server, without_shared_server}
-use Rattle.qx_chan.specs.Nodes.{attached_at, attaches}
+use Rattle.qx_shared.specs.Shared.{Shared, has_disconnect_node, has_thread, waiting_in, with_shared_disconnect, with_shared_server}
+use Rattle.qx_chan.specs.Nodes.{attaches, served_at}
 use Rattle.qx_chan.specs.Users.{Users, process_of, thread_row}
 
 -- the message of a thread in this state stands in the line of that number
@@ -56,16 +57,20 @@ IsWaiting processes own = waits_for own.call.call (thread_row processes (caller 
 abbrev pub IsAwaited : Users → UsersAnswer → Type 0
 IsAwaited processes given = waits_for given.call (thread_row processes given.thread) ≡ true
 
+-- a process has a disconnect node at a manager exactly while it has a server connection in use there
+abbrev pub HasServerNodes : Users → Shared → Proc → Type 0
+HasServerNodes processes queues proc = (manager : Manager) → has_disconnect_node queues proc (manager_number manager) ≡ served_at manager (process_of processes proc)
+
 -- a thread has nodes exactly if it is there, its message stands in a line exactly if its row says so, an unblock pulse only while its
--- call is asked for, and its call in a pipe only while it waits for the answer; no answer is on its way; and a process has the disconnect
--- node of its server connection at a manager exactly while something of it is attached there
+-- call is asked for, and its call in a pipe only while it waits for the answer; no answer is on its way; and a process has a
+-- disconnect node at a manager exactly while it has a server connection in use there
 pub record StandTogether (processes : Users) (queues : Shared) : Type 0 where
   pub users : length queues.pipes ≡ length processes
   pub managers : length queues.lines ≡ COUNT
   pub threads : (thread : Thread) → has_thread queues thread ≡ is_some (thread_row processes thread)
   pub lines : (thread : Thread) (number : ℕ) → stands (line_at queues.lines number) thread ≡ stands_at number (thread_row processes thread)
   pub pulses : (thread : Thread) (number call : ℕ) → unblock_call (line_at queues.lines number) thread ≡ Some call → asked_call number call (thread_row processes thread) ≡ true
-  pub servers : (proc : Proc) (manager : Manager) → has_disconnect_node queues proc (manager_number manager) ≡ attached_at (manager_number manager) (process_of processes proc)
+  pub servers : (proc : Proc) → HasServerNodes processes queues proc
   pub waits : (user : ℕ) → AllByRecursion (IsWaiting processes) (waiting_in queues user)
   pub answered : queues.answered ≡ []
 
@@ -79,23 +84,19 @@ pub record Answering (processes : Users) (queues : Shared) : Type 0 where
   pub kept : StandTogether processes (record queues { answered = [] })
   pub answered : AllByRecursion (IsAwaited processes) queues.answered
 
--- a process keeps its disconnect node at a manager if something of it is attached there
-abbrev pub settled_at : Proc → Option Process → Manager → Shared → Shared
-settled_at proc process manager queues = if attached_at (manager_number manager) process then queues else without_shared_server queues proc (manager_number manager)
+-- the disconnect pulses of a process that has lost these server connections stand in their managers' lines
+abbrev pub with_lost : Proc → List ServerName → Shared → Shared
+with_lost proc [] queues = queues
+with_lost proc (server ∷ servers) queues = with_lost proc servers (with_shared_disconnect queues proc server)
 
--- at the manager of a number, if there is one
-abbrev pub settled_number : Proc → Option Process → Option Manager → Shared → Shared
-settled_number proc process None queues = queues
-settled_number proc process (Some manager) queues = settled_at proc process manager queues
+-- what a process that was like that and is like this has lost
+abbrev pub lost_of : Option Process → Option Process → List ServerName
+lost_of (Some before) (Some after) = lost_servers before after
+lost_of _ _ = []
 
--- at each of these managers
-abbrev pub servers_settled : Proc → Option Process → List Manager → Shared → Shared
-servers_settled proc process [] queues = queues
-servers_settled proc process (manager ∷ managers) queues = servers_settled proc process managers (settled_at proc process manager queues)
-
--- the disconnect nodes of a process once its call has attached what its message goes over
+-- the disconnect node of a process once its call has attached what the message goes over
 abbrev pub with_attached : Proc → Option Process → Target → Shared → Shared
-with_attached proc process target queues = if attaches target.over then servers_settled proc process managers (with_shared_server queues proc (manager_number target.manager)) else queues
+with_attached proc process target queues = if attaches target.over && served_at target.manager process then with_shared_server queues proc (manager_number target.manager) else queues
 
 -- room for the disconnect node of what a message goes over
 abbrev pub with_room : Over → Shared → Shared

@@ -3,6 +3,7 @@ use Rattle.std.specs.Prelude.{◌≡◌, ◌≢◌, ◌⊎◌, ℕ, ◌==◌, �
 use Rattle.std.specs.FinMap as maps
 use Rattle.std.specs.List.{list_any}
 use Rattle.std.specs.Ordering.{nat_cmp}
+use Rattle.qx_types.specs.Managers.{manager_number}
 use Rattle.qx_types.specs.declared.names.Thread.{Thread}
 use Rattle.qx_lists.specs.Table.{Table, ContainsList, ContainsNode, IsIn, nodes_of}
 use Rattle.qx_lines.specs.declared.Line.{Line}
@@ -67,25 +68,30 @@ answered_calls table answered = map (given_at table) (nodes_of table answered)
 abbrev pub owner_in : Thread → OwnItem → Owner
 owner_in thread (item.Message process number) = Message thread
 owner_in thread (item.Unblock process number call) = Unblock thread
+owner_in thread (item.Disconnect process server) = Disconnect thread.proc (manager_number server.manager)
 
 -- into whose node an item is put
 abbrev pub node_owner : Queued → Owner
 node_owner entry = owner_in (sender entry) entry.item
 
--- whose items a node stands for: its owner's, and a disconnect node for a message of no thread
+-- whose items a node stands for: its owner's, and a disconnect node, until its pulse stands in a line, for a message of no thread
 abbrev pub named : Owner → Owner
 named (Message thread) = Message thread
 named (Unblock thread) = Unblock thread
 named (Disconnect proc number) = Message (record { proc = proc; tid = 0 })
+
+-- a thread's item is put into the thread's node; the node of a disconnect pulse that stands in a line is nobody's any more
+abbrev pub IsOwners : (Owner → Option ℕ) → ℕ → Owner → Type 0
+IsOwners node_of node owner = named owner ≡ owner → node_of owner ≡ Some node
 
 -- a node carries a call of the thread whose messages it stands for, which waits, or the answer to one
 pub record Carries (is_answered : Bool) (waiting : Waiting) : Type 0 where
   pub own : node_owner waiting.queued ≡ Message (thread_carried waiting)
   pub load : HasLoad is_answered waiting.load
 
--- the lines and the answered nodes are lists of the table, each its own; each node of the table is exactly one owner's, and stands for an
--- item of that owner; and nodes of messages and of unblock pulses alone stand in lists: in those of the lines, and those of messages that
--- carry calls or answers in others
+-- the lines and the answered nodes are lists of the table, each its own; an owner's node is in the table, is no other's, and stands for an
+-- item of that owner; and in the lists stand nodes of messages and of unblock pulses, each its owner's, and of disconnect pulses: all of them
+-- in those of the lines, and those of messages that carry calls or answers in others
 pub record AreListsOfTable (table : Table Waiting) (lines : List Line) (answered : ℕ) (node_of : Owner → Option ℕ) : Type 0 where
   pub line : (number : ℕ) (line : Line) → slice_get lines number ≡ Some line → IsLineOf rank_of table line
   pub apart : (one other list : ℕ) → list_of_line lines one ≡ Some list → list_of_line lines other ≡ Some list → one ≡ other
@@ -93,9 +99,8 @@ pub record AreListsOfTable (table : Table Waiting) (lines : List Line) (answered
   pub off_lines : is_line lines answered ≡ false
   pub there : (owner : Owner) (node : ℕ) → node_of owner ≡ Some node → ContainsNode table node
   pub names : (owner : Owner) (node : ℕ) → node_of owner ≡ Some node → node_owner (entry_of_node table node) ≡ named owner
-  pub owned : (node : ℕ) → ContainsNode table node → (owner : Owner) × (node_of owner ≡ Some node)
   pub once : (owner other : Owner) (node : ℕ) → node_of owner ≡ Some node → node_of other ≡ Some node → other ≡ owner
-  pub listed : (list node : ℕ) → IsIn table list node → (is_line lines list ≡ false → Carries (list == answered) (waiting_of_node table node)) × (node_of (node_owner (entry_of_node table node)) ≡ Some node)
+  pub listed : (list node : ℕ) → IsIn table list node → (is_line lines list ≡ false → Carries (list == answered) (waiting_of_node table node)) × IsOwners node_of node (node_owner (entry_of_node table node))
 
 -- the line of that number is the one of these
 abbrev pub is_line_at : ℕ → Option ℕ → Bool

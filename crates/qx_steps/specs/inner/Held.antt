@@ -11,4 +11,4 @@ use Rattle.qx_steps.specs.Reads.{row_among_parts}
 -- the message of an item that was received and is not served
 abbrev pub taken_item : List (Option Part) → ℕ → OwnItem → Option Sent
 taken_item parts user (item.Message process thread) = taken_of (row_among_parts parts (named_thread user process thread))
-taken_item parts user (item.Unblock process thread call) = None
+taken_item parts user _ = None

@@ -2,6 +2,7 @@
 use Rattle.std.specs.Prelude.{◌≡◌, ℕ, false, List, Option, Some, None, Result, Ok, Err}
 use Rattle.qx_types.specs.Configuration.{Configuration}
 use Rattle.qx_types.specs.declared.names.Manager.{Manager}
+use Rattle.qx_types.specs.declared.names.Proc.{Proc}
 use Rattle.qx_types.specs.declared.names.Thread.{Thread}
 use Rattle.qx_types.specs.declared.outcome.Outcome.{Outcome}
 use Rattle.qx_types.specs.declared.outcome.Outcome.TheVariants.{WrongState}
@@ -10,6 +11,7 @@ use Rattle.qx_paths.specs.Mounts.{mount_fault}
 use Rattle.qx_paths.specs.Prefixes.{MountPoint}
 use Rattle.qx_machine.specs.declared.rows.Addressed.{Addressed}
 use Rattle.qx_machine.specs.declared.rows.Sent.{Sent}
+use Rattle.qx_machine.specs.declared.rows.ServerName.{ServerName}
 use Rattle.qx_machine.specs.Calls.{bytes_of, content_of}
 use Rattle.qx_machine.specs.Clients.{mount_by}
 use Rattle.qx_machine.specs.Inodes.{inode_number}
@@ -17,7 +19,7 @@ use Rattle.qx_machine.specs.Machine.{World, serve_end}
 use Rattle.qx_machine.specs.Mounting.{with_mount}
 use Rattle.qx_machine.specs.Parts.{Part}
 use Rattle.qx_machine.specs.Resources.{Resources}
-use Rattle.qx_machine.specs.Performing.{Served, or_kept, serve_message, serve_pulse}
+use Rattle.qx_machine.specs.Performing.{Served, or_kept, serve_disconnect, serve_message, serve_pulse}
 use Rattle.qx_machine.specs.Rows.{row_at, with_row}
 
 -- the message of a call that goes there
@@ -60,3 +62,7 @@ after_message w thread moment = world_after_serving w thread.proc.user.0 (λ par
 -- once a pulse is done, which asks to unblock a thread from a call
 abbrev pub after_pulse : World → Thread → ℕ → ℕ → World
 after_pulse w thread call moment = world_after_serving w thread.proc.user.0 (λ part. or_kept part (serve_pulse part thread.proc.num thread.tid call moment))
+
+-- once a disconnect pulse is done, which was made for a server connection of a process
+abbrev pub after_disconnect : World → Proc → ServerName → World
+after_disconnect w proc server = world_after_serving w proc.user.0 (λ part. or_kept part (serve_disconnect part proc.num server))

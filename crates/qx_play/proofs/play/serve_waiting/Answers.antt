@@ -1,15 +1,15 @@
-use Rattle.std.proofs.Common.{◌≡◌, ◌+◌, ◌-◌, ◌∙◌, ap, rules, arith, Some}
+use Rattle.std.proofs.Common.{◌≡◌, ◌+◌, ◌-◌, ◌*◌, ◌∙◌, ap, rules, arith, Some}
 use Rattle.qx_play.specs.Play.{next_manager, rounds, world_played}
 use Rattle.qx_play.proofs.Rounds.{round_done}
 use Rattle.qx_play.proofs.Serving.{keeps_all}
 use Rattle.qx_play.proofs.play.serve_waiting.Goals as goal
 
-pub waiting-items-requires : goal.waiting-items-requires
-waiting-items-requires c = rw c.world.ensures ((keeps_all c.args.traced.now.config c.args.traced.now.steps).lines)
+pub waiting-most-requires : goal.waiting-most-requires
+waiting-most-requires c = rw c.world.ensures ((keeps_all c.args.traced.now.config c.args.traced.now.steps).lines)
 
 pub rounds-preserved : goal.rounds-preserved
 rounds-preserved c =
-    let all = c.waiting-items.result in
+    let all = 2 * c.waiting-most.result in
     let next : next_manager (world_played c.rounds.traced.config c.rounds.traced.steps) ≡ Some c.in-Some.manager = search rules in
     let done = round_done all c.rounds.counter c.rounds.traced.config c.args.moment c.rounds.traced.steps c.store-in-rounds.new.traced.steps c.in-Some.manager (omega arith) next (search rules) in
     record {

@@ -6,5 +6,5 @@ use Rattle.qx_play.proofs.play.serve_waiting.Given as goal
 abbrev pub invariant-rounds : goal.invariant-rounds
 invariant-rounds l = record {
   config : l.traced.config ≡ l.initial.traced.config;
-  steps : rounds (l.items - l.counter) l.traced.config l.moment l.traced.steps ≡ rounds l.items l.initial.traced.config l.moment l.initial.traced.steps;
+  steps : rounds (l.most - l.counter) l.traced.config l.moment l.traced.steps ≡ rounds l.most l.initial.traced.config l.moment l.initial.traced.steps;
 }

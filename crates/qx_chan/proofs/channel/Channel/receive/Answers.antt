@@ -1,5 +1,5 @@
 use Rattle.qx_machine.specs.declared.rows.OwnItem.TheVariants as item
-use Rattle.qx_chan.proofs.ReceiveLemmas.{Kept-received}
+use Rattle.qx_chan.proofs.ReceiveLemmas.{Kept-pulse, Kept-received}
 use Rattle.qx_chan.proofs.channel.Channel.receive.Goals as goal
 
 pub invariant_of-self-in-Message : goal.invariant_of-self-in-Message
@@ -14,6 +14,6 @@ pub invariant_of-self-in-Unblock : goal.invariant_of-self-in-Unblock
 invariant_of-self-in-Unblock c =
     record {
       shared = rw c.receive.ensures.rest
-          (Kept-received c.self.inside.users c.self.inside.waits.shared c.args.manager c.in_ok-first.first _ c.in-Unblock.is c.in_ok-first.ensures.first c.in_ok-first.ensures.gone c.self.invariant.shared);
+          (Kept-pulse c.self.inside.users c.self.inside.waits.shared c.args.manager c.in_ok-first.first c.in_ok-first.ensures.first c.in_ok-first.ensures.gone c.self.invariant.shared c.in-Unblock.is);
       events = rw c.receive.ensures.rest c.self.invariant.events;
     }

@@ -1,15 +1,16 @@
-use Rattle.std.proofs.Common.{◌≡◌, ◌+◌, Some, refl, ◌∙◌, sym, ap}
+use Rattle.std.proofs.Common.{◌≡◌, Some, refl, ◌∙◌, sym, ap}
 use Rattle.std.proofs.lemmas.Bool.{false≢true}
 use Rattle.qx_chan.specs.inner.Calls.{taken_call}
 use Rattle.qx_chan.specs.Users.{thread_row}
 use Rattle.qx_chan.proofs.MessageLemmas.{Serves-untaken, received, received-alone, received-wants, sends}
-use Rattle.qx_chan.proofs.OutcomeLemmas.{outcome}
+use Rattle.qx_chan.proofs.OutcomeLemmas.{Kept-served, outcome}
 use Rattle.qx_chan.proofs.PulseLemmas.{user-fits}
 use Rattle.qx_chan.proofs.RoomLemmas.{served-waits}
 use Rattle.qx_chan.proofs.SettledLemmas.{places}
 use Rattle.qx_machine.specs.Rows.{row_at}
-use Rattle.qx_shared.specs.Shared.{Shared}
-use Rattle.qx_chan.proofs.NodesLemmas.{held, held-answered, held-did, room-told}
+use Rattle.qx_shared.specs.Shared.{Shared, has_disconnect_node}
+use Rattle.qx_types.specs.Managers.{manager_number}
+use Rattle.qx_chan.proofs.NodesLemmas.{did-fields, room-answered}
 use Rattle.qx_chan.proofs.channel.Channel.serve.Goals as goal
 
 pub returns-in_default-clause-ok : goal.returns-in_default-clause-ok
@@ -44,7 +45,7 @@ give_answers-requires c =
       answering = rw (c.answer.ensures.queues, c.answer.ensures.users, c.in_ok-given.ensures.served, c.as_slice.ensures.bytes)
           (outcome c.self.inside.users c.self.inside.waits c.args.thread c.in-Some.call taken c.self.invariant.shared c.args.resources.now c.perform.new.resources c.perform.new.waits c.requires.user
           c.args.moment c.perform.new.reply c.in_ok-given.given _ refl
-          (c.in_ok-given.ensures.did its.process its.sent.bytes (sends c.self.inside.users c.args.thread c.in-Some.call its)) c.answer.ensures.gone).0;
+          (c.in_ok-given.ensures.did its.process its.sent.bytes (sends c.self.inside.users c.args.thread c.in-Some.call its)) c.answer.ensures.gone (rw (c.answer.ensures.users, c.in_ok-given.ensures.served, c.as_slice.ensures.bytes) at c.answer.ensures.lost)).0;
     }
 
 pub returns-clause-ok : goal.returns-clause-ok
@@ -54,7 +55,7 @@ returns-clause-ok c =
     rw (← c.self.view_is, c.give_answers.ensures.queues, c.give_answers.ensures.users, c.answer.ensures.queues, c.answer.ensures.users, c.in_ok-given.ensures.served, c.as_slice.ensures.bytes)
     (outcome c.self.inside.users c.self.inside.waits c.args.thread c.in-Some.call taken c.self.invariant.shared c.args.resources.now c.perform.new.resources c.perform.new.waits c.requires.user
     c.args.moment c.perform.new.reply c.in_ok-given.given _ refl
-    (c.in_ok-given.ensures.did its.process its.sent.bytes (sends c.self.inside.users c.args.thread c.in-Some.call its)) c.answer.ensures.gone).1
+    (c.in_ok-given.ensures.did its.process its.sent.bytes (sends c.self.inside.users c.args.thread c.in-Some.call its)) c.answer.ensures.gone (rw (c.answer.ensures.users, c.in_ok-given.ensures.served, c.as_slice.ensures.bytes) at c.answer.ensures.lost)).1
 
 pub invariant_of-self-2 : goal.invariant_of-self-2
 invariant_of-self-2 c =
@@ -65,15 +66,21 @@ invariant_of-self-2 c =
       events = rw (c.give_answers.ensures.queues, c.answer.ensures.queues, c.answer.ensures.users, c.in_ok-given.ensures.served, c.as_slice.ensures.bytes)
           (places _ _ _ _ _ (outcome c.self.inside.users c.self.inside.waits c.args.thread c.in-Some.call taken c.self.invariant.shared c.args.resources.now c.perform.new.resources c.perform.new.waits c.requires.user
           c.args.moment c.perform.new.reply c.in_ok-given.given _ refl
-          (c.in_ok-given.ensures.did its.process its.sent.bytes (sends c.self.inside.users c.args.thread c.in-Some.call its)) c.answer.ensures.gone).1 c.self.invariant.events);
+          (c.in_ok-given.ensures.did its.process its.sent.bytes (sends c.self.inside.users c.args.thread c.in-Some.call its)) c.answer.ensures.gone (rw (c.answer.ensures.users, c.in_ok-given.ensures.served, c.as_slice.ensures.bytes) at c.answer.ensures.lost)).1 c.self.invariant.events);
     }
 
 pub returns-clause-room : goal.returns-clause-room
 returns-clause-room c =
     let taken : Some c.in-Some.call ≡ taken_call (thread_row c.self.inside.users c.args.thread) = rw (← c.self.view_is) at c.in-Some.ensures.call in
     let its = received c.self.inside.users c.args.thread c.in-Some.call taken in
-    let proc = c.args.thread.proc in
-    let same = ap (λ (q : Shared). q.room + held q proc) c.give_answers.ensures.queues ∙ ap (λ (q : Shared). q.room + held q proc) c.answer.ensures.queues
-    ∙ held-answered c.perform.new.waits.shared c.answer.new.users c.args.thread c.in-Some.call c.in_ok-given.given
-    ∙ held-did c.args.resources.now c.perform.new.resources c.self.inside.waits c.perform.new.waits c.perform.new.reply proc c.in_ok-given.given _ (c.in_ok-given.ensures.did its.process its.sent.bytes (sends c.self.inside.users c.args.thread c.in-Some.call its)) in
-    rw (← c.self.view_is) (room-told c.self.inside.users c.give_answers.new.users c.self.inside.waits.shared c.give_answers.new.queues proc c.self.inside.waits.shared.room c.self.invariant.shared c.give_answers.ensures.kept same)
+    rw (← c.self.view_is) (ap (λ (q : Shared). q.room) c.give_answers.ensures.queues ∙ ap (λ (q : Shared). q.room) c.answer.ensures.queues
+    ∙ room-answered c.perform.new.waits.shared c.perform.new.users c.answer.new.users c.args.thread c.in-Some.call c.in_ok-given.given
+    ∙ did-fields (λ q. q.room) (λ q user pipes answers. refl) c.args.resources.now c.perform.new.resources c.self.inside.waits c.perform.new.waits c.perform.new.reply c.in_ok-given.given _ (c.in_ok-given.ensures.did its.process its.sent.bytes (sends c.self.inside.users c.args.thread c.in-Some.call its)))
+
+pub answer-requires-clause-nodes : goal.answer-requires-clause-nodes
+answer-requires-clause-nodes c manager =
+    let taken : Some c.in-Some.call ≡ taken_call (thread_row c.self.inside.users c.args.thread) = rw (← c.self.view_is) at c.in-Some.ensures.call in
+    let its = received c.self.inside.users c.args.thread c.in-Some.call taken in
+    let same = did-fields (λ q. has_disconnect_node q c.args.thread.proc (manager_number manager)) (λ q user pipes answers. refl)
+    c.args.resources.now c.perform.new.resources c.self.inside.waits c.perform.new.waits c.perform.new.reply c.in_ok-given.given _ (c.in_ok-given.ensures.did its.process its.sent.bytes (sends c.self.inside.users c.args.thread c.in-Some.call its)) in
+    rw (c.in_ok-given.ensures.served, same) ((Kept-served c.self.inside.users c.self.inside.waits c.args.thread c.in-Some.call taken c.self.invariant.shared).servers c.args.thread.proc manager)

@@ -6,8 +6,8 @@ use Rattle.qx_shared.proofs.PresenceLemmas.{lines-process}
 use Rattle.qx_shared.specs.Shared.{Shared}
 use Rattle.qx_chan.specs.Nodes.{room_started}
 use Rattle.qx_chan.specs.Users.{spawn_number_in}
-use Rattle.qx_chan.proofs.SendLemmas.{Kept-room}
 use Rattle.qx_chan.proofs.StartLemmas.{Kept-started, fresh, pipes-process, room-process, room-spare, room-started, starts, user_within}
+use Rattle.qx_chan.proofs.ThreadLemmas.{Kept-room}
 use Rattle.qx_chan.proofs.channel.Channel.start.Goals as goal
 
 pub add_process-requires-clause-fresh : goal.add_process-requires-clause-fresh

@@ -61,7 +61,7 @@ remove-requires-clause-in_line c =
     let has : node_of c.self.inside.nodes (Unblock c.args.thread) ≡ Some c.in-Some.own.unblock = ap (option_map (λ own. own.unblock)) (sym c.at.ensures.own ∙ c.in-Some.is) in
     let asked : pulse_line_at c.self.inside.nodes c.args.thread ≡ Some c.number-3.result = ap asked_in (sym c.at.ensures.own ∙ c.in-Some.is) ∙ ap (option_map manager_number) c.in-Some-asked.is ∙ ap Some (sym c.number.ensures.number ∙ c.if-number.false ∙ c.number-2.ensures.number ∙ sym c.number-3.ensures.number) in
     let told : is_some (unblock_call (line_at (map (entries c.self.inside.table) c.self.inside.lines.items) c.number-3.result) c.args.thread) ≡ true = c.self.invariant.2 c.args.thread c.number-3.result ∙ ap (is_line_at c.number-3.result) asked ∙ is_at-self c.number-3.result in
-    in_line-own pulse_call c.args.thread (Unblock c.args.thread) (reads-call c.args.thread) refl c.self.inside.table _ _ _ c.self.invariant.1 has c.index_mut-line.result.now (sym (ap (λ l. is_some (unblock_call l c.args.thread)) (line_at-shown c.self.inside.table _ c.number-3.result _ is)) ∙ told)
+    in_line-own pulse_call c.args.thread (Unblock c.args.thread) (reads-call c.args.thread) c.self.inside.table _ _ _ c.self.invariant.1 has c.index_mut-line.result.now (sym (ap (λ l. is_some (unblock_call l c.args.thread)) (line_at-shown c.self.inside.table _ c.number-3.result _ is)) ∙ told)
 
 pub invariant_of-self : goal.invariant_of-self
 invariant_of-self c =
@@ -72,7 +72,7 @@ invariant_of-self c =
     let within : c.number-3.result < length (map (entries c.self.inside.table) c.self.inside.lines.items) = omega (arith, length-map c.self.inside.lines.items (entries c.self.inside.table), c.self.invariant.0, c.number-3.ensures.few) in
     let left : map (entry_of_node c.self.inside.table) (without c.in-Some.own.unblock (nodes_in c.self.inside.table c.index_mut-line.result.now)) ≡ line_without c.args.thread.proc.user.0 (item.Unblock c.args.thread.proc.num c.args.thread.tid c.args.call) (entries c.self.inside.table c.index_mut-line.result.now) = pulse-leaves c.self.inside.table _ _ c.args.thread c.in-Some.own.unblock c.self.invariant.1 c.index_mut-line.result.now has c.args.call names (c.know.ensures.distinct c.index_mut-line.result.now.list) in
     let shown : map (entries c.remove.new.table) (slice_set c.self.inside.lines.items c.number-3.result c.remove.new.line) ≡ with_line (map (entries c.self.inside.table) c.self.inside.lines.items) c.number-3.result (line_without c.args.thread.proc.user.0 (item.Unblock c.args.thread.proc.num c.args.thread.tid c.args.call)) = shown-taken c.self.inside.table _ _ c.number-3.result _ _ (without c.in-Some.own.unblock) _ c.self.invariant.1 is c.remove.ensures.out (line_without c.args.thread.proc.user.0 (item.Unblock c.args.thread.proc.num c.args.thread.tid c.args.call)) left in
-    let gone : unblock_call (line_without c.args.thread.proc.user.0 (item.Unblock c.args.thread.proc.num c.args.thread.tid c.args.call) (line_at (map (entries c.self.inside.table) c.self.inside.lines.items) c.number-3.result)) c.args.thread ≡ None = rw (line_at-shown c.self.inside.table _ c.number-3.result _ is, ← left) (none_of _ (gone-own pulse_call c.args.thread (Unblock c.args.thread) (reads-call c.args.thread) refl c.self.inside.table _ _ c.in-Some.own.unblock c.self.invariant.1 has c.index_mut-line.result.now _ (λ x at. contains_without c.in-Some.own.unblock x _ at) (λ at. absent_without c.in-Some.own.unblock _ at))) in (
+    let gone : unblock_call (line_without c.args.thread.proc.user.0 (item.Unblock c.args.thread.proc.num c.args.thread.tid c.args.call) (line_at (map (entries c.self.inside.table) c.self.inside.lines.items) c.number-3.result)) c.args.thread ≡ None = rw (line_at-shown c.self.inside.table _ c.number-3.result _ is, ← left) (none_of _ (gone-own pulse_call c.args.thread (Unblock c.args.thread) (reads-call c.args.thread) c.self.inside.table _ _ c.in-Some.own.unblock c.self.invariant.1 has c.index_mut-line.result.now _ (λ x at. contains_without c.in-Some.own.unblock x _ at) (λ at. absent_without c.in-Some.own.unblock _ at))) in (
       length-set c.self.inside.lines.items c.number-3.result c.remove.new.line ∙ c.self.invariant.0,
       Kept-owners _ _ _ _ c.set_asked.ensures.asked.nodes (Kept-taken c.self.inside.table _ _ c.number-3.result _ _ (without c.in-Some.own.unblock) _ c.self.invariant.1 is c.remove.ensures.out (λ x at. contains_without c.in-Some.own.unblock x _ at)),
       rw shown (pulses-replied _ c.number-3.result _ within c.self.invariant.2 c.args.thread c.args.call _ c.set_asked.ensures.asked.others c.set_asked.ensures.asked.here asked gone),
@@ -94,4 +94,4 @@ returns-clause-gone c = λ stood.
     let has : node_of c.self.inside.nodes (Unblock c.args.thread) ≡ Some c.in-Some.own.unblock = ap (option_map (λ own. own.unblock)) (sym c.at.ensures.own ∙ c.in-Some.is) in
     let names : pulse_call (entry_of_node c.self.inside.table c.in-Some.own.unblock).item ≡ Some c.args.call = c.asked_call.ensures.call ∙ ap Some c.if-asked_call-call.false in
     let left : map (entry_of_node c.self.inside.table) (without c.in-Some.own.unblock (nodes_in c.self.inside.table c.index_mut-line.result.now)) ≡ line_without c.args.thread.proc.user.0 (item.Unblock c.args.thread.proc.num c.args.thread.tid c.args.call) (entries c.self.inside.table c.index_mut-line.result.now) = pulse-leaves c.self.inside.table _ _ c.args.thread c.in-Some.own.unblock c.self.invariant.1 c.index_mut-line.result.now has c.args.call names (c.know.ensures.distinct c.index_mut-line.result.now.list) in
-    rw (← c.self.view_is, ← c.number-3.ensures.number, line_at-shown c.self.inside.table _ c.number-3.result _ is, ← left) (none_of _ (gone-own pulse_call c.args.thread (Unblock c.args.thread) (reads-call c.args.thread) refl c.self.inside.table _ _ c.in-Some.own.unblock c.self.invariant.1 has c.index_mut-line.result.now _ (λ x at. contains_without c.in-Some.own.unblock x _ at) (λ at. absent_without c.in-Some.own.unblock _ at)))
+    rw (← c.self.view_is, ← c.number-3.ensures.number, line_at-shown c.self.inside.table _ c.number-3.result _ is, ← left) (none_of _ (gone-own pulse_call c.args.thread (Unblock c.args.thread) (reads-call c.args.thread) c.self.inside.table _ _ c.in-Some.own.unblock c.self.invariant.1 has c.index_mut-line.result.now _ (λ x at. contains_without c.in-Some.own.unblock x _ at) (λ at. absent_without c.in-Some.own.unblock _ at)))

@@ -29,7 +29,7 @@ remove-requires-clause-in_line c =
     let is : slice_get c.self.inside.lines.items c.number.result ≡ Some c.index_mut-line.result.now = slice_get_read c.self.inside.lines.items COUNT c.number.result c.index_mut-line.result.now (sym c.self.invariant.0) c.number.ensures.few c.index_mut-line.ensures.value in
     let has : node_of c.self.inside.nodes (Message c.args.thread) ≡ Some c.in-Some.own.message = ap (option_map (λ own. own.message)) (sym c.at.ensures.own ∙ c.in-Some.is) in
     let stood : stands (entries c.self.inside.table c.index_mut-line.result.now) c.args.thread ≡ true = rw (← c.self.view_is, ← c.number.ensures.number, line_at-shown c.self.inside.table _ c.number.result _ is) at c.requires.stands in
-    in_line-own as_message c.args.thread (Message c.args.thread) (reads-message c.args.thread) refl c.self.inside.table _ _ _ c.self.invariant.1 has c.index_mut-line.result.now stood
+    in_line-own as_message c.args.thread (Message c.args.thread) (reads-message c.args.thread) c.self.inside.table _ _ _ c.self.invariant.1 has c.index_mut-line.result.now stood
 
 pub invariant_of-self : goal.invariant_of-self
 invariant_of-self c =
@@ -55,4 +55,4 @@ returns-clause-gone c =
     let is : slice_get c.self.inside.lines.items c.number.result ≡ Some c.index_mut-line.result.now = slice_get_read c.self.inside.lines.items COUNT c.number.result c.index_mut-line.result.now (sym c.self.invariant.0) c.number.ensures.few c.index_mut-line.ensures.value in
     let has : node_of c.self.inside.nodes (Message c.args.thread) ≡ Some c.in-Some.own.message = ap (option_map (λ own. own.message)) (sym c.at.ensures.own ∙ c.in-Some.is) in
     let left : map (entry_of_node c.self.inside.table) (without c.in-Some.own.message (nodes_in c.self.inside.table c.index_mut-line.result.now)) ≡ line_without c.args.thread.proc.user.0 (item.Message c.args.thread.proc.num c.args.thread.tid) (entries c.self.inside.table c.index_mut-line.result.now) = message-leaves c.self.inside.table _ _ c.args.thread c.in-Some.own.message c.self.invariant.1 c.index_mut-line.result.now has (c.know.ensures.distinct c.index_mut-line.result.now.list) in
-    rw (← c.self.view_is, ← c.number.ensures.number, line_at-shown c.self.inside.table _ c.number.result _ is, ← left) (gone-own as_message c.args.thread (Message c.args.thread) (reads-message c.args.thread) refl c.self.inside.table _ _ c.in-Some.own.message c.self.invariant.1 has c.index_mut-line.result.now _ (λ x at. contains_without c.in-Some.own.message x _ at) (λ at. absent_without c.in-Some.own.message _ at))
+    rw (← c.self.view_is, ← c.number.ensures.number, line_at-shown c.self.inside.table _ c.number.result _ is, ← left) (gone-own as_message c.args.thread (Message c.args.thread) (reads-message c.args.thread) c.self.inside.table _ _ c.in-Some.own.message c.self.invariant.1 has c.index_mut-line.result.now _ (λ x at. contains_without c.in-Some.own.message x _ at) (λ at. absent_without c.in-Some.own.message _ at))

@@ -3,7 +3,7 @@ use Rattle.std.proofs.lemmas.Bool.{false≢true}
 use Rattle.qx_steps.specs.inner.Parts.{told_all, world_of}
 use Rattle.qx_steps.specs.Steps.{target_in}
 use Rattle.qx_steps.proofs.ClientLemmas.{call-refused, call-sent, no-rest}
-use Rattle.qx_steps.proofs.PartsLemmas.{same-told, thread_row-told}
+use Rattle.qx_steps.proofs.PartsLemmas.{process-told, same-told, thread_row-told}
 use Rattle.qx_steps.proofs.StillLemmas.{still-send}
 use Rattle.qx_steps.proofs.world.World.call.Goals as goal
 
@@ -27,6 +27,9 @@ send-requires-clause-ready c = rw (← thread_row-told c.self.inside.channel c.s
 
 pub send-requires-clause-countable : goal.send-requires-clause-countable
 send-requires-clause-countable c = rw (← thread_row-told c.self.inside.channel c.self.inside.resources c.args.thread c.self.invariant) (rw (← c.self.view_is) at c.in-Ok.ensures.countable)
+
+pub send-requires-clause-place : goal.send-requires-clause-place
+send-requires-clause-place c = rw (← process-told c.self.inside.channel c.self.inside.resources c.args.thread.proc c.self.invariant) (rw (← c.self.view_is) at c.in-Ok.ensures.place)
 
 pub returns-in_err-send-in-Ok-clause-sure : goal.returns-in_err-send-in-Ok-clause-sure
 returns-in_err-send-in-Ok-clause-sure c =

@@ -1,0 +1,110 @@
+//! Server connections: a process, as a manager knows it while something of the process is attached there, and then until
+//! a worker has performed the pulse that tells of its end.
+
+use crate::Plain;
+use crate::rows::{Over, Post, Queued, ServerConnection, ServerName, State, line_up};
+use qx_types::{Manager, Prio, Proc};
+use std::alloc::AllocError;
+
+impl ServerConnection {
+    /// Whether a process uses it at a manager.
+    fn is_used(&self, proc: Proc, manager: Manager) -> bool {
+        self.name.proc == proc && self.name.manager == manager && !self.is_leaving
+    }
+}
+
+impl Plain {
+    /// Whether a process has a server connection in use at a manager.
+    pub fn is_connected(&self, proc: Proc, manager: Manager) -> bool {
+        self.servers
+            .iter()
+            .any(|server| server.is_used(proc, manager))
+    }
+
+    /// Whether a process may attach something at a manager: over the server connection in use, or over a new one.
+    pub fn may_connect(&self, proc: Proc, manager: Manager) -> bool {
+        let count = self
+            .servers
+            .iter()
+            .filter(|server| server.name.proc.user == proc.user && server.name.manager == manager)
+            .count();
+        count < 64 || self.is_connected(proc, manager)
+    }
+
+    /// Makes a new server connection where none is in use.
+    pub fn connect(&mut self, proc: Proc, manager: Manager) -> Result<(), AllocError> {
+        if !self.is_connected(proc, manager)
+            && let Some(name) = self.free_server(proc, manager)
+        {
+            self.servers.push(ServerConnection {
+                name,
+                is_leaving: false,
+            })?;
+        }
+        Ok(())
+    }
+
+    /// The name with the lowest number that no server connection of the process at the manager has.
+    fn free_server(&self, proc: Proc, manager: Manager) -> Option<ServerName> {
+        let number = (1..=64).find(|number| {
+            let name = ServerName {
+                proc,
+                manager,
+                number: *number,
+            };
+            !self.servers.iter().any(|server| server.name == name)
+        })?;
+        Some(ServerName {
+            proc,
+            manager,
+            number,
+        })
+    }
+
+    /// Where nothing of a process is attached at a manager any more, the server connection in use is leaving.
+    pub fn settle_server(&mut self, proc: Proc, manager: Manager) -> Result<(), AllocError> {
+        if self.is_attached(proc, manager) {
+            return Ok(());
+        }
+        let found = self
+            .servers
+            .iter_mut()
+            .find(|server| server.is_used(proc, manager));
+        if let Some(server) = found {
+            server.is_leaving = true;
+            let item = Queued {
+                post: Post::Disconnect(server.name),
+                prio: Prio(63),
+            };
+            line_up(self.line_mut(manager), item)?;
+        }
+        Ok(())
+    }
+
+    /// Whether a process has a connection at a manager, or one for a message alone.
+    fn is_attached(&self, proc: Proc, manager: Manager) -> bool {
+        self.connections
+            .iter()
+            .any(|row| row.proc == proc && row.manager == manager)
+            || self.threads.iter().any(|row| row.thread.proc == proc
+                && has_side(&row.state, manager))
+    }
+
+    /// How many server connections are leaving, of all users.
+    pub fn leaving(&self) -> usize {
+        self.servers
+            .iter()
+            .filter(|server| server.is_leaving)
+            .count()
+    }
+}
+
+/// Whether a thread in that state has a message with a connection of its own at a manager.
+fn has_side(state: &State, manager: Manager) -> bool {
+    match state {
+        State::Queued(sent) | State::Taken(sent) => {
+            sent.manager == manager && matches!(sent.over, Over::Side)
+        }
+        State::Ready | State::Waiting { .. } | State::Answered(_) => false,
+    }
+}

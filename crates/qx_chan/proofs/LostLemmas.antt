@@ -1,0 +1,189 @@
+-- A process that has lost a server connection: its disconnect node goes into the line as the pulse, and rows, lines and nodes stand together
+-- then.
+use Rattle.std.proofs.Common.{◌≡◌, ◌≢◌, inl, inr, ℕ, ◌∷◌, [], ◌&&◌, not, true, List, Option, Some, None, IsTrue, length, map, is_some, subst, refl, sym, ◌∙◌, ap}
+use Rattle.std.specs.List.{AllByRecursion}
+use Rattle.std.specs.Option.{option_to_list}
+use Rattle.std.specs.Prelude.{IfSome, option_map, take}
+use Rattle.std.proofs.Math.Bool.{and-true}
+use Rattle.std.proofs.lemmas.List.{length-set}
+use Rattle.qx_types.specs.Managers.{manager_number}
+use Rattle.qx_types.specs.declared.names.Manager.{Manager}
+use Rattle.qx_types.specs.declared.names.Manager.TheVariants.{Pipe, Ram}
+use Rattle.qx_types.specs.declared.names.Proc.{Proc}
+use Rattle.qx_types.specs.declared.names.TheConstants.Manager.{COUNT}
+use Rattle.qx_types.specs.declared.names.Thread.{Thread}
+use Rattle.qx_machine.specs.declared.rows.Queued.{Queued}
+use Rattle.qx_machine.specs.declared.rows.ServerName.{ServerName}
+use Rattle.qx_machine.specs.declared.rows.ThreadRow.{ThreadRow}
+use Rattle.qx_machine.specs.Lines.{into, line_at}
+use Rattle.qx_machine.specs.Machine.{lines_after, rank}
+use Rattle.qx_machine.specs.Parts.{disconnect, disconnects}
+use Rattle.qx_machine.specs.Processes.{Process, lost_servers, servers_at, with_thread}
+use Rattle.qx_machine.specs.Servers.{in_use, lost_by}
+use Rattle.qx_process.specs.Reads.{Loses, is_at}
+use Rattle.qx_queues.specs.Queues.{disconnect_of, stands, unblock_call}
+use Rattle.qx_shared.specs.Shared.{Shared, has_disconnect_node, has_thread, waiting_in, with_shared_disconnect}
+use Rattle.qx_procs.specs.Calls.{LosesAt}
+use Rattle.qx_chan.specs.Users.{Users, process_of, thread_row, with_process_of}
+use Rattle.qx_chan.specs.inner.Kept.{HasServerNodes, IsWaiting, StandTogether, asked_call, lost_of, stands_at, with_lost}
+use Rattle.qx_chan.specs.Nodes.{served_at}
+use Rattle.qx_queues.proofs.EntryLemmas.{line_at-other, line_at-same}
+use Rattle.qx_queues.proofs.LineLemmas.{call-disconnected, stands-disconnected}
+use Rattle.qx_queues.proofs.NodesLemmas.{same_proc}
+use Rattle.qx_queues.proofs.SetLemmas.{has-removed, is_same_server-differs}
+use Rattle.std.proofs.lemmas.Bool.{cases_eq}
+use Rattle.qx_machine.specs.Events.{Events}
+use Rattle.qx_chan.proofs.AttachedLemmas.{number-below, same_server-self}
+use Rattle.qx_chan.proofs.ProcessLemmas.{process_of-same}
+use Rattle.qx_chan.proofs.ServeLemmas.{shown}
+
+-- ---- what is lost, as the machine tells it
+
+pub lost-listed : (lost : Option ServerName) (before after : Option Process) → LosesAt lost before after → lost_of before after ≡ option_to_list lost
+lost-listed lost (Some before) (Some after) loses = loses.lost_is
+lost-listed lost None None none = rw none refl
+lost-listed lost (Some before) None loses = absurd loses
+lost-listed lost None (Some after) loses = absurd loses
+
+first-listed : (lost : Option ServerName) → take 1 (option_to_list lost) ≡ option_to_list lost
+first-listed None = refl
+first-listed (Some server) = refl
+
+pub lost-pulses : (number : ℕ) (change : Process → Process) (process : Option Process) (lost : Option ServerName) → LosesAt lost process (option_map change process) → disconnects number change process ≡ map (disconnect number) (option_to_list lost)
+lost-pulses number change None lost none = rw none refl
+lost-pulses number change (Some process) lost loses = ap (λ servers. map (disconnect number) (take 1 servers)) loses.lost_is ∙ ap (map (disconnect number)) (first-listed lost)
+
+-- a process that stays as it is loses nothing
+same-lost : (manager : Manager) (number : Option ℕ) → lost_by manager number number ≡ []
+same-lost manager None = refl
+same-lost manager (Some number) = refl
+
+pub none-lost : (process : Process) → lost_servers process process ≡ []
+none-lost process = rw (same-lost Ram (in_use (servers_at Ram process)), same-lost Pipe (in_use (servers_at Pipe process))) refl
+
+-- what is lost was in use
+pub lost-used : (lost : Option ServerName) (before after : Option Process) → LosesAt lost before after → IfSome lost (λ server. served_at server.manager before ≡ true)
+lost-used lost (Some before) (Some after) loses = loses.was_used
+lost-used None None None none = tt
+lost-used (Some server) None None none = absurd (cc)
+lost-used lost (Some before) None loses = absurd loses
+lost-used lost None (Some after) loses = absurd loses
+
+pub lost-served : (lost : Option ServerName) (before after : Option Process) → LosesAt lost before after → (manager : Manager) → served_at manager after ≡ (served_at manager before && not (is_at manager lost))
+lost-served lost (Some before) (Some after) loses manager = loses.uses manager
+lost-served lost None None none manager = refl
+lost-served lost (Some before) None loses manager = absurd loses
+lost-served lost None (Some after) loses manager = absurd loses
+
+-- what a thread is answered loses nothing
+pub loses-with_thread : (tid : ℕ) (g : ThreadRow → ThreadRow) (lost : Option ServerName) (before after : Process) → Loses lost (with_thread tid g before) after → Loses lost before after
+loses-with_thread tid g lost before after loses = record { lost_is = loses.lost_is; was_used = loses.was_used; uses = loses.uses }
+
+-- a process that is put in place of the one before
+pub loses-put : (lost : Option ServerName) (users : Users) (proc : Proc) (before after : Process) → Some before ≡ process_of users proc → Loses lost before after → LosesAt lost (process_of users proc) (process_of (with_process_of users proc (λ x. after)) proc)
+loses-put lost users proc before after is loses = rw (process_of-same users proc (λ x. after), ← is) loses
+
+-- ---- what becomes of lines and nodes
+
+module _ (proc : Proc) where
+  pub lost-fields : {A : Type 0} (read : Shared → A) → ((c : Shared) (server : ServerName) → read (with_shared_disconnect c proc server) ≡ read c) → (lost : List ServerName) (c : Shared) → read (with_lost proc lost c) ≡ read c
+  lost-fields read same [] c = refl
+  lost-fields read same (server ∷ lost) c = lost-fields read same lost (with_shared_disconnect c proc server) ∙ same c server
+
+  pub lost-lines : (lost : List ServerName) (c : Shared) → (with_lost proc lost c).lines ≡ lines_after proc.user.0 c.lines (map (disconnect proc.num) lost)
+  lost-lines [] c = refl
+  lost-lines (server ∷ lost) c = lost-lines lost (with_shared_disconnect c proc server)
+
+  lost-node : (lost : Option ServerName) (c : Shared) (manager : Manager) → has_disconnect_node (with_lost proc (option_to_list lost) c) proc (manager_number manager) ≡ (has_disconnect_node c proc (manager_number manager) && not (is_at manager lost))
+  lost-node None c manager = sym (and-true (has_disconnect_node c proc (manager_number manager)))
+  lost-node (Some server) c manager = has-removed c.servers proc (manager_number server.manager) proc (manager_number manager) ∙ rw (same_server-self proc (manager_number server.manager) (manager_number manager)) refl
+
+  lost-node-other : (lost : List ServerName) (c : Shared) (other : Proc) (at : ℕ) → other ≢ proc → has_disconnect_node (with_lost proc lost c) other at ≡ has_disconnect_node c other at
+  lost-node-other [] c other at differs = refl
+  lost-node-other (server ∷ lost) c other at differs =
+      lost-node-other lost (with_shared_disconnect c proc server) other at differs
+      ∙ has-removed c.servers proc (manager_number server.manager) other at ∙ rw (is_same_server-differs proc other (manager_number server.manager) at (λ same. absurd (differs same))) (and-true (has_disconnect_node c other at))
+
+-- rows, lines and nodes stand together, but for the disconnect nodes of one process
+pub record StandBeside (processes : Users) (queues : Shared) (proc : Proc) : Type 0 where
+  pub users : length queues.pipes ≡ length processes
+  pub managers : length queues.lines ≡ COUNT
+  pub threads : (thread : Thread) → has_thread queues thread ≡ is_some (thread_row processes thread)
+  pub lines : (thread : Thread) (number : ℕ) → stands (line_at queues.lines number) thread ≡ stands_at number (thread_row processes thread)
+  pub pulses : (thread : Thread) (number call : ℕ) → unblock_call (line_at queues.lines number) thread ≡ Some call → asked_call number call (thread_row processes thread) ≡ true
+  pub others : (other : Proc) → other ≢ proc → HasServerNodes processes queues other
+  pub waits : (list : ℕ) → AllByRecursion (IsWaiting processes) (waiting_in queues list)
+  pub answered : queues.answered ≡ []
+
+-- those of that process do too
+pub Kept-beside : (users : Users) (queues : Shared) (proc : Proc) → StandBeside users queues proc → HasServerNodes users queues proc → StandTogether users queues
+Kept-beside users queues proc beside own = record {
+  users = beside.users;
+  managers = beside.managers;
+  threads = beside.threads;
+  lines = beside.lines;
+  pulses = beside.pulses;
+  servers = λ other manager. elim (same_proc other proc) [
+    | inr differs ↦ beside.others other differs manager
+    | inl same ↦ rw same (own manager)
+  ];
+  waits = beside.waits;
+  answered = beside.answered;
+}
+
+-- a disconnect pulse in a line is no thread's
+module _ (users : Users) (queues : Shared) (proc : Proc) (server : ServerName) (beside : StandBeside users queues proc) where
+  abbrev number : ℕ
+  number = manager_number server.manager
+
+  told : {A : Type 0} (read : List Queued → A) (at : ℕ) → read (into rank (line_at queues.lines number) (disconnect_of proc server)) ≡ read (line_at queues.lines number)
+      → read (line_at (with_shared_disconnect queues proc server).lines at) ≡ read (line_at queues.lines at)
+  told read at same = elim (cases_eq at number) [
+    | inl equal ↦ rw (equal, line_at-same queues.lines number (λ line. into rank line (disconnect_of proc server)) (rw beside.managers (number-below server.manager))) same
+    | inr differs ↦ rw (line_at-other queues.lines number (λ line. into rank line (disconnect_of proc server)) at differs) refl
+  ]
+
+  beside-disconnected : StandBeside users (with_shared_disconnect queues proc server) proc
+  beside-disconnected = record {
+    users = beside.users;
+    managers = length-set queues.lines number _ ∙ beside.managers;
+    threads = beside.threads;
+    lines = λ thread at. told (λ line. stands line thread) at (stands-disconnected rank (line_at queues.lines number) proc server thread) ∙ beside.lines thread at;
+    pulses = λ thread at call is. beside.pulses thread at call (sym (told (λ line. unblock_call line thread) at (call-disconnected rank (line_at queues.lines number) proc server thread)) ∙ is);
+    others = λ other differs manager. lost-node-other proc (server ∷ []) queues other (manager_number manager) differs ∙ beside.others other differs manager;
+    waits = beside.waits;
+    answered = beside.answered;
+  }
+
+beside-lost : (users : Users) (proc : Proc) (lost : List ServerName) (queues : Shared) → StandBeside users queues proc → StandBeside users (with_lost proc lost queues) proc
+beside-lost users proc [] queues beside = beside
+beside-lost users proc (server ∷ lost) queues beside = beside-lost users proc lost (with_shared_disconnect queues proc server) (beside-disconnected users queues proc server beside)
+
+-- where the process had the disconnect nodes of what it used before it lost that
+pub Kept-lost : (users : Users) (queues : Shared) (proc : Proc) (before : Option Process) (lost : Option ServerName) → StandBeside users queues proc → ((manager : Manager) → has_disconnect_node queues proc (manager_number manager) ≡ served_at manager before)
+    → LosesAt lost before (process_of users proc) → StandTogether users (with_lost proc (option_to_list lost) queues)
+Kept-lost users queues proc before lost beside had loses =
+    Kept-beside users (with_lost proc (option_to_list lost) queues) proc (beside-lost users proc (option_to_list lost) queues beside)
+    (λ manager. lost-node proc lost queues manager ∙ ap (λ b. b && not (is_at manager lost)) (had manager) ∙ sym (lost-served lost before (process_of users proc) loses manager))
+
+-- what is lost has its node
+pub lost-there : (users : Users) (queues : Shared) (proc : Proc) (after : Option Process) (lost : Option ServerName) → HasServerNodes users queues proc → LosesAt lost (process_of users proc) after
+    → IfSome lost (λ server. IsTrue (has_disconnect_node queues proc (manager_number server.manager)))
+lost-there users queues proc after None nodes loses = tt
+lost-there users queues proc after (Some server) nodes loses = nodes server.manager ∙ lost-used (Some server) (process_of users proc) after loses
+
+-- the channel, once the pulse of what is lost stands in its line
+pub shown-lost : (users : Users) (proc : Proc) (f : Process → Process) (queues : Shared) (events : List Events) (lost : Option ServerName) → LosesAt lost (process_of users proc) (process_of (with_process_of users proc f) proc)
+    → shown (with_process_of users proc f) (with_lost proc (option_to_list lost) queues) events
+    ≡ record { users = with_process_of users proc f; lines = lines_after proc.user.0 queues.lines (disconnects proc.num f (process_of users proc)); pipes = queues.pipes; events = events; room = queues.room }
+shown-lost users proc f queues events lost loses = λ i. record {
+  users = with_process_of users proc f;
+  events = events;
+  lines = lines i;
+  pipes = lost-fields proc (λ c. c.pipes) (λ c server. refl) (option_to_list lost) queues i;
+  room = lost-fields proc (λ c. c.room) (λ c server. refl) (option_to_list lost) queues i;
+}
+  where
+    lines : (with_lost proc (option_to_list lost) queues).lines ≡ lines_after proc.user.0 queues.lines (disconnects proc.num f (process_of users proc))
+    lines = lost-lines proc (option_to_list lost) queues
+        ∙ ap (lines_after proc.user.0 queues.lines) (sym (lost-pulses proc.num f (process_of users proc) lost (subst (LosesAt lost (process_of users proc)) (process_of-same users proc f) loses)))

@@ -1,0 +1,79 @@
+-- How many items the performing of an item puts into lines.
+use Rattle.std.proofs.Common.{◌≡◌, ℕ, ◌+◌, ◌≤◌, List, [], ◌∷◌, ◌++◌, map, refl, arith}
+use Rattle.std.specs.Prelude.{Option, Some, None, Result, Ok, Err, if◌then◌else◌, is_some, take}
+use Rattle.std.proofs.lemmas.Bool.{cond_both}
+use Rattle.std.proofs.lemmas.List.Sums.{sum_by-append, sum_by-cons}
+use Rattle.qx_types.specs.Configuration.{Configuration}
+use Rattle.qx_types.specs.declared.errno.Errno.{Errno}
+use Rattle.qx_types.specs.declared.names.Manager.{Manager}
+use Rattle.qx_types.specs.declared.names.Manager.TheVariants as managers
+use Rattle.qx_types.specs.declared.outcome.Answer.{Answer}
+use Rattle.qx_types.specs.declared.outcome.Outcome.{Outcome}
+use Rattle.qx_types.specs.declared.outcome.Outcome.TheVariants.{WrongState}
+use Rattle.qx_wire.specs.Reading.{meaning}
+use Rattle.qx_machine.specs.declared.rows.Caller.{Caller}
+use Rattle.qx_machine.specs.declared.rows.OwnItem.{OwnItem}
+use Rattle.qx_machine.specs.declared.rows.OwnItem.TheVariants as item
+use Rattle.qx_machine.specs.declared.rows.Sent.{Sent}
+use Rattle.qx_machine.specs.declared.rows.ServerName.{ServerName}
+use Rattle.qx_machine.specs.declared.rows.WaitingCall.{WaitingCall}
+use Rattle.qx_machine.specs.Functions.{Deed}
+use Rattle.qx_machine.specs.Judgements.{◌>>=◌, found}
+use Rattle.qx_machine.specs.Laws.{is_put, most_put, put_count}
+use Rattle.qx_machine.specs.Parts.{Change, Part, Remove, disconnect, disconnects}
+use Rattle.qx_machine.specs.Performing.{Served, after_message, answered_changes, caller_of, context_of, deed_of, or_kept, own_change, served_by, served_changes, taken_in}
+use Rattle.qx_machine.specs.PipeManager.{cancel_call}
+use Rattle.qx_machine.specs.Processes.{Process, lost_servers}
+use Rattle.qx_machine.specs.Resources.{Resources}
+use Rattle.qx_machine.specs.Rows.{row_at}
+use Rattle.qx_machine.specs.Users.{serve}
+
+both-put : (first second : List Change) → put_count (first ++ second) ≡ put_count first + put_count second
+both-put first second = sum_by-append (λ change. if is_put change then 1 else 0) first second
+
+answers-put : (manager : Manager) (answers : List (WaitingCall × Answer)) → put_count (answered_changes manager answers) ≡ 0
+answers-put manager [] = refl
+answers-put manager (first ∷ rest) =
+    omega (arith, answers-put manager rest, sum_by-cons (λ change. if is_put change then 1 else 0) (Remove manager (item.Unblock first.0.process first.0.thread first.0.call)) (answered_changes manager rest))
+
+own-put : (manager : Manager) (caller : Caller) (deed : Deed Resources) → put_count (if is_some deed.reply then own_change manager caller ∷ [] else []) ≡ 0
+own-put manager caller deed = cond_both (is_some deed.reply) _ _ (λ changes. put_count changes ≡ 0) (λ replied. refl) (λ waits. refl)
+
+served-put : (manager : Manager) (caller : Caller) (lost : List Change) (given : Result (Deed Resources) Errno) → put_count (served_changes manager caller lost given) ≡ put_count lost
+served-put manager caller lost (Ok deed) =
+    let own = if is_some deed.reply then own_change manager caller ∷ [] else [] in
+    let answers = answered_changes manager deed.answers in
+    let all : put_count (served_changes manager caller lost (Ok deed)) ≡ put_count (own ++ lost) + put_count answers = both-put (own ++ lost) answers in
+    omega (arith, all, own-put manager caller deed, answers-put manager deed.answers, both-put own lost)
+served-put manager caller lost (Err error) = refl
+
+first-put : (process : ℕ) (lost : List ServerName) → put_count (map (disconnect process) (take 1 lost)) ≤ 1
+first-put process [] = omega arith
+first-put process (first ∷ rest) = omega arith
+
+disconnects-put : (number : ℕ) (change : Process → Process) (process : Option Process) → put_count (disconnects number change process) ≤ 1
+disconnects-put number change None = omega arith
+disconnects-put number change (Some process) = first-put number (lost_servers process (change process))
+
+by-put : (part : Part) (caller : Caller) (sent : Sent) (given : Result (Deed Resources) Errno) → put_count (served_by part caller sent given).changes ≤ 1
+by-put part caller sent given =
+    let change = after_message caller.thread sent.target.over given in
+    let lost = disconnects caller.process change (row_at part.processes caller.process) in
+    omega (arith, disconnects-put caller.process change (row_at part.processes caller.process), served-put sent.target.manager caller lost given)
+
+abbrev PutsAtMost : ℕ → Part → Result Served Outcome → Type 0
+PutsAtMost most part given = put_count (or_kept part given).changes ≤ most
+
+put_on : {A : Type 0} (most : ℕ) (part : Part) (first : Result A Outcome) (next : A → Result Served Outcome) → ((value : A) → PutsAtMost most part (next value)) → PutsAtMost most part (first >>= next)
+put_on most part (Ok value) next h = h value
+put_on most part (Err outcome) next h = omega arith
+
+pub serve_puts : (config : Configuration) (user : ℕ) (held : List OwnItem) (part : Part) (done : OwnItem) (moment : ℕ) → put_count (serve config user held part done moment).changes ≤ most_put done
+unfolding serve
+serve_puts config user held part (item.Message process thread) moment =
+    put_on 1 part (found (row_at part.processes process) WrongState) _ (λ its. put_on 1 part (found (row_at its.threads thread) WrongState) _ (λ row. put_on 1 part (found (taken_in row.state) WrongState) _ (λ sent.
+    by-put part (caller_of process thread row sent) sent (deed_of part.resources (context_of its (caller_of process thread row sent) sent.target moment (meaning sent.bytes)) (meaning sent.bytes)))))
+serve_puts config user held part (item.Unblock process thread call) moment =
+    put_on 0 part (cancel_call part.resources process thread call moment) _ (λ deed. let none = answers-put managers.Pipe deed.answers in omega (arith, none))
+serve_puts config user held part (item.Disconnect process server) moment =
+    put_on 0 part (found (row_at part.processes process) WrongState) _ (λ its. omega arith)
