@@ -20,6 +20,7 @@ for count in 1 8 64; do script 100 open $count; done
 for count in 1 64; do for kind in opened closed; do script 100 $kind $count; done; done
 for at in '1 1' '4 8' '16 1' '16 8'; do script 1000 stat $at; done
 for at in '1 20' '8 20' '1 1024' '8 1024'; do script 1000 resolve $at; done
+for count in 0 1 8 64; do script 100 end $count; done
 for users in 1 4 16; do script 50 spawn $users; done
 for items in 10 1000 100000; do calls 10000 line $items; done
 for bytes in 0 20 1024; do for kind in encode read; do calls 1000 $kind $bytes; done; done

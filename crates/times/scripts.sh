@@ -54,6 +54,10 @@ open() { alone; echo 'show a'; opens "$1"; closes "$1"; }
 opened() { alone; opens "$1"; }
 closed() { alone; opens "$1"; closes "$1"; }
 
+# A process starts, opens COUNT connections and ends; its disconnect pulse, with which all that is open goes, is received and
+# performed.
+end() { alone; echo 'show a'; echo 'spawn a 1 10'; from=a.2.1 opens "$1"; echo 'exit a.2'; echo 'receive 1 ram'; echo 'perform 1 5'; }
+
 # A new world in each round, in which each of USERS users starts 16 processes.
 spawn() { users "$1"; spawns 16 "$1" 4; }
 

@@ -11,6 +11,7 @@ use Rattle.qx_machine.specs.declared.rows.WaitingCall.{WaitingCall}
 use Rattle.qx_machine.specs.declared.rows.Wish.{Wish}
 use Rattle.qx_machine.specs.Functions as functions
 use Rattle.qx_machine.specs.Functions.{function_deed}
+use Rattle.qx_machine.specs.Inodes.{new_block}
 use Rattle.qx_machine.specs.Pipes.{PipeAfter, nobody_answered, readers_dismissed, with_reader}
 use Rattle.qx_machine.specs.Rows.{put_row}
 use Rattle.qx_shared.specs.Shared.{Shared, pipe_at, with_pipe_after}
@@ -35,7 +36,7 @@ module _ (k : KeptBells) (c : Shared) (fits : HasOwnPlace k c) where
   pub write : (now : Shared) (bytes : List ℕ) (done : Done) → done ≡ Reply (length bytes) Keeps → now ≡ with_pipe_after c k.user k.inode (readers_dismissed (λ call. true) (answer.Reply 0 []) (bells_told k c).place) → Did bells_state k c k now [] (Ok done) (write_deed (bells_told k c) bytes)
   write now bytes done said is = came_to k.blocks k.blocks now _ _ [] done is (ap (reply_with []) said) refl
 
-  pub opened : (after : KeptBells) (given : Result NewOpen Errno) (over : NewOpen) (number : ℕ) (rest : List (List ℕ)) (wish : Wish) → given ≡ Ok over → (length rest == 0) ≡ true → free_number k.blocks ≡ Ok number → after ≡ record k { blocks = put_row k.blocks number (record { inode = over.root; flags = wish.flags; offset = 0; uses = 1 }) } →
+  pub opened : (after : KeptBells) (given : Result NewOpen Errno) (over : NewOpen) (number : ℕ) (rest : List (List ℕ)) (wish : Wish) → given ≡ Ok over → (length rest == 0) ≡ true → free_number k.blocks ≡ Ok number → after ≡ record k { blocks = put_row k.blocks number (new_block over.root wish.flags over.client) } →
       Did bells_state k c after c [] (Ok (Reply over.coid.0 (Opens over.coid number))) (function_deed bell_connect.«open» given (λ f over. f (bells_told k c) over rest wish))
   opened after given over number rest wish is there free put =
       let same = sym (with_after-nobody c k.user k.inode fits) in

@@ -10,6 +10,7 @@ use Rattle.qx_machine.specs.declared.rows.NewOpen.{NewOpen}
 use Rattle.qx_machine.specs.declared.rows.Opened.{Opened}
 use Rattle.qx_machine.specs.declared.rows.WaitingCall.{WaitingCall}
 use Rattle.qx_machine.specs.Functions.{ConnectFunctions, Deed, IoFunctions, Reply, no_connect, no_io}
+use Rattle.qx_machine.specs.Inodes.{new_block}
 use Rattle.qx_machine.specs.Judgements.{◌>>=◌, need}
 use Rattle.qx_machine.specs.Waiting.{waiting_call}
 use Rattle.qx_machine.specs.Pipes.{PipeAfter, Pipe, nobody_answered, readers_dismissed, with_reader}
@@ -63,7 +64,7 @@ open_deed bells over flags rest = do
   there ← need (length rest == 0) ENOENT
   number ← free_number bells.blocks
   comes_to (Some (record { status = over.coid.0; bytes = []; effect = Opens over.coid number }))
-      (put_row bells.blocks number (record { inode = over.root; flags = flags; offset = 0; uses = 1 }))
+      (put_row bells.blocks number (new_block over.root flags over.client))
       (nobody_answered bells.place)
 
 -- who was asked to unblock does not wait (Writing a Resource Manager: the unblock pulse)

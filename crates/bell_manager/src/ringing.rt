@@ -40,6 +40,7 @@ impl Connect<Bell, Shared, Bells> for Ringing {
             flags: wish.flags,
             offset: 0,
             uses: 1,
+            client: over.client,
         };
         state.blocks.put(number, block)?;
         Ok(Ok(Done::Reply {

@@ -4,7 +4,7 @@
 use all_memory::take_all_memory;
 use null_manager::{Kept, Null, Told};
 use qx_attr::Reply;
-use qx_machine::{Caller, Context, Effect, Over, Target};
+use qx_machine::{Caller, Client, Context, Effect, Over, ServerName, Target};
 use qx_notify::AllEvents;
 use qx_process::Room;
 use qx_resmgr::{Done, serve};
@@ -23,6 +23,15 @@ const CALLER: Caller = Caller {
     thread: 0,
     call: 1,
     is_asked: false,
+};
+
+/// As the manager knows the caller.
+const CLIENT: Client = Client {
+    process: 0,
+    server: ServerName {
+        manager: Manager::Ram,
+        number: 1,
+    },
 };
 
 /// What a message asks.
@@ -168,6 +177,7 @@ impl Bench {
         };
         let context = Context {
             target,
+            client: CLIENT,
             opened: self.kept.blocks.opened(CALLER, THREE, 1, 7),
             moment: 7,
         };

@@ -18,6 +18,7 @@ use Rattle.qx_machine.specs.declared.rows.PulseWish.{PulseWish}
 use Rattle.qx_machine.specs.declared.rows.WaitingCall.{WaitingCall}
 use Rattle.qx_machine.specs.Events.{Events, disarmed, event_count, notified}
 use Rattle.qx_machine.specs.Functions.{ConnectFunctions, Deed, IoFunctions, no_connect, no_io, reply_alone}
+use Rattle.qx_machine.specs.Inodes.{new_block}
 use Rattle.qx_machine.specs.Judgements.{◌>>=◌, found, need}
 use Rattle.qx_machine.specs.Notification.{event_of}
 use Rattle.qx_machine.specs.Rows.{row_at, lowest_from, put_row}
@@ -81,7 +82,7 @@ abbrev pub open_deed : Told → NewOpen → OFlags → List (List ℕ) → Resul
 open_deed own over flags rest = do
   there ← need (length rest == 0) ENOENT
   number ← free_number own.blocks
-  reply_deed over.coid.0 (Opens over.coid number) (record own { blocks = put_row own.blocks number (record { inode = over.root; flags = flags; offset = 0; uses = 1 }) })
+  reply_deed over.coid.0 (Opens over.coid number) (record own { blocks = put_row own.blocks number (new_block over.root flags over.client) })
 
 -- a block goes, and its event with it (iofunc_notify_remove)
 abbrev pub close_deed : Told → Opened → Result (Deed Told) Errno

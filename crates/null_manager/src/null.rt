@@ -39,6 +39,7 @@ impl Connect<Kept, AllEvents, Told> for Null {
             flags: wish.flags,
             offset: 0,
             uses: 1,
+            client: over.client,
         };
         state.blocks.put(number, block)?;
         Ok(Ok(Done::Reply {

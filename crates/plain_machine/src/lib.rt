@@ -5,29 +5,32 @@
 //! - `rows.rt`: the rows and the lines
 //! - `serving.rt`: what a performed message comes to
 //! - `servers.rt`: server connections, which outlast what is attached until their pulse is performed
+//! - `exits.rt`: processes that have ended, which outlast their threads until nothing of them is left
 //! - `events.rt`: notifications, and the pulses that processes take
 //! - `steps.rt`: the steps that are tried: numbers of a linear congruential generator (`steps/dice.rt`), the steps that
-//!   they choose (`steps/choice.rt`, and of a user of their own `steps/visits.rt`), and what these ask:
-//!   `steps/requests.rt`, `steps/dups.rt`, `steps/pipes.rt`, `steps/events.rt`, `steps/paths.rt`, `steps/raws.rt`,
-//!   `steps/texts.rt`
+//!   they choose (`steps/choice.rt`, `steps/exits.rt`, and of a user of their own `steps/visits.rt` and
+//!   `steps/guests.rt`), and what these ask: `steps/requests.rt`, `steps/dups.rt`, `steps/pipes.rt`, `steps/events.rt`,
+//!   `steps/paths.rt`, `steps/raws.rt`, `steps/texts.rt`
 #![tactic(auto)]
 
 mod events;
+mod exits;
 mod rows;
 mod servers;
 mod serving;
 pub mod steps;
 
 use plain_rules::files::Files;
+pub use plain_rules::files::ServerName;
 use plain_rules::messages::{Reading, read, write};
 use plain_rules::paths::{Mount, Mounts, judge_form, text_of};
 use plain_rules::pipes::Answers;
 use qx_types::{
-    Answer, Bytes, Coid, Config, Errno, Item, Manager, Outcome, Prio, Proc, Request, Step, Thread,
-    User, Worker,
+    Answer, Bytes, Coid, Config, Errno, Manager, Outcome, Prio, Proc, Request, Step, Thread, User,
+    Worker,
 };
-pub use rows::{Over, Post, Row, Sent, ServerName, State};
-use rows::{Connection, Queued, ServerConnection, first_out, line_up};
+pub use rows::{Over, Post, Row, Sent, State};
+use rows::{Connection, Hand, Queued, ServerConnection, first_out, line_up};
 use std::alloc::{AllocError, Global};
 
 /// All rows of all users, one vector for each kind.
@@ -35,6 +38,7 @@ pub struct Plain {
     alloc: Global,
     config: Config,
     processes: Vec<Proc>,
+    ended: Vec<Proc>,
     threads: Vec<Row>,
     connections: Vec<Connection>,
     servers: Vec<ServerConnection>,
@@ -42,16 +46,17 @@ pub struct Plain {
     files: Files,
     ram: Vec<Queued>,
     pipe: Vec<Queued>,
-    hands: Vec<(Worker, Post)>,
+    hands: Vec<Hand>,
 }
 
-/// As it would be derived; but what drops the rows at an exit is proved with one call there.
+/// As it would be derived; but what drops the rows where a function ends is proved with one call there.
 impl Drop for Plain {
     fn drop(self) {
         let Plain {
             alloc: _,
             config: _,
             processes: _,
+            ended: _,
             threads: _,
             connections: _,
             servers: _,
@@ -92,6 +97,7 @@ impl Plain {
             mounts: Mounts::boot(alloc, &config)?,
             config,
             processes: Vec::new(alloc),
+            ended: Vec::new(alloc),
             threads: Vec::new(alloc),
             connections: Vec::new(alloc),
             servers: Vec::new(alloc),
@@ -102,10 +108,11 @@ impl Plain {
         })
     }
 
-    /// Takes a step, after which the due events give their pulses.
+    /// Takes a step, after which the due events give their pulses, and ended processes go of which nothing is left.
     pub fn step(&mut self, step: &Step) -> Result<Outcome, AllocError> {
         let outcome = self.act(step)?;
-        self.files.settle_events()?;
+        self.files.settle_events(self.ended.as_slice())?;
+        self.free_ended()?;
         Ok(outcome)
     }
 
@@ -116,6 +123,7 @@ impl Plain {
                 threads,
                 prio,
             } => self.spawn(*user, *threads, *prio),
+            Step::Exit { proc } => self.exit(*proc),
             Step::Call { thread, request } => self.call(*thread, request),
             Step::TakeReply { thread } => Ok(self.take_reply(*thread)),
             Step::TakePulse { proc } => Ok(self.take_pulse(*proc)),
@@ -382,17 +390,26 @@ impl Plain {
         let Some(post) = first_out(self.line_mut(manager)) else {
             return Ok(Outcome::Idle);
         };
-        self.hands.push((worker, post))?;
-        match post {
-            Post::Message(thread) => {
-                if let Some(sent) = self.withdraw(thread) {
-                    self.set_state(thread, State::Taken(sent));
-                }
-                Ok(Outcome::Took(Item::Message(thread)))
-            }
-            Post::Unblock(thread, _) => Ok(Outcome::Took(Item::Unblock(thread))),
-            Post::Disconnect(name) => Ok(Outcome::Took(Item::Disconnect(name.proc))),
-        }
+        let bytes = self.received(post)?;
+        self.hands.push(Hand {
+            worker,
+            post,
+            bytes,
+        })?;
+        Ok(Outcome::Took(post.item()))
+    }
+
+    /// The bytes of a message, which is received by that. A pulse has none.
+    fn received(&mut self, post: Post) -> Result<Option<Bytes>, AllocError> {
+        let Post::Message(thread) = post else {
+            return Ok(None);
+        };
+        let Some(sent) = self.withdraw(thread) else {
+            return Ok(None);
+        };
+        let bytes = sent.bytes.clone()?;
+        self.set_state(thread, State::Taken(sent));
+        Ok(Some(bytes))
     }
 
     fn perform(&mut self, worker: Worker, moment: u64) -> Result<Outcome, AllocError> {
@@ -402,19 +419,19 @@ impl Plain {
         let Some(post) = self.hand(worker) else {
             return Ok(Outcome::Nothing);
         };
-        self.hands.retain(|(holder, _)| *holder != worker);
+        self.hands.retain(|hand| hand.worker != worker);
         match post {
             Post::Message(thread) => self.serve(thread, moment)?,
             Post::Unblock(thread, call) => {
                 let answers = self.files.unblock(thread, call, moment)?;
                 self.answer_all(answers);
             }
-            Post::Disconnect(name) => self.servers.retain(|server| server.name != name),
+            Post::Disconnect(name) => self.disconnect(name, moment)?,
         }
         Ok(Outcome::Handled)
     }
 
-    /// Serves the message of a thread, which waits until it is answered.
+    /// Serves the message of a thread, which waits until it is answered. One of an ended process is nobody's any more.
     fn serve(&mut self, thread: Thread, moment: u64) -> Result<(), AllocError> {
         if let Some(sent) = self.withdraw(thread) {
             self.set_state(
@@ -544,22 +561,29 @@ impl Plain {
         self.files.block_count(user) >= 256
     }
 
+    /// How many inodes there are for all users.
+    pub fn inodes(&self) -> usize {
+        self.files.inodes.len()
+    }
+
     /// What a worker holds, with the bytes of a message.
     pub fn held(&self, worker: Worker) -> Option<Held<'_>> {
-        match self.hand(worker)? {
-            Post::Message(thread) => match &self.row(thread)?.state {
-                State::Taken(sent) => Some(Held::Message(&sent.bytes)),
-                State::Ready | State::Queued(_) | State::Waiting { .. } | State::Answered(_) =>
-                    None,
-            },
-            Post::Unblock(..) | Post::Disconnect(_) => Some(Held::Pulse),
+        let hand = self.hands.iter().find(|hand| hand.worker == worker)?;
+        match &hand.bytes {
+            Some(bytes) => Some(Held::Message(bytes)),
+            None => Some(Held::Pulse),
         }
     }
 
     /// What a worker holds, by its name.
     pub fn hand(&self, worker: Worker) -> Option<Post> {
-        let (_, post) = self.hands.iter().find(|(holder, _)| *holder == worker)?;
-        Some(*post)
+        let hand = self.hands.iter().find(|hand| hand.worker == worker)?;
+        Some(hand.post)
+    }
+
+    /// Whether a worker holds an item.
+    pub fn is_held(&self, post: Post) -> bool {
+        self.hands.iter().any(|hand| hand.post == post)
     }
 
     /// How many items stand in a manager's line.
@@ -608,8 +632,12 @@ impl Plain {
         0 < worker.0 && worker.0 <= self.config.workers()
     }
 
+    /// The lowest number that no process of the user has. One that has ended keeps its number.
     fn free_process(&self, user: User) -> Option<u8> {
-        (1..=16).find(|num| !self.processes.contains(&Proc { user, num: *num }))
+        (1..=16).find(|num| {
+            let proc = Proc { user, num: *num };
+            !self.processes.contains(&proc) && !self.ended.contains(&proc)
+        })
     }
 
     fn free_connection(&self, proc: Proc) -> Result<Coid, Errno> {

@@ -1,6 +1,7 @@
 //! The rows of the plain machine, and its lines.
 
-use qx_types::{Answer, Bytes, Coid, Manager, Prio, Proc, Thread};
+use plain_rules::files::ServerName;
+use qx_types::{Answer, Bytes, Coid, Item, Manager, Prio, Proc, Thread, Worker};
 use std::alloc::AllocError;
 
 /// What a message goes over: a connection that its call made, one that was there, or one for the message alone, which
@@ -51,14 +52,6 @@ pub struct Connection {
     pub block: Option<u16>,
 }
 
-/// A server connection of a process at a manager, by its number among those.
-#[derive(Clone, Copy, PartialEq, Eq)]
-pub struct ServerName {
-    pub proc: Proc,
-    pub manager: Manager,
-    pub number: u8,
-}
-
 /// A server connection. One that is leaving has its pulse in the line or in a worker's hand, and is not used again.
 #[derive(Drop)]
 pub struct ServerConnection {
@@ -75,11 +68,46 @@ pub enum Post {
     Disconnect(ServerName),
 }
 
+impl Post {
+    /// Whose it is.
+    pub fn proc(self) -> Proc {
+        match self {
+            Post::Message(thread) | Post::Unblock(thread, _) => thread.proc,
+            Post::Disconnect(name) => name.proc,
+        }
+    }
+
+    /// Whether a thread of that process is meant by it.
+    pub fn is_of_thread(self, proc: Proc) -> bool {
+        match self {
+            Post::Message(thread) | Post::Unblock(thread, _) => thread.proc == proc,
+            Post::Disconnect(_) => false,
+        }
+    }
+
+    /// What a worker is told that it took.
+    pub fn item(self) -> Item {
+        match self {
+            Post::Message(thread) => Item::Message(thread),
+            Post::Unblock(thread, _) => Item::Unblock(thread),
+            Post::Disconnect(name) => Item::Disconnect(name.proc),
+        }
+    }
+}
+
 /// An item of a line.
 #[derive(Clone, Copy)]
 pub struct Queued {
     pub post: Post,
     pub prio: Prio,
+}
+
+/// What a worker holds, and of a message the bytes as they were received.
+#[derive(Drop)]
+pub struct Hand {
+    pub worker: Worker,
+    pub post: Post,
+    pub bytes: Option<Bytes>,
 }
 
 /// Puts an item behind all of its priority, before the first of a lower one.

@@ -1,8 +1,9 @@
 //! Server connections: a process, as a manager knows it while something of the process is attached there, and then until
-//! a worker has performed the pulse that tells of its end.
+//! a worker has performed the pulse that tells of its end. What a process that has ended had open goes with them.
 
 use crate::Plain;
-use crate::rows::{Over, Post, Queued, ServerConnection, ServerName, State, line_up};
+use crate::rows::{Over, Post, Queued, ServerConnection, State, line_up};
+use plain_rules::files::ServerName;
 use qx_types::{Manager, Prio, Proc};
 use std::alloc::AllocError;
 
@@ -14,11 +15,17 @@ impl ServerConnection {
 }
 
 impl Plain {
-    /// Whether a process has a server connection in use at a manager.
-    pub fn is_connected(&self, proc: Proc, manager: Manager) -> bool {
+    /// The server connection that a process has in use at a manager.
+    pub fn used_server(&self, proc: Proc, manager: Manager) -> Option<ServerName> {
         self.servers
             .iter()
-            .any(|server| server.is_used(proc, manager))
+            .find(|server| server.is_used(proc, manager))
+            .map(|server| server.name)
+    }
+
+    /// Whether a process has a server connection in use at a manager.
+    pub fn is_connected(&self, proc: Proc, manager: Manager) -> bool {
+        self.used_server(proc, manager).is_some()
     }
 
     /// Whether a process may attach something at a manager: over the server connection in use, or over a new one.
@@ -78,6 +85,17 @@ impl Plain {
             };
             line_up(self.line_mut(manager), item)?;
         }
+        Ok(())
+    }
+
+    /// The pulse of a server connection is performed. The blocks that were opened by it go, in order of opening, whoever
+    /// had them, and then it goes.
+    pub fn disconnect(&mut self, name: ServerName, moment: u64) -> Result<(), AllocError> {
+        for block in self.files.blocks_of(name)? {
+            let answers = self.files.free(name.proc.user, block, moment)?;
+            self.answer_all(answers);
+        }
+        self.servers.retain(|server| server.name != name);
         Ok(())
     }
 

@@ -80,6 +80,7 @@ impl Plain {
             call: self.row(thread).map_or(0, |row| row.calls),
             block,
             is_asked: sent.is_asked,
+            is_gone: false,
         };
         let bytes = sent.bytes.as_slice();
         let answers = if matches!(kind, Kind::Read) {
@@ -94,7 +95,8 @@ impl Plain {
     }
 
     fn open(&mut self, proc: Proc, sent: &Sent, moment: u64) -> Result<Reply, Fault> {
-        let (Over::New(coid), Some(root)) = (sent.over, sent.root) else {
+        let server = self.used_server(proc, sent.manager);
+        let (Over::New(coid), Some(root), Some(server)) = (sent.over, sent.root, server) else {
             return Err(Fault::Refused(Errno::EINVAL));
         };
         let bytes = sent.bytes.as_slice();
@@ -106,7 +108,9 @@ impl Plain {
             moment,
         };
         let flags = OFlags(number_at(bytes, BODY));
-        let block = self.files.open(&place, flags, number_at(bytes, BODY + 2))?;
+        let block = self
+            .files
+            .open(&place, server, flags, number_at(bytes, BODY + 2))?;
         self.set_block(proc, coid, block);
         Ok((u64::from(coid.0), Vec::new(self.alloc)))
     }

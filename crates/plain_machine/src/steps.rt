@@ -4,6 +4,8 @@ mod choice;
 mod dice;
 mod dups;
 mod events;
+mod exits;
+mod guests;
 mod paths;
 mod pipes;
 mod raws;
@@ -13,4 +15,6 @@ mod visits;
 
 pub use choice::next_step;
 pub use dice::Dice;
+pub use exits::next_exit;
+pub use guests::next_guest;
 pub use visits::next_visit;

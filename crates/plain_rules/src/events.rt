@@ -98,11 +98,18 @@ impl Events {
         std::mem::replace(&mut self.armed, Vec::new(self.alloc))
     }
 
-    /// After a step, an event gives its pulse where a wanted condition holds that did not before, and else stays armed.
-    pub fn settle(&mut self, event: Event, before: u8, after: u8) -> Result<(), AllocError> {
+    /// After a step, an event is due where a wanted condition holds that did not before, and else stays armed. A due one
+    /// gives its pulse if somebody is there to take it.
+    pub fn settle(
+        &mut self,
+        event: Event,
+        before: u8,
+        after: u8,
+        is_heard: bool,
+    ) -> Result<(), AllocError> {
         if event.wanted & after & !before == 0 {
             self.keep(event, after)?;
-        } else {
+        } else if is_heard {
             self.pulses.push(Pulse {
                 proc: event.proc,
                 code: event.code,
@@ -119,6 +126,11 @@ impl Events {
         Some((pulse.code, pulse.value))
     }
 
+    /// The pulses of a process go.
+    pub fn drop_pulses(&mut self, proc: Proc) {
+        self.pulses.retain(|pulse| pulse.proc != proc);
+    }
+
     /// Whether a block has an event armed.
     pub fn is_armed(&self, user: User, block: u16) -> bool {
         self.armed.iter().any(|(event, _)| event.proc.user == user && event.block == block)
@@ -128,6 +140,19 @@ impl Events {
     pub fn count(&self, user: User) -> usize {
         self.armed_count(user)
             .saturating_add(self.pulse_count(user))
+    }
+
+    /// How many events a process has armed.
+    pub fn armed_by(&self, proc: Proc) -> usize {
+        self.armed
+            .iter()
+            .filter(|(event, _)| event.proc == proc)
+            .count()
+    }
+
+    /// Whether a process has untaken pulses.
+    pub fn has_pulse(&self, proc: Proc) -> bool {
+        self.pulses.iter().any(|pulse| pulse.proc == proc)
     }
 
     /// How many untaken pulses there are for all users.

@@ -10,4 +10,4 @@ mod walk;
 
 pub use fault::Fault;
 pub use pipes::PipeLook;
-pub use rows::{Files, Place};
+pub use rows::{Files, Place, ServerName};

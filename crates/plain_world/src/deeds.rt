@@ -15,10 +15,41 @@ pub fn deed(plain: &Plain, step: &Step) -> Option<Deed> {
         Step::Mount { manager, .. } => Some(("mount", manager_word(*manager))),
         Step::Perform { worker, .. } => item_deed(plain, *worker),
         Step::Spawn { .. }
+        | Step::Exit { .. }
         | Step::TakeReply { .. }
         | Step::TakePulse { .. }
         | Step::SetPrio { .. }
         | Step::Receive { .. } => None,
+    }
+}
+
+/// A step in a word: of a perform which message it serves, or which pulse.
+pub fn step_word(plain: &Plain, step: &Step) -> &'static str {
+    match step {
+        Step::Spawn { .. } => "spawn",
+        Step::Exit { .. } => "exit",
+        Step::Call { .. } => "call",
+        Step::TakeReply { .. } => "take_reply",
+        Step::TakePulse { .. } => "take_pulse",
+        Step::SetPrio { .. } => "set_prio",
+        Step::Interrupt { .. } => "interrupt",
+        Step::Mount { .. } => "mount",
+        Step::Receive { .. } => "receive",
+        Step::Perform { worker, .. } => match performed(plain, step) {
+            Some(served) => served_word(served),
+            None => held_word(plain, *worker),
+        },
+    }
+}
+
+/// What a worker holds, where it is no message of a kind of a process that lives.
+fn held_word(plain: &Plain, worker: Worker) -> &'static str {
+    match plain.hand(worker) {
+        Some(Post::Message(_)) => "message",
+        Some(Post::Unblock(thread, _)) if plain.has_ended(thread.proc) => "late unblock",
+        Some(Post::Unblock(..)) => "unblock",
+        Some(Post::Disconnect(_)) => "disconnect",
+        None => "nothing",
     }
 }
 
@@ -100,8 +131,8 @@ fn item_deed(plain: &Plain, worker: Worker) -> Option<Deed> {
     }
 }
 
-/// A message that a step is about to perform: whose it is, at which manager, its kind and its subtype, and whether its
-/// connection has a block with others.
+/// A message that a step is about to perform: whose it is, at which manager, its kind and its subtype, whether its
+/// connection has a block with others, and whether calls of ended processes wait where it goes.
 #[derive(Clone, Copy)]
 pub struct Served {
     pub thread: Thread,
@@ -109,6 +140,7 @@ pub struct Served {
     pub kind: Kind,
     pub subtype: u16,
     pub is_shared: bool,
+    pub finds_gone: bool,
 }
 
 /// The message that a step is about to perform.
@@ -129,6 +161,7 @@ pub fn performed(plain: &Plain, step: &Step) -> Option<Served> {
             kind,
             subtype: number_at(sent.bytes.as_slice(), 2),
             is_shared: is_shared(plain, thread, sent.over),
+            finds_gone: finds_gone(plain, thread, sent.over),
         }),
         Reading::Malformed | Reading::Unknown => None,
     }
@@ -138,6 +171,14 @@ pub fn performed(plain: &Plain, step: &Step) -> Option<Served> {
 fn is_shared(plain: &Plain, thread: Thread, over: Over) -> bool {
     match over {
         Over::Existing(coid) => plain.is_shared(thread.proc, coid),
+        Over::New(_) | Over::Side => false,
+    }
+}
+
+/// Whether a message of a thread goes over a connection to a pipe in which calls of ended processes wait.
+fn finds_gone(plain: &Plain, thread: Thread, over: Over) -> bool {
+    match over {
+        Over::Existing(coid) => plain.has_gone(thread.proc, coid),
         Over::New(_) | Over::Side => false,
     }
 }
@@ -177,24 +218,23 @@ fn served_word(served: Served) -> &'static str {
     }
 }
 
-/// What made so many events due, if any: the message that was performed. That it were several is told of all kinds in one.
-pub fn due_deed(served: Option<Served>, count: usize) -> Option<Deed> {
-    match (count, served) {
-        (0, _) => None,
-        (1, Some(served)) => Some(("due", served_word(served))),
-        (1, None) => Some(("due", "no message")),
-        (_, _) => Some(("due", "several")),
+/// That a step of this word made so many events due, if any. That it were several is told of all steps in one.
+pub fn due_deed(word: &'static str, count: usize) -> Option<Deed> {
+    match count {
+        0 => None,
+        1 => Some(("due", word)),
+        _ => Some(("due", "several")),
     }
 }
 
-/// What made a server connection leave: a new connection that was given back, one for a message alone, a close, or else
-/// an interrupt.
-pub fn leaving_deed(served: Option<Served>) -> Deed {
+/// What made a server connection leave in a step of this word: a new connection that was given back, one for a message
+/// alone, a close, or no message.
+pub fn leaving_deed(word: &'static str, served: Option<Served>) -> Deed {
     let word = match served.map(|served| served.kind) {
         Some(Kind::Open | Kind::Dup) => "new connection",
         Some(Kind::Stat | Kind::Unlink | Kind::Mknod) => "side connection",
         Some(kind) => kind_word(kind),
-        None => "interrupt",
+        None => word,
     };
     ("leaves", word)
 }

@@ -1,18 +1,21 @@
 //! Takes a fixed pseudo-random sequence of steps in a world and in plain vectors, and compares outcomes and reads.
 //!
 //! Each step is taken in both. The program ends in an error, with status 1, at the first difference; at an outcome, a
-//! deed or an answer that is none of those that have to come (`tally.rt`); and where one of these did not come or the
-//! line stayed short. What a step is about to do, how a message and a call that waited were answered, and what made
-//! events due and a server connection leave, is told in `deeds.rt`. A perform is tried first with other work, which has
-//! to be stale. What is printed doesn't change with the rules.
+//! deed, an answer or an ending that is none of those that have to come (`tally.rt`); and where one of these did not come
+//! or the line stayed short. What a step is about to do, how a message and a call that waited were answered, and what made
+//! events due and a server connection leave, is told in `deeds.rt`; what comes of exits, in `endings.rt`; when each is
+//! marked, in `marks.rt`. A perform is tried first with other work, which has to be stale. What is printed doesn't change
+//! with the rules.
 #![tactic(auto)]
 
 mod deeds;
+mod endings;
+mod marks;
 mod tally;
 
 use anyhow::bail;
-use deeds::{Served, answer_deed, deed, due_deed, leaving_deed, performed, waited_deed};
-use plain_machine::steps::{Dice, next_step, next_visit};
+use marks::Before;
+use plain_machine::steps::{Dice, next_exit, next_guest, next_step, next_visit};
 use plain_machine::{Held, Plain, State};
 use qx_types::{
     Bytes, Config, Manager, MessageBytes, NoMemory, Outcome, Proc, Step, Thread, User, Worker,
@@ -28,8 +31,10 @@ const ROUND: u32 = 2_400;
 
 const BUSY: u32 = 800;
 
-/// Steps from one busy time with visits to the next.
+/// Steps from one busy time with visits to the next, and from one other time with guests to the next.
 const VISITED: u32 = 4 * ROUND;
+
+const GUESTS: u32 = 2 * ROUND;
 
 /// With this seed the steps come to all that has to come.
 const SEED: u64 = 154;
@@ -48,7 +53,7 @@ fn main(rt: HostRuntime) -> anyhow::Result<()> {
     Ok(())
 }
 
-/// Takes so many steps in both. A difference is an error, and so is an outcome or a deed that did not come.
+/// Takes so many steps in both. A difference is an error, and so is what did not come.
 fn compare(alloc: Global, count: u32) -> anyhow::Result<()> {
     let mut plain = Plain::new(alloc, four_users(alloc)?)?;
     let Ok(mut world) = World::new(alloc, four_users(alloc)?) else {
@@ -79,27 +84,12 @@ fn take_steps(
 ) -> anyhow::Result<()> {
     let mut dice = Dice::new(SEED);
     for number in 0..count {
-        let step = if number % VISITED < BUSY && dice.one_in(3) {
-            next_visit(alloc, &mut dice, plain)?
-        } else {
-            next_step(alloc, &mut dice, plain, number % ROUND < BUSY)?
-        };
-        let (done, message) = (deed(plain, &step), performed(plain, &step));
-        let (waiting, pulses) = (waiting_threads(alloc, plain)?, plain.pulses());
-        let leaving = plain.leaving();
+        let step = chosen_step(alloc, &mut dice, plain, number)?;
+        let before = Before::look(alloc, plain, &step)?;
         let outcome = take_both(alloc, world, plain, &step)?;
-        if !tally.mark(&outcome, done, plain.waiting(Manager::Ram)) {
-            bail!("{step:?}: {outcome:?}");
+        if let Err(odd) = before.mark(plain, tally, &step, &outcome) {
+            bail!("{step:?}: {odd}");
         }
-        if let Some(served) = message
-            && let Some(answer) = answer_deed(plain, served)
-            && !tally.mark_answer(answer)
-        {
-            bail!("{step:?}: {answer:?}");
-        }
-        mark_woken(plain, tally, waiting.as_slice())?;
-        mark_due(tally, message, plain.pulses().saturating_sub(pulses))?;
-        mark_leaving(tally, message, leaving < plain.leaving())?;
     }
     if !no_others(world, plain) {
         bail!("a thread is there that was not started");
@@ -107,45 +97,24 @@ fn take_steps(
     Ok(())
 }
 
-/// The threads that wait in pipes.
-fn waiting_threads(alloc: Global, plain: &Plain) -> Result<Vec<Thread>, AllocError> {
-    let mut waiting = Vec::new(alloc);
-    for row in plain.threads() {
-        if let State::Waiting { .. } = &row.state {
-            waiting.push(row.thread)?;
-        }
-    }
-    Ok(waiting)
-}
-
-/// Marks how those were answered who waited before a step and don't any more.
-fn mark_woken(plain: &Plain, tally: &mut Tally, waited: &[Thread]) -> anyhow::Result<()> {
-    for thread in waited {
-        if let Some(answer) = waited_deed(plain, *thread)
-            && !tally.mark_answer(answer)
-        {
-            bail!("{thread:?}: {answer:?}");
-        }
-    }
-    Ok(())
-}
-
-/// Marks what made so many events due, if any.
-fn mark_due(tally: &mut Tally, message: Option<Served>, count: usize) -> anyhow::Result<()> {
-    if let Some(due) = due_deed(message, count)
-        && !tally.mark_answer(due)
+/// The step of that number.
+fn chosen_step(
+    alloc: Global,
+    dice: &mut Dice,
+    plain: &Plain,
+    number: u32,
+) -> Result<Step, AllocError> {
+    if number % VISITED < BUSY && dice.one_in(3) {
+        next_visit(alloc, dice, plain)
+    } else if number % GUESTS >= ROUND + BUSY && !dice.one_in(4) {
+        next_guest(alloc, dice, plain)
+    } else if dice.one_in(8)
+        && let Some(step) = next_exit(dice, plain)
     {
-        bail!("{due:?}");
+        Ok(step)
+    } else {
+        next_step(alloc, dice, plain, number % ROUND < BUSY)
     }
-    Ok(())
-}
-
-/// Marks what made a server connection leave, if one does.
-fn mark_leaving(tally: &mut Tally, message: Option<Served>, leaves: bool) -> anyhow::Result<()> {
-    if leaves && !tally.mark_answer(leaving_deed(message)) {
-        bail!("{:?}", leaving_deed(message));
-    }
-    Ok(())
 }
 
 /// Takes a step in both, and compares outcomes and reads.
@@ -165,6 +134,11 @@ fn take_both(
     }
     if !reads_agree(world, plain) {
         bail!("{step:?}: the reads differ");
+    }
+    if let Step::Exit { proc } = step
+        && !is_gone(world, *proc)
+    {
+        bail!("{step:?}: a thread is there still");
     }
     Ok(outcome)
 }
@@ -189,6 +163,7 @@ fn take(world: &mut World, plain: &Plain, step: &Step) -> anyhow::Result<Outcome
             threads,
             prio,
         } => Ok(world.spawn(*user, *threads, *prio)?),
+        Step::Exit { proc } => Ok(world.exit(*proc)),
         Step::Call { thread, request } => taken(world.call(*thread, request)),
         Step::TakeReply { thread } => Ok(world.take_reply(*thread)),
         Step::TakePulse { proc } => Ok(world.take_pulse(*proc)),
@@ -308,6 +283,16 @@ fn worker_agrees(world: &World, plain: &Plain, worker: Worker) -> bool {
     }
 }
 
+/// Whether no thread of a process is answered or blocked.
+fn is_gone(world: &World, proc: Proc) -> bool {
+    for tid in 0..6 {
+        if is_read(world, Thread { proc, tid }) {
+            return false;
+        }
+    }
+    true
+}
+
 /// Whether no thread but the started ones is answered or blocked.
 fn no_others(world: &World, plain: &Plain) -> bool {
     for user in 0..6 {
@@ -318,14 +303,17 @@ fn no_others(world: &World, plain: &Plain) -> bool {
                     num,
                 };
                 let thread = Thread { proc, tid };
-                let is_read = world.answered(thread) || world.blocked(thread);
-                if is_read && plain.row(thread).is_none() {
+                if is_read(world, thread) && plain.row(thread).is_none() {
                     return false;
                 }
             }
         }
     }
     true
+}
+
+fn is_read(world: &World, thread: Thread) -> bool {
+    world.answered(thread) || world.blocked(thread)
 }
 
 fn is_answered(state: &State) -> bool {

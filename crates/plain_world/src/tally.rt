@@ -106,9 +106,9 @@ const DEEDS: [(&str, &str); 51] = [
     ("disconnect", "none in use"),
 ];
 
-/// Each answer that has to come, by the manager and the kind of its message, and to those who waited; which messages
-/// make one event due or several; and what makes a server connection leave. None other may.
-const ANSWERS: [(&str, &str); 139] = [
+/// Each answer that has to come, by the manager and the kind of its message, and to those who waited; what makes one event
+/// due or several; and what makes a server connection leave. None other may.
+const ANSWERS: [(&str, &str); 141] = [
     ("no block", "EBADF"),
     ("open", "done"),
     ("open", "EINVAL"),
@@ -237,11 +237,13 @@ const ANSWERS: [(&str, &str); 139] = [
     ("due", "pipe read"),
     ("due", "pipe write"),
     ("due", "pipe close"),
+    ("due", "disconnect"),
     ("due", "several"),
     ("leaves", "new connection"),
     ("leaves", "side connection"),
     ("leaves", "close"),
     ("leaves", "interrupt"),
+    ("leaves", "exit"),
     ("waited", "read something"),
     ("waited", "read the end"),
     ("waited", "wrote something"),
@@ -250,12 +252,71 @@ const ANSWERS: [(&str, &str); 139] = [
     ("waited", "EINTR"),
 ];
 
-/// Which of the outcomes, deeds and answers came, and how long the line was.
+/// Each of the things that have to come of exits: what a process had that ended, what was done of it then, what cleaned
+/// pipes of its calls and freed it, what counts of it, and how others were started beside it. None other may.
+const ENDINGS: [(&str, &str); 53] = [
+    ("exit", "nothing"),
+    ("exit", "an answer"),
+    ("exit", "in a line"),
+    ("exit", "received"),
+    ("exit", "received, its pulse in a line"),
+    ("exit", "received, and its pulse too"),
+    ("exit", "in a pipe"),
+    ("exit", "in a pipe, its pulse in a line"),
+    ("exit", "in a pipe, its pulse received"),
+    ("exit", "a block"),
+    ("exit", "a block of several connections"),
+    ("exit", "an armed event"),
+    ("exit", "a pulse to take"),
+    ("exit", "a server connection left before"),
+    ("exit", "both managers"),
+    ("ended", "exit"),
+    ("ended", "call"),
+    ("ended", "take_reply"),
+    ("ended", "take_pulse"),
+    ("ended", "set_prio"),
+    ("ended", "interrupt"),
+    ("ended", "mount"),
+    ("of an ended process", "message"),
+    ("of an ended process", "unblock"),
+    ("of an ended process", "unblock, its call in a pipe"),
+    ("of an ended process", "disconnect"),
+    ("of an ended process", "disconnect with blocks"),
+    ("cleans", "pipe read"),
+    ("cleans", "pipe write"),
+    ("cleans", "pipe close"),
+    ("cleans", "unblock"),
+    ("cleans", "late unblock"),
+    ("cleans", "disconnect"),
+    ("cleans not", "pipe read"),
+    ("cleans not", "pipe write"),
+    ("cleaning serves", "pipe read"),
+    ("cleaning serves", "pipe write"),
+    ("cleaning serves", "late unblock"),
+    ("a disconnect gives", "read the end"),
+    ("a disconnect gives", "wrote something"),
+    ("a disconnect gives", "EPIPE"),
+    ("due", "nobody hears"),
+    ("frees a process", "exit"),
+    ("frees a process", "message"),
+    ("frees a process", "late unblock"),
+    ("frees a process", "disconnect"),
+    ("frees an inode", "disconnect"),
+    ("counted", "processes"),
+    ("counted", "server connections"),
+    ("counted", "blocks"),
+    ("counted", "events"),
+    ("started", "under a number again"),
+    ("started", "past an ended process"),
+];
+
+/// Which of the outcomes, deeds, answers and endings came, and how long the line was.
 #[derive(Drop)]
 pub struct Tally {
     outcomes: [bool; 44],
     deeds: [bool; 51],
-    answers: [bool; 139],
+    answers: [bool; 141],
+    endings: [bool; 53],
     longest: usize,
 }
 
@@ -264,7 +325,8 @@ impl Tally {
         Tally {
             outcomes: [false; 44],
             deeds: [false; 51],
-            answers: [false; 139],
+            answers: [false; 141],
+            endings: [false; 53],
             longest: 0,
         }
     }
@@ -293,11 +355,17 @@ impl Tally {
         mark_row(&ANSWERS, &mut self.answers, answer)
     }
 
-    /// An outcome, a deed or an answer that did not come.
+    /// Marks something of an exit. Whether it is of those that may come.
+    pub fn mark_ending(&mut self, ending: Deed) -> bool {
+        mark_row(&ENDINGS, &mut self.endings, ending)
+    }
+
+    /// An outcome, a deed, an answer or something of an exit that did not come.
     pub fn missing(&self) -> Option<Deed> {
         missing_row(&OUTCOMES, &self.outcomes)
             .or_else(|| missing_row(&DEEDS, &self.deeds))
             .or_else(|| missing_row(&ANSWERS, &self.answers))
+            .or_else(|| missing_row(&ENDINGS, &self.endings))
     }
 
     /// The most items that the line held.

@@ -9,7 +9,7 @@ use Rattle.qx_machine.specs.declared.rows.Ocb.{Ocb}
 use Rattle.qx_machine.specs.Rows.{row_at, lowest_from, put_row, with_row}
 use Rattle.qx_machine.proofs.Places.{at-map, row_at-set_other, set-row_at}
 use Rattle.qx_attr.specs.inner.Blocks.{IsKeyed, rows_of, value_at}
-use Rattle.qx_attr.proofs.TableLemmas.{append-rows, length-rows, lowest_map, no_value, same_but, same_map}
+use Rattle.qx_attr.proofs.TableLemmas.{append-rows, length-rows, lowest_map, no_value, row-freed, same_but, same_map}
 
 pub row-of : (values : Slab Ocb) (keys : List (Option ℕ)) (n : ℕ) → row_at (rows_of values keys) n ≡ value_at values (row_at keys n)
 row-of values keys n = at-map (value_at values) keys n None None refl
@@ -53,14 +53,10 @@ still : (old new : Slab Ocb) (keys : List (Option ℕ)) (n key m other : ℕ) �
 still old new keys n key m other keyed is there = elim (cases_eq m n) [
   | inl same ↦
       let here : row_at (slice_set keys n None) n ≡ Some other = ap (row_at (slice_set keys n None)) (sym same) ∙ there in
-      absurd (no_row keys n other here)
+      let freed = row-freed keys n in
+      absurd (cc)
   | inr differs ↦ (differs, sym (row_at-set_other keys n m None differs) ∙ there)
 ]
-  where
-    no_row : (keys : List (Option ℕ)) (n other : ℕ) → row_at (slice_set keys n None) n ≡ Some other → ⊥
-    no_row [] n other e = cc
-    no_row (k ∷ keys) zero other e = cc
-    no_row (k ∷ keys) (suc n) other e = no_row keys n other e
 
 some_same : {A : Type 0} (x y : Option A) → x ≡ y → IsSome y → IsSome x
 some_same x y e some = rw e some

@@ -4,3 +4,5 @@ pub mod TableLemmas
 pub mod BlockLemmas
 -- the three counts
 pub mod CountLemmas
+-- the numbers of rows in order of making
+pub mod MadeLemmas

@@ -1,7 +1,9 @@
 -- Tables of rows that are seen through a function of their places.
-use Rattle.std.proofs.Common.{◌≤◌, ◌≡◌, ◌≢◌, ◌⊎◌, ℕ, zero, suc, ◌+◌, Bool, true, false, List, [], ◌∷◌, ◌++◌, length, refl, sym, ap, ◌∙◌, inl, inr, arith, Option, Some, None, IsSome, map, nat_lt, slice_set, length-append}
+use Rattle.std.proofs.Common.{◌≤◌, ◌<◌, ◌≡◌, ◌≢◌, ◌⊎◌, ℕ, zero, suc, ◌+◌, Bool, true, false, List, [], ◌∷◌, ◌++◌, length, refl, sym, ap, ◌∙◌, inl, inr, arith, subst, Option, Some, None, IsSome, map, nat_lt, slice_set, length-append}
 use Rattle.std.proofs.Math.ListN.{length-set}
+use Rattle.std.proofs.lemmas.Bool.{ltb-false, ltb-true}
 use Rattle.std.specs.Prelude.{if◌then◌else◌}
+use Rattle.qx_machine.proofs.Places.{row_at-set_other}
 use Rattle.qx_machine.specs.Rows.{row_at, lowest_from, put_row, taken_places}
 
 pub same_map : {A B : Type 0} (f g : Option A → Option B) (keys : List (Option A)) → ((m : ℕ) → g (row_at keys m) ≡ f (row_at keys m)) → map g keys ≡ map f keys
@@ -77,6 +79,56 @@ row-put rows n x free = by_test (nat_lt n (length rows))
     by_test : (test : Bool) → IsPut rows (if test then slice_set rows n (Some x) else rows ++ Some x ∷ []) x
     by_test true = put-set rows n x free
     by_test false = put-last rows x
+
+-- the place that it comes to has it, and the others are as they were, where that is in the table or is the next one after it
+
+module _ {A : Type 0} where
+  pub set_at : (rows : List (Option A)) (n : ℕ) (x : A) → n < length rows → row_at (slice_set rows n (Some x)) n ≡ Some x
+  set_at [] n x inside = absurd (omega (arith, inside))
+  set_at (row ∷ rows) zero x inside = refl
+  set_at (row ∷ rows) (suc n) x inside = set_at rows n x (omega (arith, inside))
+
+  last_at : (rows : List (Option A)) (x : A) → row_at (rows ++ Some x ∷ []) (length rows) ≡ Some x
+  last_at [] x = refl
+  last_at (row ∷ rows) x = last_at rows x
+
+  last_other : (rows : List (Option A)) (x : A) (m : ℕ) → m ≢ length rows → row_at (rows ++ Some x ∷ []) m ≡ row_at rows m
+  last_other [] x zero apart = absurd (apart refl)
+  last_other [] x (suc m) apart = refl
+  last_other (row ∷ rows) x zero apart = refl
+  last_other (row ∷ rows) x (suc m) apart = last_other rows x m (λ same. apart (ap suc same))
+
+  by_put : (rows : List (Option A)) (n : ℕ) (x : A) (P : List (Option A) → Type 0) → n ≤ length rows → (n < length rows → P (slice_set rows n (Some x))) → (length rows ≡ n → P (rows ++ Some x ∷ [])) → P (put_row rows n x)
+  by_put rows n x P within inside last = by_test (nat_lt n (length rows)) refl
+    where
+      by_test : (test : Bool) → nat_lt n (length rows) ≡ test → P (if test then slice_set rows n (Some x) else rows ++ Some x ∷ [])
+      by_test true is = inside (ltb-true n (length rows) is)
+      by_test false is = let past = ltb-false n (length rows) is in last (omega (arith, within, past))
+
+  pub put_at : (rows : List (Option A)) (n : ℕ) (x : A) → n ≤ length rows → row_at (put_row rows n x) n ≡ Some x
+  put_at rows n x within = by_put rows n x (λ now. row_at now n ≡ Some x) within (set_at rows n x) (λ last. subst (λ m. row_at (rows ++ Some x ∷ []) m ≡ Some x) last (last_at rows x))
+
+  pub put_other : (rows : List (Option A)) (n : ℕ) (x : A) → n ≤ length rows → (m : ℕ) → m ≢ n → row_at (put_row rows n x) m ≡ row_at rows m
+  put_other rows n x within m apart =
+      by_put rows n x (λ now. row_at now m ≡ row_at rows m) within (λ inside. row_at-set_other rows n m (Some x) apart) (λ last. last_other rows x m (λ same. apart (same ∙ last)))
+
+  taken_within : (rows : List (Option A)) → taken_places rows ≤ length rows
+  taken_within [] = omega arith
+  taken_within (None ∷ rows) = omega arith
+  taken_within (Some row ∷ rows) = let rest = taken_within rows in omega (arith, rest)
+
+  pub lowest_within : (rows : List (Option A)) → 0 < length rows → lowest_from 1 rows ≤ length rows
+  lowest_within [] some = absurd (omega (arith, some))
+  lowest_within (row ∷ rows) some = let rest = taken_within rows in omega (arith, rest)
+
+  -- ---- a row goes
+
+  pub row-freed : (rows : List (Option A)) (n : ℕ) → row_at (slice_set rows n None) n ≡ None
+  row-freed [] n = refl
+  row-freed (row ∷ rows) zero = refl
+  row-freed (row ∷ rows) (suc n) = row-freed rows n
+
+-- ---- what is not seen
 
 -- what has no row seen has none
 pub none_before : {A B : Type 0} (f : Option A → Option B) (rows : List (Option A)) (n : ℕ) → ((x : A) → f (Some x) ≡ None → ⊥) → row_at (map f rows) n ≡ None → row_at rows n ≡ None

@@ -1,4 +1,4 @@
-ghost use Rattle.std.specs.Prelude.{◌≡◌, ℕ, ◌+◌, ◌-◌, ◌<◌, ◌≤◌, Bool, None, Some, IfOk, IfSome, OnOk, OnErr, IsOk, IsSome, length, max, option_map, slice_set, if◌then◌else◌};
+ghost use Rattle.std.specs.Prelude.{◌≡◌, ℕ, ◌+◌, ◌-◌, ◌<◌, ◌≤◌, ◌==◌, ◌++◌, ◌^◌, [], ◌∷◌, Bool, None, Some, IfOk, IfSome, OnOk, OnErr, OnSome, IsOk, IsSome, drop, filter, length, max, not, option_map, slice_get, slice_set, take, if◌then◌else◌};
 ghost use Rattle.std.specs.Option.{option_copied};
 ghost use Rattle.std.specs.Result.{result_map_both};
 ghost use Rattle.qx_attr.specs.Counts.{with_number};
@@ -14,15 +14,15 @@ use crate::blocks::Blocks;
 use crate::growth;
 use crate::status::{Status, stat_bytes};
 use bitflags::Flags;
-use qx_machine::{Attribute, Ocb, Sides};
+use qx_machine::{Attribute, Client, Ocb, Sides};
 use qx_process::places;
 use qx_types::{Errno, Limits, OFlags};
 use std::alloc::{AllocError, Global};
 use std::marker::Model;
 
-/// The inodes and open control blocks of one user, at all managers, each under the lowest free number from 1. At most 1,024
-/// inodes and 256 blocks (Writing a Resource Manager: `iofunc_attr_t`, `iofunc_ocb_t`; that each user has numbers of their
-/// own is this profile).
+/// The inodes and open control blocks of one user, at all managers, each under the lowest free number from 1, the blocks in
+/// order of making. At most 1,024 inodes and 256 blocks (Writing a Resource Manager: `iofunc_attr_t`, `iofunc_ocb_t`; that
+/// each user has numbers of their own is this profile).
 #[derive(Drop)]
 pub struct Inodes {
     attrs: Vec<Option<Attr>>,
@@ -39,7 +39,7 @@ impl Model for Inodes {
     ghost Value = { Reserved };
 
     ghost view = { λ i. record {
-      inodes = record { attributes = map attribute_of i.attrs.items; blocks = i.blocks.rows };
+      inodes = record { attributes = map attribute_of i.attrs.items; blocks = i.blocks.rows; made = i.blocks.made };
       room = i.blocks.room;
     } };
 
@@ -73,9 +73,10 @@ impl Inodes {
         places::row(self.attrs.as_slice(), inode as usize)
     }
 
-    /// Tells that inodes are numbered up to 1,024.
+    /// Tells that inodes are numbered up to 1,024, and open control blocks up to 256.
     pub fn numbered(&self)
         ensures few { length self.now.inodes.attributes ≤ INODES + 1 }
+        ensures blocks { length self.now.inodes.blocks ≤ BLOCKS + 1 }
     {
         let _count = self.attrs.len();
     }
@@ -107,7 +108,17 @@ impl Inodes {
     pub fn block(&self, number: u16) -> Option<&Ocb>
         ensures block { option_copied result ≡ row_at self.now.inodes.blocks number }
     {
-        self.blocks.get(number as usize)
+        self.blocks.get(number)
+    }
+
+    /// The number of an open control block that a client has, by its place among those, in order of making. No other place has
+    /// that number.
+    pub fn of_client(&self, client: Client, place: usize) -> Option<u16>
+        ensures number { result ≡ slice_get (machine.blocks_of_client self.now.inodes client) place }
+        ensures once { IfSome result (λ number. filter (λ other. not (other == number)) (machine.blocks_of_client self.now.inodes client) ≡ take place (machine.blocks_of_client self.now.inodes client) ++ drop (place + 1) (machine.blocks_of_client self.now.inodes client)) }
+        ensures next { OnSome result (place + 1 < 2 ^ 64) }
+    {
+        self.blocks.of_client(client, place)
     }
 
     /// An open control block that was opened with a flag, else EBADF.
@@ -155,6 +166,7 @@ impl Inodes {
     pub fn block_number(&self) -> Result<u16, Errno>
         ensures number { result ≡ machine.block_number self.now.inodes }
         ensures free { IfOk result (λ number. row_at self.now.inodes.blocks number ≡ None) }
+        ensures lowest { IfOk result (λ number. number ≡ lowest_from 1 self.now.inodes.blocks) }
     {
         let number = self.blocks.free_number();
         if number <= Limits::BLOCKS {
@@ -184,19 +196,20 @@ impl Inodes {
         }
     }
 
-    /// Opens an inode: a block at offset 0 under the lowest free number, ENFILE where the user has 256 (Writing a Resource
-    /// Manager: `iofunc_ocb_attach`). Where an error comes or memory is short, nothing changes.
+    /// Opens an inode for a client: a block at offset 0 under the lowest free number, ENFILE where the user has 256 (Writing
+    /// a Resource Manager: `iofunc_ocb_attach`). Where an error comes or memory is short, nothing changes.
     pub fn open_block(
         &mut self,
         inode: u32,
         flags: OFlags,
+        client: Client,
     ) -> Result<Result<u16, Errno>, AllocError>
         requires there { IsSome (row_at self.old.inodes.attributes inode) }
-        ensures opened { IfOk result (λ given. with_number self.new.inodes given ≡ machine.open_block self.old.inodes inode flags) }
+        ensures opened { IfOk result (λ given. with_number self.new.inodes given ≡ machine.open_block self.old.inodes inode flags client) }
         ensures room { IfOk result (λ given. OnOk given (self.new.room ≡ self.old.room - 1)) }
         ensures kept { IfOk result (λ given. OnErr given (self.new ≡ self.old)) }
         ensures err { OnErr result (self.new ≡ self.old) }
-        ensures judged { OnErr result (IsOk (machine.open_block self.old.inodes inode flags)) }
+        ensures judged { OnErr result (IsOk (machine.open_block self.old.inodes inode flags client)) }
         ensures sure { 0 < self.old.room → IsOk result }
     {
         match self.block_number() {
@@ -207,6 +220,7 @@ impl Inodes {
                     flags,
                     offset: 0,
                     uses: 1,
+                    client,
                 };
                 self.put_block(number, block);
                 Ok(Ok(number))
@@ -276,7 +290,7 @@ impl Inodes {
         requires flags { option_map (λ was. was.flags) (row_at self.old.inodes.blocks number) ≡ Some block.flags }
         ensures { self.new ≡ record self.old { inodes = record self.old.inodes { blocks = slice_set self.old.inodes.blocks number (Some block) } } }
     {
-        self.blocks.set(number as usize, block);
+        self.blocks.set(number, block);
     }
 
     /// Takes an open control block away, if it is there; its inode's counts fall (Writing a Resource Manager:
@@ -284,13 +298,12 @@ impl Inodes {
     pub fn close_block(&mut self, number: u16)
         ensures closed { self.new ≡ record self.old { inodes = machine.close_block self.old.inodes number } }
     {
-        let Some(block) = self.blocks.get(number as usize).copied() else {
+        let Some(block) = self.blocks.remove(number) else {
             return;
         };
         let Some(attr) = places::row(self.attrs.as_slice(), block.inode as usize).copied() else {
             unreachable!()
         };
-        self.blocks.remove(number as usize);
         self.attrs[block.inode as usize] = Some(attr.uncounted(block.flags));
     }
 
@@ -342,18 +355,18 @@ impl Inodes {
         self.blocks.give_up_room();
     }
 
-    /// Puts an open control block under a free number, for which there is room, and counts it.
+    /// Puts an open control block under the lowest free number, for which there is room, and counts it.
     fn put_block(&mut self, number: u16, block: Ocb)
         requires room { 0 < self.old.room }
         requires few { number ≤ BLOCKS }
-        requires free { row_at self.old.inodes.blocks number ≡ None }
+        requires lowest { number ≡ lowest_from 1 self.old.inodes.blocks }
         requires there { IsSome (row_at self.old.inodes.attributes block.inode) }
-        ensures { self.new ≡ record { inodes = record self.old.inodes { blocks = put_row self.old.inodes.blocks number block }; room = self.old.room - 1 } }
+        ensures { self.new ≡ record { inodes = record self.old.inodes { blocks = put_row self.old.inodes.blocks number block; made = self.old.inodes.made ++ number ∷ [] }; room = self.old.room - 1 } }
     {
         let Some(attr) = places::row(self.attrs.as_slice(), block.inode as usize).copied() else {
             unreachable!()
         };
-        self.blocks.put(number as usize, block);
+        self.blocks.put(number, block);
         self.attrs[block.inode as usize] = Some(attr.counted(block.flags));
     }
 }

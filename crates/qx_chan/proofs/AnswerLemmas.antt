@@ -31,7 +31,7 @@ use Rattle.qx_chan.specs.inner.Channel.{process_replied}
 use Rattle.qx_chan.specs.inner.Kept.{StandTogether, asked_call, stands_at, waits_for, with_lost}
 use Rattle.qx_chan.specs.Users.{Users, process_of, thread_row, with_process_of, with_thread_row}
 use Rattle.qx_chan.specs.declared.call.Call.{Call}
-use Rattle.qx_chan.proofs.AttachedLemmas.{threads-given_back, threads-replied}
+use Rattle.qx_chan.proofs.AttachedLemmas.{held-given_back, held-replied, threads-given_back, threads-replied}
 use Rattle.qx_chan.proofs.CallLemmas.{queued-at_target, taken_is, waits}
 use Rattle.qx_chan.proofs.ReceiveLemmas.{queued-unasked, queued-unwaiting, stands_once}
 use Rattle.qx_chan.proofs.ProcessLemmas.{with_process-alike, with_process-twice}
@@ -41,14 +41,21 @@ use Rattle.qx_chan.proofs.ThreadLemmas.{OneThread, Own, OwnLine, beside, one_thr
 use Rattle.qx_chan.proofs.WaitLemmas.{no-wait}
 
 -- a change of a process that answers one of its threads
-abbrev pub IsAnswer : ℕ → Answer → (Process → Process) → Type 0
-IsAnswer thread answer f = (x : Process) → (f x).threads ≡ with_row x.threads thread (answered_thread answer)
+pub record IsAnswer (thread : ℕ) (answer : Answer) (f : Process → Process) : Type 0 where
+  pub threads : (x : Process) → (f x).threads ≡ with_row x.threads thread (answered_thread answer)
+  pub held : (x : Process) → (f x).held ≡ x.held
 
 pub replies : (thread : ℕ) (effect : Effect) (status : ℕ) (bytes : List ℕ) (over : Over) → IsAnswer thread (Reply status bytes) (process_replied thread effect status bytes over)
-replies thread effect status bytes over x = threads-replied thread over effect (with_thread thread (answered_thread (Reply status bytes)) x)
+replies thread effect status bytes over = record {
+  threads = λ x. threads-replied thread over effect (with_thread thread (answered_thread (Reply status bytes)) x);
+  held = λ x. held-replied thread over effect (with_thread thread (answered_thread (Reply status bytes)) x);
+}
 
 pub fails : (thread : ℕ) (error : Errno) (over : Over) → IsAnswer thread (Failed error) (failed thread error over)
-fails thread error over x = threads-given_back thread over (with_thread thread (answered_thread (Failed error)) x)
+fails thread error over = record {
+  threads = λ x. threads-given_back thread over (with_thread thread (answered_thread (Failed error)) x);
+  held = λ x. held-given_back thread over (with_thread thread (answered_thread (Failed error)) x);
+}
 
 -- a message that is served before its thread gets a reply is replied to all the same
 pub reply_served : (users : Users) (thread : Thread) (effect : Effect) (status : ℕ) (bytes : List ℕ) (over : Over)
@@ -81,7 +88,7 @@ module _ (users : Users) (queues : Shared) (thread : Thread) (f : Process → Pr
   line = line_at queues.lines number
 
   one : OneThread new users thread f (answered_thread answer)
-  one = one_thread users thread f (answered_thread answer) answers
+  one = one_thread users thread f (answered_thread answer) answers.threads answers.held
 
   -- what the line tells, once the thread is answered
   pub record Left : Type 0 where

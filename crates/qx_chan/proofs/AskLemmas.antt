@@ -52,7 +52,7 @@ module _ (users : Users) (queues : Shared) (thread : Thread) (call : Call) (unas
   line = line_at queues.lines number
 
   one : OneThread (with_thread_row users thread asked_thread) users thread (with_thread thread.tid asked_thread) asked_thread
-  one = one_thread users thread (with_thread thread.tid asked_thread) asked_thread (λ x. refl)
+  one = one_thread users thread (with_thread thread.tid asked_thread) asked_thread (λ x. refl) (λ x. refl)
 
   -- it waits in no line, and has no unblock pulse yet
   stands_nowhere : (at : ℕ) → stands_at at (thread_row users thread) ≡ false

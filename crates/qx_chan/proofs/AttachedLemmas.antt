@@ -51,3 +51,25 @@ pub threads-given_back : (thread : ℕ) (over : Over) (x : Process) → (after_e
 threads-given_back thread (New coid) x = refl
 threads-given_back thread (Existing coid) x = refl
 threads-given_back thread Side x = refl
+
+-- nor is it what is kept of them
+
+pub held-connected : (thread : ℕ) (manager : Manager) (over : Over) (x : Process) → (with_over thread manager over x).held ≡ x.held
+held-connected thread manager (New coid) x = refl
+held-connected thread manager (Existing coid) x = refl
+held-connected thread manager Side x = cond_both {A = Process} (is_none (row_at x.sides thread)) _ _ (λ y. y.held ≡ x.held) (λ none. refl) (λ some. refl)
+
+held-done : (effect : Effect) (x : Process) → (after_effect effect x).held ≡ x.held
+held-done Keeps x = refl
+held-done (Opens coid block) x = refl
+held-done (Closes coid) x = refl
+
+pub held-replied : (thread : ℕ) (over : Over) (effect : Effect) (x : Process) → (after_reply thread over effect x).held ≡ x.held
+held-replied thread (New coid) effect x = held-done effect x
+held-replied thread (Existing coid) effect x = held-done effect x
+held-replied thread Side effect x = refl
+
+pub held-given_back : (thread : ℕ) (over : Over) (x : Process) → (after_error thread over x).held ≡ x.held
+held-given_back thread (New coid) x = refl
+held-given_back thread (Existing coid) x = refl
+held-given_back thread Side x = refl

@@ -1,6 +1,7 @@
 -- A server connection that was left goes: rows, lines and nodes stand together still.
 use Rattle.std.proofs.Common.{◌≡◌, inl, inr, ℕ, zero, suc, ◌∷◌, [], Bool, true, false, List, Option, Some, None, get_or, is_some, refl, sym, ◌∙◌, ap}
 use Rattle.std.specs.Prelude.{if◌then◌else◌, option_map, slice_set}
+use Rattle.std.specs.List.{AllByRecursion}
 use Rattle.std.proofs.lemmas.List.{length-set}
 use Rattle.std.proofs.lemmas.List.Folds.{position_or_len-set}
 use Rattle.qx_types.specs.Managers.{manager_number}
@@ -14,9 +15,11 @@ use Rattle.qx_machine.specs.Parts.{thread_of}
 use Rattle.qx_machine.specs.Processes.{Process, without_server}
 use Rattle.qx_machine.specs.Rows.{row_at, with_row}
 use Rattle.qx_machine.specs.Servers.{Servers, in_use, is_in_use, is_left, without_left}
+use Rattle.qx_queues.specs.Queues.{UsersAnswer}
 use Rattle.qx_shared.specs.Shared.{Shared, waiting_in}
+use Rattle.qx_procs.specs.Calls.{has_ended_in}
 use Rattle.qx_chan.specs.Users.{Users, process_of, thread_row, with_process_of}
-use Rattle.qx_chan.specs.inner.Kept.{StandTogether, asked_call, stands_at, waits_for}
+use Rattle.qx_chan.specs.inner.Kept.{Answering, IsAwaited, StandTogether, asked_call, has_nodes, stands_at, waits_for}
 use Rattle.qx_chan.specs.Nodes.{served_at}
 use Rattle.qx_process.proofs.RowLemmas.{row_at-get_or}
 use Rattle.qx_queues.proofs.NodesLemmas.{same_proc}
@@ -58,6 +61,14 @@ module _ (users : Users) (proc : Proc) (server : ServerName) where
   still_threads tid None = refl
   still_threads tid (Some process) = refl
 
+  still_nodes : (tid : ℕ) (process : Option Process) → has_nodes tid (option_map (without_server server) process) ≡ has_nodes tid process
+  still_nodes tid None = refl
+  still_nodes tid (Some process) = refl
+
+  still_ended : (process : Option Process) → has_ended_in (option_map (without_server server) process) ≡ has_ended_in process
+  still_ended None = refl
+  still_ended (Some process) = refl
+
   -- what is read of a process, where that is as it was
   read_as : {A : Type 0} (read : Option Process → A) → ((process : Option Process) → read (option_map (without_server server) process) ≡ read process) → (other : Proc) → read (process_of new other) ≡ read (process_of users other)
   read_as read same other = elim (same_proc other proc) [
@@ -72,10 +83,18 @@ module _ (users : Users) (proc : Proc) (server : ServerName) where
   Kept-freed queues kept = record {
     users = kept.users ∙ sym (length-with_row users proc.user.0 (λ rows. with_row rows proc.num (without_server server)));
     managers = kept.managers;
-    threads = λ thread. kept.threads thread ∙ ap is_some (sym (threads_as thread));
+    threads = λ thread. kept.threads thread ∙ sym (read_as (has_nodes thread.tid) (still_nodes thread.tid) thread.proc);
     lines = λ thread at. kept.lines thread at ∙ ap (stands_at at) (sym (threads_as thread));
     pulses = λ thread at call is. ap (asked_call at call) (threads_as thread) ∙ kept.pulses thread at call is;
     servers = λ other manager. kept.servers other manager ∙ sym (read_as (served_at manager) (still_served manager) other);
-    waits = λ list. waits-all users new (λ thread call is. ap (waits_for call) (threads_as thread) ∙ is) (waiting_in queues list) (kept.waits list);
+    waits = λ list. waits-all users new (λ thread call is. ap (waits_for call) (threads_as thread) ∙ is) (λ other is. read_as has_ended_in still_ended other ∙ is) (waiting_in queues list) (kept.waits list);
     answered = kept.answered;
   }
+
+  -- and whoever is answered waits for it still
+  awaited-freed : (answered : List UsersAnswer) → AllByRecursion (IsAwaited users) answered → AllByRecursion (IsAwaited new) answered
+  awaited-freed [] all = tt
+  awaited-freed (first ∷ rest) all = (ap (waits_for first.call) (threads_as first.thread) ∙ all.0, awaited-freed rest all.1)
+
+  pub Answering-freed : (queues : Shared) → Answering users queues → Answering (with_process_of users proc (without_server server)) queues
+  Answering-freed queues answering = record { kept = Kept-freed (record queues { answered = [] }) answering.kept; answered = awaited-freed queues.answered answering.answered }

@@ -22,12 +22,12 @@ use Rattle.qx_queues.specs.Queues.{UsersAnswer, caller, has_call, unblock_call}
 use Rattle.qx_shared.specs.Shared.{HasNoCall, Shared, users_given, waiting_in, with_shared_line}
 use Rattle.qx_queues.proofs.LineLemmas.{call-replied_other, replied-none, stands-replied}
 use Rattle.qx_chan.specs.inner.Answers.{given_lines, given_users}
-use Rattle.qx_chan.specs.inner.Kept.{Answering, IsAwaited, StandTogether, asked_call, is_asked_at, is_queued_at, is_waiting_for, stands_at, waits_for}
+use Rattle.qx_chan.specs.inner.Kept.{Answering, IsAwaited, IsWaiting, StandTogether, asked_call, is_asked_at, is_queued_at, is_waiting_for, stands_at, waits_for}
 use Rattle.qx_chan.specs.Users.{Users, thread_row, with_thread_row}
 use Rattle.qx_chan.proofs.AnswerLemmas.{and_last, and_middle, answered_row}
 use Rattle.qx_chan.proofs.RowReads.{option_cases, row_at-with_same, with_row-fixed, with_row-twice}
-use Rattle.qx_chan.proofs.ThreadLemmas.{Kept-changed, OneThread, Own, one_thread}
-use Rattle.qx_chan.proofs.WaitLemmas.{waits-others}
+use Rattle.qx_chan.proofs.ThreadLemmas.{Kept-changed, OneThread, Own, one_thread, waits-apart}
+use Rattle.qx_chan.proofs.WaitLemmas.{all-others}
 
 -- a thread that waits for the answer to a call stands in no line, and its unblock pulses are of that call, in the pipe manager's line
 
@@ -78,7 +78,7 @@ module _ (users : Users) (queues : Shared) (to : UsersAnswer) (is : IsAwaited us
   drop_pulse = line_without to.thread.proc.user.0 (item.Unblock to.thread.proc.num to.thread.tid to.call)
 
   one : OneThread new users to.thread (with_thread to.thread.tid (answered_thread to.answer)) (answered_thread to.answer)
-  one = one_thread users to.thread (with_thread to.thread.tid (answered_thread to.answer)) (answered_thread to.answer) (λ x. refl)
+  one = one_thread users to.thread (with_thread to.thread.tid (answered_thread to.answer)) (answered_thread to.answer) (λ x. refl) (λ x. refl)
 
   module _ (gone : unblock_call line to.thread ≡ Some to.call → unblock_call (drop_pulse line) to.thread ≡ None) where
     no_pulse : unblock_call (drop_pulse line) to.thread ≡ None
@@ -100,7 +100,7 @@ module _ (users : Users) (queues : Shared) (to : UsersAnswer) (is : IsAwaited us
       stand_other = λ at differs. kept.lines to.thread at ∙ waiting-stands at to.call (thread_row users to.thread) is ∙ sym (nowhere at);
       calls = λ call its. let clash : None ≡ Some call = sym no_pulse ∙ its in absurd (cc);
       calls_other = λ at call differs its. absurd (differs (sym (waiting-pulse at call to.call (thread_row users to.thread) is (kept.pulses to.thread at call its)).0));
-      waits = λ list. waits-others caller (λ own. own.call.call) users new to.thread one.others (waiting_in queues list) (none list) (kept.waits list);
+      waits = λ list. all-others caller to.thread (IsWaiting users) (IsWaiting new) (waits-apart users new to.thread (with_thread to.thread.tid (answered_thread to.answer)) (answered_thread to.answer) one) (waiting_in queues list) (none list) (kept.waits list);
     }
 
     pub Kept-given : StandTogether (with_thread_row users to.thread (answered_thread to.answer)) (with_shared_line queues (manager_number Pipe) (line_without to.thread.proc.user.0 (item.Unblock to.thread.proc.num to.thread.tid to.call)))
@@ -147,7 +147,8 @@ module _ (users : Users) (queues : Shared) where
       let own : IsAwaited users to = first-awaited users (first ∷ rest) to is waiting in
       record {
         kept = Kept-given users (record queues { answered = [] }) to own kept none.waiting gone;
-        answered = waits-others (λ given. given.thread) (λ given. given.call) users (with_thread_row users to.thread (answered_thread to.answer)) to.thread (one users (record queues { answered = [] }) to own kept none.waiting).others rest none.answered waiting.1;
+        answered = all-others (λ given. given.thread) to.thread (IsAwaited users) (IsAwaited (with_thread_row users to.thread (answered_thread to.answer)))
+            (λ given differs is. ap (waits_for given.call) ((one users (record queues { answered = [] }) to own kept none.waiting).others given.thread differs) ∙ is) rest none.answered waiting.1;
       }
 
   pub Answering-first : Answering users queues → (to : UsersAnswer) → Some to ≡ slice_get queues.answered 0 → HasNoCall (record queues { answered = drop 1 queues.answered }) to.thread

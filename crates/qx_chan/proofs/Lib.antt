@@ -48,3 +48,9 @@ mod StartLemmas
 mod ThreadLemmas
 -- the calls that wait
 mod WaitLemmas
+-- a disconnect pulse is performed
+mod DisconnectLemmas
+-- a process that ends
+mod EndLemmas
+-- a process that is freed
+mod FreeLemmas

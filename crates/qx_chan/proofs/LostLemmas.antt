@@ -1,9 +1,9 @@
 -- A process that has lost a server connection: its disconnect node goes into the line as the pulse, and rows, lines and nodes stand together
 -- then.
-use Rattle.std.proofs.Common.{◌≡◌, ◌≢◌, inl, inr, ℕ, ◌∷◌, [], ◌&&◌, not, true, List, Option, Some, None, IsTrue, length, map, is_some, subst, refl, sym, ◌∙◌, ap}
-use Rattle.std.specs.List.{AllByRecursion}
+use Rattle.std.proofs.Common.{◌≡◌, ◌≢◌, inl, inr, ℕ, ◌∷◌, [], ◌&&◌, not, true, List, Option, Some, None, IsTrue, length, map, subst, refl, sym, ◌∙◌, ap, Bool, false}
+use Rattle.std.specs.List.{AllByRecursion, list_any}
 use Rattle.std.specs.Option.{option_to_list}
-use Rattle.std.specs.Prelude.{IfSome, option_map, take}
+use Rattle.std.specs.Prelude.{IfSome, option_map, take, ◌||◌}
 use Rattle.std.proofs.Math.Bool.{and-true}
 use Rattle.std.proofs.lemmas.List.{length-set}
 use Rattle.qx_types.specs.Managers.{manager_number}
@@ -25,7 +25,7 @@ use Rattle.qx_queues.specs.Queues.{disconnect_of, stands, unblock_call}
 use Rattle.qx_shared.specs.Shared.{Shared, has_disconnect_node, has_thread, waiting_in, with_shared_disconnect}
 use Rattle.qx_procs.specs.Calls.{LosesAt}
 use Rattle.qx_chan.specs.Users.{Users, process_of, thread_row, with_process_of}
-use Rattle.qx_chan.specs.inner.Kept.{HasServerNodes, IsWaiting, StandTogether, asked_call, lost_of, stands_at, with_lost}
+use Rattle.qx_chan.specs.inner.Kept.{HasServerNodes, IsWaiting, StandTogether, asked_call, lost_of, nodes_for, stands_at, with_lost}
 use Rattle.qx_chan.specs.Nodes.{served_at}
 use Rattle.qx_queues.proofs.EntryLemmas.{line_at-other, line_at-same}
 use Rattle.qx_queues.proofs.LineLemmas.{call-disconnected, stands-disconnected}
@@ -85,6 +85,11 @@ loses-put lost users proc before after is loses = rw (process_of-same users proc
 
 -- ---- what becomes of lines and nodes
 
+and-either : (had here more : Bool) → ((had && not here) && not more) ≡ (had && not (here || more))
+and-either true true more = refl
+and-either true false more = refl
+and-either false here more = refl
+
 module _ (proc : Proc) where
   pub lost-fields : {A : Type 0} (read : Shared → A) → ((c : Shared) (server : ServerName) → read (with_shared_disconnect c proc server) ≡ read c) → (lost : List ServerName) (c : Shared) → read (with_lost proc lost c) ≡ read c
   lost-fields read same [] c = refl
@@ -94,9 +99,20 @@ module _ (proc : Proc) where
   lost-lines [] c = refl
   lost-lines (server ∷ lost) c = lost-lines lost (with_shared_disconnect c proc server)
 
-  lost-node : (lost : Option ServerName) (c : Shared) (manager : Manager) → has_disconnect_node (with_lost proc (option_to_list lost) c) proc (manager_number manager) ≡ (has_disconnect_node c proc (manager_number manager) && not (is_at manager lost))
+  pub lost-node : (lost : Option ServerName) (c : Shared) (manager : Manager) → has_disconnect_node (with_lost proc (option_to_list lost) c) proc (manager_number manager) ≡ (has_disconnect_node c proc (manager_number manager) && not (is_at manager lost))
   lost-node None c manager = sym (and-true (has_disconnect_node c proc (manager_number manager)))
   lost-node (Some server) c manager = has-removed c.servers proc (manager_number server.manager) proc (manager_number manager) ∙ rw (same_server-self proc (manager_number server.manager) (manager_number manager)) refl
+
+  -- what several are, and where
+  abbrev pub is_at_server : Manager → ServerName → Bool
+  is_at_server manager server = is_at manager (Some server)
+
+  pub lost-nodes : (lost : List ServerName) (c : Shared) (manager : Manager) → has_disconnect_node (with_lost proc lost c) proc (manager_number manager) ≡ (has_disconnect_node c proc (manager_number manager) && not (list_any (is_at_server manager) lost))
+  lost-nodes [] c manager = sym (and-true (has_disconnect_node c proc (manager_number manager)))
+  lost-nodes (server ∷ lost) c manager =
+      lost-nodes lost (with_shared_disconnect c proc server) manager
+      ∙ ap (λ b. b && not (list_any (is_at_server manager) lost)) (lost-node (Some server) c manager)
+      ∙ and-either (has_disconnect_node c proc (manager_number manager)) (is_at manager (Some server)) (list_any (is_at_server manager) lost)
 
   lost-node-other : (lost : List ServerName) (c : Shared) (other : Proc) (at : ℕ) → other ≢ proc → has_disconnect_node (with_lost proc lost c) other at ≡ has_disconnect_node c other at
   lost-node-other [] c other at differs = refl
@@ -108,7 +124,7 @@ module _ (proc : Proc) where
 pub record StandBeside (processes : Users) (queues : Shared) (proc : Proc) : Type 0 where
   pub users : length queues.pipes ≡ length processes
   pub managers : length queues.lines ≡ COUNT
-  pub threads : (thread : Thread) → has_thread queues thread ≡ is_some (thread_row processes thread)
+  pub threads : (thread : Thread) → has_thread queues thread ≡ nodes_for processes thread
   pub lines : (thread : Thread) (number : ℕ) → stands (line_at queues.lines number) thread ≡ stands_at number (thread_row processes thread)
   pub pulses : (thread : Thread) (number call : ℕ) → unblock_call (line_at queues.lines number) thread ≡ Some call → asked_call number call (thread_row processes thread) ≡ true
   pub others : (other : Proc) → other ≢ proc → HasServerNodes processes queues other
@@ -155,7 +171,7 @@ module _ (users : Users) (queues : Shared) (proc : Proc) (server : ServerName) (
     answered = beside.answered;
   }
 
-beside-lost : (users : Users) (proc : Proc) (lost : List ServerName) (queues : Shared) → StandBeside users queues proc → StandBeside users (with_lost proc lost queues) proc
+pub beside-lost : (users : Users) (proc : Proc) (lost : List ServerName) (queues : Shared) → StandBeside users queues proc → StandBeside users (with_lost proc lost queues) proc
 beside-lost users proc [] queues beside = beside
 beside-lost users proc (server ∷ lost) queues beside = beside-lost users proc lost (with_shared_disconnect queues proc server) (beside-disconnected users queues proc server beside)
 

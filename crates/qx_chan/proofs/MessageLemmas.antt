@@ -1,6 +1,7 @@
 -- A received message is performed: what its thread's row and the queues tell before, and what comes of that, as in the machine.
 use Rattle.std.proofs.Common.{◌≡◌, ◌≤◌, inl, inr, ℕ, List, Option, Some, None, Ok, Err, refl, sym, ◌∙◌, ap}
-use Rattle.std.specs.Prelude.{[], IfOk, IsSome, Result, option_map}
+use Rattle.std.specs.Prelude.{[], IfOk, IsSome, Result, option_map, unwrap_or}
+use Rattle.std.proofs.lemmas.Option.{same_Some}
 use Rattle.qx_types.specs.Managers.{manager_number}
 use Rattle.qx_types.specs.declared.errno.Errno.{Errno}
 use Rattle.qx_types.specs.declared.errno.Errno.TheVariants.{EBADF}
@@ -16,11 +17,13 @@ use Rattle.qx_machine.specs.Judgements.{◌>>=◌, found, need}
 use Rattle.qx_machine.specs.Parts.{Part, thread_at, thread_of}
 use Rattle.qx_machine.specs.Performing.{caller_of, context_of, deed_of, opened_by, or_kept, serve_message, served_by, taken_in, works_over}
 use Rattle.qx_machine.specs.Processes.{Process, served_state, served_thread, with_thread}
-use Rattle.qx_machine.specs.Rows.{row_at}
+use Rattle.qx_machine.specs.Rows.{row_at, with_row}
 use Rattle.qx_machine.specs.Servers.{is_numbered}
+use Rattle.qx_machine.specs.Settling.{is_living}
 use Rattle.qx_machine.specs.Wants.{bytes_want_memory, thread_wants_memory}
+use Rattle.qx_machine.proofs.Living.{keeps-thread, lives-changed}
 use Rattle.qx_process.specs.Reads.{unserved_state, unserved_thread}
-use Rattle.qx_queues.specs.Queues.{caller, has_answer_among}
+use Rattle.qx_queues.specs.Queues.{has_answer_among}
 use Rattle.qx_shared.specs.Shared.{IsReceived, Shared, waiting_in}
 use Rattle.qx_resmgr.specs.Deeds.{HasRoomAfter, IsReplied}
 use Rattle.qx_resmgr.specs.declared.functions.Done.{Done}
@@ -33,13 +36,14 @@ use Rattle.qx_chan.specs.inner.Calls.{taken_bytes, taken_call}
 use Rattle.qx_chan.specs.inner.Kept.{StandTogether}
 use Rattle.qx_chan.specs.inner.Serving.{Sends, caller_of_call, deed_in}
 use Rattle.qx_chan.specs.Serving.{Serves, part_in, settled}
-use Rattle.qx_chan.specs.Users.{Users, process_of_user, process_of, thread_row, with_thread_row}
+use Rattle.qx_chan.specs.Users.{Users, lives_in, process_of_user, process_of, thread_row, with_thread_row}
 use Rattle.qx_chan.specs.declared.call.Call.{Call}
 use Rattle.qx_chan.proofs.AnswerLemmas.{taken-stands, taken-unwaiting}
 use Rattle.qx_chan.proofs.CallLemmas.{taken_is, waits}
 use Rattle.qx_chan.proofs.ProcessLemmas.{process_of-same, with_process-fixed, with_process-twice}
-use Rattle.qx_chan.proofs.RowReads.{option_cases, with_row-fixed, with_row-twice}
+use Rattle.qx_chan.proofs.RowReads.{option_cases, row_at-with_same, with_row-fixed, with_row-twice}
 use Rattle.qx_chan.proofs.ServeLemmas.{Serves-nothing, shown}
+use Rattle.qx_chan.proofs.ThreadLemmas.{nodes-there}
 use Rattle.qx_chan.proofs.WaitLemmas.{no-call}
 
 -- ---- before
@@ -47,10 +51,10 @@ use Rattle.qx_chan.proofs.WaitLemmas.{no-call}
 -- a thread whose message was received has nodes, stands in no line, and no call of it waits or is answered
 pub received-alone : (users : Users) (queues : Shared) (thread : Thread) (call : Call) → Some call ≡ taken_call (thread_row users thread) → StandTogether users queues → IsReceived queues thread
 received-alone users queues thread call is kept = record {
-  own = kept.threads thread ∙ (let it = waits taken_in (thread_row users thread) call is in rw it.there refl);
+  own = kept.threads thread ∙ (let it = waits taken_in (thread_row users thread) call is in nodes-there users thread it.row it.there);
   idle = λ number. kept.lines thread number ∙ taken-stands number (thread_row users thread) call is;
   no_call = record {
-    waiting = λ list. no-call caller (λ own. own.call.call) users thread (taken-unwaiting (thread_row users thread) call is) (waiting_in queues list) (kept.waits list);
+    waiting = λ list. let it = waits taken_in (thread_row users thread) call is in no-call users thread it.row it.there (taken-unwaiting (thread_row users thread) call is) (waiting_in queues list) (kept.waits list);
     answered = ap (λ answers. has_answer_among answers thread) kept.answered;
   };
 }
@@ -191,3 +195,19 @@ pub room-there : {R : Type 0} (before room : Option R) (given : Result Done Errn
 room-there before room (Ok NoReply) some left replied = absurd replied
 room-there before room (Ok (Reply status effect)) some left replied = rw left some
 room-there before room (Err error) some left replied = rw left some
+
+-- the same processes live once a message is handed over
+pub lives-handed : (users new : Users) (thread : Thread) (processes : List (Option Process)) → new ≡ with_thread_row users thread served_thread → Some processes ≡ row_at new thread.proc.user.0 → is_living processes ≡ lives_in users thread.proc.user.0
+lives-handed users new thread processes served there = by_row (row_at users thread.proc.user.0) refl
+  where
+    change : List (Option Process) → List (Option Process)
+    change rows = with_row rows thread.proc.num (with_thread thread.tid served_thread)
+
+    at : Some processes ≡ option_map change (row_at users thread.proc.user.0)
+    at = there ∙ ap (λ all. row_at all thread.proc.user.0) served ∙ row_at-with_same users thread.proc.user.0 change
+
+    by_row : (row : Option (List (Option Process))) → row_at users thread.proc.user.0 ≡ row → is_living processes ≡ is_living (unwrap_or row [])
+    by_row None none = let clash : Some processes ≡ None = at ∙ ap (option_map change) none in absurd (cc)
+    by_row (Some rows) some =
+        ap is_living (same_Some processes (change rows) (at ∙ ap (option_map change) some))
+        ∙ lives-changed rows thread.proc.num (with_thread thread.tid served_thread) (keeps-thread thread.tid served_thread)

@@ -117,11 +117,11 @@ room-answered queues before after thread call (Err error) = room-lost thread.pro
 
 -- what a function does to a user's resources touches nothing else of what is shared than the user's pipes and the answers to calls in them
 pub did-fields : {A : Type 0} (read : Shared → A) → ((c : Shared) (user : ℕ) (pipes : Pipes) (answers : List (WaitingCall × Answer)) → read (with_pipes c user pipes answers) ≡ read c)
-    → (k l : Kept) (w v : Waits) (bytes : List ℕ) (given : Result Done Errno) (r : Result (Deed Resources) Errno) → Comes k w l v bytes given r → read v.shared ≡ read w.shared
-did-fields read same k l w v bytes (Ok done) (Ok deed) did = ap read did.1.shared ∙ same w.shared k.user deed.state.pipes deed.answers
-did-fields read same k l w v bytes (Err error) (Err refused) did = ap (λ (w : Waits). read w.shared) did.2
-did-fields read same k l w v bytes (Ok done) (Err refused) did = absurd did
-did-fields read same k l w v bytes (Err error) (Ok deed) did = absurd did
+    → (lives : ℕ → Bool) (k l : Kept) (w v : Waits) (bytes : List ℕ) (given : Result Done Errno) (r : Result (Deed Resources) Errno) → Comes lives k w l v bytes given r → read v.shared ≡ read w.shared
+did-fields read same lives k l w v bytes (Ok done) (Ok deed) did = ap read did.1.shared ∙ same w.shared k.user deed.state.pipes deed.answers
+did-fields read same lives k l w v bytes (Err error) (Err refused) did = ap (λ (w : Waits). read w.shared) did.2
+did-fields read same lives k l w v bytes (Ok done) (Err refused) did = absurd did
+did-fields read same lives k l w v bytes (Err error) (Ok deed) did = absurd did
 
 -- nor did an unblock pulse
 pub room-cancelled : (queues : Shared) (user : ℕ) (r : Result (Deed Resources) Outcome) → (shared_after queues user r).room ≡ queues.room

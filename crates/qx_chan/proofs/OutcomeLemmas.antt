@@ -3,7 +3,7 @@
 use Rattle.std.proofs.Common.{◌≡◌, ◌⊎◌, subst, inl, inr, ℕ, ◌∷◌, ◌++◌, [], true, false, List, Option, Some, None, Result, Ok, Err, map, refl, sym, ◌∙◌, ap, ap₂}
 use Rattle.std.proofs.lemmas.Bool.{eq-eqb}
 use Rattle.std.specs.Option.{option_to_list}
-use Rattle.std.specs.Prelude.{if◌then◌else◌, is_some, option_map, take}
+use Rattle.std.specs.Prelude.{if◌then◌else◌, is_some, option_map, take, unwrap_or}
 use Rattle.std.proofs.lemmas.List.{append-nil}
 use Rattle.qx_types.specs.Managers.{manager_number}
 use Rattle.qx_types.specs.declared.errno.Errno.{Errno}
@@ -28,6 +28,8 @@ use Rattle.qx_machine.specs.Parts.{Change, Part, disconnect, disconnects, thread
 use Rattle.qx_machine.specs.Resources.{Resources}
 use Rattle.qx_machine.specs.Performing.{Served, after_answer, after_message, after_serving, answered_changes, or_kept, own_change, serve_message, served_changes, taken_in}
 use Rattle.qx_machine.specs.Processes.{Process, served_state, served_thread, with_thread}
+use Rattle.qx_machine.specs.Settling.{is_living}
+use Rattle.qx_machine.proofs.Living.{lives-answered}
 use Rattle.qx_machine.specs.Rows.{row_at, with_row}
 use Rattle.qx_machine.proofs.Waiters.{InDeed, IsAlone, alone-answers, alone-replied, deed-keeps, deed-keeps_replied, ram_deed-alone}
 use Rattle.qx_queues.specs.Queues.{unblock_call}
@@ -46,7 +48,7 @@ use Rattle.qx_chan.specs.inner.Channel.{process_replied}
 use Rattle.qx_chan.specs.inner.Kept.{Answering, StandTogether, lost_of, with_lost, asked_call, is_asked_at, is_queued_at, is_waiting_for, stands_at, waits_for}
 use Rattle.qx_chan.specs.Serving.{Serves, settled}
 use Rattle.qx_chan.specs.inner.Serving.{Comes, Leaves, caller_of_call, deed_in}
-use Rattle.qx_chan.specs.Users.{Users, process_of_user, process_of, thread_row, with_process_of, with_thread_row}
+use Rattle.qx_chan.specs.Users.{Users, lives_in, process_of_user, process_of, thread_row, with_process_of, with_thread_row}
 use Rattle.qx_chan.specs.declared.call.Call.{Call}
 use Rattle.qx_chan.proofs.AnswerLemmas.{IsAnswer, fail_served, fails, replies, reply_served}
 use Rattle.qx_chan.proofs.GivenLemmas.{resources-machine}
@@ -127,13 +129,13 @@ module _ (users : Users) (w : AllWaits) (thread : Thread) (call : Call) (taken :
       ∙ rw (eq-eqb (manager_number its.sent.target.manager) (manager_number Pipe) (ap manager_number (ap (λ (c : Call). c.target.manager) its.call_is ∙ pipe)), eq-eqb its.row.calls its.row.calls refl) refl
     where
       row_is : thread_row served_users thread ≡ Some (record its.row { state = Waiting (record its.sent { bytes = [] }) })
-      row_is = (one_thread users thread (with_thread thread.tid served_thread) served_thread (λ x. refl)).own
+      row_is = (one_thread users thread (with_thread thread.tid served_thread) served_thread (λ x. refl) (λ x. refl)).own
           ∙ ap (option_map served_thread) (ap (λ processes. thread_of thread.tid (process_of_user thread.proc.num processes)) its.user ∙ ap (thread_of thread.tid) its.there ∙ its.at)
           ∙ ap (λ (s : State). Some (record its.row { state = served_state s })) its.is
 
   -- what its process has lost is told by the row before it was served as well
   served_process : process_of served_users thread.proc ≡ option_map (with_thread thread.tid served_thread) (process_of users thread.proc)
-  served_process = (one_thread users thread (with_thread thread.tid served_thread) served_thread (λ x. refl)).here
+  served_process = (one_thread users thread (with_thread thread.tid served_thread) served_thread (λ x. refl) (λ x. refl)).here
 
   lost_before : (after : Option Process) → lost_of (process_of served_users thread.proc) after ≡ lost_of (process_of users thread.proc) after
   lost_before after = ap (λ o. lost_of o after) served_process ∙ by_rows (process_of users thread.proc) after
@@ -215,13 +217,13 @@ module _ (users : Users) (w : AllWaits) (thread : Thread) (call : Call) (taken :
       | inr ram ↦ let clash : false ≡ true = ap is_some reply_is ∙ alone-replied (told k w) deed (alone deed is ram) in absurd (cc)
     ]
 
-    module _ (deed : Deed Resources) (left : Leaves k w l v deed) (r : Result (Deed Resources) Errno) (is : meant ≡ r) (resources_are : (served_by r).part.resources ≡ deed.state) where
+    module _ (deed : Deed Resources) (left : Leaves (is_living its.processes) k w l v deed) (r : Result (Deed Resources) Errno) (is : meant ≡ r) (resources_are : (served_by r).part.resources ≡ deed.state) where
       -- once the answers are given, all is as in the machine
       serves : (rows : Users) (after : Shared) → after.answered ≡ v.shared.answered → after.pipes ≡ v.shared.pipes
           → given_users rows (map (users_given user) deed.answers) ≡ with_row users user (λ _. (served_by r).part.processes)
           → given_lines after.lines (map (users_given user) deed.answers) ≡ lines_after user w.shared.lines (served_by r).changes
           → Serves (shown users w.shared w.events.events) (given_all rows after v.events.events) k l (λ part. settled part (served part))
-      serves = Serves-given users w k served kept l v deed left user of its.processes its.user (served_by r) (served_is ∙ ap served_by is) resources_are
+      serves = Serves-given users w k served kept l v deed user of its.processes its.user left (served_by r) (served_is ∙ ap served_by is) resources_are (lives-answered part thread.proc.num thread.tid call.target.over r)
 
       -- the thread is answered too
       answered : (f : Process → Process) (given : Answer) → IsAnswer thread.tid given f → InDeed (Waits users k.user) deed → Gone v.shared
@@ -246,7 +248,7 @@ module _ (users : Users) (w : AllWaits) (thread : Thread) (call : Call) (taken :
           after : Shared
           after = with_lost thread.proc (option_to_list lost) dropped
 
-    module _ (deed : Deed Resources) (left : Leaves k w l v deed) (is : meant ≡ Ok deed) where
+    module _ (deed : Deed Resources) (left : Leaves (is_living its.processes) k w l v deed) (is : meant ≡ Ok deed) where
       -- the rows and the lines, by the reply
       rows_by : (reply : Option Reply) → reply ≡ deed.reply → given_users (with_process_of users thread.proc (after_serving thread.tid call.target.over reply)) (map (users_given user) deed.answers) ≡ with_row users user (λ _. (served_by (Ok deed)).part.processes)
       rows_by reply reply_is = ap (λ r. given_users (with_process_of users thread.proc (after_serving thread.tid call.target.over r)) (map (users_given user) deed.answers)) reply_is ∙ users-done users thread.proc thread.tid call.target.over part its.user deed
@@ -283,7 +285,7 @@ module _ (users : Users) (w : AllWaits) (thread : Thread) (call : Call) (taken :
       → After (with_process_of users thread.proc (failed thread.tid error call.target.over)) (without_pulse w.shared users (with_process_of users thread.proc (failed thread.tid error call.target.over)) thread call) w.events.events k k (served k k w of moment)
   error_after k of moment error is gone lost loses =
       let pulses = map (disconnect thread.proc.num) (option_to_list lost) in
-      answered k k w of moment (nothing_done (told k w)) (left-same k w) (Err error) is refl (failed thread.tid error call.target.over) (answer.Failed error) (fails thread.tid error call.target.over)
+      answered k k w of moment (nothing_done (told k w)) (left-same (is_living its.processes) k w) (Err error) is refl (failed thread.tid error call.target.over) (answer.Failed error) (fails thread.tid error call.target.over)
       (record { pipes = waits-before users k.user w.shared kept.waits; answers = tt })
       gone lost loses (users-refused users thread.proc thread.tid call.target.over (part k k w of moment) its.user error)
       (lines-done user manager [] (inr refl) w.shared.lines (caller_of_call thread call) pulses
@@ -313,17 +315,22 @@ module _ (users : Users) (w : AllWaits) (thread : Thread) (call : Call) (taken :
       (subst (λ servers. After (with_process_of users thread.proc f) (with_lost thread.proc servers (with_shared_line v.shared (manager_number manager) drop_pulse)) v.events.events k l done) (sym (lost_before (process_of (with_process_of users thread.proc f) thread.proc)))
       (after (loses_before lost _ (subst (λ rows. LosesAt lost (process_of served_users thread.proc) (process_of rows thread.proc)) same loses))))
 
-  pub outcome : (k l : state.Kept) (v : AllWaits) (of : k.user ≡ thread.proc.user.0) (moment : ℕ) (bytes : List ℕ) (given : Result Done Errno) (r : Result (Deed Resources) Errno) → meant k l v of moment ≡ r
-      → Comes k w l v bytes given r → (IsReplied given → Gone v.shared) → (IsReplied given → HasLost bytes given) → Outcome k l v moment bytes given
-  outcome k l v of moment bytes (Ok (done.Reply status effect)) (Ok deed) is did gone lost =
+  outcome_by : (k l : state.Kept) (v : AllWaits) (of : k.user ≡ thread.proc.user.0) (moment : ℕ) (bytes : List ℕ) (given : Result Done Errno) (r : Result (Deed Resources) Errno) → meant k l v of moment ≡ r
+      → Comes (is_living its.processes) k w l v bytes given r → (IsReplied given → Gone v.shared) → (IsReplied given → HasLost bytes given) → Outcome k l v moment bytes given
+  outcome_by k l v of moment bytes (Ok (done.Reply status effect)) (Ok deed) is did gone lost =
       from_before k l v (served k l v of moment) (process_replied thread.tid effect status bytes call.target.over) (reply_served users thread effect status bytes call.target.over) (lost tt).0 (lost tt).1
       (reply_after k l v of moment deed did.1 is status bytes effect did.0 (gone tt) (lost tt).0)
-  outcome k l v of moment bytes (Ok done.NoReply) (Ok deed) is did gone lost = waiting_after k l v of moment deed did.1 is did.0
-  outcome k l v of moment bytes (Err error) (Err refused) is did gone lost =
+  outcome_by k l v of moment bytes (Ok done.NoReply) (Ok deed) is did gone lost = waiting_after k l v of moment deed did.1 is did.0
+  outcome_by k l v of moment bytes (Err error) (Err refused) is did gone lost =
       subst (λ (l : state.Kept). Outcome k l v moment bytes (Err error)) (sym did.1)
       (subst (λ v. Outcome k k v moment bytes (Err error)) (sym did.2)
       (from_before k k w (served k k w of moment) (failed thread.tid error call.target.over) (fail_served users thread error call.target.over) (lost tt).0 (lost tt).1
       (error_after k of moment error (is ∙ ap Err (sym did.0)) (subst (λ (v : AllWaits). Gone v.shared) did.2 (gone tt)) (lost tt).0)))
-  outcome k l v of moment bytes (Ok (done.Reply status effect)) (Err error) is did gone lost = absurd did
-  outcome k l v of moment bytes (Ok done.NoReply) (Err error) is did gone lost = absurd did
-  outcome k l v of moment bytes (Err error) (Ok deed) is did gone lost = absurd did
+  outcome_by k l v of moment bytes (Ok (done.Reply status effect)) (Err error) is did gone lost = absurd did
+  outcome_by k l v of moment bytes (Ok done.NoReply) (Err error) is did gone lost = absurd did
+  outcome_by k l v of moment bytes (Err error) (Ok deed) is did gone lost = absurd did
+
+  pub outcome : (k l : state.Kept) (v : AllWaits) (of : k.user ≡ thread.proc.user.0) (moment : ℕ) (bytes : List ℕ) (given : Result Done Errno) (r : Result (Deed Resources) Errno) → meant k l v of moment ≡ r
+      → Comes (lives_in users thread.proc.user.0) k w l v bytes given r → (IsReplied given → Gone v.shared) → (IsReplied given → HasLost bytes given) → Outcome k l v moment bytes given
+  outcome k l v of moment bytes given r is did =
+      outcome_by k l v of moment bytes given r is (subst (λ lives. Comes lives k w l v bytes given r) (ap (λ rows. is_living (unwrap_or rows [])) its.user) did)

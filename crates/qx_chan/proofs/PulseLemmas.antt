@@ -11,6 +11,8 @@ use Rattle.qx_machine.specs.PipeManager.{cancel_call}
 use Rattle.qx_machine.specs.Processes.{Process}
 use Rattle.qx_machine.specs.Resources.{Resources}
 use Rattle.qx_machine.specs.Rows.{row_at}
+use Rattle.qx_machine.specs.Settling.{is_living}
+use Rattle.qx_machine.proofs.Living.{lives-answers}
 use Rattle.qx_machine.proofs.Waiters.{InDeed, cancel-gives}
 use Rattle.qx_shared.specs.Shared.{shared_after, state_after, users_given}
 use Rattle.qx_resources.specs.State as state
@@ -56,15 +58,15 @@ module _ (users : Users) (w : AllWaits) (k l : state.Kept) (v : AllWaits) (proce
   abbrev Pulsed : Type 0
   Pulsed = Answering users v.shared × Serves (shown users w.shared w.events.events) (given_all users v.shared v.events.events) k l (λ part. settled part (served part))
 
-  by_deed : (deed : Deed Resources) → served part ≡ served_by deed → InDeed (Waits users k.user) deed → Leaves k w l v deed → Pulsed
+  by_deed : (deed : Deed Resources) → served part ≡ served_by deed → InDeed (Waits users k.user) deed → Leaves (is_living processes) k w l v deed → Pulsed
   by_deed deed is keeps left = (
     Answering-left users k.user w.shared v.shared deed kept left.shared keeps,
-    Serves-given users w k served kept l v deed left k.user refl processes there (served_by deed) is (resources-machine deed.answers (record part { resources = deed.state })) users v.shared refl refl
+    Serves-given users w k served kept l v deed k.user refl processes there left (served_by deed) is (resources-machine deed.answers (record part { resources = deed.state })) (lives-answers deed.answers (record part { resources = deed.state })) users v.shared refl refl
         (users-machine users k.user deed.answers (record part { resources = deed.state }) there)
         (ap (λ q. given_lines q.lines (map (users_given k.user) deed.answers)) left.shared ∙ lines-machine k.user w.shared.lines deed.answers),
   )
 
-  pub pulsed : (r : Result (Deed Resources) Outcome) → cancel_call (told k w) process thread call moment ≡ r → Cancelled k w l v r → Pulsed
+  pub pulsed : (r : Result (Deed Resources) Outcome) → cancel_call (told k w) process thread call moment ≡ r → Cancelled (is_living processes) k w l v r → Pulsed
   pulsed (Ok deed) is left =
       by_deed deed (ap served_from is) (subst (λ r. IfOk r (InDeed (Waits users k.user))) is (cancel-gives (Waits users k.user) (told k w) process thread call moment (waits-before users k.user w.shared kept.waits)).gives) left
   pulsed (Err outcome) is left =
@@ -73,9 +75,9 @@ module _ (users : Users) (w : AllWaits) (k l : state.Kept) (v : AllWaits) (proce
 -- and once the events that are due by it have given their pulses
 pub performed : (users : Users) (w v now : AllWaits) (k l : state.Kept) (processes : List (Option Process)) → row_at users k.user ≡ Some processes → AllStandTogether users w → (process thread call moment : ℕ) (watched : Option Watched)
     → l.user ≡ k.user → told l v ≡ state_after (told k w) (cancel_call (told k w) process thread call moment) → v ≡ record w { shared = shared_after w.shared k.user (cancel_call (told k w) process thread call moment) }
-    → watched ≡ watched_call (told k w) process thread call → now ≡ triggered_in l v watched
+    → watched ≡ watched_call (told k w) process thread call → now ≡ triggered_in (is_living processes) l v watched
     → Answering users now.shared × Serves (shown users w.shared w.events.events) (given_all users now.shared now.events.events) k l (λ part. settled part (or_kept part (serve_pulse part process thread call moment)))
 performed users w v now k l processes there kept process thread call moment watched user told_is shared watches triggers =
     let fits = fits-cancelled k l w v (cancel_call (told k w) process thread call moment) (user-fits users w k processes there kept) user shared in
     pulsed users w k l now processes there kept.shared process thread call moment (cancel_call (told k w) process thread call moment) refl
-    (cancelled k l w v now process thread call moment watched fits user watches triggers (cancel_call (told k w) process thread call moment) refl told_is shared)
+    (cancelled (is_living processes) k l w v now process thread call moment watched fits user watches triggers (cancel_call (told k w) process thread call moment) refl told_is shared)

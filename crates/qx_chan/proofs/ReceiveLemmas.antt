@@ -92,7 +92,7 @@ module _ (users : Users) (queues : Shared) (manager : Manager) (user : ℕ) (pri
     thread = sender first
 
     one : OneThread (with_thread_row users thread taken_thread) users thread (with_thread tid taken_thread) taken_thread
-    one = one_thread users thread (with_thread tid taken_thread) taken_thread (λ x. refl)
+    one = one_thread users thread (with_thread tid taken_thread) taken_thread (λ x. refl) (λ x. refl)
 
     stood : stands_at number (thread_row users thread) ≡ true
     stood = sym (kept.lines thread number) ∙ rw (line, is_same_thread-self thread) refl

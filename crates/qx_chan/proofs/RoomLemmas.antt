@@ -70,7 +70,7 @@ awaited-waits call (Some row) is = by_state row.state is
 pub served-waits : (users : Users) (thread : Thread) (call : Call) → Some call ≡ taken_call (thread_row users thread) → Waits (thread_row (with_thread_row users thread served_thread) thread)
 served-waits users thread call is =
     let it = waits taken_in (thread_row users thread) call is in
-    let own = (one_thread users thread (with_thread thread.tid served_thread) served_thread (λ x. refl)).own in
+    let own = (one_thread users thread (with_thread thread.tid served_thread) served_thread (λ x. refl) (λ x. refl)).own in
     subst Waits (sym (own ∙ ap (option_map served_thread) it.there)) (subst (λ s. IsTrue (is_waiting (served_state s))) (sym (taken_is it.row.state it.sent it.is)) refl)
 
 -- what goes over a connection that is there attaches nothing

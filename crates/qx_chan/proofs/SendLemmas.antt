@@ -17,7 +17,7 @@ use Rattle.qx_machine.specs.Machine.{rank}
 use Rattle.qx_machine.specs.Processes.{Process, queued_thread, with_queued, with_thread}
 use Rattle.qx_machine.specs.Servers.{in_use, is_numbered}
 use Rattle.qx_process.specs.Reads.{UsesBy, is_served}
-use Rattle.qx_queues.specs.Queues.{caller, has_answer_among, message_of, stands, unblock_call}
+use Rattle.qx_queues.specs.Queues.{has_answer_among, message_of, stands, unblock_call}
 use Rattle.qx_shared.specs.Shared.{HasNoCall, Shared, has_disconnect_node, has_thread, waiting_in, with_shared_server, with_shared_line}
 use Rattle.qx_chan.specs.Users.{IsThreadReady, Users, UsesAt, process_of, thread_row, with_process_of}
 use Rattle.qx_chan.specs.inner.Kept.{HasServerNodes, StandTogether, asked_call, is_queued_at, stands_at, waits_for, with_attached, with_room}
@@ -25,9 +25,9 @@ use Rattle.qx_chan.specs.Nodes.{attaches, served_at}
 use Rattle.qx_queues.proofs.EntryLemmas.{is_same_thread-differs, is_same_thread-self, or_false, or_true}
 use Rattle.qx_queues.proofs.LineLemmas.{call-sent, stands-sent}
 use Rattle.qx_queues.proofs.SetLemmas.{has-server, is_same_server-differs}
-use Rattle.qx_chan.proofs.AttachedLemmas.{eqb-differs, same_server-self, threads-connected}
+use Rattle.qx_chan.proofs.AttachedLemmas.{held-connected, eqb-differs, same_server-self, threads-connected}
 use Rattle.qx_chan.proofs.LostLemmas.{Kept-beside, StandBeside}
-use Rattle.qx_chan.proofs.ThreadLemmas.{Kept-room, OneThread, Own, beside, one_thread, waits-told}
+use Rattle.qx_chan.proofs.ThreadLemmas.{Kept-room, OneThread, Own, beside, nodes-there, one_thread, waits-told}
 use Rattle.qx_chan.proofs.WaitLemmas.{no-call, no-wait}
 
 -- a thread that waits for nothing
@@ -40,9 +40,9 @@ ready-unasked : (row : Option ThreadRow) → IsThreadReady row → (number call 
 ready-unasked None ready number call = absurd ready
 ready-unasked (Some row) ready number call = rw ready refl
 
-ready-there : (row : Option ThreadRow) → IsThreadReady row → is_some row ≡ true
+ready-there : (row : Option ThreadRow) → IsThreadReady row → (there : ThreadRow) × (row ≡ Some there)
 ready-there None ready = absurd ready
-ready-there (Some row) ready = refl
+ready-there (Some row) ready = (row, refl)
 
 ready-unwaiting : (row : Option ThreadRow) → IsThreadReady row → (call : ℕ) → waits_for call row ≡ false
 ready-unwaiting None ready call = absurd ready
@@ -50,7 +50,7 @@ ready-unwaiting (Some row) ready call = rw ready refl
 
 -- its process has a thread with nodes
 pub has-sender : (users : Users) (queues : Shared) (thread : Thread) → IsThreadReady (thread_row users thread) → StandTogether users queues → has_thread queues thread ≡ true
-has-sender users queues thread ready kept = kept.threads thread ∙ ready-there (thread_row users thread) ready
+has-sender users queues thread ready kept = let there = ready-there (thread_row users thread) ready in kept.threads thread ∙ nodes-there users thread there.0 there.1
 
 -- and stands in no line
 pub waits-nowhere : (users : Users) (queues : Shared) (thread : Thread) → IsThreadReady (thread_row users thread) → StandTogether users queues → (number : ℕ) → stands (line_at queues.lines number) thread ≡ false
@@ -59,7 +59,7 @@ waits-nowhere users queues thread ready kept number = kept.lines thread number �
 -- and waits in no pipe
 pub calls-nowhere : (users : Users) (queues : Shared) (thread : Thread) → IsThreadReady (thread_row users thread) → StandTogether users queues → HasNoCall queues thread
 calls-nowhere users queues thread ready kept = record {
-  waiting = λ list. no-call caller (λ own. own.call.call) users thread (ready-unwaiting (thread_row users thread) ready) (waiting_in queues list) (kept.waits list);
+  waiting = λ list. let there = ready-there (thread_row users thread) ready in no-call users thread there.0 there.1 (ready-unwaiting (thread_row users thread) ready) (waiting_in queues list) (kept.waits list);
   answered = ap (λ answers. has_answer_among answers thread) kept.answered;
 }
 
@@ -134,6 +134,7 @@ module _ (users : Users) (queues : Shared) (thread : Thread) (sent : Sent) (read
 
   one : OneThread new users thread f (queued_thread sent)
   one = one_thread users thread f (queued_thread sent) (λ x. threads-connected thread.tid sent.target.manager sent.target.over (with_thread thread.tid (queued_thread sent) x))
+      (λ x. held-connected thread.tid sent.target.manager sent.target.over (with_thread thread.tid (queued_thread sent) x))
 
   queued_at : (row : Option ThreadRow) → IsThreadReady row → (at : ℕ) → stands_at at (option_map (queued_thread sent) row) ≡ is_numbered at sent.target.manager
   queued_at None ready at = absurd ready

@@ -1,6 +1,7 @@
 -- What a deed to a user's resources makes of what all users share: rows, lines and nodes stand together, but that answers are on their way; and
 -- of the channel, once those are given.
-use Rattle.std.proofs.Common.{◌≡◌, ◌⊎◌, subst, inl, inr, ℕ, zero, suc, ◌∷◌, ◌++◌, [], List, Option, Some, None, length, map, get_or, slice_set, refl, sym, ◌∙◌, ap}
+use Rattle.std.proofs.Common.{◌≡◌, ◌⊎◌, subst, inl, inr, ℕ, zero, suc, ◌∷◌, ◌++◌, [], Bool, false, true, List, Option, Some, None, length, map, get_or, slice_set, refl, sym, ◌∙◌, ap}
+use Rattle.qx_types.specs.declared.outcome.Answer.{Answer}
 use Rattle.std.specs.List.{AllByRecursion}
 use Rattle.std.specs.Prelude.{option_map}
 use Rattle.std.proofs.lemmas.List.{append-nil, length-set, set-get_or}
@@ -18,11 +19,12 @@ use Rattle.qx_machine.specs.Pipes.{Pipe}
 use Rattle.qx_machine.specs.Processes.{Process}
 use Rattle.qx_machine.specs.Resources.{Resources}
 use Rattle.qx_machine.specs.Rows.{row_at, with_row}
+use Rattle.qx_machine.specs.Settling.{is_living}
 use Rattle.qx_machine.specs.Waiting.{Pipes, no_pipes}
 use Rattle.qx_machine.proofs.NotifyLemmas.{settled-unchanged}
-use Rattle.qx_machine.proofs.Waiters.{InDeed, InPipe, InPipes}
+use Rattle.qx_machine.proofs.Waiters.{InDeed, InPipe, InPipes, Stays}
 use Rattle.qx_notify.specs.Events.{events_of}
-use Rattle.qx_queues.specs.Queues.{stands, unblock_call}
+use Rattle.qx_queues.specs.Queues.{caller, stands, unblock_call}
 use Rattle.qx_queues.specs.Waits.{users_call}
 use Rattle.qx_shared.specs.Shared.{Shared, calls_at, has_disconnect_node, has_thread, nothing_shared, pipes_of, users_given, waiting_calls, waiting_in, with_pipes}
 use Rattle.qx_resources.specs.State as state
@@ -30,10 +32,10 @@ use Rattle.qx_resources.specs.State.{told}
 use Rattle.qx_resources.specs.declared.waits.Waits.{Waits as AllWaits}
 use Rattle.qx_chan.specs.inner.Answers.{given_lines, given_users}
 use Rattle.qx_chan.specs.Channel.{Channel, lists}
-use Rattle.qx_chan.specs.inner.Kept.{Answering, IsAwaited, IsWaiting, StandTogether}
+use Rattle.qx_chan.specs.inner.Kept.{Answering, IsAwaited, IsWaiting, StandTogether, may_wait}
 use Rattle.qx_chan.specs.Serving.{PartServed, Serves, part_in, settled}
 use Rattle.qx_chan.specs.inner.Serving.{Leaves}
-use Rattle.qx_chan.specs.Users.{Users}
+use Rattle.qx_chan.specs.Users.{Users, process_of}
 use Rattle.qx_chan.proofs.RowReads.{with_row-fixed}
 
 -- a place of which another was written
@@ -86,6 +88,14 @@ module _ (users : Users) (user : ℕ) where
   abbrev pub Waits : WaitingCall → Type 0
   Waits call = IsWaiting users (users_call user call)
 
+  -- whoever is answered waits for it
+  awaited : (answers : List (WaitingCall × Answer)) → AllByRecursion (λ answer. Stays Waits answer.0) answers → AllByRecursion (λ answer. IsAwaited users (users_given user answer)) answers
+  awaited [] all = tt
+  awaited (first ∷ rest) all =
+      let own : may_wait false first.0.thread first.0.call (process_of users (caller (users_call user first.0)).proc) ≡ true =
+      ap (λ gone. may_wait gone first.0.thread first.0.call (process_of users (caller (users_call user first.0)).proc)) (sym all.0.1) ∙ all.0.0 in
+      (own, awaited rest all.1)
+
   -- who waits there, before
   pub waits-before : (c : Shared) → ((user : ℕ) → AllByRecursion (IsWaiting users) (waiting_in c user)) → InPipes Waits (pipes_of c user)
   waits-before c wait = record { each = in-pipes Waits (pipes_of c user) (mapped-each (IsWaiting users) (users_call user) (waiting_calls (pipes_of c user)) (wait user)) }
@@ -110,7 +120,7 @@ module _ (users : Users) (user : ℕ) where
         waits = waits-after;
         answered = refl;
       };
-      answered = subst (AllByRecursion (IsAwaited users)) (sym (ap (λ q. q.answered) shared ∙ ap (λ before. before ++ map (users_given user) deed.answers) kept.answered)) (each-mapped (IsAwaited users) (users_given user) deed.answers keeps.answers);
+      answered = subst (AllByRecursion (IsAwaited users)) (sym (ap (λ q. q.answered) shared ∙ ap (λ before. before ++ map (users_given user) deed.answers) kept.answered)) (each-mapped (IsAwaited users) (users_given user) deed.answers (awaited deed.answers keeps.answers));
     }
 
 -- ---- the channel
@@ -134,21 +144,21 @@ same_pipes c user = sym (set-get_or c.pipes user no_pipes)
 same_events : (w : AllWaits) (user : ℕ) → w.events.events ≡ slice_set w.events.events user (events_of w.events user)
 same_events w user = sym (set-get_or w.events.events user no_events)
 
-pub left-same : (k : state.Kept) (w : AllWaits) → Leaves k w k w (nothing_done (told k w))
-left-same k w = record {
+pub left-same : (lives : ℕ → Bool) (k : state.Kept) (w : AllWaits) → Leaves lives k w k w (nothing_done (told k w))
+left-same lives k w = record {
   told_is = ap (λ (e : Events). record (told k w) { events = e }) (sym none_due);
   shared = λ i. record w.shared { pipes = same_pipes w.shared k.user i; answered = sym (append-nil w.shared.answered) i };
   events = same_events w k.user ∙ ap (slice_set w.events.events k.user) (sym none_due);
   user = refl;
 }
   where
-    none_due : events_settled (told k w) (told k w) ≡ events_of w.events k.user
-    none_due = settled-unchanged (told k w) (told k w) refl refl
+    none_due : events_settled lives (told k w) (told k w) ≡ events_of w.events k.user
+    none_due = settled-unchanged lives (told k w) (told k w) refl refl
 
 -- no event is due where nothing is done
 settled-nothing : (part : Part) (given : Served) → given ≡ record { part = part; changes = [] } → settled part given ≡ record { part = part; changes = [] }
 settled-nothing part given is =
-    ap (settled part) is ∙ ap (λ (e : Events). record { part = record part { resources = record part.resources { events = e } }; changes = [] }) (settled-unchanged part.resources part.resources refl refl)
+    ap (settled part) is ∙ ap (λ (e : Events). record { part = record part { resources = record part.resources { events = e } }; changes = [] }) (settled-unchanged (is_living part.processes) part.resources part.resources refl refl)
 
 module _ (users : Users) (w : AllWaits) (k : state.Kept) (served : Part → Served) where
   abbrev part_of : List (Option Process) → Part
@@ -188,15 +198,15 @@ module _ (users : Users) (w : AllWaits) (k : state.Kept) (served : Part → Serv
           (λ i. record { users = users_are i; lines = w.shared.lines; pipes = same_pipes w.shared k.user i; events = same_events w k.user i; room = w.shared.room }, refl)
 
   -- once a deed is done, and the answers are given
-  module _ (kept : StandTogether users w.shared) (l : state.Kept) (v : AllWaits) (deed : Deed Resources) (left : Leaves k w l v deed) (user : ℕ) (of : k.user ≡ user) (processes : List (Option Process)) (there : row_at users user ≡ Some processes) where
+  module _ (kept : StandTogether users w.shared) (l : state.Kept) (v : AllWaits) (deed : Deed Resources) (user : ℕ) (of : k.user ≡ user) (processes : List (Option Process)) (there : row_at users user ≡ Some processes) (left : Leaves (is_living processes) k w l v deed) where
     answered_are : v.shared.answered ≡ map (users_given user) deed.answers
     answered_are = ap (λ q. q.answered) left.shared ∙ ap (λ before. before ++ map (users_given k.user) deed.answers) kept.answered ∙ ap (λ user. map (users_given user) deed.answers) of
 
-    pub Serves-given : (s : Served) → served (record { processes = processes; resources = told k w }) ≡ s → s.part.resources ≡ deed.state → (rows : Users) (after : Shared) → after.answered ≡ v.shared.answered → after.pipes ≡ v.shared.pipes
+    pub Serves-given : (s : Served) → served (record { processes = processes; resources = told k w }) ≡ s → s.part.resources ≡ deed.state → is_living s.part.processes ≡ is_living processes → (rows : Users) (after : Shared) → after.answered ≡ v.shared.answered → after.pipes ≡ v.shared.pipes
         → given_users rows (map (users_given user) deed.answers) ≡ with_row users user (λ _. s.part.processes)
         → given_lines after.lines (map (users_given user) deed.answers) ≡ lines_after user w.shared.lines s.changes
         → Serves (shown users w.shared w.events.events) (given_all rows after v.events.events) k l (λ part. settled part (served part))
-    Serves-given s is resources_are rows after answered pipes rows_are lines_are = record {
+    Serves-given s is resources_are lives_are rows after answered pipes rows_are lines_are = record {
       did = part-served now l processes (ap (row_at users) of ∙ there) (subst (DidAll now l) (ap (settled (part_of processes)) (sym is)) (λ i. record { users = users_here i; lines = lines_here i; pipes = pipes_here i; events = events_here i; room = after.room }, resources_here));
       user = left.user;
     }
@@ -213,9 +223,12 @@ module _ (users : Users) (w : AllWaits) (k : state.Kept) (served : Part → Serv
         pipes_here : after.pipes ≡ slice_set w.shared.pipes k.user s.part.resources.pipes
         pipes_here = pipes ∙ ap (λ q. q.pipes) left.shared ∙ ap (λ (r : Resources). slice_set w.shared.pipes k.user r.pipes) (sym resources_are)
 
-        events_here : v.events.events ≡ slice_set w.events.events k.user (events_settled (told k w) s.part.resources)
-        events_here = left.events ∙ ap (λ (r : Resources). slice_set w.events.events k.user (events_settled (told k w) r)) (sym resources_are)
+        settled_here : events_settled (is_living processes) (told k w) deed.state ≡ events_settled (is_living s.part.processes) (told k w) s.part.resources
+        settled_here = λ i. events_settled (sym lives_are i) (told k w) (sym resources_are i)
 
-        resources_here : told l (lists (given_all rows after v.events.events)) ≡ record s.part.resources { events = events_settled (told k w) s.part.resources }
+        events_here : v.events.events ≡ slice_set w.events.events k.user (events_settled (is_living s.part.processes) (told k w) s.part.resources)
+        events_here = left.events ∙ ap (slice_set w.events.events k.user) settled_here
+
+        resources_here : told l (lists (given_all rows after v.events.events)) ≡ record s.part.resources { events = events_settled (is_living s.part.processes) (told k w) s.part.resources }
         resources_here = ap (λ pipes. told l (record { shared = record (nothing_shared 0) { pipes = pipes }; events = record { events = v.events.events; room = 0 } })) pipes
-            ∙ left.told_is ∙ ap (λ (r : Resources). record r { events = events_settled (told k w) r }) (sym resources_are)
+            ∙ left.told_is ∙ (λ i. record (sym resources_are i) { events = settled_here i })

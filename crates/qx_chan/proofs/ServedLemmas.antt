@@ -1,5 +1,7 @@
 -- A message is served: its thread is answered beside the calls that waited, as in the machine.
-use Rattle.std.proofs.Common.{◌≡◌, ◌⊎◌, inl, inr, ℕ, ◌∷◌, ◌++◌, [], List, Option, Some, None, map, refl, sym, ◌∙◌, ap}
+use Rattle.std.proofs.Common.{◌≡◌, ◌⊎◌, inl, inr, ℕ, ◌∷◌, ◌++◌, [], List, Option, Some, None, map, refl, sym, ◌∙◌, ap, true, false}
+use Rattle.qx_queues.proofs.NodesLemmas.{same_or_not}
+use Rattle.std.specs.List.{AllByRecursion}
 use Rattle.std.specs.Option.{option_to_list}
 use Rattle.std.specs.Prelude.{Ok, Err, option_map, slice_set}
 use Rattle.qx_types.specs.Managers.{manager_number}
@@ -23,13 +25,13 @@ use Rattle.qx_machine.specs.Resources.{Resources}
 use Rattle.qx_machine.specs.Performing.{after_answer, after_serving, answered_changes, own_change}
 use Rattle.qx_machine.specs.Processes.{Process, answered_thread}
 use Rattle.qx_machine.specs.Rows.{row_at, with_row}
-use Rattle.qx_queues.specs.Queues.{unblock_call}
+use Rattle.qx_queues.specs.Queues.{unblock_call, UsersAnswer}
 use Rattle.qx_shared.specs.Shared.{Shared, users_given, with_shared_disconnect, with_shared_line}
 use Rattle.qx_procs.specs.Calls.{LosesAt}
 use Rattle.qx_chan.specs.inner.Answers.{given_lines, given_users}
 use Rattle.qx_chan.specs.inner.Calls.{taken_call}
 use Rattle.qx_chan.specs.Channel.{failed}
-use Rattle.qx_chan.specs.inner.Kept.{Answering, with_lost}
+use Rattle.qx_chan.specs.inner.Kept.{Answering, with_lost, IsAwaited, waits_for}
 use Rattle.qx_chan.specs.Users.{Users, process_of, thread_row, with_process_of}
 use Rattle.qx_chan.specs.declared.call.Call.{Call}
 use Rattle.qx_chan.proofs.AnswerLemmas.{IsAnswer, Kept-answered, taken-unwaiting}
@@ -37,7 +39,6 @@ use Rattle.qx_chan.proofs.GivenLemmas.{lines-machine, users-machine}
 use Rattle.qx_chan.proofs.RowReads.{row_at-with_same, with_row-twice}
 use Rattle.qx_chan.proofs.LostLemmas.{lost-fields}
 use Rattle.qx_chan.proofs.ThreadLemmas.{OneThread, one_thread}
-use Rattle.qx_chan.proofs.WaitLemmas.{no-call, waits-others}
 
 -- ---- rows
 
@@ -56,7 +57,7 @@ module _ (users : Users) (proc : Proc) (thread : ℕ) (over : Over) (part : Part
 
 -- ---- lines
 
-lines_after-append : (user : ℕ) (lines : List (List Queued)) (first rest : List Change) → lines_after user lines (first ++ rest) ≡ lines_after user (lines_after user lines first) rest
+pub lines_after-append : (user : ℕ) (lines : List (List Queued)) (first rest : List Change) → lines_after user lines (first ++ rest) ≡ lines_after user (lines_after user lines first) rest
 lines_after-append user lines [] rest = refl
 lines_after-append user lines (change ∷ first) rest = lines_after-append user (with_line lines (manager_number (changed_manager change)) (line_after user change)) first rest
 
@@ -99,8 +100,7 @@ module _ (users : Users) (queues : Shared) (thread : Thread) (call : Call) (is :
   Answering-answered f answer answers gone lost loses = record {
     kept = rw (lost-cleared thread.proc (option_to_list lost) changed) (Kept-answered users (without_answers queues) thread call is answering.kept f answer answers gone lost loses);
     answered = rw (lost-fields thread.proc (λ c. c.answered) (λ c server. refl) (option_to_list lost) changed)
-        (waits-others (λ given. given.thread) (λ given. given.call) users new thread one.others queues.answered
-        (no-call (λ given. given.thread) (λ given. given.call) users thread (taken-unwaiting (thread_row users thread) call is) queues.answered answering.answered) answering.answered);
+        (awaited queues.answered answering.answered);
   }
     where
       new : Users
@@ -110,4 +110,16 @@ module _ (users : Users) (queues : Shared) (thread : Thread) (call : Call) (is :
       changed = with_shared_line queues (manager_number call.target.manager) drop_pulse
 
       one : OneThread new users thread f (answered_thread answer)
-      one = one_thread users thread f (answered_thread answer) answers
+      one = one_thread users thread f (answered_thread answer) answers.threads answers.held
+
+      awaited : (answered : List UsersAnswer) → AllByRecursion (IsAwaited users) answered → AllByRecursion (IsAwaited new) answered
+      awaited [] all = tt
+      awaited (given ∷ rest) all = (
+        elim (same_or_not given.thread thread) [
+          | inr differs ↦ ap (waits_for given.call) (one.others given.thread differs) ∙ all.0
+          | inl same ↦
+              let clash : false ≡ true = sym (taken-unwaiting (thread_row users thread) call is given.call) ∙ ap (λ t. waits_for given.call (thread_row users t)) (sym same) ∙ all.0 in
+              absurd (cc)
+        ],
+        awaited rest all.1,
+      )

@@ -1,5 +1,5 @@
 -- What was done to a user's resources, once the events that are due by it have given their pulses.
-use Rattle.std.proofs.Common.{◌≡◌, ℕ, ◌+◌, ◌-◌, List, Option, Some, None, Result, Ok, Err, length, slice_set, refl, sym, subst, ◌∙◌, ap, arith}
+use Rattle.std.proofs.Common.{◌≡◌, ℕ, ◌+◌, ◌-◌, Bool, List, Option, Some, None, Result, Ok, Err, length, slice_set, refl, sym, subst, ◌∙◌, ap, arith}
 use Rattle.std.specs.Prelude.{IsSome}
 use Rattle.std.proofs.lemmas.List.{get_or-set_same, length-set, set-get_or, set-set}
 use Rattle.qx_types.specs.declared.errno.Errno.{Errno}
@@ -51,30 +51,30 @@ fits-cancelled k l w v r fits user is = record { pipes = rw (user, is, length-af
 -- ---- due events have given their pulses
 
 -- what all share then, where a pipe was watched
-abbrev pub triggered_in : Kept → Waits → Option Watched → Waits
-triggered_in l v watched = record v { events = with_events v.events l.user (watched_settled watched (told l v)) }
+abbrev pub triggered_in : (ℕ → Bool) → Kept → Waits → Option Watched → Waits
+triggered_in lives l v watched = record v { events = with_events v.events l.user (watched_settled lives watched (told l v)) }
 
-module _ (k l : Kept) (w v : Waits) (watched : Option Watched) (deed : Deed Resources) (fits : HasUser l v) where
+module _ (lives : ℕ → Bool) (k l : Kept) (w v : Waits) (watched : Option Watched) (deed : Deed Resources) (fits : HasUser l v) where
   leaves : told l v ≡ deed.state → v.shared ≡ with_pipes w.shared k.user deed.state.pipes deed.answers → l.user ≡ k.user
       → ((e : Events) → slice_set v.events.events k.user e ≡ slice_set w.events.events k.user e)
-      → watched_settled watched deed.state ≡ events_settled (told k w) deed.state → Leaves k w l (triggered_in l v watched) deed
+      → watched_settled lives watched deed.state ≡ events_settled lives (told k w) deed.state → Leaves lives k w l (triggered_in lives l v watched) deed
   leaves told_is shared user others due = record {
     told_is = ap (λ (e : Events). record (told l v) { events = e }) (get_or-set_same v.events.events l.user now no_events fits.events)
-        ∙ ap (λ (r : Resources). record r { events = watched_settled watched r }) told_is ∙ ap (λ (e : Events). record deed.state { events = e }) due;
+        ∙ ap (λ (r : Resources). record r { events = watched_settled lives watched r }) told_is ∙ ap (λ (e : Events). record deed.state { events = e }) due;
     shared = shared;
-    events = ap (λ u. slice_set v.events.events u now) user ∙ others now ∙ ap (λ r. slice_set w.events.events k.user (watched_settled watched r)) told_is ∙ ap (slice_set w.events.events k.user) due;
+    events = ap (λ u. slice_set v.events.events u now) user ∙ others now ∙ ap (λ r. slice_set w.events.events k.user (watched_settled lives watched r)) told_is ∙ ap (slice_set w.events.events k.user) due;
     user = user;
   }
     where
       now : Events
-      now = watched_settled watched (told l v)
+      now = watched_settled lives watched (told l v)
 
 -- nothing is due where nothing was done
 same_room : (room count : ℕ) → room + count - count ≡ room
 same_room room count = omega arith
 
-none_due : (k : Kept) (w : Waits) (watched : Option Watched) → watched_settled watched (told k w) ≡ events_of w.events k.user → triggered_in k w watched ≡ w
-none_due k w watched due =
+none_due : (lives : ℕ → Bool) (k : Kept) (w : Waits) (watched : Option Watched) → watched_settled lives watched (told k w) ≡ events_of w.events k.user → triggered_in lives k w watched ≡ w
+none_due lives k w watched due =
     ap (λ (e : Events). record w { events = with_events w.events k.user e }) due
     ∙ (λ i. record w { events = record { events = set-get_or w.events.events k.user no_events i; room = same_room w.events.room (event_count (events_of w.events k.user)) i } })
 
@@ -83,40 +83,40 @@ abbrev IsOpenThere : Kept → Type 0
 IsOpenThere k = (number : ℕ) (block : Ocb) → row_at k.inodes.blocks number ≡ Some block → IsSome (row_at k.inodes.attributes block.inode)
 
 -- a message was done
-pub comes : (k l : Kept) (w v now : Waits) (context : Context) (means : Meaning) (watched : Option Watched) (bytes : List ℕ) (given : Result Done Errno) (r : Result (Deed Resources) Errno)
-    → HasUser k w → IsOpenThere k → deed_of (told k w) context means ≡ r → watched ≡ watched_over (told k w) means context.opened → now ≡ triggered_in l v watched → Did state k w l v bytes given r → Comes k w l now bytes given r
-comes k l w v now context means watched bytes (Ok done) (Ok deed) fits there is watches triggers did = (
+pub comes : (lives : ℕ → Bool) (k l : Kept) (w v now : Waits) (context : Context) (means : Meaning) (watched : Option Watched) (bytes : List ℕ) (given : Result Done Errno) (r : Result (Deed Resources) Errno)
+    → HasUser k w → IsOpenThere k → deed_of (told k w) context means ≡ r → watched ≡ watched_over (told k w) means context.opened → now ≡ triggered_in lives l v watched → Did state k w l v bytes given r → Comes lives k w l now bytes given r
+comes lives k l w v now context means watched bytes (Ok done) (Ok deed) fits there is watches triggers did = (
   did.0,
-  subst (λ now. Leaves k w l now deed) (sym triggers) (leaves k l w v watched deed (fits-did k l w v bytes (Ok done) (Ok deed) fits did) did.1 (ap (λ (v : Waits). v.shared) did.2) did.3
+  subst (λ now. Leaves lives k w l now deed) (sym triggers) (leaves lives k l w v watched deed (fits-did k l w v bytes (Ok done) (Ok deed) fits did) did.1 (ap (λ (v : Waits). v.shared) did.2) did.3
       (λ e. ap (λ (v : Waits). slice_set v.events.events k.user e) did.2 ∙ set-set w.events.events k.user deed.state.events e)
-      (ap (λ watched. watched_settled watched deed.state) watches ∙ watched-settled (told k w) context means deed (there-unstale (told k w) there) is)),
+      (ap (λ watched. watched_settled lives watched deed.state) watches ∙ watched-settled lives (told k w) context means deed (there-unstale (told k w) there) is)),
 )
-comes k l w v now context means watched bytes (Err error) (Err meant) fits there is watches triggers did = (
+comes lives k l w v now context means watched bytes (Err error) (Err meant) fits there is watches triggers did = (
   did.0,
   did.1,
-  triggers ∙ ap (λ (l : Kept). triggered_in l v watched) did.1 ∙ ap (λ (v : Waits). triggered_in k v watched) did.2
-      ∙ none_due k w watched (ap (λ watched. watched_settled watched (told k w)) watches ∙ watched-unchanged (told k w) means context.opened),
+  triggers ∙ ap (λ (l : Kept). triggered_in lives l v watched) did.1 ∙ ap (λ (v : Waits). triggered_in lives k v watched) did.2
+      ∙ none_due lives k w watched (ap (λ watched. watched_settled lives watched (told k w)) watches ∙ watched-unchanged lives (told k w) means context.opened),
 )
-comes k l w v now context means watched bytes (Ok done) (Err meant) fits there is watches triggers did = absurd did
-comes k l w v now context means watched bytes (Err error) (Ok deed) fits there is watches triggers did = absurd did
+comes lives k l w v now context means watched bytes (Ok done) (Err meant) fits there is watches triggers did = absurd did
+comes lives k l w v now context means watched bytes (Err error) (Ok deed) fits there is watches triggers did = absurd did
 
 -- an unblock pulse was done: it leaves that, or nothing
-abbrev pub Cancelled : Kept → Waits → Kept → Waits → Result (Deed Resources) Outcome → Type 0
-Cancelled k w l v (Ok deed) = Leaves k w l v deed
-Cancelled k w l v (Err outcome) = Leaves k w l v (nothing_done (told k w))
+abbrev pub Cancelled : (ℕ → Bool) → Kept → Waits → Kept → Waits → Result (Deed Resources) Outcome → Type 0
+Cancelled lives k w l v (Ok deed) = Leaves lives k w l v deed
+Cancelled lives k w l v (Err outcome) = Leaves lives k w l v (nothing_done (told k w))
 
-module _ (k l : Kept) (w v now : Waits) (process thread call moment : ℕ) (watched : Option Watched) (fits : HasUser l v) (user : l.user ≡ k.user)
-    (watches : watched ≡ watched_call (told k w) process thread call) (triggers : now ≡ triggered_in l v watched) where
+module _ (lives : ℕ → Bool) (k l : Kept) (w v now : Waits) (process thread call moment : ℕ) (watched : Option Watched) (fits : HasUser l v) (user : l.user ≡ k.user)
+    (watches : watched ≡ watched_call (told k w) process thread call) (triggers : now ≡ triggered_in lives l v watched) where
   pub cancelled : (r : Result (Deed Resources) Outcome) → cancel_call (told k w) process thread call moment ≡ r
-      → told l v ≡ state_after (told k w) r → v ≡ record w { shared = shared_after w.shared k.user r } → Cancelled k w l now r
+      → told l v ≡ state_after (told k w) r → v ≡ record w { shared = shared_after w.shared k.user r } → Cancelled lives k w l now r
   cancelled (Ok deed) is told_is shared =
-      subst (λ now. Leaves k w l now deed) (sym triggers) (leaves k l w v watched deed fits told_is (ap (λ (v : Waits). v.shared) shared) user
+      subst (λ now. Leaves lives k w l now deed) (sym triggers) (leaves lives k l w v watched deed fits told_is (ap (λ (v : Waits). v.shared) shared) user
       (λ e. ap (λ (v : Waits). slice_set v.events.events k.user e) shared)
-      (ap (λ watched. watched_settled watched deed.state) watches ∙ watched-cancelled (told k w) process thread call moment deed is))
+      (ap (λ watched. watched_settled lives watched deed.state) watches ∙ watched-cancelled lives (told k w) process thread call moment deed is))
   cancelled (Err outcome) is told_is shared =
-      subst (λ now. Leaves k w l now (nothing_done (told k w))) (sym triggers) (leaves k l w v watched (nothing_done (told k w)) fits told_is (ap (λ (v : Waits). v.shared) shared ∙ (left-same k w).shared) user
+      subst (λ now. Leaves lives k w l now (nothing_done (told k w))) (sym triggers) (leaves lives k l w v watched (nothing_done (told k w)) fits told_is (ap (λ (v : Waits). v.shared) shared ∙ (left-same lives k w).shared) user
       (λ e. ap (λ (v : Waits). slice_set v.events.events k.user e) shared)
-      (ap (λ watched. watched_settled watched (told k w)) watches ∙ watched-same (told k w) process thread call ∙ sym (settled-unchanged (told k w) (told k w) refl refl)))
+      (ap (λ watched. watched_settled lives watched (told k w)) watches ∙ watched-same lives (told k w) process thread call ∙ sym (settled-unchanged lives (told k w) (told k w) refl refl)))
 
 -- ---- who has a place for pipes has one for events still
 

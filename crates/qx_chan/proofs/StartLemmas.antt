@@ -1,6 +1,6 @@
 -- Rows, lines and nodes stand together still as a process starts, and at boot.
 use Rattle.std.proofs.Common.{eq-eqb, subst, ◌≡◌, ◌≢◌, inl, inr, ℕ, zero, suc, ◌+◌, ◌-◌, ◌*◌, ◌<◌, ◌≤◌, ◌∷◌, [], get_or, map, ◌&&◌, add-one, nat_le, Bool, true, false, List, Option, Some, None, Ok, Err, replicate, length, is_some, refl, sym, ◌∙◌, ap, arith}
-use Rattle.std.specs.Prelude.{max}
+use Rattle.std.specs.Prelude.{max, if◌then◌else◌}
 use Rattle.std.specs.FinSet as set
 use Rattle.std.specs.List.{AllByRecursion}
 use Rattle.std.proofs.lemmas.Bool.{cases_Bool, cases_lt}
@@ -24,7 +24,7 @@ use Rattle.qx_machine.specs.Parts.{thread_of}
 use Rattle.qx_machine.specs.Processes.{Process, new_process, new_thread}
 use Rattle.qx_machine.specs.Rows.{row_at, lowest_from, put_row, with_row}
 use Rattle.qx_machine.proofs.Places.{lowest_from_free}
-use Rattle.qx_procs.specs.Calls.{spawned}
+use Rattle.qx_procs.specs.Calls.{has_ended_in, spawned}
 use Rattle.qx_queues.specs.inner.Queues.{is_thread_of}
 use Rattle.qx_queues.specs.Queues.{stands, unblock_call, thread_cmp, server_cmp}
 use Rattle.qx_shared.specs.Shared.{Shared, has_thread, nothing_shared, waiting_in, with_shared_process, users_waiting, waiting_calls}
@@ -36,12 +36,12 @@ use Rattle.qx_chan.specs.Channel.{Channel, after_spawn}
 use Rattle.qx_chan.specs.inner.Users.{HasPlace}
 use Rattle.qx_chan.specs.Users.{Users, no_processes, process_of_user, process_of, spawn_number_in, thread_row}
 use Rattle.qx_process.proofs.RowLemmas.{row_at-get_or, set-row, with_row-none}
-use Rattle.qx_chan.specs.inner.Kept.{IsWaiting, StandTogether, asked_call, stands_at, waits_for}
+use Rattle.qx_chan.specs.inner.Kept.{IsWaiting, StandTogether, asked_call, has_nodes, stands_at, waits_for}
 use Rattle.qx_chan.specs.Nodes.{room_started, served_at}
 use Rattle.qx_queues.proofs.EntryLemmas.{or_false}
 use Rattle.qx_queues.proofs.NodesLemmas.{same_proc}
 use Rattle.qx_chan.proofs.ProcessLemmas.{process_of-other}
-use Rattle.qx_chan.proofs.WaitLemmas.{waits-all}
+use Rattle.qx_chan.proofs.WaitLemmas.{waits-all, some-places}
 use Rattle.qx_chan.proofs.RowReads.{length-with_row, lowest-within, option_cases, put_row-other, put_row-same, row_at-past, row_at-with_same, row_within}
 
 -- a number that a new process is to have
@@ -112,6 +112,11 @@ new_is threads (suc k) x = elim (cases_lt k threads) [
   | inr beyond ↦ rw (row_at-past (replicate threads (Some x)) k (omega (arith, beyond, length-replicate threads (Some x)))) (grind (arith, nat_tests, beyond))
 ]
 
+new_nodes : (threads prio tid : ℕ) → has_nodes tid (Some (new_process threads prio)) ≡ is_some (row_at (None ∷ replicate threads (Some (new_thread prio))) tid)
+new_nodes threads prio tid =
+    let rows : List (Option ThreadRow) = None ∷ replicate threads (Some (new_thread prio)) in
+    ap (λ over. if over then is_some (row_at {A = List ℕ} [] tid) else is_some (row_at rows tid)) (some-places None (replicate threads (Some (new_thread prio))))
+
 -- what waits and is answered stays as a process gets its nodes
 
 pub pipes-process : (c : Shared) (proc : Proc) (threads : ℕ) → (with_shared_process c proc threads).pipes ≡ c.pipes
@@ -157,7 +162,7 @@ module _ (users : Users) (proc : Proc) (threads prio : ℕ) (begun : Starts user
 
   -- no thread of it has nodes
   pub fresh : (queues : Shared) → StandTogether users queues → (tid : ℕ) → has_thread queues (record { proc = proc; tid = tid }) ≡ false
-  fresh queues kept tid = kept.threads (record { proc = proc; tid = tid }) ∙ ap (λ o. is_some (thread_of tid o)) old_none
+  fresh queues kept tid = kept.threads (record { proc = proc; tid = tid }) ∙ ap (has_nodes tid) old_none
 
   pub user_within : (queues : Shared) → StandTogether users queues → proc.user.0 < length queues.pipes
   user_within queues kept = rw kept.users (row_within users proc.user.0 begun.processes begun.row)
@@ -187,8 +192,8 @@ module _ (users : Users) (proc : Proc) (threads prio : ℕ) (begun : Starts user
       users = ap length (pipes-process queues proc threads) ∙ kept.users ∙ sym (length-with_row users proc.user.0 started);
       managers = ap length (lines-process queues proc threads) ∙ kept.managers;
       threads = λ other. has-process queues proc threads other ∙ elim (same_proc other.proc proc) [
-        | inr differs ↦ rw (not_of other differs) (or_false (has_thread queues other) ∙ kept.threads other ∙ ap (λ o. is_some (thread_of other.tid o)) (sym (elsewhere other.proc differs)))
-        | inl same ↦ rw (kept.threads other, same, old_none, here) (own_of other same ∙ sym (new_is threads other.tid (new_thread prio)))
+        | inr differs ↦ rw (not_of other differs) (or_false (has_thread queues other) ∙ kept.threads other ∙ ap (has_nodes other.tid) (sym (elsewhere other.proc differs)))
+        | inl same ↦ rw (kept.threads other, same, old_none, here) (own_of other same ∙ sym (new_is threads other.tid (new_thread prio)) ∙ sym (new_nodes threads prio other.tid))
       ];
       lines = λ other number. ap (λ lines. stands (line_at lines number) other) (lines-process queues proc threads) ∙ kept.lines other number ∙ elim (same_proc other.proc proc) [
         | inr differs ↦ ap (λ o. stands_at number (thread_of other.tid o)) (sym (elsewhere other.proc differs))
@@ -204,7 +209,7 @@ module _ (users : Users) (proc : Proc) (threads prio : ℕ) (begun : Starts user
         | inr differs ↦ ap (served_at manager) (sym (elsewhere other differs))
         | inl same ↦ rw (same, old_none, here) (sym (new_served threads prio manager))
       ];
-      waits = λ list. subst (λ p. AllByRecursion (IsWaiting new) (users_waiting p list)) (sym (pipes-process queues proc threads)) (waits-all users new still (waiting_in queues list) (kept.waits list));
+      waits = λ list. subst (λ p. AllByRecursion (IsWaiting new) (users_waiting p list)) (sym (pipes-process queues proc threads)) (waits-all users new still ended (waiting_in queues list) (kept.waits list));
       answered = answered-process queues proc threads ∙ kept.answered;
     }
       where
@@ -220,6 +225,12 @@ module _ (users : Users) (proc : Proc) (threads prio : ℕ) (begun : Starts user
         still : (other : Thread) (call : ℕ) → waits_for call (thread_row users other) ≡ true → waits_for call (thread_row new other) ≡ true
         still other call is = elim (same_proc other.proc proc) [
           | inr differs ↦ ap (λ o. waits_for call (thread_of other.tid o)) (elsewhere other.proc differs) ∙ is
+          | inl same ↦ let clash : false ≡ true = rw (same, old_none) at is in absurd (cc)
+        ]
+
+        ended : (other : Proc) → has_ended_in (process_of users other) ≡ true → has_ended_in (process_of new other) ≡ true
+        ended other is = elim (same_proc other proc) [
+          | inr differs ↦ ap has_ended_in (elsewhere other differs) ∙ is
           | inl same ↦ let clash : false ≡ true = rw (same, old_none) at is in absurd (cc)
         ]
 
@@ -276,7 +287,7 @@ pub Kept-empty : (users : ℕ) → StandTogether (no_processes users) (nothing_s
 Kept-empty users = record {
   users = length-replicate (users + 1) no_pipes ∙ add-one users ∙ ap suc (sym (length-replicate users (Some no_rows)));
   managers = refl;
-  threads = λ thread. set.contains-empty thread_cmp thread ∙ sym (ap (λ o. is_some (thread_of thread.tid o)) (none_at_boot users thread.proc));
+  threads = λ thread. set.contains-empty thread_cmp thread ∙ sym (ap (has_nodes thread.tid) (none_at_boot users thread.proc));
   lines = λ thread number. no_line COUNT number thread ∙ sym (ap (λ o. stands_at number (thread_of thread.tid o)) (none_at_boot users thread.proc));
   pulses = λ thread number call is. let clash : None ≡ Some call = sym (no_pulse COUNT number thread) ∙ is in absurd (cc);
   servers = λ proc manager. set.contains-empty server_cmp (proc, manager_number manager) ∙ sym (ap (served_at manager) (none_at_boot users proc));

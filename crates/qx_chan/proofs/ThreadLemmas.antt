@@ -1,7 +1,7 @@
 -- One thread's row changes, and its process with it, and one line: when rows, lines and nodes stand together still.
-use Rattle.std.proofs.Common.{◌≡◌, ◌≢◌, inl, inr, ℕ, ◌<◌, List, true, Option, Some, None, length, is_some, refl, sym, ◌∙◌, ap}
+use Rattle.std.proofs.Common.{◌≡◌, ◌≢◌, inl, inr, ℕ, ◌<◌, List, Bool, true, false, Option, Some, None, length, is_some, refl, sym, ◌∙◌, ap}
 use Rattle.std.specs.List.{AllByRecursion}
-use Rattle.std.specs.Prelude.{option_map}
+use Rattle.std.specs.Prelude.{◌==◌, option_map, if◌then◌else◌}
 use Rattle.std.proofs.lemmas.Bool.{cases_eq}
 use Rattle.std.proofs.lemmas.List.{length-set}
 use Rattle.qx_types.specs.Managers.{manager_number}
@@ -12,13 +12,14 @@ use Rattle.qx_machine.specs.declared.rows.Queued.{Queued}
 use Rattle.qx_machine.specs.declared.rows.ThreadRow.{ThreadRow}
 use Rattle.qx_machine.specs.Lines.{line_at, with_line}
 use Rattle.qx_machine.specs.Parts.{thread_of}
-use Rattle.qx_machine.specs.Processes.{Process, with_thread}
-use Rattle.qx_machine.specs.Rows.{with_row}
+use Rattle.qx_machine.specs.Processes.{Process, has_ended, with_thread}
+use Rattle.qx_machine.specs.Rows.{row_at, with_row}
 use Rattle.qx_process.specs.Reads.{is_served}
-use Rattle.qx_queues.specs.Queues.{stands, unblock_call}
-use Rattle.qx_shared.specs.Shared.{Shared, has_thread, waiting_in}
+use Rattle.qx_queues.specs.Queues.{UsersCall, caller, stands, unblock_call}
+use Rattle.qx_shared.specs.Shared.{Shared, waiting_in}
+use Rattle.qx_procs.specs.Calls.{has_ended_in}
 use Rattle.qx_chan.specs.Users.{Users, process_of, thread_row, with_process_of, with_thread_row}
-use Rattle.qx_chan.specs.inner.Kept.{IsWaiting, StandTogether, asked_call, stands_at, waits_for}
+use Rattle.qx_chan.specs.inner.Kept.{IsWaiting, StandTogether, asked_call, has_nodes, may_wait, nodes_for, stands_at, waits_for}
 use Rattle.qx_chan.specs.Nodes.{served_at}
 use Rattle.qx_queues.proofs.EntryLemmas.{line_at-other, line_at-same}
 use Rattle.qx_queues.proofs.NodesLemmas.{same_or_not, same_proc}
@@ -26,15 +27,31 @@ use Rattle.qx_chan.proofs.AttachedLemmas.{number-below}
 use Rattle.qx_chan.proofs.ProcessLemmas.{process_of-other, process_of-same}
 use Rattle.qx_chan.proofs.RowReads.{length-with_row, row_at-with_other, row_at-with_same}
 use Rattle.qx_chan.proofs.LostLemmas.{Kept-beside, StandBeside}
-use Rattle.qx_chan.proofs.WaitLemmas.{waits-all}
+use Rattle.qx_chan.proofs.WaitLemmas.{there-lives, waits-all}
 
 -- room changes nothing else
 pub Kept-room : (users : Users) (queues : Shared) (room : ℕ) → StandTogether users queues → StandTogether users (record queues { room = room })
 Kept-room users queues room kept = record { users = kept.users; managers = kept.managers; threads = kept.threads; lines = kept.lines; pulses = kept.pulses; servers = kept.servers; waits = kept.waits; answered = kept.answered }
 
-there_with : {A : Type 0} (f : A → A) (o : Option A) → is_some (option_map f o) ≡ is_some o
+pub there_with : {A : Type 0} (f : A → A) (o : Option A) → is_some (option_map f o) ≡ is_some o
 there_with f None = refl
 there_with f (Some x) = refl
+
+-- a thread that is there has nodes
+nodes-in : (tid : ℕ) (process : Option Process) (row : ThreadRow) → thread_of tid process ≡ Some row → has_nodes tid process ≡ true
+nodes-in tid None row is = let none : None ≡ Some row = is in absurd (cc)
+nodes-in tid (Some process) row is = rw (there-lives tid (Some process) row is, is) refl
+
+pub nodes-there : (users : Users) (thread : Thread) (row : ThreadRow) → thread_row users thread ≡ Some row → nodes_for users thread ≡ true
+nodes-there users thread row is = nodes-in thread.tid (process_of users thread.proc) row is
+
+-- a process with threads of the same numbers has nodes for the same, and has ended or not as before
+module _ (old new : Process) (many : length new.threads ≡ length old.threads) where
+  ended-alike : has_ended new ≡ has_ended old
+  ended-alike = ap (λ (n : ℕ). n == 0) many
+
+  nodes-alike : (tid : ℕ) → is_some (row_at new.threads tid) ≡ is_some (row_at old.threads tid) → new.held ≡ old.held → has_nodes tid (Some new) ≡ has_nodes tid (Some old)
+  nodes-alike tid there held = λ i. if ended-alike i then is_some (row_at (held i) tid) else there i
 
 -- in one process a thread's row changes, and what else is not its threads'
 pub record OneThread (new old : Users) (thread : Thread) (f : Process → Process) (g : ThreadRow → ThreadRow) : Type 0 where
@@ -43,8 +60,10 @@ pub record OneThread (new old : Users) (thread : Thread) (f : Process → Proces
   pub elsewhere : (other : Proc) → other ≢ thread.proc → process_of new other ≡ process_of old other
   pub own : thread_row new thread ≡ option_map g (thread_row old thread)
   pub others : (other : Thread) → other ≢ thread → thread_row new other ≡ thread_row old other
+  pub nodes : (other : Thread) → nodes_for new other ≡ nodes_for old other
+  pub ended : (other : Proc) → has_ended_in (process_of new other) ≡ has_ended_in (process_of old other)
 
-module _ (users : Users) (thread : Thread) (f : Process → Process) (g : ThreadRow → ThreadRow) (threads : (x : Process) → (f x).threads ≡ with_row x.threads thread.tid g) where
+module _ (users : Users) (thread : Thread) (f : Process → Process) (g : ThreadRow → ThreadRow) (threads : (x : Process) → (f x).threads ≡ with_row x.threads thread.tid g) (held : (x : Process) → (f x).held ≡ x.held) where
   here : process_of (with_process_of users thread.proc f) thread.proc ≡ option_map f (process_of users thread.proc)
   here = process_of-same users thread.proc f
 
@@ -63,8 +82,33 @@ module _ (users : Users) (thread : Thread) (f : Process → Process) (g : Thread
           let tid : other.tid ≢ thread.tid = λ equal. differs (λ i. record { proc = same i; tid = equal i }) in
           rw (same, here) (in_other other.tid tid (process_of users thread.proc))
     ];
+    nodes = λ other. elim (same_proc other.proc thread.proc) [
+      | inr apart ↦ ap (has_nodes other.tid) (elsewhere other.proc apart)
+      | inl same ↦ rw (same, here) (nodes_in other.tid (process_of users thread.proc))
+    ];
+    ended = λ other. elim (same_proc other thread.proc) [
+      | inr apart ↦ ap has_ended_in (elsewhere other apart)
+      | inl same ↦ rw (same, here) (ended_in (process_of users thread.proc))
+    ];
   }
     where
+      many : (x : Process) → length (f x).threads ≡ length x.threads
+      many x = ap length (threads x) ∙ length-with_row x.threads thread.tid g
+
+      there_in : (x : Process) (tid : ℕ) → is_some (row_at (f x).threads tid) ≡ is_some (row_at x.threads tid)
+      there_in x tid = ap (λ rows. is_some (row_at rows tid)) (threads x) ∙ elim (cases_eq tid thread.tid) [
+        | inl same ↦ rw (same, row_at-with_same x.threads thread.tid g) (there_with g (row_at x.threads thread.tid))
+        | inr differs ↦ ap is_some (row_at-with_other x.threads thread.tid tid g differs)
+      ]
+
+      nodes_in : (tid : ℕ) (o : Option Process) → has_nodes tid (option_map f o) ≡ has_nodes tid o
+      nodes_in tid None = refl
+      nodes_in tid (Some x) = nodes-alike x (f x) (many x) tid (there_in x tid) (held x)
+
+      ended_in : (o : Option Process) → has_ended_in (option_map f o) ≡ has_ended_in o
+      ended_in None = refl
+      ended_in (Some x) = ended-alike x (f x) (many x)
+
       in_own : (o : Option Process) → thread_of thread.tid (option_map f o) ≡ option_map g (thread_of thread.tid o)
       in_own None = refl
       in_own (Some x) = rw (threads x) (row_at-with_same x.threads thread.tid g)
@@ -85,7 +129,17 @@ no_thread users thread = record {
   elsewhere = λ other differs. refl;
   own = map_same (thread_row users thread);
   others = λ other differs. refl;
+  nodes = λ other. refl;
+  ended = λ other. refl;
 }
+
+-- a call of another thread may wait as before
+pub waits-apart : (users new : Users) (thread : Thread) (f : Process → Process) (g : ThreadRow → ThreadRow) → OneThread new users thread f g → (own : UsersCall) → caller own ≢ thread → IsWaiting users own → IsWaiting new own
+waits-apart users new thread f g one own differs is = by own.call.is_gone is
+  where
+    by : (gone : Bool) → may_wait gone own.call.thread own.call.call (process_of users (caller own).proc) ≡ true → may_wait gone own.call.thread own.call.call (process_of new (caller own).proc) ≡ true
+    by true is = one.ended (caller own).proc ∙ is
+    by false is = ap (waits_for own.call.call) (one.others (caller own) differs) ∙ is
 
 -- a call that waits does so still, where the thread whose row changes does
 module _ (users new : Users) (queues : Shared) (thread : Thread) (f : Process → Process) (g : ThreadRow → ThreadRow) (one : OneThread new users thread f g) (kept : StandTogether users queues)
@@ -99,7 +153,7 @@ module _ (users new : Users) (queues : Shared) (thread : Thread) (f : Process �
   ]
 
   pub waits-told : (list : ℕ) → AllByRecursion (IsWaiting new) (waiting_in queues list)
-  waits-told list = waits-all users new waits-one (waiting_in queues list) (kept.waits list)
+  waits-told list = waits-all users new waits-one (λ other is. one.ended other ∙ is) (waiting_in queues list) (kept.waits list)
 
 -- a thread whose message stands where it stood, and is asked as it was
 module _ (users : Users) (queues : Shared) (thread : Thread) (g : ThreadRow → ThreadRow) (kept : StandTogether users queues)
@@ -107,7 +161,7 @@ module _ (users : Users) (queues : Shared) (thread : Thread) (g : ThreadRow → 
     (pulse : (at call : ℕ) → asked_call at call (option_map g (thread_row users thread)) ≡ asked_call at call (thread_row users thread))
     (wait : (call : ℕ) → waits_for call (thread_row users thread) ≡ true → waits_for call (option_map g (thread_row users thread)) ≡ true) where
   one : OneThread (with_thread_row users thread g) users thread (with_thread thread.tid g) g
-  one = one_thread users thread (with_thread thread.tid g) g (λ x. refl)
+  one = one_thread users thread (with_thread thread.tid g) g (λ x. refl) (λ x. refl)
 
   read_as : {A : Type 0} (read : Option ThreadRow → A) → read (option_map g (thread_row users thread)) ≡ read (thread_row users thread) → (other : Thread) → read (thread_row (with_thread_row users thread g) other) ≡ read (thread_row users other)
   read_as read same other = elim (same_or_not other thread) [
@@ -123,7 +177,7 @@ module _ (users : Users) (queues : Shared) (thread : Thread) (g : ThreadRow → 
   Kept-thread = record {
     users = kept.users ∙ sym one.users;
     managers = kept.managers;
-    threads = λ other. kept.threads other ∙ sym (read_as is_some (there_with g (thread_row users thread)) other);
+    threads = λ other. kept.threads other ∙ sym (one.nodes other);
     lines = λ other at. kept.lines other at ∙ sym (read_as (stands_at at) (stand at) other);
     pulses = λ other at call is. read_as (asked_call at call) (pulse at call) other ∙ kept.pulses other at call is;
     servers = λ other m. kept.servers other m ∙ elim (same_proc other thread.proc) [
@@ -196,18 +250,12 @@ module _ (users new : Users) (queues : Shared) (thread : Thread) (f : Process �
       ]
     ]
 
-    there_told : (other : Thread) → has_thread queues other ≡ is_some (thread_row new other)
-    there_told other = kept.threads other ∙ elim (same_or_not other thread) [
-      | inr differs ↦ ap is_some (sym (one.others other differs))
-      | inl same ↦ rw (same, one.own) (sym (there_with g (thread_row users thread)))
-    ]
-
     -- but for the disconnect nodes of the process
     pub beside : StandBeside new (record queues { lines = lines_after }) thread.proc
     beside = record {
       users = kept.users ∙ sym one.users;
       managers = length-set _ number _ ∙ kept.managers;
-      threads = there_told;
+      threads = λ other. kept.threads other ∙ sym (one.nodes other);
       lines = lines_told;
       pulses = pulses_told;
       others = λ other differs manager. kept.servers other manager ∙ ap (served_at manager) (sym (one.elsewhere other differs));

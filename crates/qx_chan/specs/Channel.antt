@@ -1,5 +1,5 @@
 -- What contracts see of a channel, and what its calls make of it.
-use Rattle.std.specs.Prelude.{⊤, ℕ, ◌+◌, [], ◌∷◌, List, Option, Some, None, drop, get_or, replicate, slice_get, slice_set}
+use Rattle.std.specs.Prelude.{⊤, ℕ, ◌+◌, [], ◌∷◌, ◌++◌, List, Option, Some, None, drop, get_or, map, option_map, replicate, slice_get, slice_set}
 use Rattle.qx_types.specs.Managers.{manager_number}
 use Rattle.qx_types.specs.declared.errno.Errno.{Errno}
 use Rattle.qx_types.specs.declared.errno.Errno.TheVariants.{EINTR}
@@ -10,7 +10,7 @@ use Rattle.qx_types.specs.declared.names.Thread.{Thread}
 use Rattle.qx_types.specs.declared.outcome.Answer.{Answer}
 use Rattle.qx_types.specs.declared.outcome.Answer.TheVariants.{Failed}
 use Rattle.qx_types.specs.declared.outcome.Outcome.{Outcome}
-use Rattle.qx_types.specs.declared.outcome.Outcome.TheVariants.{NoPulse, WrongState, Pulse as PulseGiven}
+use Rattle.qx_types.specs.declared.outcome.Outcome.TheVariants.{Done, NoPulse, WrongState, Pulse as PulseGiven}
 use Rattle.qx_machine.specs.declared.rows.Over.{Over}
 use Rattle.qx_machine.specs.declared.rows.Over.TheVariants.{Existing}
 use Rattle.qx_machine.specs.declared.rows.OwnItem.{OwnItem}
@@ -18,12 +18,13 @@ use Rattle.qx_machine.specs.declared.rows.OwnItem.TheVariants as item
 use Rattle.qx_machine.specs.declared.rows.Pulse.{Pulse}
 use Rattle.qx_machine.specs.declared.rows.Queued.{Queued}
 use Rattle.qx_machine.specs.declared.rows.Sent.{Sent}
-use Rattle.qx_machine.specs.Clients.{spawn_number}
-use Rattle.qx_machine.specs.Events.{Events, first_pulse, no_events, without_first_pulse}
+use Rattle.qx_machine.specs.Clients.{dropped, spawn_number, with_abandoned}
+use Rattle.qx_machine.specs.Events.{Events, first_pulse, no_events, without_first_pulse, without_pulses}
 use Rattle.qx_machine.specs.Lines.{into, line_at, with_line}
 use Rattle.qx_machine.specs.Machine.{lines_after, rank}
-use Rattle.qx_machine.specs.Parts.{Remove, disconnects}
-use Rattle.qx_machine.specs.Processes.{Process, after_error, answered_thread, asked_thread, ready_thread, taken_thread, with_queued, with_thread}
+use Rattle.qx_machine.specs.Parts.{Remove, disconnect, disconnects}
+use Rattle.qx_machine.specs.Processes.{Process, after_error, answered_thread, asked_thread, ended, living, lost_servers, ready_thread, taken_thread, with_queued, with_thread}
+use Rattle.qx_machine.specs.Settling.{row_left}
 use Rattle.qx_machine.specs.Waiting.{Pipes, no_pipes}
 use Rattle.qx_machine.specs.Rows.{row_at, with_row}
 use Rattle.qx_procs.specs.Calls.{after_or, spawned, with_prio}
@@ -150,8 +151,36 @@ with_pulse_taken c proc _ _ = c
 
 -- once a process that is there has taken its first pulse, if it has one
 abbrev pub after_pulse : Channel → Proc → Channel
-after_pulse c proc = with_pulse_taken c proc (process_of c.users proc) (first_pulse proc.num (channel_events c proc.user.0))
+after_pulse c proc = with_pulse_taken c proc (living (process_of c.users proc)) (first_pulse proc.num (channel_events c proc.user.0))
 
 -- once a thread has another priority, if that is not refused
 abbrev pub after_ranking : Channel → Thread → ℕ → Channel
 after_ranking c thread prio = record c { users = with_row c.users thread.proc.user.0 (λ processes. after_or processes (with_prio processes thread.proc.num thread.tid prio)) }
+
+-- ---- the end of a process
+
+-- a user's pipes
+abbrev pub channel_pipes : Channel → ℕ → Pipes
+channel_pipes c user = get_or c.pipes user no_pipes
+
+-- the outcome for a process that is to end, where that has not ended
+abbrev pub exit_outcome : Option Process → Outcome
+exit_outcome None = WrongState
+exit_outcome (Some process) = Done
+
+abbrev pub ended_in : Channel → Proc → Option Process → Channel
+ended_in c proc None = c
+ended_in c proc (Some process) = record c {
+  users = with_process_of c.users proc ended;
+  lines = lines_after proc.user.0 c.lines (dropped proc.num 0 process.threads ++ map (disconnect proc.num) (lost_servers process (ended process)));
+  pipes = slice_set c.pipes proc.user.0 (map (option_map (with_abandoned proc.num)) (channel_pipes c proc.user.0));
+  events = slice_set c.events proc.user.0 (without_pulses proc.num (channel_events c proc.user.0));
+}
+
+-- once a process that is there and has not ended does
+abbrev pub after_exit : Channel → Proc → Channel
+after_exit c proc = ended_in c proc (living (process_of c.users proc))
+
+-- once a process that has ended is freed, where no server connection of it is left and no call of it waits
+abbrev pub after_freeing : Channel → Proc → Channel
+after_freeing c proc = record c { users = with_row c.users proc.user.0 (λ processes. slice_set processes proc.num (row_left [] (channel_pipes c proc.user.0) proc.num (row_at processes proc.num))) }

@@ -6,6 +6,7 @@ use Rattle.qx_machine.specs.Notification.{events_settled}
 use Rattle.qx_machine.specs.Parts.{Part}
 use Rattle.qx_machine.specs.Performing.{Served}
 use Rattle.qx_machine.specs.Rows.{row_at, with_row}
+use Rattle.qx_machine.specs.Settling.{is_living}
 use Rattle.qx_resources.specs.State.{told, Kept}
 use Rattle.qx_chan.specs.Channel.{Channel, lists}
 
@@ -20,7 +21,7 @@ part_in c k = option_map (λ processes. record { processes = processes; resource
 
 -- what is served, once the user's events that are due by it have given their pulses
 abbrev pub settled : Part → Served → Served
-settled before given = record given { part = record given.part { resources = record given.part.resources { events = events_settled before.resources given.part.resources } } }
+settled before given = record given { part = record given.part { resources = record given.part.resources { events = events_settled (is_living given.part.processes) before.resources given.part.resources } } }
 
 module _ (c d : Channel) (k l : Kept) (served : Part → Served) where
   -- the user's part and the lines became that, and nothing else is different but the room for nodes

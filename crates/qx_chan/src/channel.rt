@@ -5,7 +5,7 @@
 ghost use Rattle.std.specs.Prelude.{◌≡◌, ◌*◌, ◌<◌, ◌≤◌, Ok, length, max, slice_get, IfOk, IfSome, IsErr, IsOk, IsTrue, OnOk, OnErr};
 ghost use Rattle.std.specs.Option.{option_copied};
 ghost use Rattle.qx_machine.specs.Events.{first_pulse};
-ghost use Rattle.qx_machine.specs.Processes.{without_server};
+ghost use Rattle.qx_machine.specs.Processes.{living};
 ghost use Rattle.qx_machine.specs.Rows.{row_at};
 ghost use Rattle.qx_process.specs.Reads.{CanCall, CanGo, IsPriority, IsRanked};
 ghost use Rattle.qx_procs.specs.Calls.{CanAttachAt, spawn_outcome};
@@ -13,12 +13,12 @@ ghost use Rattle.qx_chan.specs.Calls.{answer_of, queued_call, unasked_call};
 ghost use Rattle.qx_chan.specs.inner.Calls.{taken_call};
 ghost use Rattle.qx_chan.specs.Channel.{IsExisting, after_asking, after_pulse, after_ranking, after_receive, after_send, after_spawn, after_taking, after_withdrawing, channel_events, channel_line, empty_channel, pulse_outcome};
 ghost use Rattle.qx_chan.specs.Nodes.{room_for};
-ghost use Rattle.qx_chan.specs.Users.{IsThreadReady, prio_outcome_in, process_of, spawn_number_in, thread_row, with_process_of};
+ghost use Rattle.qx_chan.specs.Users.{IsThreadReady, prio_outcome_in, process_of, spawn_number_in, thread_row};
 
 use crate::call::{self, Call};
 use crate::servers;
 use crate::users::Users;
-use qx_machine::{OwnItem, Queued, Sent, ServerName, ThreadRow};
+use qx_machine::{OwnItem, Queued, Sent, ThreadRow};
 use qx_process::Process;
 use qx_procs::Processes;
 use qx_resources::Waits;
@@ -210,14 +210,6 @@ impl Channel {
         servers::disconnect(&mut self.waits.shared, thread.proc, lost);
     }
 
-    /// A server connection of a process goes, as the disconnect pulse that was made for it is performed; nothing happens where it
-    /// was not left (Writing a Resource Manager: `_PULSE_CODE_DISCONNECT`).
-    pub fn free_server(&mut self, proc: Proc, server: ServerName)
-        ensures freed { self.new ≡ record self.old { users = with_process_of self.old.users proc (without_server server) } }
-    {
-        self.users.free_server(proc, server);
-    }
-
     /// A thread takes its answer and is ready (C Library Reference: what `MsgSend` returns). None where it is not there or
     /// has none, and then nothing changes.
     pub fn take_reply(&mut self, thread: Thread) -> Option<Answer>
@@ -231,12 +223,12 @@ impl Channel {
     }
 
     /// A process takes its first untaken pulse, which is gone then (C Library Reference: `MsgReceivePulse`). `WrongState` where
-    /// the process is not there, then `NoPulse` where it has none.
+    /// the process is not there or has ended, then `NoPulse` where it has none.
     pub fn take_pulse(&mut self, proc: Proc) -> Outcome
-        ensures outcome { result ≡ pulse_outcome (process_of self.old.users proc) (first_pulse proc.num (channel_events self.old proc.user.0)) }
+        ensures outcome { result ≡ pulse_outcome (living (process_of self.old.users proc)) (first_pulse proc.num (channel_events self.old proc.user.0)) }
         ensures taken { self.new ≡ after_pulse self.old proc }
     {
-        let Some(_) = self.users.process(proc) else {
+        let Some(_) = self.users.living(proc) else {
             return Outcome::WrongState;
         };
         match self.waits.events.take_pulse(proc) {

@@ -3,6 +3,7 @@
 //! - `channel.rt`: `Channel`, with the calls of message passing, and a process that takes a pulse
 //! - `serving.rt`: a received message served by its manager and answered, an unblock pulse performed, and the events that
 //!   are due then
+//! - `ending.rt`: a process that ends, what it has in lines and pipes, and how it is freed
 //! - `answers.rt`: the answers to calls that waited, as their threads get them
 //! - `users.rt`: the processes of all users: a row that is lent, and what a call changes in it
 //! - `call.rt`: the call that a thread waits for: where its message went, its number, and whether it was asked to
@@ -14,7 +15,7 @@
 //! speaks of a node.
 //!
 //! In `proofs/`, that they stand together still is in a file for each call: `StartLemmas.antt`, `SendLemmas.antt`,
-//! `ReceiveLemmas.antt`, `AnswerLemmas.antt`, `AskLemmas.antt`, `GivenLemmas.antt`, `PrioLemmas.antt`; what a process
+//! `ReceiveLemmas.antt`, `AnswerLemmas.antt`, `AskLemmas.antt`, `GivenLemmas.antt`, `PrioLemmas.antt`, `EndLemmas.antt`; what a process
 //! that takes a pulse leaves, in `TakePulseLemmas.antt`. That serving follows the machine: `MessageLemmas.antt`,
 //! `OutcomeLemmas.antt`, `ServeLemmas.antt`, `ServedLemmas.antt`, `PulseLemmas.antt`, and `SettledLemmas.antt` for the
 //! events that are due then. The others stand below these: one row that changes, the calls that wait, what is attached.
@@ -23,6 +24,7 @@
 mod answers;
 mod call;
 pub mod channel;
+pub mod ending;
 mod servers;
 pub mod serving;
 mod users;

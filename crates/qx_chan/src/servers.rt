@@ -1,15 +1,18 @@
 //! The disconnect nodes of server connections, which come with what a process attaches, and go into lines as pulses.
 
 ghost use Rattle.std.specs.Prelude.{◌≡◌, ◌≤◌, IfSome, IsFalse, IsOk, IsTrue, OnOk, OnErr};
+ghost use Rattle.std.specs.List.{flat_map};
 ghost use Rattle.std.specs.Option.{option_to_list};
 ghost use Rattle.qx_types.specs.Managers.{manager_number};
 ghost use Rattle.qx_shared.specs.Shared.{HasThread, has_disconnect_node};
+ghost use Rattle.qx_chan.specs.inner.Ending.{AllHaveNodes};
 ghost use Rattle.qx_chan.specs.inner.Kept.{with_attached, with_lost, with_room};
 ghost use Rattle.qx_chan.specs.Nodes.{attaches, served_at};
 ghost use Rattle.qx_chan.specs.Users.{process_of};
 
 use crate::users::Users;
 use qx_machine::{Over, ServerName, Target};
+use qx_process::LostServers;
 use qx_shared::Shared;
 use qx_types::{Manager, Proc};
 use std::alloc::AllocError;
@@ -43,6 +46,16 @@ pub fn attach(queues: &mut Shared, users: &Users, proc: Proc, target: Target)
         Ok(()) => {}
         Err(_) => unreachable!(),
     }
+}
+
+/// The disconnect pulses of a process that has lost these server connections go into their managers' lines.
+pub fn disconnect_all(queues: &mut Shared, proc: Proc, lost: LostServers)
+    requires there { AllHaveNodes queues.old proc lost }
+    ensures disconnected { queues.new ≡ with_lost proc (flat_map option_to_list lost) queues.old }
+{
+    let [first, second] = lost;
+    disconnect(queues, proc, first);
+    disconnect(queues, proc, second);
 }
 
 /// Whether a process has a server connection in use at a manager.

@@ -6,12 +6,12 @@ ghost use Rattle.qx_types.specs.Managers.{manager_number};
 ghost use Rattle.qx_types.specs.declared.limits.TheConstants.Limits.{BODY};
 ghost use Rattle.qx_wire.specs.Reading as reading;
 ghost use Rattle.qx_machine.specs.Machine.{line_without};
-ghost use Rattle.qx_machine.specs.Performing.{or_kept, serve_message, serve_pulse};
+ghost use Rattle.qx_machine.specs.Performing.{or_kept, serve_disconnect, serve_message, serve_pulse};
 ghost use Rattle.qx_machine.specs.Processes as machine;
 ghost use Rattle.qx_machine.specs.Processes.{served_thread};
 ghost use Rattle.qx_machine.specs.Wants.{bytes_want_memory, thread_wants_memory};
 ghost use Rattle.qx_machine.specs.declared.rows.OwnItem.TheVariants as item;
-ghost use Rattle.qx_machine.specs.declared.rows.ServerName.{ServerName};
+ghost use Rattle.qx_machine.specs.declared.rows.ServerName.{ServerName as AnyServer};
 ghost use Rattle.qx_process.specs.Reads.{is_waiting};
 ghost use Rattle.qx_queues.specs.Queues.{unblock_call};
 ghost use Rattle.qx_shared.specs.Shared.{IsReceived, shared_line};
@@ -25,7 +25,7 @@ ghost use Rattle.qx_chan.specs.Calls.{taken_of};
 ghost use Rattle.qx_chan.specs.Serving.{IsReadOf, Serves, part_in, settled};
 ghost use Rattle.qx_chan.specs.inner.Kept.{HasServerNodes};
 ghost use Rattle.qx_chan.specs.inner.Serving.{Comes, Sends, caller_of_call, deed_in};
-ghost use Rattle.qx_chan.specs.Users.{process_of, thread_row, with_thread_row};
+ghost use Rattle.qx_chan.specs.Users.{lives_in, process_of, thread_row, with_thread_row};
 
 use crate::answers::give_answers;
 use crate::call::{Call, Replied, TakenMessage};
@@ -33,13 +33,13 @@ use crate::channel::Channel;
 use crate::servers;
 use crate::users::Users;
 use qx_attr::Reply;
-use qx_machine::Caller;
+use qx_machine::{Caller, Client, ServerName};
 use qx_process::Room;
 use qx_process::room::reply_bytes;
 use qx_resmgr::Done;
 use qx_resources::{Resources, Waits, context_of};
 use qx_shared::Shared;
-use qx_types::{Errno, MessageBytes, Thread};
+use qx_types::{Errno, MessageBytes, Proc, Thread};
 use qx_wire::{Meaning, Parsed, meaning};
 use std::alloc::AllocError;
 
@@ -88,13 +88,43 @@ impl Channel {
         ensures cancelled { Serves self.old self.new resources.old resources.new (λ part. settled part (or_kept part (serve_pulse part thread.proc.num thread.tid call moment))) }
         ensures room { self.new.room ≡ self.old.room }
     {
-        let Some(_) = self.users.processes(thread.proc.user) else {
+        let Some(processes) = self.users.processes(thread.proc.user) else {
             return;
         };
         let waits = &mut self.waits;
         let watched = resources.watch_call(waits, thread, call);
         resources.cancel(waits, thread, call, moment);
-        resources.trigger(waits, watched);
+        resources.trigger(waits, processes, watched);
+        give_answers(&mut self.users, &mut waits.shared);
+    }
+
+    /// The disconnect pulse of a process' server connection is performed: the open control blocks go that are open over it still,
+    /// and then it goes itself; calls that waited and can be answered by that are, and the user's events that are due give
+    /// their pulses (Writing a Resource Manager: `_PULSE_CODE_DISCONNECT`). Nothing happens where the process is not there.
+    pub fn disconnect(
+        &mut self,
+        resources: &mut Resources,
+        proc: Proc,
+        server: ServerName,
+        moment: u64,
+    )
+        requires user { resources.old.user ≡ proc.user.0 }
+        ensures disconnected { Serves self.old self.new resources.old resources.new (λ part. settled part (or_kept part (serve_disconnect part (record { process = proc.num; server = server }) moment))) }
+        ensures room { self.new.room ≡ self.old.room }
+    {
+        let Some(processes) = self.users.processes(proc.user) else {
+            return;
+        };
+        if processes.process(proc.num).is_none() {
+            return;
+        }
+        let client = Client {
+            process: proc.num,
+            server,
+        };
+        let waits = &mut self.waits;
+        resources.disconnect(waits, processes, client, moment);
+        self.users.free_server(proc, server);
         give_answers(&mut self.users, &mut waits.shared);
     }
 }
@@ -116,7 +146,7 @@ fn perform(
     requires received { IsReceived waits.old.shared message.thread }
     requires read { IsReadOf (option_copied read) (taken_of (thread_row users.old message.thread)) }
     ensures served { OnOk result (users.new ≡ with_thread_row users.old message.thread served_thread) }
-    ensures did { (process : machine.Process) (bytes : List ℕ) → Sends users.old message.thread process bytes → IfOk result (λ given. Comes resources.old waits.old resources.new waits.new reply.new given.0 (deed_in resources.old waits.old process message bytes)) }
+    ensures did { (process : machine.Process) (bytes : List ℕ) → Sends users.old message.thread process bytes → IfOk result (λ given. Comes (lives_in users.old message.thread.proc.user.0) resources.old waits.old resources.new waits.new reply.new given.0 (deed_in resources.old waits.old process message bytes)) }
     ensures room { IfOk result (λ given. IsReplied given.0 → IsSome given.1) }
     ensures err { OnErr result ((users.new ≡ users.old) × (waits.new ≡ waits.old) × (resources.new ≡ resources.old)) }
     ensures wanted { (process : machine.Process) (bytes : List ℕ) → Sends users.old message.thread process bytes → OnErr result (IsTrue (bytes_want_memory message.call.target.manager (told resources.old waits.old) (reading.meaning bytes) (deed_in resources.old waits.old process message bytes))) }
@@ -136,7 +166,10 @@ fn perform(
     let watched = resources.watch_message(waits, &meaning, context.opened);
     match resources.perform(waits, context, meaning, reply, &mut room) {
         Ok(given) => {
-            resources.trigger(waits, watched);
+            let Some(processes) = users.processes(thread.proc.user) else {
+                unreachable!();
+            };
+            resources.trigger(waits, processes, watched);
             Ok((given, room))
         }
         Err(error) => {
@@ -166,7 +199,7 @@ fn answer(
     requires nodes { HasServerNodes users.old queues.old message.thread.proc }
     ensures users { users.new ≡ answered_users users.old message.thread message.call.target.over reply.now given }
     ensures queues { queues.new ≡ answered_queues queues.old users.old users.new message.thread message.call given }
-    ensures lost { IsReplied given → (lost : Option ServerName) × LosesAt lost (process_of users.old message.thread.proc) (process_of users.new message.thread.proc) }
+    ensures lost { IsReplied given → (lost : Option AnyServer) × LosesAt lost (process_of users.old message.thread.proc) (process_of users.new message.thread.proc) }
     ensures gone { IsReplied given → unblock_call (shared_line queues.old (manager_number message.call.target.manager)) message.thread ≡ Some message.call.number → unblock_call (line_without message.thread.proc.user.0 (item.Unblock message.thread.proc.num message.thread.tid message.call.number) (shared_line queues.old (manager_number message.call.target.manager))) message.thread ≡ None }
 {
     let TakenMessage { thread, call, .. } = message;

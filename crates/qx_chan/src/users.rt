@@ -1,15 +1,15 @@
 //! The processes of all users, from 1: a place for each number.
 
-ghost use Rattle.std.specs.Prelude.{◌≡◌, ◌≤◌, IfOk, IfSome, IsOk, IsSome, IsTrue, OnOk, OnErr, OnSome, Some};
+ghost use Rattle.std.specs.Prelude.{◌≡◌, ◌+◌, ◌≤◌, IfOk, IfSome, IsOk, IsSome, IsTrue, OnOk, OnErr, OnSome, None, Some, length, slice_set};
 ghost use Rattle.std.specs.Option.{option_copied, option_copied_mut};
 ghost use Rattle.std.specs.Borrow.{sem};
 ghost use Rattle.qx_types.specs.declared.limits.TheConstants.Limits.{PROCESSES};
 ghost use Rattle.qx_types.specs.declared.outcome.Answer.TheVariants.{Failed, Reply};
 ghost use Rattle.qx_machine.specs.Clients.{spawn_number};
-ghost use Rattle.qx_machine.specs.Processes.{answered_thread, asked_thread, served_thread, taken_thread, with_queued, without_server};
+ghost use Rattle.qx_machine.specs.Processes.{answered_thread, asked_thread, ended, living, served_thread, taken_thread, with_queued, without_server};
 ghost use Rattle.qx_machine.specs.Rows.{row_at, with_row};
 ghost use Rattle.qx_process.specs.Reads.{unserved_thread, BringsRoom, CanCall, CanGo, IsRanked, has_own_room};
-ghost use Rattle.qx_procs.specs.Calls.{CanAttachAt, LosesAt, spawned};
+ghost use Rattle.qx_procs.specs.Calls.{CanAttachAt, EndsAt, LosesAt, spawned};
 ghost use Rattle.qx_chan.specs.inner.Calls.{taken_bytes};
 ghost use Rattle.qx_chan.specs.Channel.{failed};
 ghost use Rattle.qx_chan.specs.inner.Channel.{process_replied};
@@ -18,7 +18,7 @@ ghost use Rattle.qx_chan.specs.Users.{UsesAt, no_processes, process_of, thread_r
 
 use crate::call::Replied;
 use qx_machine::{Over, Sent, ServerName, ThreadRow};
-use qx_process::{Process, Room, ThreadCell, places};
+use qx_process::{LostServers, Process, Room, ThreadCell, places};
 use qx_procs::Processes;
 use qx_types::{Answer, Errno, MessageBytes, Prio, Proc, Thread, User};
 use std::alloc::{AllocError, Global};
@@ -74,6 +74,14 @@ impl Users {
         ensures within { OnSome result (proc.num ≤ PROCESSES) }
     {
         self.processes(proc.user)?.process(proc.num)
+    }
+
+    /// A process that has not ended.
+    pub fn living(&self, proc: Proc) -> Option<&Process>
+        ensures row { option_copied result ≡ living (process_of self.now proc) }
+        ensures within { OnSome result (proc.num ≤ PROCESSES) }
+    {
+        self.processes(proc.user)?.living(proc.num)
     }
 
     /// A process, for writing.
@@ -224,6 +232,28 @@ impl Users {
     {
         self.process_mut(thread.proc)?
             .fail(thread.tid, over, error, room)
+    }
+
+    /// A process ends; gives the server connections that it has lost with that.
+    #[tactic(auto, using(crate::proofs::ProcessLemmas::lends))]
+    pub fn end(&mut self, alloc: Global, proc: Proc) -> LostServers
+        ensures ended { self.new ≡ with_process_of self.old proc ended }
+        ensures lost { EndsAt result (process_of self.old proc) (process_of self.new proc) }
+    {
+        match self.process_mut(proc) {
+            Some(process) => process.end(alloc),
+            None => LostServers::default(),
+        }
+    }
+
+    /// A process goes, and its number is free.
+    #[tactic(auto, using(crate::proofs::ProcessLemmas::lends))]
+    pub fn free_ended(&mut self, proc: Proc)
+        ensures freed { self.new ≡ with_row self.old proc.user.0 (λ processes. slice_set processes proc.num None) }
+    {
+        if let Some(processes) = self.processes_mut(proc.user) {
+            processes.free_ended(proc.num);
+        }
     }
 
     /// A server connection of a process that was left goes.

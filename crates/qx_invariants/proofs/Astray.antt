@@ -14,12 +14,14 @@ use Rattle.qx_machine.specs.Names.{under}
 use Rattle.qx_machine.specs.Pipes.{Pipe, pipe_of}
 use Rattle.qx_machine.specs.Resources.{Resources}
 use Rattle.qx_machine.specs.Rows.{put_row, row_at, with_row}
-use Rattle.qx_machine.specs.Waiting.{is_over}
+use Rattle.qx_machine.specs.Waiting.{is_gone, is_over}
 use Rattle.qx_machine.proofs.Places.{row_at-set_other}
-use Rattle.qx_invariants.specs.Changes.{ResourceChange, Closes, Comes, Fills, IsOwnInode, MayHappen, Moves, Opens, Unlinks, with_change, with_moved, with_named, with_unlinked}
+use Rattle.qx_invariants.specs.Changes.{Abandons, ResourceChange, Closes, Comes, Fills, IsMoved, IsOwnInode, MayHappen, Moves, Opens, Unlinks, moved, with_change, with_moved, with_named, with_opened, with_unlinked}
 use Rattle.qx_invariants.specs.Holds.{HasContents, HasOpenWaiters, HasRoom}
 use Rattle.qx_invariants.specs.Waits.{is_astray, count_waiting_in}
-use Rattle.qx_invariants.proofs.Rows.{content_cases, empty_cases, freed, block_is_new, not_open, put_other, same_open, unused_cases, with_row-at, with_row-other}
+use Rattle.qx_invariants.proofs.Calls.{abandoned_part, removed_fewer}
+use Rattle.qx_invariants.proofs.Counts.{abandoned_waiting}
+use Rattle.qx_invariants.proofs.Rows.{abandoned-at, content_cases, empty_cases, freed, block_is_new, not_open, put_other, same_open, unused_cases, with_row-at, with_row-other}
 use Rattle.qx_invariants.proofs.Contents.{no_size, none_fits, own_directory, own_file}
 use Rattle.qx_invariants.proofs.Named.{unused_there}
 
@@ -111,7 +113,7 @@ module _ (r : Resources) (h : HasOpenWaiters r) where
         | inr differ ↦ sym (same_row m call differ) ∙ is
       ]
 
-  opened_astray : (number : ℕ) (block : Ocb) → row_at r.inodes.blocks number ≡ None → number ≤ length r.inodes.blocks → HasOpenWaiters (record r { inodes = record r.inodes { blocks = put_row r.inodes.blocks number block } })
+  opened_astray : (number : ℕ) (block : Ocb) → row_at r.inodes.blocks number ≡ None → number ≤ length r.inodes.blocks → HasOpenWaiters (with_opened number block r)
   opened_astray number block free within = record {
     none_astray = λ m. none_waits _ (is_astray r.inodes.blocks m) (is_astray r.inodes.blocks m) (λ call is. inl (before m call is)) (row_at r.pipes m) (h.none_astray m) (h.none_astray m);
   }
@@ -122,7 +124,7 @@ module _ (r : Resources) (h : HasOpenWaiters r) where
         | inr apart ↦ ap (λ row. not (is_open (λ flags. true) m row)) (sym (put_other r.inodes.blocks number block within call.block apart)) ∙ is
       ]
 
-  moved_astray : (number : ℕ) (change : Ocb → Ocb) → MayHappen (Moves number change) r → HasOpenWaiters (with_moved number change r)
+  moved_astray : (number : ℕ) (change : Ocb → Ocb) → ((block : Ocb) → row_at r.inodes.blocks number ≡ Some block → IsMoved block (change block)) → HasOpenWaiters (with_moved number change r)
   moved_astray number change may = record {
     none_astray = λ m. none_waits _ (is_astray r.inodes.blocks m) (is_astray r.inodes.blocks m) (λ call is. inl (sym (same m call) ∙ is)) (row_at r.pipes m) (h.none_astray m) (h.none_astray m);
   }
@@ -153,13 +155,19 @@ pub astray-keeps : (change : ResourceChange) (r : Resources) → MayHappen chang
 astray-keeps (Comes inode directory name kind mode moment) r may room contents h =
     empty_cases HasOpenWaiters kind inode (with_named inode (under directory name) (new_attribute kind mode r.user moment) r) (λ is. record { none_astray = h.none_astray })
     (λ is. record { none_astray = (set_astray r h inode (Some (pipe_of [] [] [])) refl).none_astray }) (λ is. record { none_astray = h.none_astray })
-astray-keeps (Opens number block) r may room contents h = let new = block_is_new r.inodes number room.some_blocks may.0 in opened_astray r h number block new.free new.within
-astray-keeps (Moves number change) r may room contents h = moved_astray r h number change may
+astray-keeps (Opens number block at) r may room contents h = let new = block_is_new r.inodes number room.some_blocks may.0 in opened_astray r h number block new.free new.within
+astray-keeps (Moves number move) r may room contents h = moved_astray r h number (moved move) may
 astray-keeps (Fills inode moment after came) r may room contents h =
     let before : count_waiting_in (is_astray r.inodes.blocks inode) (Some may.pipe) ≡ 0 = ap (count_waiting_in (is_astray r.inodes.blocks inode)) (sym may.there) ∙ h.none_astray inode in
     let once = may.once (is_astray r.inodes.blocks inode) in
+    let left = removed_fewer is_gone (is_astray r.inodes.blocks inode) may.pipe in
     let over = may.over in
-    record { none_astray = (set_astray r h inode (Some after.pipe) (omega (arith, before, once, over))).none_astray }
+    record { none_astray = (set_astray r h inode (Some after.pipe) (omega (arith, before, once, left, over))).none_astray }
 astray-keeps (Unlinks own directory name inode mtime ctime) r may room contents h = unused_astray (with_unlinked inode (under directory name) mtime ctime r) (record { none_astray = h.none_astray }) own inode
-astray-keeps (Closes own number block) r may room contents h = unused_astray (without_block number r) (closed_astray r h number block may.0 (nobody_over own r number block.inode contents may.1 may.2)) own block.inode
+astray-keeps (Closes own number block parting) r may room contents h = unused_astray (without_block number r) (closed_astray r h number block may.0 (nobody_over own r number block.inode contents may.1 may.2)) own block.inode
+astray-keeps (Abandons process) r may room contents h = record {
+  none_astray = λ inode.
+      ap (count_waiting_in (is_astray r.inodes.blocks inode)) (abandoned-at process r.pipes inode)
+      ∙ (abandoned_waiting process (is_astray r.inodes.blocks inode) (is_astray r.inodes.blocks inode) (λ call. abandoned_part process call (is_astray r.inodes.blocks inode) refl) (row_at r.pipes inode) ∙ h.none_astray inode);
+}
 astray-keeps _ r may room contents h = record { none_astray = h.none_astray }

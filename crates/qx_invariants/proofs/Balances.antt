@@ -1,6 +1,6 @@
 -- How many calls wait after a change, with those that it answers: as many as waited and came. And which threads wait, once threads have changed or calls were answered.
-use Rattle.std.proofs.Common.{◌≡◌, ℕ, ◌+◌, Bool, [], ◌∷◌, refl, sym, ap, ◌∙◌, arith, zero, suc, get_or, cond, ◌≢◌, ◌⊎◌, inl, inr, ◌<◌, ◌≤◌, ◌==◌, ◌&&◌, true, false, List}
-use Rattle.std.specs.Prelude.{Option, Some, None, slice_set, option_map, replicate}
+use Rattle.std.proofs.Common.{◌≡◌, ℕ, ◌+◌, Bool, [], ◌∷◌, refl, sym, ap, ◌∙◌, arith, zero, suc, get_or, cond, ◌≢◌, ◌⊎◌, inl, inr, ◌<◌, ◌≤◌, ◌==◌, ◌&&◌, ◌++◌, true, false, List, length}
+use Rattle.std.specs.Prelude.{Option, Some, None, not, slice_set, option_map, replicate}
 use Rattle.std.specs.List.{count_by}
 use Rattle.std.proofs.lemmas.List.Sums.{sum_by-append, sum_by-cons, sum_by-set}
 use Rattle.std.proofs.lemmas.Option.{unwrap_or-slice_get}
@@ -13,17 +13,19 @@ use Rattle.qx_machine.specs.Names.{under}
 use Rattle.qx_machine.specs.Pipes.{Pipe, pipe_of}
 use Rattle.qx_machine.specs.Resources.{Resources}
 use Rattle.qx_machine.specs.Rows.{row_at, put_row, with_row}
-use Rattle.qx_machine.specs.Waiting.{Pipes}
-use Rattle.qx_invariants.specs.Changes.{ResourceChange, Closes, Comes, Fills, MayHappen, Unlinks, with_change, with_named, with_unlinked}
+use Rattle.qx_machine.specs.Waiting.{Pipes, is_gone}
+use Rattle.qx_invariants.specs.Changes.{Abandons, ResourceChange, Closes, Comes, Fills, MayHappen, Mounts, Unlinks, with_change, with_named, with_unlinked}
 use Rattle.qx_invariants.specs.Holds.{HasOpenWaiters, size_if}
-use Rattle.qx_invariants.specs.Waits.{count_answers_to, count_waiting, count_waiting_in, count_waiting_of, is_of, waits, count_state_waiting}
+use Rattle.qx_invariants.specs.Waits.{count_answers_to, count_waiting, count_waiting_in, count_waiting_of, is_ended, is_of, though_gone, unless_gone, waits, count_state_waiting}
 use Rattle.qx_invariants.proofs.Astray.{closed_astray, nobody_over, nobody_unused}
 use Rattle.qx_attr.proofs.CountLemmas.{within_table}
 use Rattle.qx_invariants.proofs.Rows.{content_cases, empty_cases, freed, inode_is_new, unused_cases, with_row-at, with_row-other}
+use Rattle.qx_invariants.proofs.Calls.{removed_none, removed_same}
 use Rattle.qx_invariants.proofs.Contents.{none_fits}
-use Rattle.qx_invariants.proofs.Deeds.{Told, told_by}
+use Rattle.qx_invariants.proofs.Told.{Told, nothing, told_by}
 use Rattle.qx_invariants.proofs.Together.{Holds, holds-keep}
-use Rattle.std.proofs.lemmas.Bool.{cases_eq, eq-eqb, ne_eqb}
+use Rattle.std.proofs.Math.ListN.{length-set}
+use Rattle.std.proofs.lemmas.Bool.{cases_eq, eq-eqb, eqb-true, ne_eqb}
 use Rattle.qx_machine.specs.declared.rows.State.{State}
 use Rattle.qx_machine.specs.declared.rows.ThreadRow.{ThreadRow}
 use Rattle.qx_machine.specs.Parts.{Part, thread_at, thread_of, with_process}
@@ -47,7 +49,7 @@ set_same which (place ∷ pipes) (suc n) row same =
     let rest = set_same which pipes n row same in
     omega (arith, now, was, rest)
 
-set_other : (which : WaitingCall → Bool) (pipes : Pipes) (n : ℕ) (was now : Pipe WaitingCall) → row_at pipes n ≡ Some was → count_waiting which (slice_set pipes n (Some now)) + count_waiting_of which was ≡ count_waiting which pipes + count_waiting_of which now
+pub set_other : (which : WaitingCall → Bool) (pipes : Pipes) (n : ℕ) (was now : Pipe WaitingCall) → row_at pipes n ≡ Some was → count_waiting which (slice_set pipes n (Some now)) + count_waiting_of which was ≡ count_waiting which pipes + count_waiting_of which now
 set_other which pipes n was now is =
     let set = sum_by-set (count_waiting_in which) pipes n (Some now) None (within_table pipes n was is) in
     let before : count_waiting_in which (get_or pipes n None) ≡ count_waiting_of which was = ap (count_waiting_in which) (sym (unwrap_or-slice_get pipes n None) ∙ is) in
@@ -61,17 +63,38 @@ unused_same own inode r h which =
     (λ is. set_same which r.pipes inode None (sym (nobody_unused r h inode gone which))) (λ is. refl))
     (λ stays. refl)
 
--- as many calls wait, with those that were answered, as waited at first and came
+-- of those whose process has not ended as many wait, with those that were answered, as waited at first and came; and of the others no more
+pub record IsBalance (first now : Pipes) (answers : List (WaitingCall × Answer)) (came : List WaitingCall) : Type 0 where
+  pub here : (which : WaitingCall → Bool) → count_answers_to (unless_gone which) answers + count_waiting (unless_gone which) now ≡ count_waiting (unless_gone which) first + count_by (unless_gone which) came
+  pub gone : (which : WaitingCall → Bool) → count_answers_to (though_gone which) answers + count_waiting (though_gone which) now ≤ count_waiting (though_gone which) first + count_by (though_gone which) came
+
+-- so it is while nothing happens but by deeds
 abbrev pub Balance : Resources → Resources → Told → Type 0
-Balance first r told = (which : WaitingCall → Bool) → count_answers_to which told.answers + count_waiting which r.pipes ≡ count_waiting which first.pipes + count_by which told.came
+Balance first r told = told.others ≡ [] → IsBalance first.pipes r.pipes told.answers told.came
 
 -- all that holds, and that
 pub record Balanced (first r : Resources) (told : Told) : Type 0 where
   pub holds : Holds r
   pub balance : Balance first r told
 
+pub balanced_first : (r : Resources) → Holds r → Balanced r r nothing
+balanced_first r h = record { holds = h; balance = λ none. record { here = λ which. omega arith; gone = λ which. omega arith } }
+
 same_balance : (first r now : Resources) (told : Told) → ((which : WaitingCall → Bool) → count_waiting which now.pipes ≡ count_waiting which r.pipes) → Balance first r told → Balance first now told
-same_balance first r now told same balance which = let before = balance which in let alike = same which in omega (arith, before, alike)
+same_balance first r now told same balance none =
+    let before = balance none in
+    record {
+      here = λ which. let waited = before.here which in let alike = same (unless_gone which) in omega (arith, waited, alike);
+      gone = λ which. let waited = before.gone which in let alike = same (though_gone which) in omega (arith, waited, alike);
+    }
+
+not_here : (which gone : Bool) → gone ≡ true → (which && not gone) ≡ false
+not_here true gone is = ap not is
+not_here false gone is = refl
+
+not_gone : (which gone : Bool) → gone ≡ false → (which && gone) ≡ false
+not_gone true gone is = is
+not_gone false gone is = refl
 
 balance-keeps : (first : Resources) (change : ResourceChange) (r : Resources) (told : Told) → MayHappen change r → Holds r → Balance first r told → Balance first (with_change change r) (told_by change told)
 balance-keeps first (Comes inode directory name which mode moment) r told may h balance =
@@ -80,17 +103,33 @@ balance-keeps first (Comes inode directory name which mode moment) r told may h 
   where
     none : row_at r.pipes inode ≡ None
     none = none_fits kind.Pipe _ (row_at r.pipes inode) (h.contents.pipes inode ∙ ap (size_if kind.Pipe) (inode_is_new r.inodes inode h.room.some_inodes may.0).free)
-balance-keeps first (Fills inode moment after came) r told may h balance = λ which.
-    let before = balance which in
-    let once = may.once which in
-    let set = set_other which r.pipes inode may.pipe after.pipe may.there in
-    let answers = sum_by-append (λ (answer : WaitingCall × Answer). cond (which answer.0) 1 0) told.answers after.answers in
-    let calls = sum_by-append (λ call. cond (which call) 1 0) told.came came in
-    omega (arith, before, once, set, answers, calls)
+balance-keeps first (Fills inode moment after came) r told may h balance = λ none.
+    let before = balance none in
+    record {
+      here = λ which.
+          let waited = before.here which in
+          let left = removed_same is_gone (unless_gone which) (λ call is. not_here (which call) (is_gone call) is) may.pipe in
+          omega (arith, waited, left, may.once (unless_gone which), set (unless_gone which), answers (unless_gone which), calls (unless_gone which));
+      gone = λ which.
+          let waited = before.gone which in
+          let left = removed_none is_gone (though_gone which) (λ call is. not_gone (which call) (is_gone call) is) may.pipe in
+          omega (arith, waited, left, may.once (though_gone which), set (though_gone which), answers (though_gone which), calls (though_gone which));
+    }
+  where
+    set : (which : WaitingCall → Bool) → count_waiting which (slice_set r.pipes inode (Some after.pipe)) + count_waiting_of which may.pipe ≡ count_waiting which r.pipes + count_waiting_of which after.pipe
+    set which = set_other which r.pipes inode may.pipe after.pipe may.there
+
+    answers : (which : WaitingCall → Bool) → count_answers_to which (told.answers ++ after.answers) ≡ count_answers_to which told.answers + count_answers_to which after.answers
+    answers which = sum_by-append (λ (answer : WaitingCall × Answer). cond (which answer.0) 1 0) told.answers after.answers
+
+    calls : (which : WaitingCall → Bool) → count_by which (told.came ++ came) ≡ count_by which told.came + count_by which came
+    calls which = sum_by-append (λ call. cond (which call) 1 0) told.came came
 balance-keeps first (Unlinks own directory name inode mtime ctime) r told may h balance =
     same_balance first r (without_unused own inode (with_unlinked inode (under directory name) mtime ctime r)) told (unused_same own inode (with_unlinked inode (under directory name) mtime ctime r) (record { none_astray = h.waiters.none_astray })) balance
-balance-keeps first (Closes own number block) r told may h balance =
+balance-keeps first (Closes own number block parting) r told may h balance =
     same_balance first r (without_unused own block.inode (without_block number r)) told (unused_same own block.inode (without_block number r) (closed_astray r h.waiters number block may.0 (nobody_over own r number block.inode h.contents may.1 may.2))) balance
+balance-keeps first (Mounts mount) r told may h balance = λ none. absurd (cc)
+balance-keeps first (Abandons process) r told may h balance = λ none. absurd (cc)
 balance-keeps first _ r told may h balance = balance
 
 pub balanced-keeps : (first : Resources) (change : ResourceChange) (r : Resources) (told : Told) → MayHappen change r → Balanced first r told → Balanced first (with_change change r) (told_by change told)
@@ -199,6 +238,37 @@ module _ (process thread : ℕ) where
       by (inr other) (inl none) = let zeros : one (is_of process thread call) ≡ 0 = ap one other.0 in inl (omega (arith, zeros, none.0, first_count call given answers), none.1 ∙ ap waits other.1)
       by (inr other) (inr some) = let more = some.0 in inr (omega (arith, more, first_count call given answers), some.1)
 
+-- ---- processes that have ended
+
+-- such a process has no thread
+pub ended_nobody : (row : Option Process) (t : ℕ) → is_ended row ≡ true → thread_of t row ≡ None
+ended_nobody None t is = refl
+ended_nobody (Some process) t is = by process.threads is
+  where
+    by : (threads : List (Option ThreadRow)) → (length threads == 0) ≡ true → row_at threads t ≡ None
+    by [] is = refl
+    by (row ∷ threads) is = let none = eqb-true (length (row ∷ threads)) 0 is in absurd (omega (arith, none))
+
+-- one that changes and has as many threads has ended as before
+pub ended_same : (part : Part) (number : ℕ) (f : Process → Process) → ((process : Process) → length (f process).threads ≡ length process.threads) → (p : ℕ) → is_ended (row_at (with_process number f part).processes p) ≡ is_ended (row_at part.processes p)
+ended_same part number f same p = elim (cases_eq p number) [
+  | inl is ↦ ap (λ n. is_ended (row_at (with_row part.processes number f) n)) is ∙ (ap is_ended (with_row-at part.processes number f) ∙ (by (row_at part.processes number) ∙ ap (λ n. is_ended (row_at part.processes n)) (sym is)))
+  | inr apart ↦ ap is_ended (with_row-other part.processes number f p apart)
+]
+  where
+    by : (row : Option Process) → is_ended (option_map f row) ≡ is_ended row
+    by None = refl
+    by (Some process) = ap (λ n. n == 0) (same process)
+
+-- a thread that changes is there still
+pub same_threads : (thread : ℕ) (change : ThreadRow → ThreadRow) (f : Process → Process) → ChangesThread thread change f → (process : Process) → length (f process).threads ≡ length process.threads
+same_threads thread change f changes process = ap (λ threads. length threads) (changes process) ∙ length-set process.threads thread (option_map change (row_at process.threads thread))
+
+pub ended_answers : (answers : List (WaitingCall × Answer)) (part : Part) (p : ℕ) → is_ended (row_at (with_answers answers part).processes p) ≡ is_ended (row_at part.processes p)
+ended_answers [] part p = refl
+ended_answers ((call, given) ∷ answers) part p =
+    ended_answers answers (with_answer (call, given) part) p ∙ ended_same part call.process (with_thread call.thread (answered_thread given)) (same_threads call.thread (answered_thread given) (with_thread call.thread (answered_thread given)) (λ process. refl)) p
+
 -- ---- a process comes
 
 ready_all : (threads prio t : ℕ) → waits (row_at (replicate threads (Some (new_thread prio))) t) ≡ 0
@@ -215,3 +285,13 @@ after_spawn part number threads prio free p t = elim (row-put part.processes num
   | inl same ↦ ap (λ row. waits (thread_of t row)) same
   | inr new ↦ ap (λ row. waits (thread_of t row)) new.0 ∙ (nobody_new threads prio t ∙ ap (λ row. waits (thread_of t row)) (sym new.1))
 ]
+
+-- it has not ended
+pub spawn_ended : (part : Part) (number threads prio : ℕ) → row_at part.processes number ≡ None → (p : ℕ) → is_ended (row_at (put_row part.processes number (new_process threads prio)) p) ≡ is_ended (row_at part.processes p)
+spawn_ended part number threads prio free p = elim (row-put part.processes number (new_process threads prio) free p) [
+  | inl same ↦ ap is_ended same
+  | inr new ↦ ap is_ended new.0 ∙ (some (replicate threads (Some (new_thread prio))) ∙ ap is_ended (sym new.1))
+]
+  where
+    some : (rows : List (Option ThreadRow)) → (length (None ∷ rows) == 0) ≡ false
+    some rows = ne_eqb (length (None ∷ rows)) 0 (λ none. omega (arith, none))

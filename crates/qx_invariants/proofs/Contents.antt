@@ -7,6 +7,7 @@ use Rattle.qx_types.specs.declared.limits.TheConstants.Limits.{INODES, FILE, FIL
 use Rattle.qx_machine.specs.declared.rows.Attribute.{Attribute}
 use Rattle.qx_machine.specs.declared.rows.Kind.{Kind}
 use Rattle.qx_machine.specs.declared.rows.WaitingCall.{WaitingCall}
+use Rattle.qx_machine.specs.Clients.{with_abandoned}
 use Rattle.qx_machine.specs.Defaults.{is_own, without_block, without_unused}
 use Rattle.qx_machine.specs.Inodes.{new_attribute}
 use Rattle.qx_machine.specs.Names.{Names, is_same_kind, under}
@@ -16,11 +17,12 @@ use Rattle.qx_machine.specs.Resources.{Resources, resized, with_empty, without_c
 use Rattle.qx_machine.specs.Rows.{put_row, row_at, with_row}
 use Rattle.qx_machine.specs.Waiting.{is_written, offered}
 use Rattle.qx_machine.proofs.Places.{row_at-set_other, row_at-set_cases}
-use Rattle.qx_invariants.specs.Changes.{ResourceChange, Closes, Comes, Fills, IsOwnInode, MayHappen, Mounts, Touches, Unlinks, Writes, with_change, without_link, with_changed, with_unlinked, with_named, IsPipeSettled}
+use Rattle.qx_invariants.specs.Changes.{Abandons, ResourceChange, Closes, Comes, Fills, IsOwnInode, MayHappen, Mounts, Touches, Unlinks, Writes, with_change, without_link, with_changed, with_unlinked, with_named, IsPipeSettled}
 use Rattle.qx_invariants.specs.Holds.{HasContents, HasRoom, size_if, HasLimits, HasSettledPipes}
 use Rattle.qx_attr.proofs.CountLemmas.{within_table}
 use Rattle.qx_iofunc.proofs.PlaceLemmas.{put_at, row-freed, set_at}
-use Rattle.qx_invariants.proofs.Rows.{IsNew, freed, inode_is_new, put_other, some-is, the-some, unused_cases, with_row-at, with_row-other, filled-kind, content_cases, empty_cases}
+use Rattle.qx_invariants.proofs.Calls.{abandoned_rests}
+use Rattle.qx_invariants.proofs.Rows.{IsNew, abandoned-at, freed, mapped-was, inode_is_new, put_other, some-is, the-some, unused_cases, with_row-at, with_row-other, filled-kind, content_cases, empty_cases}
 use Rattle.std.proofs.lemmas.List.Sums.{sum_by-cons}
 use Rattle.std.proofs.lemmas.Option.{same_Some}
 use Rattle.qx_machine.specs.Files.{Files, size_of, total_size}
@@ -145,6 +147,11 @@ there_kind which size rows attributes fit inode there a is = by (is_same_kind wh
 filled-size : (moment : ℕ) (after : PipeAfter WaitingCall) (a : Attribute) → is_same_kind kind.Pipe a.kind ≡ true → (filled moment after a).size ≡ length after.pipe.bytes
 filled-size moment after a is = rw is (cond_both (list_any (λ answer. is_written (offered answer.0) answer.1) after.answers) _ _ (λ (now : Attribute). now.size ≡ length after.pipe.bytes) (λ is. refl) (λ is. refl))
 
+-- as many bytes stand as a process ends
+same_bytes : (process : ℕ) (row : Option (Pipe WaitingCall)) → option_map (λ (pipe : Pipe WaitingCall). length pipe.bytes) (option_map (with_abandoned process) row) ≡ option_map (λ (pipe : Pipe WaitingCall). length pipe.bytes) row
+same_bytes process None = refl
+same_bytes process (Some pipe) = refl
+
 -- ---- what happens
 
 module _ (r : Resources) (h : HasContents r) where
@@ -210,9 +217,13 @@ contents-keep (Unlinks own directory name inode mtime ctime) r may room h =
     let owned = may.2 in
     unused_contents (with_unlinked inode (under directory name) mtime ctime r) (record { files = less.files; pipes = less.pipes }) own inode
     (record { attribute = without_link mtime ctime owned.attribute; there = with_row-at r.inodes.attributes inode (without_link mtime ctime) ∙ ap (option_map (without_link mtime ctime)) owned.there; owned = owned.owned })
-contents-keep (Closes own number block) r may room h =
+contents-keep (Closes own number block parting) r may room h =
     let owned = may.1 in
     unused_contents (without_block number r) (record { files = h.files; pipes = h.pipes }) own block.inode (record { attribute = owned.attribute; there = owned.there; owned = owned.owned })
+contents-keep (Abandons process) r may room h = record {
+  files = h.files;
+  pipes = λ inode. ap (option_map _) (abandoned-at process r.pipes inode) ∙ (same_bytes process (row_at r.pipes inode) ∙ h.pipes inode);
+}
 contents-keep _ r may room h = record { files = h.files; pipes = h.pipes }
 
 -- ---- no more bytes than may be
@@ -286,7 +297,14 @@ limits-keep (Writes inode moment bytes) r may h = seen_limits (record r { files 
 limits-keep (Fills inode moment after came) r may h =
     seen_limits (record r { pipes = slice_set r.pipes inode (Some after.pipe) }) (set_pipe r h inode (Some after.pipe) (λ pipe put. subst (λ (p : Pipe WaitingCall). length p.bytes ≤ PIPE) (same_Some _ _ put) (may.short (h.pipe inode may.pipe may.there)))) _ refl refl
 limits-keep (Unlinks own directory name inode mtime ctime) r may h = unused_limits own inode (with_unlinked inode (under directory name) mtime ctime r) (seen_limits r h _ refl refl)
-limits-keep (Closes own number block) r may h = unused_limits own block.inode (without_block number r) (seen_limits r h _ refl refl)
+limits-keep (Closes own number block parting) r may h = unused_limits own block.inode (without_block number r) (seen_limits r h _ refl refl)
+limits-keep (Abandons process) r may h = record {
+  file = h.file;
+  files = h.files;
+  pipe = λ inode pipe there.
+      let was = mapped-was (row_at r.pipes inode) (with_abandoned process) pipe (sym (abandoned-at process r.pipes inode) ∙ there) in
+      subst (λ (p : Pipe WaitingCall). length p.bytes ≤ PIPE) was.2 (h.pipe inode was.0 was.1);
+}
 limits-keep _ r may h = seen_limits r h _ refl refl
 
 -- ---- settled pipes
@@ -314,5 +332,10 @@ settled-keep (Comes inode directory name kind mode moment) r may h =
     (λ is. record { settled = (set_settled r h inode (Some (pipe_of [] [] [])) (λ pipe made. subst IsPipeSettled (same_Some _ _ made) new_settled)).settled }) (λ is. record { settled = h.settled })
 settled-keep (Fills inode moment after came) r may h = record { settled = (set_settled r h inode (Some after.pipe) (λ pipe put. subst IsPipeSettled (same_Some _ _ put) may.settled)).settled }
 settled-keep (Unlinks own directory name inode mtime ctime) r may h = unused_settled (with_unlinked inode (under directory name) mtime ctime r) (record { settled = h.settled }) own inode
-settled-keep (Closes own number block) r may h = unused_settled (without_block number r) (record { settled = h.settled }) own block.inode
+settled-keep (Closes own number block parting) r may h = unused_settled (without_block number r) (record { settled = h.settled }) own block.inode
+settled-keep (Abandons process) r may h = record {
+  settled = λ inode pipe there.
+      let was = mapped-was (row_at r.pipes inode) (with_abandoned process) pipe (sym (abandoned-at process r.pipes inode) ∙ there) in
+      subst IsPipeSettled was.2 (abandoned_rests process was.0 (h.settled inode was.0 was.1));
+}
 settled-keep _ r may h = record { settled = h.settled }

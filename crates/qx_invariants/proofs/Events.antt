@@ -1,6 +1,6 @@
 -- A user's armed events and untaken pulses together are no more than there may be, and each process has a queue for its pulses, whatever happens.
-use Rattle.std.proofs.Common.{◌≡◌, inl, inr, ℕ, zero, suc, ◌+◌, ◌≤◌, Bool, not, List, [], ◌∷◌, ◌++◌, length, drop, refl, sym, ap, ◌∙◌, subst, arith, length-append, length-drop}
-use Rattle.std.specs.Prelude.{filter, nat_lt, sum_by}
+use Rattle.std.proofs.Common.{◌≡◌, inl, inr, ℕ, zero, suc, ◌+◌, ◌≤◌, Bool, false, not, List, [], ◌∷◌, ◌++◌, length, drop, refl, sym, ap, ◌∙◌, subst, arith, length-append, length-drop}
+use Rattle.std.specs.Prelude.{◌&&◌, filter, nat_lt, sum_by}
 use Rattle.std.proofs.Math.ListN.{length-set}
 use Rattle.std.proofs.lemmas.Bool.{cases_Bool, cond_both, ltb-true}
 use Rattle.std.proofs.lemmas.List.Filters.{length-filter_both}
@@ -14,7 +14,7 @@ use Rattle.qx_machine.specs.declared.rows.Event.{Event}
 use Rattle.qx_machine.specs.declared.rows.Kind.{Kind}
 use Rattle.qx_machine.specs.declared.rows.Pulse.{Pulse}
 use Rattle.qx_machine.specs.Defaults.{without_block, without_unused}
-use Rattle.qx_machine.specs.Events.{Events, Notified, arm_event, arming, disarmed, event_count, is_any, is_due, is_on, notified, pulse_of, triggered, wanted_of, with_pulse, with_pulses, without_first_pulse}
+use Rattle.qx_machine.specs.Events.{Events, Notified, arm_event, arming, disarmed, event_count, is_any, is_due, is_on, notified, pulse_of, triggered, wanted_of, with_pulse, with_pulses, without_first_pulse, without_pulses}
 use Rattle.qx_machine.specs.Inodes.{new_attribute}
 use Rattle.qx_machine.specs.Judgements.{need}
 use Rattle.qx_machine.specs.Lines.{with_line}
@@ -57,6 +57,13 @@ taken-kept process events = record {
   queues = line-length events.pulses process (drop 1);
 }
 
+-- a process has no pulses any more
+pub ended-kept : (process : ℕ) (events : Events) → AreKept events (without_pulses process events)
+ended-kept process events = record {
+  few = inl (let fewer = line-count events.pulses process (λ queue. []) 0 (λ queue. omega arith) in omega (arith, fewer));
+  queues = line-length events.pulses process (λ queue. []);
+}
+
 -- ---- a notification
 
 arming-kept : (event : Event) (events : Events) → Gives (λ (given : Notified). AreKept events given.events) (arming event events)
@@ -76,31 +83,35 @@ notified-kept PollArm event holding events =
 
 -- ---- the end of a step
 
-module _ (due : Event → Bool) (after : ℕ → Conditions) where
+module _ (due gives : Event → Bool) (only : (event : Event) → due event ≡ false → gives event ≡ false) (after : ℕ → Conditions) where
   -- each due event gives at most one pulse
-  given-fewer : (events : List Event) (pulses : List (List Pulse)) → length (filter (λ event. not (due event)) events) + sum_by length (with_pulses due after events pulses) ≤ length events + sum_by length pulses
+  given-fewer : (events : List Event) (pulses : List (List Pulse)) → length (filter (λ event. not (due event)) events) + sum_by length (with_pulses gives after events pulses) ≤ length events + sum_by length pulses
   given-fewer [] pulses = omega arith
   given-fewer (event ∷ events) pulses = elim (cases_Bool (due event)) [
-    | inl is ↦
-        let new = pulse_of event (after event.block) in
-        let one = line-count pulses event.process (λ queue. queue ++ new ∷ []) 1 (λ queue. let long = length-append queue (new ∷ []) in omega (arith, long)) in
-        let rest = given-fewer events (with_pulse event.process new pulses) in
-        rw is (omega (arith, one, rest))
-    | inr not_so ↦ let rest = given-fewer events pulses in rw not_so (omega (arith, rest))
+    | inl is ↦ elim (cases_Bool (gives event)) [
+      | inl one_is ↦
+          let new = pulse_of event (after event.block) in
+          let one = line-count pulses event.process (λ queue. queue ++ new ∷ []) 1 (λ queue. let long = length-append queue (new ∷ []) in omega (arith, long)) in
+          let rest = given-fewer events (with_pulse event.process new pulses) in
+          rw (is, one_is) (omega (arith, one, rest))
+      | inr none_is ↦ let rest = given-fewer events pulses in rw (is, none_is) (omega (arith, rest))
+    ]
+    | inr not_so ↦ let none_is = only event not_so in let rest = given-fewer events pulses in rw (not_so, none_is) (omega (arith, rest))
   ]
 
-  given-queues : (events : List Event) (pulses : List (List Pulse)) → length (with_pulses due after events pulses) ≡ length pulses
-  given-queues [] pulses = refl
-  given-queues (event ∷ events) pulses = elim (cases_Bool (due event)) [
-    | inl is ↦ rw is (given-queues events (with_pulse event.process (pulse_of event (after event.block)) pulses) ∙ line-length pulses event.process (λ queue. queue ++ pulse_of event (after event.block) ∷ []))
-    | inr not_so ↦ rw not_so (given-queues events pulses)
-  ]
+given-queues : (gives : Event → Bool) (after : ℕ → Conditions) (events : List Event) (pulses : List (List Pulse)) → length (with_pulses gives after events pulses) ≡ length pulses
+given-queues gives after [] pulses = refl
+given-queues gives after (event ∷ events) pulses = elim (cases_Bool (gives event)) [
+  | inl is ↦ rw is (given-queues gives after events (with_pulse event.process (pulse_of event (after event.block)) pulses) ∙ line-length pulses event.process (λ queue. queue ++ pulse_of event (after event.block) ∷ []))
+  | inr not_so ↦ rw not_so (given-queues gives after events pulses)
+]
 
-pub triggered-fewer : (before after : ℕ → Conditions) (events : Events) → event_count (triggered before after events) ≤ event_count events
-triggered-fewer before after events = given-fewer (is_due before after) after events.armed events.pulses
+module _ (lives : ℕ → Bool) (before after : ℕ → Conditions) (events : Events) where
+  pub triggered-fewer : event_count (triggered lives before after events) ≤ event_count events
+  triggered-fewer = given-fewer (is_due before after) (λ event. is_due before after event && lives event.process) (λ event not_so. ap (λ b. b && lives event.process) not_so) after events.armed events.pulses
 
-pub triggered-kept : (before after : ℕ → Conditions) (events : Events) → AreKept events (triggered before after events)
-triggered-kept before after events = record { few = inl (triggered-fewer before after events); queues = given-queues (is_due before after) after events.armed events.pulses }
+  pub triggered-kept : AreKept events (triggered lives before after events)
+  triggered-kept = record { few = inl triggered-fewer; queues = given-queues (λ event. is_due before after event && lives event.process) after events.armed events.pulses }
 
 -- ---- whatever happens
 
@@ -121,7 +132,7 @@ events_after _ before = before
 now-events : (change : ResourceChange) (r : Resources) → (with_change change r).events ≡ events_after change r.events
 now-events (Comes inode directory name which mode moment) r = empty_cases (λ (s : Resources). s.events ≡ r.events) which inode (with_named inode (under directory name) (new_attribute which mode r.user moment) r) (λ is. refl) (λ is. refl) (λ is. refl)
 now-events (Unlinks own directory name inode mtime ctime) r = unused-events own inode (with_unlinked inode (under directory name) mtime ctime r)
-now-events (Closes own number block) r = unused-events own block.inode (without_block number r)
+now-events (Closes own number block parting) r = unused-events own block.inode (without_block number r)
 now-events _ r = refl
 
 kept-events : (change : ResourceChange) (r : Resources) → MayHappen change r → HasEvents r → HasEvents (record r { events = events_after change r.events })

@@ -20,7 +20,7 @@ use Rattle.qx_machine.specs.PipeManager.{filled}
 use Rattle.qx_machine.specs.Resources.{Resources, resized}
 use Rattle.qx_machine.specs.Rows.{put_row, row_at, with_row}
 use Rattle.qx_machine.proofs.Places.{row_at-set_cases, row_at-set_other}
-use Rattle.qx_invariants.specs.Changes.{ResourceChange, Closes, Comes, Fills, MayHappen, Mounts, Moves, Notifies, Opens, Touches, Unlinks, Writes, with_change, touched, without_link, with_changed, with_moved, with_named, with_unlinked}
+use Rattle.qx_invariants.specs.Changes.{ResourceChange, Closes, Comes, Fills, IsMoved, MayHappen, Mounts, Moves, Opens, Touches, Unlinks, Writes, moved, with_change, touched, without_link, with_changed, with_moved, with_named, with_opened, with_unlinked}
 use Rattle.qx_invariants.specs.Holds.{HasNames, HasRoom, IsNamed, IsUnnamed}
 use Rattle.qx_iofunc.proofs.PlaceLemmas.{put_at, row-freed}
 use Rattle.qx_invariants.proofs.Rows.{IsNew, content_cases, empty_cases, freed, more_blocks, block_is_new, inode_is_new, not_open, other_blocks, put_other, same_blocks, unused_cases, with_row-at, with_row-other, filled-same, put_cases, with_row-some_at, with_row-was}
@@ -131,20 +131,20 @@ module _ (r : Resources) (h : HasNames r) where
       others m now apart (inl is) = inl (record { links = is.links; key = is.key; leads = insert-other r.names key inode is.key m missing is.leads })
       others m now apart (inr is) = inr (record { links = is.links; none = λ other leads. elim (insert-cases r.names key inode other m leads) [ inl new ↦ apart (sym new.1) | inr was ↦ is.none other was ] })
 
-  open_names : (number : ℕ) (block : Ocb) → row_at r.inodes.blocks number ≡ None → number ≤ length r.inodes.blocks → is_some (row_at r.inodes.attributes block.inode) ≡ true → HasNames (record r { inodes = record r.inodes { blocks = put_row r.inodes.blocks number block } })
+  open_names : (number : ℕ) (block : Ocb) → row_at r.inodes.blocks number ≡ None → number ≤ length r.inodes.blocks → is_some (row_at r.inodes.attributes block.inode) ≡ true → HasNames (with_opened number block r)
   open_names number block free within there = record {
     leads = h.leads;
     single = h.single;
     roots = h.roots;
     links = h.links;
-    used = λ m. used_more r.inodes (record r.inodes { blocks = put_row r.inodes.blocks number block }) m (row_at r.inodes.attributes m) (more_blocks r.inodes number block free m) (h.used m);
+    used = λ m. used_more r.inodes (with_opened number block r).inodes m (row_at r.inodes.attributes m) (more_blocks r.inodes number block free m) (h.used m);
     opened = λ n other is. elim (put_cases r.inodes.blocks number block within n other is) [
       | inl put ↦ subst (λ (b : Ocb). is_some (row_at r.inodes.attributes b.inode) ≡ true) put.1 there
       | inr was ↦ h.opened n other was
     ];
   }
 
-  move_names : (number : ℕ) (change : Ocb → Ocb) → MayHappen (Moves number change) r → HasNames (with_moved number change r)
+  move_names : (number : ℕ) (change : Ocb → Ocb) → ((block : Ocb) → row_at r.inodes.blocks number ≡ Some block → IsMoved block (change block)) → HasNames (with_moved number change r)
   move_names number change may = record {
     leads = h.leads;
     single = h.single;
@@ -153,7 +153,7 @@ module _ (r : Resources) (h : HasNames r) where
     used = λ m. used_more r.inodes (with_moved number change r).inodes m (row_at r.inodes.attributes m) (let same = same_blocks r.inodes number change may m in omega (arith, same)) (h.used m);
     opened = λ n now is. let was = with_row-was r.inodes.blocks number change n now is in elim was.2 [
       | inl stays ↦ ap (λ (b : Ocb). is_some (row_at r.inodes.attributes b.inode)) (sym stays.1)
-      | inr moved ↦ ap (λ m. is_some (row_at r.inodes.attributes m)) (ap (λ (b : Ocb). b.inode) (sym moved.1) ∙ (may was.0 (ap (row_at r.inodes.blocks) (sym moved.0) ∙ was.1)).inode)
+      | inr is ↦ ap (λ m. is_some (row_at r.inodes.attributes m)) (ap (λ (b : Ocb). b.inode) (sym is.1) ∙ (may was.0 (ap (row_at r.inodes.blocks) (sym is.0) ∙ was.1)).inode)
     ] ∙ h.opened n was.0 was.1;
   }
 
@@ -264,10 +264,10 @@ names-keep (Comes inode directory name kind mode moment) r may room h =
     let more = come_names r h inode (under directory name) attribute refl new may.2 (λ root same. absurd (not_root root directory name (sym same))) in
     empty_cases HasNames kind inode (with_named inode (under directory name) attribute r) (λ is. same_but_content (with_named inode (under directory name) attribute r) _ _ more) (λ is. same_but_content (with_named inode (under directory name) attribute r) _ _ more) (λ is. more)
 names-keep (Touches inode mode mtime ctime) r may room h = same_names r h inode (touched mode mtime ctime) (λ a. refl)
-names-keep (Opens number block) r may room h = let new = block_is_new r.inodes number room.some_blocks may.0 in open_names r h number block new.free new.within may.1
-names-keep (Moves number change) r may room h = move_names r h number change may
+names-keep (Opens number block at) r may room h = let new = block_is_new r.inodes number room.some_blocks may.0 in open_names r h number block new.free new.within may.1
+names-keep (Moves number move) r may room h = move_names r h number (moved move) may
 names-keep (Writes inode moment bytes) r may room h = same_but_content _ (slice_set r.files inode (Some bytes)) r.pipes (same_names r h inode (resized (length bytes) moment) (λ a. refl))
 names-keep (Fills inode moment after came) r may room h = same_but_content _ r.files (slice_set r.pipes inode (Some after.pipe)) (same_names r h inode (filled moment after) (λ a. filled-same moment after a (λ (b : Attribute). b.links) refl refl))
 names-keep (Unlinks own directory name inode mtime ctime) r may room h = unused_names own inode (with_unlinked inode (under directory name) mtime ctime r) (unlink_names r h inode (under directory name) mtime ctime may.0)
-names-keep (Closes own number block) r may room h = unused_names own block.inode (without_block number r) (close_names r h number block may.0)
-names-keep (Notifies events) r may room h = record { leads = h.leads; single = h.single; roots = h.roots; links = h.links; used = h.used; opened = h.opened }
+names-keep (Closes own number block parting) r may room h = unused_names own block.inode (without_block number r) (close_names r h number block may.0)
+names-keep _ r may room h = record { leads = h.leads; single = h.single; roots = h.roots; links = h.links; used = h.used; opened = h.opened }

@@ -1,6 +1,6 @@
 -- What holds of each user's resources in each world that a run reaches.
 use Rattle.std.proofs.Common.{◌≡◌, ℕ, ◌+◌, ◌-◌, ◌<◌, ◌≤◌, ◌==◌, ◌&&◌, not, true, List, [], ◌∷◌, length, arith, refl, sym, ap, subst}
-use Rattle.std.specs.Prelude.{All, nat_le, Some}
+use Rattle.std.specs.Prelude.{All, ◌||◌, nat_le, Some}
 use Rattle.std.specs.List.{AllByRecursion, list_all}
 use Rattle.std.proofs.lemmas.Bool.{and_parts, cond_both, leb-true}
 use Rattle.std.proofs.lemmas.Bool.Decides.{nat_tests}
@@ -10,21 +10,29 @@ use Rattle.qx_wire.specs.Rests.{is_component, is_dots, is_name_byte}
 use Rattle.qx_machine.specs.Listings.{HasSizedNames, IsZeroFree}
 use Rattle.qx_machine.specs.Names.{names_behind, fitting, listed, listing, names_in}
 use Rattle.qx_machine.specs.Resources.{Resources}
-use Rattle.qx_invariants.specs.Holds.{HasTree, HasContents, HasMounts, HasOpenWaiters, HasRoom, HasSettledPipes, HasUses, HoldsInRuns, HoldsOfParts, IsOwnedBy}
+use Rattle.qx_invariants.specs.Holds.{HasClients, HasConnections, HasKinds, HasOwnWaiters, HasTree, HasContents, HasMounts, HasOpenWaiters, HasRoom, HasSettledPipes, HasUses, HoldsInRuns, HoldsOfParts, IsOwnedBy}
 use Rattle.qx_invariants.proofs.Keys.{all_names}
 use Rattle.qx_types.specs.Configuration.{Configuration, name_bytes}
 use Rattle.qx_types.specs.declared.step.Step.{Step}
 use Rattle.qx_machine.specs.Mounting.{new_resources}
+use Rattle.qx_machine.specs.Machine.{own_held}
 use Rattle.qx_machine.specs.Parts.{Part}
+use Rattle.qx_machine.specs.Processes.{Process, has_ended, has_server}
 use Rattle.qx_machine.specs.Rows.{row_at}
 use Rattle.qx_machine.specs.Runs.{run}
+use Rattle.qx_machine.specs.Settling.{has_waiting, is_held}
+use Rattle.qx_machine.proofs.Settled.{ended_kept}
 use Rattle.qx_invariants.specs.Changes.{Become, ResourceChange, MayHappen, with_change}
 use Rattle.qx_machine.proofs.Listings.{listed_end, listed_to_end}
 use Rattle.qx_invariants.proofs.Steps.{client-keeps, serve-keeps, settle-keeps, take-keeps, IsKept, run-holds}
 use Rattle.qx_machine.specs.Users.{boot_part}
 use Rattle.qx_invariants.proofs.Together.{Holds, boot_holds, boot_owned}
 use Rattle.qx_invariants.proofs.Rooms.{owner-keeps, room-keeps}
-use Rattle.qx_invariants.proofs.Once.{Stands, stands_boot, stands_kept}
+use Rattle.qx_invariants.proofs.Clients.{StandsWell, well_boot, well_kept}
+use Rattle.qx_invariants.proofs.Once.{Stands}
+use Rattle.qx_invariants.proofs.Items.{pulses, run-holds-with}
+use Rattle.qx_invariants.proofs.Linked.{WellConnected, connected_boot, connected_kept}
+use Rattle.qx_invariants.proofs.Remaining.{served_or_held, waiting_served}
 use Rattle.qx_machine.proofs.Listings as listings
 
 -- ---- listings
@@ -94,8 +102,17 @@ run_becomes config steps =
 
 -- ---- how things stand
 
+pub run_well : HoldsOfParts StandsWell
+run_well config steps = run-holds (λ user. StandsWell) well_kept config (well_boot config) steps
+
 pub run_stands : HoldsOfParts Stands
-run_stands config steps = run-holds (λ user. Stands) stands_kept config (stands_boot config) steps
+run_stands config steps user part there = (run_well config steps user part there).stands
+
+pub run_kinds : HoldsInRuns HasKinds
+run_kinds config steps user part there = (run_well config steps user part there).clientele.kinds.kinds
+
+pub run_clients : HoldsOfParts HasClients
+run_clients config steps user part there = (run_well config steps user part there).clientele.has
 
 pub run_holds : HoldsInRuns Holds
 run_holds config steps user part there = (run_stands config steps user part there).holds
@@ -123,3 +140,21 @@ run_mounts config steps user part there = (run_holds config steps user part ther
 
 pub run_waiters : HoldsInRuns HasOpenWaiters
 run_waiters config steps user part there = (run_holds config steps user part there).waiters
+
+-- ---- connections
+
+run_connected : (config : Configuration) (steps : List Step) (user : ℕ) (part : Part) → row_at (run config steps).world.parts user ≡ Some part → WellConnected part (pulses user (run config steps).world)
+run_connected config steps user part there = run-holds-with (λ user. WellConnected) connected_kept config (connected_boot config) steps user part there
+
+pub run_connections : HoldsOfParts HasConnections
+run_connections config steps user part there = (run_connected config steps user part there).connected.has
+
+pub run_own_waiters : HoldsInRuns HasOwnWaiters
+run_own_waiters config steps user part there = (run_connected config steps user part there).connected.waiters
+
+-- what remains of a process that has ended
+pub run_ended : (config : Configuration) (steps : List Step) (user : ℕ) (part : Part) (number : ℕ) (process : Process) → row_at (run config steps).world.parts user ≡ Some part → row_at part.processes number ≡ Some process
+    → has_ended process ≡ true → (has_server process || is_held (own_held user (run config steps).world.hands) number) ≡ true
+run_ended config steps user part number process here there ended =
+    served_or_held (has_server process) (is_held (own_held user (run config steps).world.hands) number) (has_waiting part.resources.pipes number) (ended_kept config steps user part number process here there ended)
+    (waiting_served part (run_clients config steps user part here) (run_own_waiters config steps user part here) number process there)

@@ -3,17 +3,19 @@
 use Rattle.std.proofs.Common.{◌≡◌, inl, inr, ℕ, ◌+◌, ◌<◌, ◌≤◌, List, length, ◌∙◌, arith, refl, sym, ap, subst}
 use Rattle.std.specs.Prelude.{Option, Some, None, option_map, slice_set}
 use Rattle.std.proofs.Math.ListN.{length-set}
+use Rattle.std.proofs.lemmas.List.{length-map}
 use Rattle.qx_types.specs.declared.limits.TheConstants.Limits.{BLOCKS, INODES}
 use Rattle.qx_machine.specs.declared.rows.Kind.{Kind}
 use Rattle.qx_machine.specs.declared.rows.Ocb.{Ocb}
 use Rattle.qx_machine.specs.declared.rows.WaitingCall.{WaitingCall}
+use Rattle.qx_machine.specs.Clients.{with_abandoned}
 use Rattle.qx_machine.specs.Defaults.{without_unused, without_block}
 use Rattle.qx_machine.specs.Inodes.{Inodes, new_attribute}
 use Rattle.qx_machine.specs.Pipes.{Pipe}
 use Rattle.qx_machine.specs.Resources.{Resources, resized}
 use Rattle.qx_machine.specs.Rows.{put_row, row_at, with_row}
 use Rattle.qx_machine.proofs.Places.{row_at-set_cases}
-use Rattle.qx_invariants.specs.Changes.{ResourceChange, Closes, Comes, Fills, IsMoved, MayHappen, Mounts, Moves, Notifies, Opens, Touches, Unlinks, Writes, with_change, touched, without_link, with_changed, with_named, with_unlinked}
+use Rattle.qx_invariants.specs.Changes.{Abandons, ResourceChange, Closes, Comes, Fills, IsMoved, MayHappen, Mounts, Moves, Notifies, Opens, Touches, Unlinks, Writes, moved, with_change, touched, without_link, with_changed, with_named, with_unlinked}
 use Rattle.qx_invariants.specs.Holds.{HasRoom, HasUses, IsOwnedBy, IsUsed}
 use Rattle.qx_iofunc.proofs.PlaceLemmas.{put_differ}
 use Rattle.qx_invariants.proofs.Rows.{IsNew, content_cases, empty_cases, freed, block_is_new, inode_is_new, unused_cases, put_cases, with_row-was, filled-same}
@@ -89,15 +91,16 @@ parts-keep (Comes inode directory name kind mode moment) r may h =
     let more : Parts _ = record { inodes = put_numbered INODES r.inodes.attributes h.inodes inode _ (inode_is_new r.inodes inode h.inodes.some may.0); blocks = h.blocks; files = h.files; pipes = h.pipes } in
     empty_cases Parts kind inode _ (λ is. with_files _ inode _ more) (λ is. with_pipes _ inode _ more) (λ is. more)
 parts-keep (Touches inode mode mtime ctime) r may h = with_inodes r _ (changed_numbered INODES r.inodes.attributes h.inodes inode _) h.blocks h
-parts-keep (Opens number block) r may h = with_inodes r _ h.inodes (put_numbered BLOCKS r.inodes.blocks h.blocks number block (block_is_new r.inodes number h.blocks.some may.0)) h
-parts-keep (Moves number change) r may h = with_inodes r _ h.inodes (changed_numbered BLOCKS r.inodes.blocks h.blocks number change) h
+parts-keep (Opens number block at) r may h = with_inodes r _ h.inodes (put_numbered BLOCKS r.inodes.blocks h.blocks number block (block_is_new r.inodes number h.blocks.some may.0)) h
+parts-keep (Moves number move) r may h = with_inodes r _ h.inodes (changed_numbered BLOCKS r.inodes.blocks h.blocks number (moved move)) h
 parts-keep (Writes inode moment bytes) r may h = with_files _ inode _ (with_inodes r _ (changed_numbered INODES r.inodes.attributes h.inodes inode _) h.blocks h)
 parts-keep (Fills inode moment after came) r may h = with_pipes _ inode _ (with_inodes r _ (changed_numbered INODES r.inodes.attributes h.inodes inode _) h.blocks h)
 parts-keep (Unlinks own directory name inode mtime ctime) r may h =
-    let with_names = with_inodes r _ (changed_numbered INODES r.inodes.attributes h.inodes inode _) h.blocks h in
+    let with_names = with_inodes r (with_changed inode (without_link mtime ctime) r).inodes (changed_numbered INODES r.inodes.attributes h.inodes inode _) h.blocks h in
     unused_parts own inode _ (record { inodes = with_names.inodes; blocks = with_names.blocks; files = with_names.files; pipes = with_names.pipes })
-parts-keep (Closes own number block) r may h = unused_parts own block.inode _ (with_inodes r _ h.inodes (freed_numbered BLOCKS r.inodes.blocks h.blocks number) h)
+parts-keep (Closes own number block parting) r may h = unused_parts own block.inode _ (with_inodes r _ h.inodes (freed_numbered BLOCKS r.inodes.blocks h.blocks number) h)
 parts-keep (Notifies events) r may h = record { inodes = h.inodes; blocks = h.blocks; files = h.files; pipes = h.pipes }
+parts-keep (Abandons process) r may h = record { inodes = h.inodes; blocks = h.blocks; files = h.files; pipes = length-map r.pipes (option_map (with_abandoned process)) ∙ h.pipes }
 
 pub room-keeps : (change : ResourceChange) (r : Resources) → MayHappen change r → HasRoom r → HasRoom (with_change change r)
 room-keeps change r may h = whole (with_change change r) (parts-keep change r may (parts r h))
@@ -148,7 +151,7 @@ module _ (user : ℕ) where
   owner-keeps (Fills inode moment after came) r may room h = seen_owner (with_changed inode (filled moment after) r) _ refl refl (same_owner r h inode (filled moment after) (λ a. filled-same moment after a (λ (b : Attribute). b.owner) refl refl))
   owner-keeps (Unlinks own directory name inode mtime ctime) r may room h =
       unused_owner (with_unlinked inode (under directory name) mtime ctime r) (seen_owner (with_changed inode (without_link mtime ctime) r) _ refl refl (same_owner r h inode (without_link mtime ctime) (λ a. refl))) own inode
-  owner-keeps (Closes own number block) r may room h = unused_owner (without_block number r) (seen_owner r _ refl refl h) own block.inode
+  owner-keeps (Closes own number block parting) r may room h = unused_owner (without_block number r) (seen_owner r _ refl refl h) own block.inode
   owner-keeps _ r may room h = seen_owner r _ refl refl h
 
 -- ---- uses
@@ -163,27 +166,27 @@ unused_uses own inode r h =
     (λ gone. content_cases HasUses own inode (freed inode r) (λ is. seen_uses r _ refl h) (λ is. seen_uses r _ refl h) (λ is. seen_uses r _ refl h)) (λ stays. h)
 
 moved_used : (before after : Ocb) → IsMoved before after → IsUsed before → IsUsed after
-moved_used before after moved used = record {
-  some = elim moved.some [ inl more ↦ let some = used.some in omega (arith, more, some) | inr some ↦ some ];
-  few = elim moved.few [ inl fewer ↦ let few = used.few in omega (arith, fewer, few) | inr few ↦ few ];
+moved_used before after is used = record {
+  some = elim is.some [ inl more ↦ let some = used.some in omega (arith, more, some) | inr some ↦ some ];
+  few = elim is.few [ inl fewer ↦ let few = used.few in omega (arith, fewer, few) | inr few ↦ few ];
 }
 
 pub uses-keep : (change : ResourceChange) (r : Resources) → MayHappen change r → HasRoom r → HasUses r → HasUses (with_change change r)
 uses-keep (Comes inode directory name kind mode moment) r may room h =
     empty_cases HasUses kind inode (with_named inode (under directory name) (new_attribute kind mode r.user moment) r) (λ is. seen_uses r _ refl h) (λ is. seen_uses r _ refl h) (λ is. seen_uses r _ refl h)
-uses-keep (Opens number block) r may room h = record {
+uses-keep (Opens number block at) r may room h = record {
   used = λ n other there. elim (put_cases r.inodes.blocks number block (block_is_new r.inodes number room.some_blocks may.0).within n other there) [
     | inl is ↦ let one : other.uses ≡ 1 = ap (λ (b : Ocb). b.uses) (sym is.1) ∙ may.2 in record { some = omega (arith, one); few = omega (arith, one) }
     | inr was ↦ h.used n other was
   ];
 }
-uses-keep (Moves number change) r may room h = record {
-  used = λ n now there. let was = with_row-was r.inodes.blocks number change n now there in elim was.2 [
+uses-keep (Moves number move) r may room h = record {
+  used = λ n now there. let was = with_row-was r.inodes.blocks number (moved move) n now there in elim was.2 [
     | inl stays ↦ subst IsUsed stays.1 (h.used n was.0 was.1)
-    | inr moved ↦ subst IsUsed moved.1 (moved_used was.0 (change was.0) (may was.0 (ap (row_at r.inodes.blocks) (sym moved.0) ∙ was.1)) (h.used n was.0 was.1))
+    | inr is ↦ subst IsUsed is.1 (moved_used was.0 (moved move was.0) (may was.0 (ap (row_at r.inodes.blocks) (sym is.0) ∙ was.1)) (h.used n was.0 was.1))
   ];
 }
 uses-keep (Unlinks own directory name inode mtime ctime) r may room h = unused_uses own inode (with_unlinked inode (under directory name) mtime ctime r) (seen_uses r _ refl h)
-uses-keep (Closes own number block) r may room h =
+uses-keep (Closes own number block parting) r may room h =
     unused_uses own block.inode (without_block number r) (record { used = λ n other there. elim (row_at-set_cases r.inodes.blocks number n None other there) [ inl was ↦ h.used n other was | inr none ↦ absurd (cc) ] })
 uses-keep _ r may room h = seen_uses r _ refl h

@@ -1,6 +1,6 @@
 -- Rows under numbers: what a write leaves, which number is new, how many open control blocks an inode has, and what is left once an inode comes or goes.
 use Rattle.std.proofs.Common.{◌≡◌, ◌≢◌, ◌⊎◌, inl, inr, ℕ, zero, suc, Bool, true, false, refl, sym, ap, ◌∙◌, subst, ◌<◌, ◌≤◌, ◌==◌, ◌&&◌, arith}
-use Rattle.std.specs.Prelude.{List, [], ◌∷◌, Option, Some, None, Ok, Err, count_by, is_some, nat_le, not, if◌then◌else◌, option_map, slice_set, length}
+use Rattle.std.specs.Prelude.{List, [], ◌∷◌, Option, Some, None, Ok, Err, count_by, is_some, map, nat_le, not, if◌then◌else◌, option_map, slice_set, length}
 use Rattle.std.specs.List.{list_any}
 use Rattle.std.proofs.lemmas.Bool.{cases_eq, cond_both, leb-true}
 use Rattle.std.proofs.lemmas.Option.{same_Some}
@@ -12,6 +12,7 @@ use Rattle.qx_machine.specs.declared.rows.Kind.TheVariants as kind
 use Rattle.qx_machine.specs.declared.rows.Attribute.{Attribute}
 use Rattle.qx_machine.specs.declared.rows.Ocb.{Ocb}
 use Rattle.qx_machine.specs.declared.rows.WaitingCall.{WaitingCall}
+use Rattle.qx_machine.specs.Clients.{with_abandoned}
 use Rattle.qx_machine.specs.Defaults.{without_unused}
 use Rattle.qx_machine.specs.Inodes.{Inodes, block_number, blocks_of, close_block, inode_number, is_open, is_unused}
 use Rattle.qx_machine.specs.Names.{is_same_kind}
@@ -19,8 +20,8 @@ use Rattle.qx_machine.specs.PipeManager.{filled}
 use Rattle.qx_machine.specs.Pipes.{PipeAfter, pipe_of}
 use Rattle.qx_machine.specs.Resources.{Resources, resized, with_empty, without_content}
 use Rattle.qx_machine.specs.Rows.{lowest_from, put_row, row_at, with_row}
-use Rattle.qx_machine.specs.Waiting.{is_written, offered}
-use Rattle.qx_machine.proofs.Places.{lowest_from_free, row_at-set_other, set-row_at}
+use Rattle.qx_machine.specs.Waiting.{Pipes, is_written, offered}
+use Rattle.qx_machine.proofs.Places.{at-map, lowest_from_free, row_at-set_other, set-row_at}
 use Rattle.qx_attr.specs.inner.Counts.{one}
 use Rattle.qx_attr.proofs.CountLemmas.{count-free, count-put, count-same, counts_other, counts_own}
 use Rattle.qx_iofunc.proofs.PlaceLemmas.{lowest_within, put_at, put_differ}
@@ -67,6 +68,11 @@ module _ {A : Type 0} where
   with_row-some_at (place ∷ places) zero change (suc m) = refl
   with_row-some_at (place ∷ places) (suc n) change zero = refl
   with_row-some_at (place ∷ places) (suc n) change (suc m) = with_row-some_at places n change m
+
+  -- what is there once it changed was there before
+  pub mapped-was : (row : Option A) (change : A → A) (now : A) → option_map change row ≡ Some now → (was : A) × (row ≡ Some was) × (change was ≡ now)
+  mapped-was None change now is = absurd (cc)
+  mapped-was (Some was) change now is = (was, refl, same_Some _ _ is)
 
   -- ---- a row comes to a place, or is the next one
 
@@ -152,6 +158,10 @@ filled-same moment after a part written other =
 
 pub filled-kind : (moment : ℕ) (after : PipeAfter WaitingCall) (a : Attribute) → (filled moment after a).kind ≡ a.kind
 filled-kind moment after a = filled-same moment after a (λ (b : Attribute). b.kind) refl refl
+
+-- each pipe changes as a process ends
+pub abandoned-at : (process : ℕ) (pipes : Pipes) (inode : ℕ) → row_at (map (option_map (with_abandoned process)) pipes) inode ≡ option_map (with_abandoned process) (row_at pipes inode)
+abandoned-at process pipes inode = at-map (option_map (with_abandoned process)) pipes inode None None refl
 
 -- an inode is gone
 abbrev pub freed : ℕ → Resources → Resources

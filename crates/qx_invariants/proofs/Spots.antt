@@ -18,12 +18,13 @@ use Rattle.qx_machine.proofs.Gives.{Gives, found-row, gives_done, gives_error, g
 abbrev pub AreComponents : List (List ℕ) → Type 0
 AreComponents names = AllByRecursion (λ name. is_component name ≡ true) names
 
--- a spot is at a name in a directory, and what is there is what that name leads to
-pub record IsSpot (r : Resources) (at : Spot) : Type 0 where
+-- a spot is at a name in a directory of a mount with this root, and what is there is what that name leads to
+pub record IsSpot (r : Resources) (root : ℕ) (at : Spot) : Type 0 where
   pub above : Key
   pub name : List ℕ
   pub key_is : at.key ≡ under above name
   pub component : is_component name ≡ true
+  pub root_is : root ≡ above.0
   pub inode_is : at.inode ≡ get r.names at.key
   pub directory : IsDirectoryAt r above
 
@@ -39,16 +40,16 @@ module _ (r : Resources) (user : ℕ) where
       by attribute there directory (Ok value) = record { inode = inode; attribute = attribute; leads = leads; there = there; directory = directory }
       by attribute there directory (Err error) = tt
 
-  walk-gives : (inode : ℕ) (key : Key) (name : List ℕ) (rest : List (List ℕ)) → get r.names key ≡ Some inode → is_component name ≡ true → AreComponents rest → Gives (IsSpot r) (walk r.inodes r.names user inode key name rest)
+  walk-gives : (inode : ℕ) (key : Key) (name : List ℕ) (rest : List (List ℕ)) → get r.names key ≡ Some inode → is_component name ≡ true → AreComponents rest → Gives (IsSpot r key.0) (walk r.inodes r.names user inode key name rest)
   walk-gives inode key name [] leads component more =
       gives_on _ (search r.inodes user inode) _ (λ searched is.
-      gives_done _ _ (record { above = key; name = name; key_is = refl; component = component; inode_is = refl; directory = directory-at key inode leads searched is }))
+      gives_done _ _ (record { above = key; name = name; key_is = refl; component = component; root_is = refl; inode_is = refl; directory = directory-at key inode leads searched is }))
   walk-gives inode key name (further ∷ rest) leads component more =
       gives_on _ (search r.inodes user inode) _ (λ searched is.
       gives_on _ (found (get r.names (under key name)) ENOENT) _ (λ next there.
       walk-gives next (under key name) further rest (found-row _ _ next there) more.0 more.1))
 
-  pub spot-gives : (root : ℕ) (rest : List (List ℕ)) (at_root : Errno) → AreComponents rest → Gives (IsSpot r) (spot r.inodes r.names user root rest at_root)
+  pub spot-gives : (root : ℕ) (rest : List (List ℕ)) (at_root : Errno) → AreComponents rest → Gives (IsSpot r root) (spot r.inodes r.names user root rest at_root)
   spot-gives root [] at_root components = gives_error _ _
   spot-gives root (name ∷ rest) at_root components =
       gives_on _ (start r.names root) _ (λ first is. walk-gives first (root_key root) name rest (found-row _ _ first is) components.0 components.1)

@@ -1,5 +1,5 @@
 -- What steps do to a user's resources and to every user's part: a property that each change which may happen keeps, each step keeps in every user's part, and so each run.
-use Rattle.std.proofs.Common.{◌≡◌, true, ℕ, List, [], ◌∷◌, refl, sym, subst, inl, inr, zero, suc, ◌+◌, ◌∙◌, arith}
+use Rattle.std.proofs.Common.{◌≡◌, ℕ, List, [], ◌∷◌, refl, sym, subst, inl, inr, zero, suc, ◌+◌, ◌∙◌, arith}
 use Rattle.std.specs.Prelude.{Result, Ok, Err, Option, Some, None}
 use Rattle.std.proofs.lemmas.Bool.{cond_both, cases_eq}
 use Rattle.qx_types.specs.Configuration.{Configuration, name_bytes}
@@ -11,7 +11,7 @@ use Rattle.qx_types.specs.declared.outcome.Answer.{Answer}
 use Rattle.qx_types.specs.declared.outcome.Outcome.{Outcome}
 use Rattle.qx_types.specs.declared.outcome.Outcome.TheVariants.{WrongState}
 use Rattle.qx_types.specs.declared.step.Step.{Step}
-use Rattle.qx_types.specs.declared.step.Step.TheVariants.{Spawn, Call, TakeReply, TakePulse, SetPrio, Interrupt, Mount}
+use Rattle.qx_types.specs.declared.step.Step.TheVariants.{Spawn, Exit, Call, TakeReply, TakePulse, SetPrio, Interrupt, Mount}
 use Rattle.qx_wire.specs.declared.message.Meaning.{Meaning}
 use Rattle.qx_wire.specs.declared.message.Meaning.TheVariants.{Known, Unknown, Malformed}
 use Rattle.qx_wire.specs.Reading.{meaning}
@@ -25,36 +25,38 @@ use Rattle.qx_machine.specs.declared.rows.Over.{Over}
 use Rattle.qx_machine.specs.declared.rows.State.{State}
 use Rattle.qx_machine.specs.declared.rows.Target.{Target}
 use Rattle.qx_machine.specs.declared.rows.WaitingCall.{WaitingCall}
-use Rattle.qx_machine.specs.Clients.{ClientStep, client_given, interrupt_in, mount, mount_by, or_unchanged, pulse_taken}
-use Rattle.qx_machine.specs.Events.{first_pulse, without_first_pulse}
+use Rattle.qx_machine.specs.Clients.{ClientStep, client_given, interrupt_in, mount, mount_by, or_unchanged, pulse_taken, without_process}
+use Rattle.qx_machine.specs.Events.{first_pulse, without_first_pulse, without_pulses}
 use Rattle.qx_machine.specs.Functions.{Deed}
-use Rattle.qx_machine.specs.Inodes.{inode_number}
+use Rattle.qx_machine.specs.Inodes.{blocks_of_client, inode_number}
 use Rattle.qx_machine.specs.Judgements.{found, need, or_refused}
+use Rattle.qx_machine.specs.Managers.{close_client}
 use Rattle.qx_machine.specs.Mounting.{new_mount}
 use Rattle.qx_machine.specs.Notification.{block_conditions, events_settled}
 use Rattle.qx_machine.specs.Parts.{Part, thread_at, Change as LineChange}
-use Rattle.qx_machine.specs.Performing.{Served, after_answer, context_of, deed_of, dup_of, or_kept, read_message, serve_disconnect, serve_message, serve_pulse, taken_in, with_answers}
+use Rattle.qx_machine.specs.Performing.{Served, after_answer, context_of, deed_of, or_kept, read_message, serve_disconnect, serve_message, serve_pulse, taken_in, with_answers}
 use Rattle.qx_machine.specs.PipeManager.{cancel_call}
-use Rattle.qx_machine.specs.Processes.{Process}
+use Rattle.qx_machine.specs.Processes.{Process, living}
 use Rattle.qx_machine.specs.Resources.{Resources}
 use Rattle.qx_machine.specs.Rows.{row_at}
+use Rattle.qx_machine.specs.Settling.{is_living}
 use Rattle.qx_machine.specs.Users.{client, serve, take, boot_part, settle_part}
-use Rattle.qx_invariants.specs.Changes.{ResourceChange, MayHappen, Mounts, Notifies, with_change}
-use Rattle.qx_invariants.proofs.Deeds.{Kept, NamesComponents, Told, cancel-gives, manager-gives, nothing, told_by}
-use Rattle.qx_invariants.proofs.Events.{taken-kept, triggered-kept}
+use Rattle.qx_invariants.specs.Changes.{Abandons, ResourceChange, MayHappen, Mounts, Notifies, with_change}
+use Rattle.qx_invariants.proofs.Deeds.{Kept, NamesComponents, cancel-gives, close_all-closed, manager-gives}
+use Rattle.qx_invariants.proofs.Events.{ended-kept, taken-kept, triggered-kept}
 use Rattle.qx_machine.proofs.Gives.{Gives, gives_by, gives_done, gives_error, gives_more, gives_on, gives-value}
 use Rattle.qx_invariants.proofs.Messages.{meaning-components}
+use Rattle.qx_invariants.proofs.Told.{Told, nothing, told_by}
 use Rattle.std.proofs.lemmas.Option.{same_Some}
 use Rattle.qx_types.specs.Step.{actor_of, user_of}
 use Rattle.qx_types.specs.declared.names.Actor.{Actor}
 use Rattle.qx_machine.specs.declared.rows.Held.{Held}
-use Rattle.qx_machine.specs.declared.rows.ServerName.{ServerName}
+use Rattle.qx_machine.specs.declared.rows.Client.{Client}
 use Rattle.qx_machine.specs.Machine.{World, boot, boot_parts, client_step, own_held, performed_part, received_part, server_step, step, step_end, step_of, with_empty_hand, with_taken}
 use Rattle.qx_machine.specs.Runs.{run, world_after}
 use Rattle.qx_machine.proofs.Places.{row_at-set_cases, row_at-set_other}
 use Rattle.qx_machine.proofs.Workers.{server_leaves}
 use Rattle.qx_machine.specs.declared.rows.OwnItem.TheVariants as item
-use Rattle.qx_machine.proofs.Waiters.{opened_by-caller}
 use Rattle.qx_machine.specs.declared.rows.State.TheVariants as state
 
 pub answers-resources : (answers : List (WaitingCall × Answer)) (part : Part) → (with_answers answers part).resources ≡ part.resources
@@ -66,12 +68,35 @@ read-components bytes (Known message) is = gives_done _ _ (meaning-components by
 read-components bytes Unknown is = gives_error _ _
 read-components bytes Malformed is = gives_error _ _
 
--- what a property of the resources and of what was answered is after a deed
-pub deed_kept : (K : Resources → Told → Type 0) (keeps : (change : ResourceChange) (r : Resources) (told : Told) → MayHappen change r → K r told → K (with_change change r) (told_by change told)) (caller : Caller) (r : Resources) → K r nothing
-    → (process : Process) (target : Target) (moment : ℕ) (bytes : List ℕ) → Gives (Kept K keeps caller) (deed_of r (context_of process caller target moment (meaning bytes)) (meaning bytes))
-deed_kept K keeps caller r h process target moment bytes =
+-- what a property of the resources and of what was told is after a deed
+pub deed_kept : (K : Resources → Told → Type 0) (keeps : (change : ResourceChange) (r : Resources) (told : Told) → MayHappen change r → K r told → K (with_change change r) (told_by change told)) (r : Resources) → K r nothing
+    → (process : Process) (caller : Caller) (target : Target) (moment : ℕ) (bytes : List ℕ)
+    → Gives (Kept K keeps r (context_of process caller target moment (meaning bytes))) (deed_of r (context_of process caller target moment (meaning bytes)) (meaning bytes))
+deed_kept K keeps r h process caller target moment bytes =
     gives_by NamesComponents _ (read_message (meaning bytes)) _ (read-components bytes (meaning bytes) refl)
-    (λ message names. manager-gives K keeps caller r h (context_of process caller target moment (meaning bytes)) (opened_by-caller process caller target moment (dup_of (meaning bytes))) target.manager message names)
+    (λ message names. manager-gives K keeps r (context_of process caller target moment (meaning bytes)) h target.manager refl message names)
+
+-- ---- a mount
+
+-- a mount gets the lowest free number for its root
+abbrev IsNumbered : Resources → MountPoint → Type 0
+IsNumbered r mount = inode_number r.inodes ≡ Ok mount.root
+
+refused-gives : (r : Resources) (given : Result MountPoint Errno) → Gives (IsNumbered r) given → Gives (IsNumbered r) (or_refused given)
+refused-gives r (Ok mount) h = gives_done _ _ (gives-value _ (Ok mount) mount refl h)
+refused-gives r (Err error) h = gives_error _ _
+
+new_mount-gives : (name path : List ℕ) (manager : Manager) (r : Resources) → Gives (IsNumbered r) (new_mount name path manager r)
+new_mount-gives name path manager r =
+    gives_on _ (read_path path) _ (λ names is_path.
+    gives_on _ (need (is_under name names) EACCES) _ (λ own is_own.
+    gives_on _ (unless (mount_fault r.mounts names) names) _ (λ free is_free.
+    gives_on _ (inode_number r.inodes) _ (λ root is. gives_done _ _ is))))
+
+pub mount_by-gives : (config : Configuration) (user : ℕ) (part : Part) (thread : Thread) (path : List ℕ) (manager : Manager) → Gives (IsNumbered part.resources) (mount_by config user part thread path manager)
+mount_by-gives config user part thread path manager =
+    gives_on _ (found (thread_at part thread.proc.num thread.tid) WrongState) _ (λ row is_row.
+    gives_on _ (need _ WrongState) _ (λ ready is_one. refused-gives part.resources _ (new_mount-gives (name_bytes config user) path manager part.resources)))
 
 -- what holds of a part that was given holds of what is kept where none was
 pub kept-keeps : (P : Part → Type 0) (part : Part) → P part → (given : Result Served Outcome) → Gives (λ (served : Served). P served.part) given → P (or_kept part given).part
@@ -90,7 +115,7 @@ module _ (K : Resources → Type 0) (keeps : (change : ResourceChange) (r : Reso
 
   deed-gives : (r : Resources) → K r → (process : Process) (caller : Caller) (target : Target) (moment : ℕ) (bytes : List ℕ) → Gives (λ (deed : Deed Resources). K deed.state) (deed_of r (context_of process caller target moment (meaning bytes)) (meaning bytes))
   deed-gives r h process caller target moment bytes =
-      gives_more _ (λ (deed : Deed Resources). K deed.state) _ (λ deed kept. kept.kept) (deed_kept (λ r told. K r) (λ change r told. keeps change r) caller r h process target moment bytes)
+      gives_more _ (λ (deed : Deed Resources). K deed.state) _ (λ deed kept. kept.kept) (deed_kept (λ r told. K r) (λ change r told. keeps change r) r h process caller target moment bytes)
 
   answer-keeps : (part : Part) (process thread : ℕ) (over : Over) (given : Result (Deed Resources) Errno) → Keeps part → Gives (λ (deed : Deed Resources). K deed.state) given → Keeps (after_answer part process thread over given)
   answer-keeps part process thread over (Ok deed) h kept = subst K (sym (answers-resources deed.answers _)) (gives-value (λ (deed : Deed Resources). K deed.state) (Ok deed) deed refl kept)
@@ -105,17 +130,20 @@ module _ (K : Resources → Type 0) (keeps : (change : ResourceChange) (r : Reso
 
   pulse-gives : (part : Part) → Keeps part → (process thread number moment : ℕ) → Gives (λ (served : Served). Keeps served.part) (serve_pulse part process thread number moment)
   pulse-gives part h process thread number moment =
-      gives_by (λ (deed : Deed Resources). K deed.state) _ (cancel_call part.resources process thread number moment) _ (cancel-gives (λ r told. K r) (λ change r told. keeps change r) (record { process = process; thread = thread; call = number; is_asked = true }) part.resources h process thread number moment) (λ deed kept.
+      gives_by (λ (deed : Deed Resources). K deed.state) _ (cancel_call part.resources process thread number moment) _ (cancel-gives (λ r told. K r) (λ change r told. keeps change r) part.resources h process thread number moment) (λ deed kept.
       gives_done _ _ (subst K (sym (answers-resources deed.answers _)) kept))
 
-  disconnect-gives : (part : Part) → Keeps part → (process : ℕ) (server : ServerName) → Gives (λ (served : Served). Keeps served.part) (serve_disconnect part process server)
-  disconnect-gives part h process server = gives_on _ (found (row_at part.processes process) WrongState) _ (λ row is. gives_done _ _ h)
+  disconnect-gives : (part : Part) → Keeps part → (client : Client) (moment : ℕ) → Gives (λ (served : Served). Keeps served.part) (serve_disconnect part client moment)
+  disconnect-gives part h client moment =
+      gives_on _ (found (row_at part.processes client.process) WrongState) _ (λ row is.
+      gives_done _ _ (subst K (sym (answers-resources (close_client part.resources client moment).answers _))
+      (close_all-closed (λ r told. K r) (λ change r told. keeps change r) client.server.manager moment (blocks_of_client part.resources.inodes client) [] [] part.resources h).kept))
 
   pub serve-keeps : (config : Configuration) (user : ℕ) (held : List OwnItem) (part : Part) (own : OwnItem) (moment : ℕ) → Keeps part → Keeps (serve config user held part own moment).part
   unfolding serve
   serve-keeps config user held part (item.Message process thread) moment h = kept-keeps Keeps part h _ (message-gives part h process thread moment)
   serve-keeps config user held part (item.Unblock process thread number) moment h = kept-keeps Keeps part h _ (pulse-gives part h process thread number moment)
-  serve-keeps config user held part (item.Disconnect process server) moment h = kept-keeps Keeps part h _ (disconnect-gives part h process server)
+  serve-keeps config user held part (item.Disconnect process server) moment h = kept-keeps Keeps part h _ (disconnect-gives part h (record { process = process; server = server }) moment)
 
   pub take-keeps : (part : Part) (own : OwnItem) → Keeps part → Keeps (take part own)
   unfolding take
@@ -128,7 +156,8 @@ module _ (K : Resources → Type 0) (keeps : (change : ResourceChange) (r : Reso
   pub settle-keeps : (before : Part) (held : List OwnItem) (after : Part) → Keeps after → Keeps (settle_part before held after)
   unfolding settle_part
   settle-keeps before held after h =
-      keeps (Notifies (events_settled before.resources after.resources)) after.resources (triggered-kept (block_conditions before.resources) (block_conditions after.resources) after.resources.events) h
+      let lives = is_living after.processes in
+      keeps (Notifies (events_settled lives before.resources after.resources)) after.resources (triggered-kept lives (block_conditions before.resources) (block_conditions after.resources) after.resources.events) h
 
   -- ---- what a client does
 
@@ -145,29 +174,21 @@ module _ (K : Resources → Type 0) (keeps : (change : ResourceChange) (r : Reso
   pulse-keeps part process None h = h
   pulse-keeps part process (Some first) h = keeps (Notifies (without_first_pulse process part.resources.events)) part.resources (taken-kept process part.resources.events) h
 
-  refused-gives : (r : Resources) (given : Result MountPoint Errno) → Gives (λ (mount : MountPoint). inode_number r.inodes ≡ Ok mount.root) given → Gives (λ (mount : MountPoint). inode_number r.inodes ≡ Ok mount.root) (or_refused given)
-  refused-gives r (Ok mount) h = gives_done _ _ (gives-value _ (Ok mount) mount refl h)
-  refused-gives r (Err error) h = gives_error _ _
+  exit-keeps : (part : Part) (process : ℕ) → Keeps part → K (without_process process part.resources)
+  exit-keeps part process h =
+      keeps (Notifies (without_pulses process part.resources.events)) (with_change (Abandons process) part.resources) (ended-kept process part.resources.events) (keeps (Abandons process) part.resources tt h)
 
-  new_mount-gives : (name path : List ℕ) (manager : Manager) (r : Resources) → Gives (λ (mount : MountPoint). inode_number r.inodes ≡ Ok mount.root) (new_mount name path manager r)
-  new_mount-gives name path manager r =
-      gives_on _ (read_path path) _ (λ names is_path.
-      gives_on _ (need (is_under name names) EACCES) _ (λ own is_own.
-      gives_on _ (unless (mount_fault r.mounts names) names) _ (λ free is_free.
-      gives_on _ (inode_number r.inodes) _ (λ root is. gives_done _ _ is))))
-
-  pub mount-gives : (config : Configuration) (user : ℕ) (part : Part) (thread : Thread) (path : List ℕ) (manager : Manager) → Keeps part → Gives Gave (mount config user part thread path manager)
+  mount-gives : (config : Configuration) (user : ℕ) (part : Part) (thread : Thread) (path : List ℕ) (manager : Manager) → Keeps part → Gives Gave (mount config user part thread path manager)
   mount-gives config user part thread path manager h =
-      gives_by (λ (mount : MountPoint). inode_number part.resources.inodes ≡ Ok mount.root) _ (mount_by config user part thread path manager) _
-      (gives_on _ (found (thread_at part thread.proc.num thread.tid) WrongState) _ (λ row is_row.
-      gives_on _ (need _ WrongState) _ (λ ready is_one. refused-gives part.resources _ (new_mount-gives (name_bytes config user) path manager part.resources))))
+      gives_by (λ (mount : MountPoint). inode_number part.resources.inodes ≡ Ok mount.root) _ (mount_by config user part thread path manager) _ (mount_by-gives config user part thread path manager)
       (λ mount is. gives_done _ _ (keeps (Mounts mount) part.resources is h))
 
   client-gives : (config : Configuration) (user : ℕ) (held : List OwnItem) (part : Part) (e : Step) → Keeps part → Gives Gave (client_given config user held part e)
   client-gives config user held part (Spawn of_user threads prio) h = search (gives_on, gives_done, h)
   client-gives config user held part (Call thread request) h = search (gives_on, gives_done, h)
   client-gives config user held part (TakeReply thread) h = search (gives_on, gives_done, h)
-  client-gives config user held part (TakePulse proc) h = gives_on _ (found (row_at part.processes proc.num) WrongState) _ (λ process is. gives_done _ _ (pulse-keeps part proc.num (first_pulse proc.num part.resources.events) h))
+  client-gives config user held part (Exit proc) h = gives_on _ (found (living (row_at part.processes proc.num)) WrongState) _ (λ process is. gives_done _ _ (exit-keeps part proc.num h))
+  client-gives config user held part (TakePulse proc) h = gives_on _ (found (living (row_at part.processes proc.num)) WrongState) _ (λ process is. gives_done _ _ (pulse-keeps part proc.num (first_pulse proc.num part.resources.events) h))
   client-gives config user held part (SetPrio thread prio) h = search (gives_on, gives_done, h)
   client-gives config user held part (Interrupt thread) h = gives_on _ (found (thread_at part thread.proc.num thread.tid) WrongState) _ (λ row is. gives_done _ _ (interrupt-keeps part thread row.calls row.state h))
   client-gives config user held part (Mount thread path manager) h = mount-gives config user part thread path manager h
@@ -220,8 +241,8 @@ module _ (P : ℕ → Part → Type 0) (keeps : IsKept P) where
 
   server-holds : (w : World) (e : Step) → HoldsIn w.parts → HoldsIn (server_step w e).world.parts
   server-holds w e h = server_leaves w e (λ v. HoldsIn v.parts) h
-      (λ worker manager taken. received-holds (with_taken w worker manager taken) taken (row_at w.parts taken.user.0) refl h)
-      (λ worker moment held. performed-holds (with_empty_hand w worker) held moment (row_at w.parts held.user.0) refl h)
+      (λ worker manager taken is. received-holds (with_taken w worker manager taken) taken (row_at w.parts taken.user.0) refl h)
+      (λ worker moment held is. performed-holds (with_empty_hand w worker) held moment (row_at w.parts held.user.0) refl h)
 
   step_of-holds : (w : World) (e : Step) (actor : Option Actor) → HoldsIn w.parts → HoldsIn (step_of w e actor).world.parts
   step_of-holds w e None h = server-holds w e h

@@ -1,6 +1,6 @@
 -- All that holds of a user's resources, at boot and whatever happens.
 use Rattle.std.proofs.Common.{◌≡◌, inl, inr, ℕ, zero, suc, ◌+◌, false, List, [], ◌∷◌, refl, sym, ap, ◌∙◌, arith}
-use Rattle.std.specs.Prelude.{Option, Some, None, is_some, length, option_map, replicate}
+use Rattle.std.specs.Prelude.{Option, Some, None, if◌then◌else◌, is_some, length, option_map, replicate}
 use Rattle.std.specs.FinMap.{empty, get, get-empty}
 use Rattle.std.proofs.lemmas.List.{length-replicate}
 use Rattle.std.proofs.lemmas.Option.{same_Some}
@@ -8,6 +8,7 @@ use Rattle.qx_types.specs.declared.limits.TheConstants.Limits.{INODES, PROCESSES
 use Rattle.qx_machine.specs.declared.rows.Attribute.{Attribute}
 use Rattle.qx_machine.specs.declared.rows.Kind.{Kind}
 use Rattle.qx_machine.specs.declared.rows.Kind.TheVariants as kind
+use Rattle.qx_machine.specs.declared.rows.Ocb.{Ocb}
 use Rattle.qx_machine.specs.declared.rows.Pulse.{Pulse}
 use Rattle.qx_machine.specs.declared.rows.WaitingCall.{WaitingCall}
 use Rattle.qx_machine.specs.Attributes.{root_attribute}
@@ -21,10 +22,11 @@ use Rattle.qx_paths.specs.Prefixes.{MountPoint}
 use Rattle.std.proofs.lemmas.List.Elements.{All-cons, All-nil}
 use Rattle.qx_iofunc.proofs.StoreLemmas.{row_at-none}
 use Rattle.qx_invariants.specs.Changes.{IsDirectoryAt, ResourceChange, MayHappen, with_change}
-use Rattle.qx_invariants.specs.Holds.{HasContents, HasLimits, HasMounts, HasNames, HasOpenWaiters, HasRoom, HasSettledPipes, HasTree, HasUses, IsOwnedBy, size_if}
+use Rattle.qx_invariants.specs.Holds.{HasContents, HasLimits, HasMade, HasMounts, HasNames, HasOpenWaiters, HasRoom, HasSettledPipes, HasTree, HasUses, IsOwnedBy, size_if}
 use Rattle.qx_invariants.proofs.Contents.{contents-keep, settled-keep, limits-keep}
 use Rattle.qx_invariants.proofs.Events.{HasEvents, events-keep}
 use Rattle.qx_invariants.proofs.Keys.{insert-at, insert-cases, not_root}
+use Rattle.qx_invariants.proofs.Made.{made-keeps}
 use Rattle.qx_invariants.proofs.Named.{names-keep}
 use Rattle.qx_invariants.proofs.Rooms.{room-keeps, uses-keep}
 use Rattle.qx_machine.specs.Files.{size_of, total_size}
@@ -35,7 +37,7 @@ use Rattle.qx_invariants.specs.Waits.{is_astray, count_waiting_in}
 
 -- ---- at boot
 
-none_there : {A : Type 0} (n : ℕ) → row_at {A = A} (None ∷ []) n ≡ None
+pub none_there : {A : Type 0} (n : ℕ) → row_at {A = A} (None ∷ []) n ≡ None
 none_there zero = refl
 none_there (suc n) = refl
 
@@ -46,7 +48,7 @@ module _ (user : ℕ) (name : List ℕ) where
   abbrev start : Resources
   start = new_resources user name
 
-  the_root : (inode : ℕ) (attribute : Attribute) → row_at start.inodes.attributes inode ≡ Some attribute → (inode ≡ 1) × (attribute ≡ root_attribute user)
+  pub the_root : (inode : ℕ) (attribute : Attribute) → row_at start.inodes.attributes inode ≡ Some attribute → (inode ≡ 1) × (attribute ≡ root_attribute user)
   the_root zero attribute is = absurd (cc)
   the_root (suc zero) attribute is = (omega arith, sym (same_Some _ _ is))
   the_root (suc (suc inode)) attribute is = absurd (cc)
@@ -75,7 +77,7 @@ module _ (user : ℕ) (name : List ℕ) where
   boot_settled : HasSettledPipes start
   boot_settled = record { settled = λ inode pipe is. let none : None ≡ Some pipe = sym (row_at-none (INODES + 1) inode) ∙ is in absurd (cc) }
 
-  only_root : (key : Key) (inode : ℕ) → get start.names key ≡ Some inode → (key ≡ root_key 1) × (1 ≡ inode)
+  pub only_root : (key : Key) (inode : ℕ) → get start.names key ≡ Some inode → (key ≡ root_key 1) × (1 ≡ inode)
   only_root key inode leads = elim (insert-cases empty (root_key 1) 1 key inode leads) [
     | inl is ↦ is
     | inr was ↦ let none : None ≡ Some inode = sym (get-empty key_cmp key) ∙ was in absurd (cc)
@@ -125,6 +127,9 @@ module _ (user : ℕ) (name : List ℕ) where
     queues = length-replicate {A = List Pulse} (PROCESSES + 1) [];
   }
 
+  boot_made : HasMade start
+  boot_made = record { once = λ number. ap (λ (row : Option Ocb). if is_some row then 1 else 0) (sym (none_there number)) }
+
   boot_uses : HasUses start
   boot_uses = record { used = λ number block is. let none : None ≡ Some block = sym (none_there number) ∙ is in absurd (cc) }
 
@@ -141,9 +146,10 @@ pub record Holds (r : Resources) : Type 0 where
   pub limits : HasLimits r
   pub events : HasEvents r
   pub uses : HasUses r
+  pub made : HasMade r
 
 pub holds-keep : (change : ResourceChange) (r : Resources) → MayHappen change r → Holds r → Holds (with_change change r)
-holds-keep change r may h = record { room = room-keeps change r may h.room; contents = contents-keep change r may h.room h.contents; settled = settled-keep change r may h.settled; names = names-keep change r may h.room h.names; tree = tree-keeps change r may h.room h.names h.tree; waiters = astray-keeps change r may h.room h.contents h.waiters; mounts = mounts-keep change r may h.room h.names h.mounts; limits = limits-keep change r may h.limits; events = events-keep change r may h.events; uses = uses-keep change r may h.room h.uses }
+holds-keep change r may h = record { room = room-keeps change r may h.room; contents = contents-keep change r may h.room h.contents; settled = settled-keep change r may h.settled; names = names-keep change r may h.room h.names; tree = tree-keeps change r may h.room h.names h.tree; waiters = astray-keeps change r may h.room h.contents h.waiters; mounts = mounts-keep change r may h.room h.names h.mounts; limits = limits-keep change r may h.limits; events = events-keep change r may h.events; uses = uses-keep change r may h.room h.uses; made = made-keeps change r may h.room h.made }
 
 pub boot_holds : (user : ℕ) (name : List ℕ) → Holds (new_resources user name)
-boot_holds user name = record { room = boot_room user name; contents = boot_contents user name; settled = boot_settled user name; names = boot_names user name; tree = boot_tree user name; waiters = boot_waiters user name; mounts = boot_rooted user name; limits = boot_limits user name; events = boot_events user name; uses = boot_uses user name }
+boot_holds user name = record { room = boot_room user name; contents = boot_contents user name; settled = boot_settled user name; names = boot_names user name; tree = boot_tree user name; waiters = boot_waiters user name; mounts = boot_rooted user name; limits = boot_limits user name; events = boot_events user name; uses = boot_uses user name; made = boot_made user name }

@@ -116,7 +116,7 @@ directory_stays (Writes inode moment bytes) r may room names above apart d = see
 directory_stays (Fills inode moment after came) r may room names above apart d = seen_directory (with_changed inode (filled moment after) r) _ refl refl above (changed_directory r inode (filled moment after) (filled-kind moment after) above d)
 directory_stays (Unlinks own directory name inode mtime ctime) r may room names above apart d =
     unused_directory own inode (with_unlinked inode (under directory name) mtime ctime r) (unlink_names r names inode (under directory name) mtime ctime may.0) above (unlinked_directory r inode (under directory name) mtime ctime above apart d)
-directory_stays (Closes own number block) r may room names above apart d = unused_directory own block.inode (without_block number r) (close_names r names number block may.0) above (seen_directory r _ refl refl above d)
+directory_stays (Closes own number block parting) r may room names above apart d = unused_directory own block.inode (without_block number r) (close_names r names number block may.0) above (seen_directory r _ refl refl above d)
 directory_stays _ r may room names above apart d = seen_directory r _ refl refl above d
 
 -- ---- names
@@ -135,7 +135,7 @@ new_entry (Comes at directory of kind mode moment) r may above name inode leads 
     same : (with_empty kind at (with_named at (under directory of) (new_attribute kind mode r.user moment) r)).names ≡ insert r.names (under directory of) at
     same = empty_cases (λ (s : Resources). s.names ≡ insert r.names (under directory of) at) kind at _ (λ is. refl) (λ is. refl) (λ is. refl)
 new_entry (Unlinks own directory of at mtime ctime) r may above name inode leads = inl (unlinked_was own (under directory of) at mtime ctime r (under above name) inode leads)
-new_entry (Closes own number block) r may above name inode leads = inl (subst (λ (names : Names). get names (under above name) ≡ Some inode) (unused_same own block.inode (without_block number r)) leads)
+new_entry (Closes own number block parting) r may above name inode leads = inl (subst (λ (names : Names). get names (under above name) ≡ Some inode) (unused_same own block.inode (without_block number r)) leads)
 new_entry _ r may above name inode leads = inl leads
 
 -- nor is it in a directory that was unlinked, which was empty
@@ -165,10 +165,10 @@ mounts_before _ r now = now.mounts ≡ r.mounts
 unused_mounts : (own : Kind) (inode : ℕ) (r : Resources) → (without_unused own inode r).mounts ≡ r.mounts
 unused_mounts own inode r = unused_cases (λ (s : Resources). s.mounts ≡ r.mounts) own inode r (λ gone. content_cases (λ (s : Resources). s.mounts ≡ r.mounts) own inode (freed inode r) (λ is. refl) (λ is. refl) (λ is. refl)) (λ stays. refl)
 
-same_mounts : (change : ResourceChange) (r : Resources) → mounts_before change r (with_change change r)
+pub same_mounts : (change : ResourceChange) (r : Resources) → mounts_before change r (with_change change r)
 same_mounts (Comes inode directory name which mode moment) r = empty_cases (λ (s : Resources). s.mounts ≡ r.mounts) which inode (with_named inode (under directory name) (new_attribute which mode r.user moment) r) (λ is. refl) (λ is. refl) (λ is. refl)
 same_mounts (Unlinks own directory name inode mtime ctime) r = unused_mounts own inode (with_unlinked inode (under directory name) mtime ctime r)
-same_mounts (Closes own number block) r = unused_mounts own block.inode (without_block number r)
+same_mounts (Closes own number block parting) r = unused_mounts own block.inode (without_block number r)
 same_mounts (Mounts mount) r = refl
 same_mounts _ r = refl
 

@@ -1,27 +1,36 @@
 -- How a user's inodes, names, files and pipes stand together.
-use Rattle.std.specs.Prelude.{All, ◌≡◌, ◌≢◌, ◌⊎◌, ℕ, ◌+◌, ◌≤◌, ◌<◌, false, true, List, Option, Some, None, is_some, length, option_map, if◌then◌else◌}
+use Rattle.std.specs.Prelude.{All, ◌≡◌, ◌≢◌, ◌⊎◌, ℕ, ◌+◌, ◌≤◌, ◌<◌, ◌==◌, Bool, false, true, List, Option, Some, None, is_some, length, option_map, slice_get, if◌then◌else◌}
 use Rattle.std.specs.FinMap.{get}
+use Rattle.std.specs.List.{count_by}
 use Rattle.qx_paths.specs.Prefixes.{MountPoint}
 use Rattle.qx_types.specs.Configuration.{Configuration}
 use Rattle.qx_types.specs.declared.limits.TheConstants.Limits.{BLOCKS, FILE, FILES, INODES, LAST_CONNECTION, PIPE}
+use Rattle.qx_types.specs.declared.names.Manager.{Manager}
 use Rattle.qx_types.specs.declared.step.Step.{Step}
 use Rattle.qx_wire.specs.Rests.{is_component}
 use Rattle.qx_machine.specs.declared.rows.Attribute.{Attribute}
+use Rattle.qx_machine.specs.declared.rows.Client.{Client}
+use Rattle.qx_machine.specs.declared.rows.Connection.{Connection}
 use Rattle.qx_machine.specs.declared.rows.Kind.{Kind}
 use Rattle.qx_machine.specs.declared.rows.Kind.TheVariants as kind
 use Rattle.qx_machine.specs.declared.rows.Ocb.{Ocb}
 use Rattle.qx_machine.specs.declared.rows.WaitingCall.{WaitingCall}
+use Rattle.qx_machine.specs.Defaults.{is_own}
 use Rattle.qx_machine.specs.Files.{total_size}
 use Rattle.qx_machine.specs.Inodes.{is_unused}
 use Rattle.qx_machine.specs.Listings.{HasAtMostOnePath}
+use Rattle.qx_machine.specs.Managers.{own_kind}
 use Rattle.qx_machine.specs.Names.{Key, Names, is_same_kind, root_key, under}
 use Rattle.qx_machine.specs.Parts.{Part, thread_at}
 use Rattle.qx_machine.specs.Pipes.{Pipe}
+use Rattle.qx_machine.specs.Processes.{Process, has_ended, servers_at}
 use Rattle.qx_machine.specs.Resources.{Resources}
 use Rattle.qx_machine.specs.Rows.{row_at}
 use Rattle.qx_machine.specs.Runs.{run}
+use Rattle.qx_machine.specs.Servers.{in_use}
+use Rattle.qx_machine.specs.Waiting.{is_of_process}
 use Rattle.qx_invariants.specs.Changes.{IsDirectoryAt, IsPipeSettled}
-use Rattle.qx_invariants.specs.Waits.{is_astray, is_of, count_waiting, count_waiting_in, waits}
+use Rattle.qx_invariants.specs.Waits.{count_waiting, count_waiting_in, is_astray, is_ended, is_foreign, is_of, though_gone, unless_gone, waits}
 
 -- this holds of each user's part in each world that a run reaches
 abbrev pub HoldsOfParts : (Part → Type 0) → Type 0
@@ -54,6 +63,12 @@ pub record IsUsed (block : Ocb) : Type 0 where
 -- so it is of each that is there
 pub record HasUses (r : Resources) : Type 0 where
   pub used : (number : ℕ) (block : Ocb) → row_at r.inodes.blocks number ≡ Some block → IsUsed block
+
+-- ---- making
+
+-- each open control block that is there is among those that were made, once, and no other
+pub record HasMade (r : Resources) : Type 0 where
+  pub once : (number : ℕ) → count_by (λ other. other == number) r.inodes.made ≡ (if is_some (row_at r.inodes.blocks number) then 1 else 0)
 
 -- ---- owners
 
@@ -93,6 +108,10 @@ pub record HasSettledPipes (r : Resources) : Type 0 where
 pub record HasOpenWaiters (r : Resources) : Type 0 where
   pub none_astray : (inode : ℕ) → count_waiting_in (is_astray r.inodes.blocks inode) (row_at r.pipes inode) ≡ 0
 
+-- each call that waits in a pipe is over an open control block of a client of its own process
+pub record HasOwnWaiters (r : Resources) : Type 0 where
+  pub none_foreign : count_waiting (is_foreign r.inodes.blocks) r.pipes ≡ 0
+
 -- ---- names
 
 -- an inode has one link, and a path leads to it
@@ -129,12 +148,60 @@ pub record IsEntry (r : Resources) (above : Key) (name : List ℕ) : Type 0 wher
 pub record HasTree (r : Resources) : Type 0 where
   pub entries : (directory : Key) (name : List ℕ) (inode : ℕ) → get r.names (under directory name) ≡ Some inode → IsEntry r directory name
 
+-- what a manager has is a directory or of its own kind
+pub record HasKinds (r : Resources) : Type 0 where
+  -- so is what a path in one of its mounts leads to
+  pub named : (number : ℕ) (mount : MountPoint) → slice_get r.mounts number ≡ Some mount → (path : List (List ℕ)) (inode : ℕ) (attribute : Attribute) → get r.names (mount.root, path) ≡ Some inode → row_at r.inodes.attributes inode ≡ Some attribute → is_own (own_kind mount.manager) attribute.kind ≡ true
+  -- and what a client of it has open
+  pub opened : (number : ℕ) (block : Ocb) (attribute : Attribute) → row_at r.inodes.blocks number ≡ Some block → row_at r.inodes.attributes block.inode ≡ Some attribute → is_own (own_kind block.client.server.manager) attribute.kind ≡ true
+
 -- the path of each mount's root leads to a directory
 pub record HasMounts (r : Resources) : Type 0 where
   pub rooted : All (λ (mount : MountPoint). IsDirectoryAt r (root_key mount.root)) r.mounts
 
+-- ---- clients
+
+-- a process is there and has the client's server connection
+pub record IsServer (processes : List (Option Process)) (client : Client) : Type 0 where
+  pub process : Process
+  pub there : row_at processes client.process ≡ Some process
+  pub server : is_some (row_at (servers_at client.server.manager process) client.server.number) ≡ true
+
+-- so it is of the client of each open control block that is there
+pub record HasClients (part : Part) : Type 0 where
+  pub clients : (number : ℕ) (block : Ocb) → row_at part.resources.inodes.blocks number ≡ Some block → IsServer part.processes block.client
+
+-- ---- connections
+
+abbrev pub is_block : ℕ → Option ℕ → Bool
+is_block which None = false
+is_block which (Some block) = block == which
+
+-- a connection is there and has that open control block
+abbrev pub has_open : ℕ → Option Connection → Bool
+has_open which None = false
+has_open which (Some connection) = is_block which connection.block
+
+-- an open control block is there, and its client is the process of that number by the server connection that is in use at the manager
+pub record IsOpenFor (blocks : List (Option Ocb)) (number : ℕ) (process : Process) (manager : Manager) (which : ℕ) : Type 0 where
+  pub block : Ocb
+  pub there : row_at blocks which ≡ Some block
+  pub process_is : block.client.process ≡ number
+  pub manager_is : block.client.server.manager ≡ manager
+  pub used : in_use (servers_at manager process) ≡ Some block.client.server.number
+
+pub record HasConnections (part : Part) : Type 0 where
+  -- so it is of what a connection has
+  pub opened : (number : ℕ) (process : Process) → row_at part.processes number ≡ Some process → (coid : ℕ) (connection : Connection) (which : ℕ) → row_at process.connections coid ≡ Some connection → connection.block ≡ Some which → IsOpenFor part.resources.inodes.blocks number process connection.manager which
+  -- as many connections have it as it has uses, until its process ends
+  pub uses : (which : ℕ) (block : Ocb) → row_at part.resources.inodes.blocks which ≡ Some block → (process : Process) → row_at part.processes block.client.process ≡ Some process → has_ended process ≡ false → block.uses ≡ count_by (has_open which) process.connections
+
 -- ---- threads
 
--- of each thread that waits one call waits in the user's pipes, and of any other none
 pub record WaitsOnce (part : Part) : Type 0 where
-  pub once : (process thread : ℕ) → count_waiting (is_of process thread) part.resources.pipes ≡ waits (thread_at part process thread)
+  -- of each thread that waits one call waits in the user's pipes, and of any other none but one whose process has ended
+  pub once : (process thread : ℕ) → count_waiting (unless_gone (is_of process thread)) part.resources.pipes ≡ waits (thread_at part process thread)
+  -- of no thread more than one waits, whether its process has ended or not
+  pub few : (process thread : ℕ) → count_waiting (is_of process thread) part.resources.pipes ≤ 1
+  -- that the process of a call has ended is said of such a process alone, which is there still
+  pub gone : (process : ℕ) → is_ended (row_at part.processes process) ≡ false → count_waiting (though_gone (is_of_process process)) part.resources.pipes ≡ 0

@@ -1,23 +1,28 @@
 //! What holds of each user's resources in every world that a run reaches.
 
-ghost use Rattle.std.specs.Prelude.{◌≡◌, ℕ, ◌+◌, ◌≤◌, List, [], Some, length};
+ghost use Rattle.std.specs.Prelude.{◌≡◌, ℕ, ◌+◌, ◌≤◌, ◌==◌, ◌||◌, Bool, true, List, [], Some, count_by, if◌then◌else◌, length};
 ghost use Rattle.std.specs.Cmp.Lexicographic.{slice_cmp};
 ghost use Rattle.std.specs.List.Sorted.{IsStrictlySortedBy};
 ghost use Rattle.std.specs.Ordering.{nat_cmp};
 ghost use Rattle.qx_types.specs.Configuration.{Configuration, name_bytes};
 ghost use Rattle.qx_types.specs.declared.limits.TheConstants.Limits.{EVENTS, PROCESSES};
 ghost use Rattle.qx_types.specs.declared.step.Step.{Step};
+ghost use Rattle.qx_machine.specs.declared.rows.Client.{Client};
 ghost use Rattle.qx_machine.specs.declared.rows.Conditions.{Conditions};
 ghost use Rattle.qx_machine.specs.Events.{Events, event_count, triggered};
+ghost use Rattle.qx_machine.specs.Inodes.{blocks_of_client, is_clients};
 ghost use Rattle.qx_machine.specs.Listings.{listed_by, listed_next};
+ghost use Rattle.qx_machine.specs.Machine.{own_held};
 ghost use Rattle.qx_machine.specs.Names.{listed, listing, names_in};
 ghost use Rattle.qx_machine.specs.Mounting.{new_resources};
 ghost use Rattle.qx_machine.specs.Parts.{Part};
+ghost use Rattle.qx_machine.specs.Processes.{Process, has_ended, has_server};
 ghost use Rattle.qx_machine.specs.Rows.{row_at};
 ghost use Rattle.qx_machine.specs.Runs.{run};
+ghost use Rattle.qx_machine.specs.Settling.{is_held};
 ghost use Rattle.qx_machine.specs.Waiting.{is_call};
 ghost use Rattle.qx_invariants.specs.Changes.{Become};
-ghost use Rattle.qx_invariants.specs.Holds.{HasContents, HasLimits, HasMounts, HasNames, HasOpenWaiters, HasRoom, HasSettledPipes, HasTree, HasUses, HoldsInRuns, HoldsOfParts, IsOwnedBy, WaitsOnce};
+ghost use Rattle.qx_invariants.specs.Holds.{HasClients, HasConnections, HasContents, HasKinds, HasLimits, HasMade, HasMounts, HasNames, HasOpenWaiters, HasOwnWaiters, HasRoom, HasSettledPipes, HasTree, HasUses, HoldsInRuns, HoldsOfParts, IsOwnedBy, WaitsOnce};
 ghost use Rattle.qx_invariants.specs.Waits.{count_waiting};
 
 /// A user's resources become what they are by a few kinds of change alone, one after another, each where it may happen.
@@ -36,6 +41,33 @@ pub fn numbers_are_within_limits()
 #[tactic(auto, using(crate::proofs::Reached::run_uses))]
 pub fn blocks_are_used()
     ensures { HoldsInRuns HasUses }
+{}
+
+/// Each open control block that is there is among those that were made, once, and no other; and so it is among its client's,
+/// and among no other's.
+pub fn blocks_are_made_once()
+    ensures made { HoldsInRuns HasMade }
+    ensures of_clients { HoldsInRuns (λ r. (client : Client) (number : ℕ) → count_by (λ other. other == number) (blocks_of_client r.inodes client) ≡ (if is_clients client (row_at r.inodes.blocks number) then 1 else 0)) }
+{}
+
+/// The client of each open control block is a server connection that is there: its process is, and has that server
+/// connection at that manager.
+#[tactic(auto, using(crate::proofs::Reached::run_clients))]
+pub fn blocks_have_clients()
+    ensures { HoldsOfParts HasClients }
+{}
+
+/// What a connection has open is there, and its client is the connection's process by the server connection that is in use at the
+/// connection's manager; and until its process ends, as many connections have an open control block as it has uses.
+#[tactic(auto, using(crate::proofs::Reached::run_connections))]
+pub fn connections_have_what_is_open()
+    ensures { HoldsOfParts HasConnections }
+{}
+
+/// What a path in a mount leads to, and what a client has open at a manager, is a directory or of the manager's own kind.
+#[tactic(auto, using(crate::proofs::Reached::run_kinds))]
+pub fn managers_have_their_kinds()
+    ensures { HoldsInRuns HasKinds }
 {}
 
 /// Each inode among a user's resources is owned by that user.
@@ -66,7 +98,7 @@ pub fn events_are_within_the_limit()
 /// An armed event gives one pulse at most: of the armed events and the untaken pulses together there are no more after a
 /// step's end than before, whatever became due.
 pub fn an_event_gives_one_pulse()
-    ensures { (before after : ℕ → Conditions) (events : Events) → event_count (triggered before after events) ≤ event_count events }
+    ensures { (lives : ℕ → Bool) (before after : ℕ → Conditions) (events : Events) → event_count (triggered lives before after events) ≤ event_count events }
 {}
 
 /// Nobody waits in a pipe who could be served: to settle it changes nothing and answers nobody.
@@ -109,8 +141,21 @@ pub fn who_waits_has_it_open()
     ensures { HoldsInRuns HasOpenWaiters }
 {}
 
-/// Of each thread that waits one call waits in the user's pipes, and of any other thread none; so a call waits at most once,
-/// and no thread waits whose call is nowhere.
+/// Each call that waits in a pipe is over an open control block of a client of its own process.
+#[tactic(auto, using(crate::proofs::Reached::run_own_waiters))]
+pub fn who_waits_is_the_client()
+    ensures { HoldsInRuns HasOwnWaiters }
+{}
+
+/// A process that has ended has a server connection or an item in a worker's hand; once it has neither, it is gone with its
+/// number.
+#[tactic(auto, using(crate::proofs::Reached::run_ended))]
+pub fn ended_processes_have_servers()
+    ensures { (config : Configuration) (steps : List Step) (user : ℕ) (part : Part) (number : ℕ) (process : Process) → row_at (run config steps).world.parts user ≡ Some part → row_at part.processes number ≡ Some process → has_ended process ≡ true → (has_server process || is_held (own_held user (run config steps).world.hands) number) ≡ true }
+{}
+
+/// Of each thread that waits one call waits in the user's pipes, and of any other thread none, but one whose process has
+/// ended: so a call waits at most once, and no thread waits whose call is nowhere.
 pub fn threads_wait_once()
     ensures threads { HoldsOfParts WaitsOnce }
     ensures calls { HoldsInRuns (λ r. (process thread number : ℕ) → count_waiting (is_call process thread number) r.pipes ≤ 1) }

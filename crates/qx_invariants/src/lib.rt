@@ -1,13 +1,15 @@
 //! What holds in every world that a run of the written machine reaches.
 //!
-//! `laws.rt` has the laws. `Changes.antt` names the ten kinds of change by which a user's resources become what they
+//! `laws.rt` has the laws. `Changes.antt` names the eleven kinds of change by which a user's resources become what they
 //! are, what each makes of them and when it may happen; `Holds.antt` says what holds, `Waits.antt` counts calls that
 //! wait.
 //!
 //! In `proofs/`, `Deeds.antt` has the changes that each function of the managers makes, and `Steps.antt` carries what
 //! they keep through steps and runs. `Rooms.antt`, `Contents.antt`, `Named.antt`, `Trees.antt`, `Astray.antt`,
-//! `Events.antt` and `Once.antt` have what the ten kinds leave of the laws; `Together.antt` and `Reached.antt` put them
-//! together. The others stand below: calls on a pipe, rows and paths, one at a time.
+//! `Events.antt` and `Once.antt` have what these kinds leave of the laws; `Clients.antt` has who the clients of open
+//! control blocks are, and `Linked.antt` which connections have them and which server connections disconnect pulses name;
+//! `Together.antt` and `Reached.antt` put them together. The others stand below: calls on a pipe, rows and paths, one at
+//! a time.
 //!
 //! All of it is of the machine alone. That the crate stands above crates of code is for their lemmas.
 #![tactic(auto)]

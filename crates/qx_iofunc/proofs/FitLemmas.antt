@@ -1,5 +1,5 @@
 -- What each change of names and inodes leaves of how they stand together.
-use Rattle.std.proofs.Common.{◌≡◌, ◌≢◌, ℕ, zero, suc, ◌≤◌, ◌==◌, ◌&&◌, Bool, true, false, List, length, refl, sym, ap, ◌∙◌, subst, arith, cond, slice_set, Option, Some, None, count_by}
+use Rattle.std.proofs.Common.{◌≡◌, ◌≢◌, ℕ, zero, suc, ◌≤◌, ◌==◌, ◌&&◌, Bool, true, false, List, [], ◌∷◌, ◌++◌, length, refl, sym, ap, ◌∙◌, subst, arith, cond, slice_set, Option, Some, None, count_by}
 use Rattle.std.specs.Prelude.{if◌then◌else◌}
 use Rattle.std.specs.FinMap.{empty, get, get-empty, get-insert, get-remove, insert, remove}
 use Rattle.std.specs.Ordering.{eq_by_cmp}
@@ -96,24 +96,24 @@ name_fits inodes names key inode is fits = record {
 -- ---- open control blocks come, move and go
 
 -- no inode has fewer
-blocks_fit : (inodes : Inodes) (names : Names) (blocks : List (Option Ocb)) → ((inode : ℕ) → blocks_of inodes inode ≤ count_by (is_open (λ flags. true) inode) blocks) → NamesFit inodes names → NamesFit (record inodes { blocks = blocks }) names
-blocks_fit inodes names blocks more fits = record {
+blocks_fit : (inodes : Inodes) (names : Names) (blocks : List (Option Ocb)) (made : List ℕ) → ((inode : ℕ) → blocks_of inodes inode ≤ count_by (is_open (λ flags. true) inode) blocks) → NamesFit inodes names → NamesFit (record inodes { blocks = blocks; made = made }) names
+blocks_fit inodes names blocks made more fits = record {
   linked = fits.linked;
-  used = λ inode. used_more inodes (record inodes { blocks = blocks }) inode (row_at inodes.attributes inode) (more inode) (fits.used inode);
+  used = λ inode. used_more inodes (record inodes { blocks = blocks; made = made }) inode (row_at inodes.attributes inode) (more inode) (fits.used inode);
   places = fits.places;
 }
 
 -- so a block may change that keeps its inode
 pub block_changed_fits : (inodes : Inodes) (names : Names) (number : ℕ) (change : Ocb → Ocb) → ((block : Ocb) → (change block).inode ≡ block.inode) → NamesFit inodes names → NamesFit (record inodes { blocks = with_row inodes.blocks number change }) names
-block_changed_fits inodes names number change same_inode = blocks_fit inodes names (with_row inodes.blocks number change) (λ inode. let same = by_row inode (row_at inodes.blocks number) refl in omega (arith, same))
+block_changed_fits inodes names number change same_inode = blocks_fit inodes names (with_row inodes.blocks number change) inodes.made (λ inode. let same = by_row inode (row_at inodes.blocks number) refl in omega (arith, same))
   where
     by_row : (inode : ℕ) (row : Option Ocb) → row_at inodes.blocks number ≡ row → count_by (is_open (λ flags. true) inode) (with_row inodes.blocks number change) ≡ blocks_of inodes inode
     by_row inode None is = ap (count_by (is_open (λ flags. true) inode)) (with_row-none inodes.blocks number change is)
     by_row inode (Some block) is = rw is (count-same (is_open (λ flags. true) inode) refl inodes.blocks number block (change block) is (λ i. (same_inode block i == inode) && true))
 
-pub block_fits : (inodes : Inodes) (names : Names) (number : ℕ) (block : Ocb) → row_at inodes.blocks number ≡ None → NamesFit inodes names → NamesFit (record inodes { blocks = put_row inodes.blocks number block }) names
+pub block_fits : (inodes : Inodes) (names : Names) (number : ℕ) (block : Ocb) → row_at inodes.blocks number ≡ None → NamesFit inodes names → NamesFit (record inodes { blocks = put_row inodes.blocks number block; made = inodes.made ++ number ∷ [] }) names
 block_fits inodes names number block free =
-    blocks_fit inodes names (put_row inodes.blocks number block) (λ inode. let put = count-put (is_open (λ flags. true) inode) refl inodes.blocks number block free in omega (arith, put))
+    blocks_fit inodes names (put_row inodes.blocks number block) (inodes.made ++ number ∷ []) (λ inode. let put = count-put (is_open (λ flags. true) inode) refl inodes.blocks number block free in omega (arith, put))
 
 pub closed_but : (inodes : Inodes) (names : Names) (number : ℕ) (block : Ocb) → row_at inodes.blocks number ≡ Some block → NamesFit inodes names → NamesFitBut (close_block inodes number) names block.inode
 closed_but inodes names number block is fits =

@@ -1,5 +1,5 @@
 -- What is at the spot where a path leads, and what an open of a path and the making of a directory come to.
-use Rattle.std.proofs.Common.{◌≡◌, ℕ, ◌&&◌, Bool, true, false, [], not, refl, sym, ap, ◌∙◌, subst, Option, Some, None, Result, Ok, Err, IsOk, IsSome, List, ◌∷◌, length, arith}
+use Rattle.std.proofs.Common.{◌≡◌, ℕ, ◌&&◌, Bool, true, false, [], not, refl, sym, ap, ◌∙◌, subst, Option, Some, None, Result, Ok, Err, IsOk, IsSome, List, ◌∷◌, ◌++◌, length, arith}
 use Rattle.qx_iofunc.specs.Given as given
 use Rattle.std.specs.Prelude.{nat_le, is_some, if◌then◌else◌}
 use Rattle.qx_attr.specs.Counts.{with_number}
@@ -12,15 +12,18 @@ use Rattle.qx_iofunc.specs.inner.Store.{with_made}
 use Rattle.qx_iofunc.proofs.StoreLemmas.{emptied_in, emptied_is}
 use Rattle.qx_machine.proofs.Places.{lowest_from_free}
 use Rattle.qx_machine.specs.declared.rows.Attribute.{Attribute}
+use Rattle.qx_machine.specs.declared.rows.Client.{Client}
 use Rattle.qx_machine.specs.declared.rows.Effect.TheVariants.{Opens}
 use Rattle.qx_machine.specs.declared.rows.Kind.{Kind}
 use Rattle.qx_machine.specs.declared.rows.Kind.TheVariants.{Pipe}
+use Rattle.qx_machine.specs.declared.rows.NewOpen.{NewOpen}
+use Rattle.qx_machine.specs.declared.rows.Ocb.{Ocb}
 use Rattle.qx_machine.specs.declared.rows.Wish.{Wish}
 use Rattle.qx_machine.specs.Defaults.{allows, open_existing, opened, open_missing, writable}
 use Rattle.qx_machine.specs.Files.{Files}
 use Rattle.qx_machine.specs.Functions.{Deed, reply_alone}
 use Rattle.qx_machine.specs.Events.{no_events}
-use Rattle.qx_machine.specs.Inodes.{Inodes, Numbered, block_number, has, open_block, writes, inode_number, may}
+use Rattle.qx_machine.specs.Inodes.{Inodes, Numbered, block_number, has, new_block, open_block, writes, inode_number, may}
 use Rattle.qx_machine.specs.Judgements.{◌>>=◌, found, need}
 use Rattle.qx_machine.specs.Names.{Names, is_directory, Spot, Key, is_empty, root_key, search, spot, start, under, walk}
 use Rattle.qx_machine.specs.RamManager.{emptied, with_bytes}
@@ -30,8 +33,8 @@ use Rattle.qx_types.specs.declared.errno.Errno.{Errno}
 use Rattle.qx_types.specs.declared.errno.Errno.TheVariants.{EACCES, EEXIST, EISDIR, ENFILE, ENOENT}
 use Rattle.qx_types.specs.declared.flags.OFlags.{OFlags}
 use Rattle.qx_types.specs.declared.flags.TheConstants.OFlags.{CREAT, EXCL, TRUNC}
+use Rattle.qx_types.specs.declared.names.Manager.TheVariants as manager
 use Rattle.qx_types.specs.declared.limits.TheConstants.Limits.{BLOCKS}
-use Rattle.qx_types.specs.declared.names.Coid.{Coid}
 use Rattle.std.specs.FinMap.{insert, get}
 use Rattle.qx_iofunc.specs.declared.found.New.{New}
 use Rattle.qx_machine.specs.declared.rows.Access.TheVariants.{Write}
@@ -83,10 +86,14 @@ done = tt
 no_value : (error : Errno) → IsOk (the (Result (Deed Resources) Errno) (Err error)) → ⊥
 no_value error is = absurd (cc)
 
+-- an open control block is made under a number
+abbrev with_block : Inodes → Ocb → ℕ → Inodes
+with_block inodes block number = record inodes { blocks = put_row inodes.blocks number block; made = inodes.made ++ number ∷ [] }
+
 -- an open, once it is known what number it gets
-abbrev opened_by : Coid → OFlags → ℕ → Resources → Result ℕ Errno → Result (Deed Resources) Errno
-opened_by coid flags inode after number =
-    (number >>= (λ n. Ok (the Numbered (record { number = n; inodes = record after.inodes { blocks = put_row after.inodes.blocks n (record { inode = inode; flags = flags; offset = 0; uses = 1 }) } })))) >>= (λ block. Ok (reply_alone coid.0 [] (Opens coid block.number) (record after { inodes = block.inodes })))
+abbrev opened_by : NewOpen → OFlags → ℕ → Resources → Result ℕ Errno → Result (Deed Resources) Errno
+opened_by over flags inode after number =
+    (number >>= (λ n. Ok (the Numbered (record { number = n; inodes = with_block after.inodes (new_block inode flags over.client) n })))) >>= (λ block. Ok (reply_alone over.coid.0 [] (Opens over.coid block.number) (record after { inodes = block.inodes })))
 
 judged : (last : Result ℕ Errno → Result (Deed Resources) Errno) → ((error : Errno) → last (Err error) ≡ Err error) → (shared fits may : Bool) (number : Result ℕ Errno)
     → (need shared EEXIST >>= (λ _. need fits EISDIR >>= (λ _. need may EACCES >>= (λ _. last number))))
@@ -109,40 +116,40 @@ module _ (inodes : Inodes) (user inode : ℕ) (flags : OFlags) where
       by_row (Some a) e = (refl, by_parts (not (has flags CREAT && has flags EXCL)) (not (is_directory a.kind && writes flags)) (allows a user flags) (block_number inodes) e)
 
 -- where a number is free, it is opened
-opened_ok : (coid : Coid) (flags : OFlags) (inode : ℕ) (after : Resources) → IsOk (block_number after.inodes) → IsOk (opened coid flags inode after)
-opened_ok coid flags inode after = by_number (block_number after.inodes)
+opened_ok : (over : NewOpen) (flags : OFlags) (inode : ℕ) (after : Resources) → IsOk (block_number after.inodes) → IsOk (opened over flags inode after)
+opened_ok over flags inode after = by_number (block_number after.inodes)
   where
-    by_number : (number : Result ℕ Errno) → IsOk number → IsOk (opened_by coid flags inode after number)
+    by_number : (number : Result ℕ Errno) → IsOk number → IsOk (opened_by over flags inode after number)
     by_number (Ok n) is = refl
     by_number (Err error) is = absurd (cc)
 
-module _ (r : Resources) (coid : Coid) (inode : ℕ) (wish : Wish) where
+module _ (r : Resources) (over : NewOpen) (inode : ℕ) (wish : Wish) where
   -- it is judged, and then opened
-  existing_is : open_existing r coid inode wish ≡ (may_open r.inodes r.user inode wish.flags >>= (λ _. opened coid wish.flags inode (emptied wish.flags inode wish.moment r)))
+  existing_is : open_existing r over inode wish ≡ (may_open r.inodes r.user inode wish.flags >>= (λ _. opened over wish.flags inode (emptied wish.flags inode wish.moment r)))
   existing_is = by_row (row_at r.inodes.attributes inode) (has wish.flags TRUNC && writes wish.flags && is_some (row_at r.files inode))
     where
       by_row : (row : Option Attribute) (empties : Bool)
-          → (found row ENOENT >>= (λ a. need (not (has wish.flags CREAT && has wish.flags EXCL)) EEXIST >>= (λ _. need (not (is_directory a.kind && writes wish.flags)) EISDIR >>= (λ _. need (allows a r.user wish.flags) EACCES >>= (λ _. opened coid wish.flags inode (if empties then with_bytes inode wish.moment [] r else r))))))
+          → (found row ENOENT >>= (λ a. need (not (has wish.flags CREAT && has wish.flags EXCL)) EEXIST >>= (λ _. need (not (is_directory a.kind && writes wish.flags)) EISDIR >>= (λ _. need (allows a r.user wish.flags) EACCES >>= (λ _. opened over wish.flags inode (if empties then with_bytes inode wish.moment [] r else r))))))
           ≡ ((found row ENOENT >>= (λ a. need (not (has wish.flags CREAT && has wish.flags EXCL)) EEXIST >>= (λ _. need (not (is_directory a.kind && writes wish.flags)) EISDIR >>= (λ _. need (allows a r.user wish.flags) EACCES >>= (λ _. block_number r.inodes >>= (λ _. Ok done))))))
-          >>= (λ _. opened coid wish.flags inode (if empties then with_bytes inode wish.moment [] r else r)))
+          >>= (λ _. opened over wish.flags inode (if empties then with_bytes inode wish.moment [] r else r)))
       by_row None empties = refl
-      by_row (Some a) true = judged (opened_by coid wish.flags inode (with_bytes inode wish.moment [] r)) (λ error. refl) (not (has wish.flags CREAT && has wish.flags EXCL)) (not (is_directory a.kind && writes wish.flags)) (allows a r.user wish.flags) (block_number r.inodes)
-      by_row (Some a) false = judged (opened_by coid wish.flags inode r) (λ error. refl) (not (has wish.flags CREAT && has wish.flags EXCL)) (not (is_directory a.kind && writes wish.flags)) (allows a r.user wish.flags) (block_number r.inodes)
+      by_row (Some a) true = judged (opened_by over wish.flags inode (with_bytes inode wish.moment [] r)) (λ error. refl) (not (has wish.flags CREAT && has wish.flags EXCL)) (not (is_directory a.kind && writes wish.flags)) (allows a r.user wish.flags) (block_number r.inodes)
+      by_row (Some a) false = judged (opened_by over wish.flags inode r) (λ error. refl) (not (has wish.flags CREAT && has wish.flags EXCL)) (not (is_directory a.kind && writes wish.flags)) (allows a r.user wish.flags) (block_number r.inodes)
 
-  pub existing_judged : (given : Result (Unit {0}) Errno) → may_open r.inodes r.user inode wish.flags ≡ given → open_existing r coid inode wish ≡ (given >>= (λ _. opened coid wish.flags inode (emptied wish.flags inode wish.moment r)))
-  existing_judged given is = existing_is ∙ ap (λ judged. judged >>= (λ _. opened coid wish.flags inode (emptied wish.flags inode wish.moment r))) is
+  pub existing_judged : (given : Result (Unit {0}) Errno) → may_open r.inodes r.user inode wish.flags ≡ given → open_existing r over inode wish ≡ (given >>= (λ _. opened over wish.flags inode (emptied wish.flags inode wish.moment r)))
+  existing_judged given is = existing_is ∙ ap (λ judged. judged >>= (λ _. opened over wish.flags inode (emptied wish.flags inode wish.moment r))) is
 
-  pub existing_allowed : (nothing : Unit {0}) → may_open r.inodes r.user inode wish.flags ≡ Ok nothing → IsOk (open_existing r coid inode wish)
+  pub existing_allowed : (nothing : Unit {0}) → may_open r.inodes r.user inode wish.flags ≡ Ok nothing → IsOk (open_existing r over inode wish)
   existing_allowed nothing may =
       let number = (may_open_is r.inodes r.user inode wish.flags nothing may).1 in
       subst IsOk (sym (existing_judged (Ok nothing) may))
-      (elim (has wish.flags TRUNC && writes wish.flags && is_some (row_at r.files inode)) as (λ empties. IsOk (opened coid wish.flags inode (if empties then with_bytes inode wish.moment [] r else r))) [
-        | true ↦ opened_ok coid wish.flags inode (with_bytes inode wish.moment [] r) number
-        | false ↦ opened_ok coid wish.flags inode r number
+      (elim (has wish.flags TRUNC && writes wish.flags && is_some (row_at r.files inode)) as (λ empties. IsOk (opened over wish.flags inode (if empties then with_bytes inode wish.moment [] r else r))) [
+        | true ↦ opened_ok over wish.flags inode (with_bytes inode wish.moment [] r) number
+        | false ↦ opened_ok over wish.flags inode r number
       ])
 
   -- whatever may be opened was judged so
-  allowed_may : IsOk (open_existing r coid inode wish) → may_open r.inodes r.user inode wish.flags ≡ Ok done
+  allowed_may : IsOk (open_existing r over inode wish) → may_open r.inodes r.user inode wish.flags ≡ Ok done
   allowed_may allowed = by_judged (may_open r.inodes r.user inode wish.flags) refl
     where
       by_judged : (judged : Result (Unit {0}) Errno) → may_open r.inodes r.user inode wish.flags ≡ judged → judged ≡ Ok done
@@ -153,19 +160,23 @@ module _ (r : Resources) (coid : Coid) (inode : ℕ) (wish : Wish) where
 beside : Stored → Resources
 beside s = record { user = s.user; mounts = []; inodes = s.inodes; names = s.names; files = s.files; pipes = []; events = no_events }
 
-pub all_allowed : (s : Stored) (inode : ℕ) (wish : Wish) → ((r : Resources) (coid : Coid) → IsOk (open_existing (with_stored r s) coid inode wish)) → may_open s.inodes s.user inode wish.flags ≡ Ok done
-all_allowed s inode wish allowed = allowed_may (with_stored (beside s) s) (record { 0 = 0 }) inode wish (allowed (beside s) (record { 0 = 0 }))
+-- an open of whatever client
+some_open : NewOpen
+some_open = record { coid = record { 0 = 0 }; client = record { process = 0; server = record { manager = manager.Ram; number = 0 } }; root = 0 }
+
+pub all_allowed : (s : Stored) (inode : ℕ) (wish : Wish) → ((r : Resources) (over : NewOpen) → IsOk (open_existing (with_stored r s) over inode wish)) → may_open s.inodes s.user inode wish.flags ≡ Ok done
+all_allowed s inode wish allowed = allowed_may (with_stored (beside s) s) some_open inode wish (allowed (beside s) some_open)
 
 -- ---- once it is open
 
-module _ (inodes now : Inodes) (inode number : ℕ) (flags : OFlags) (is_open : with_number now (Ok number) ≡ open_block inodes inode flags) where
-  opened_is : now ≡ record inodes { blocks = put_row inodes.blocks (lowest_from 1 inodes.blocks) (record { inode = inode; flags = flags; offset = 0; uses = 1 }) }
+module _ (inodes now : Inodes) (inode number : ℕ) (flags : OFlags) (client : Client) (is_open : with_number now (Ok number) ≡ open_block inodes inode flags client) where
+  opened_is : now ≡ with_block inodes (new_block inode flags client) (lowest_from 1 inodes.blocks)
   opened_is = by_test (nat_le (lowest_from 1 inodes.blocks) BLOCKS) is_open
     where
-      by_test : (few : Bool) → with_number now (Ok number) ≡ ((if few then Ok (lowest_from 1 inodes.blocks) else Err ENFILE) >>= (λ n. Ok (record { number = n; inodes = record inodes { blocks = put_row inodes.blocks n (record { inode = inode; flags = flags; offset = 0; uses = 1 }) } })))
-          → now ≡ record inodes { blocks = put_row inodes.blocks (lowest_from 1 inodes.blocks) (record { inode = inode; flags = flags; offset = 0; uses = 1 }) }
+      by_test : (few : Bool) → with_number now (Ok number) ≡ ((if few then Ok (lowest_from 1 inodes.blocks) else Err ENFILE) >>= (λ n. Ok (record { number = n; inodes = with_block inodes (new_block inode flags client) n })))
+          → now ≡ with_block inodes (new_block inode flags client) (lowest_from 1 inodes.blocks)
       by_test true e =
-          let equal : record { number = number; inodes = now } ≡ record { number = lowest_from 1 inodes.blocks; inodes = record inodes { blocks = put_row inodes.blocks (lowest_from 1 inodes.blocks) (record { inode = inode; flags = flags; offset = 0; uses = 1 }) } } = cc in
+          let equal : record { number = number; inodes = now } ≡ record { number = lowest_from 1 inodes.blocks; inodes = with_block inodes (new_block inode flags client) (lowest_from 1 inodes.blocks) } = cc in
           ap (λ (given : Numbered). given.inodes) equal
       by_test false e = absurd (cc)
 
@@ -173,30 +184,28 @@ module _ (inodes now : Inodes) (inode number : ℕ) (flags : OFlags) (is_open : 
   opened_fits names files fits =
       subst (λ (i : Inodes). Fits i names files) (sym opened_is)
       (record {
-        named = block_fits inodes names (lowest_from 1 inodes.blocks) (record { inode = inode; flags = flags; offset = 0; uses = 1 }) (lowest_from_free 1 inodes.blocks) fits.named;
+        named = block_fits inodes names (lowest_from 1 inodes.blocks) (new_block inode flags client) (lowest_from_free 1 inodes.blocks) fits.named;
         sized = fits.sized;
         room = fits.room;
       })
 
-  -- the deed of an open
-  opened_deed : (coid : Coid) (after : Resources) → after.inodes ≡ inodes → opened coid flags inode after ≡ Ok (reply_alone coid.0 [] (Opens coid number) (record after { inodes = now }))
-  opened_deed coid after same =
-      ap (λ (from : Inodes). open_block from inode flags >>= (λ block. Ok (reply_alone coid.0 [] (Opens coid block.number) (record after { inodes = block.inodes })))) same
-      ∙ ap (λ block. block >>= (λ block. Ok (reply_alone coid.0 [] (Opens coid block.number) (record after { inodes = block.inodes })))) (sym is_open)
+-- the deed of an open
+opened_deed : (over : NewOpen) (after : Resources) (now : Inodes) (number inode : ℕ) (flags : OFlags) → with_number now (Ok number) ≡ open_block after.inodes inode flags over.client → opened over flags inode after ≡ Ok (reply_alone over.coid.0 [] (Opens over.coid number) (record after { inodes = now }))
+opened_deed over after now number inode flags is = ap (λ block. block >>= (λ block. Ok (reply_alone over.coid.0 [] (Opens over.coid block.number) (record after { inodes = block.inodes })))) (sym is)
 
 -- what was there is no pipe that is made
 not_made : (kind : Kind) (number inode : ℕ) (r : Resources) → given.with_pipe_made kind (record { number = number; inode = inode; is_new = false }) r ≡ r
 not_made Pipe number inode r = refl
 not_made kind number inode r = refl
 
-pub existing_done : (s : Stored) (now : Inodes) (number inode : ℕ) (own : Kind) (wish : Wish) → may_open s.inodes s.user inode wish.flags ≡ Ok done → with_number now (Ok number) ≡ open_block (emptied_in wish.flags inode wish.moment s).inodes inode wish.flags → (r : Resources) (coid : Coid)
-    → open_existing (with_stored r s) coid inode wish
-    ≡ Ok (given.open_given coid own (record { number = number; inode = inode; is_new = false }) (with_stored r (record (emptied_in wish.flags inode wish.moment s) { inodes = now })))
-existing_done s now number inode own wish may is r coid =
-    existing_judged (with_stored r s) coid inode wish (Ok done) may
-    ∙ (ap (λ (after : Resources). opened coid wish.flags inode after) (emptied_is wish.flags inode wish.moment s r)
-    ∙ (opened_deed (emptied_in wish.flags inode wish.moment s).inodes now inode number wish.flags is coid (with_stored r (emptied_in wish.flags inode wish.moment s)) refl
-    ∙ ap (λ (after : Resources). Ok (reply_alone coid.0 [] (Opens coid number) after))
+pub existing_done : (s : Stored) (now : Inodes) (number inode : ℕ) (over : NewOpen) (wish : Wish) → may_open s.inodes s.user inode wish.flags ≡ Ok done → with_number now (Ok number) ≡ open_block (emptied_in wish.flags inode wish.moment s).inodes inode wish.flags over.client → (r : Resources) (own : Kind)
+    → open_existing (with_stored r s) over inode wish
+    ≡ Ok (given.open_given over.coid own (record { number = number; inode = inode; is_new = false }) (with_stored r (record (emptied_in wish.flags inode wish.moment s) { inodes = now })))
+existing_done s now number inode over wish may is r own =
+    existing_judged (with_stored r s) over inode wish (Ok done) may
+    ∙ (ap (λ (after : Resources). opened over wish.flags inode after) (emptied_is wish.flags inode wish.moment s r)
+    ∙ (opened_deed over (with_stored r (emptied_in wish.flags inode wish.moment s)) now number inode wish.flags is
+    ∙ ap (λ (after : Resources). Ok (reply_alone over.coid.0 [] (Opens over.coid number) after))
     (sym (not_made own number inode (with_stored r (record (emptied_in wish.flags inode wish.moment s) { inodes = now }))))))
 
 -- ---- what may be made
@@ -254,7 +263,7 @@ missing_makes inodes user parent new flags is = by_parts (has flags CREAT) (writ
 
 -- ---- it is made, and opened
 
-module _ (r : Resources) (s : Stored) (coid : Coid) (at : Spot) (own : Kind) (wish : Wish) where
+module _ (r : Resources) (s : Stored) (over : NewOpen) (at : Spot) (own : Kind) (wish : Wish) where
   -- what there is once it is made
   abbrev after : Kind → New → Resources
   after kind new = with_empty kind new.inode (record (with_stored r s) { inodes = (with_made at new.inode new.parent kind wish.mode wish.moment s).inodes; names = insert s.names at.key new.inode })
@@ -269,20 +278,20 @@ module _ (r : Resources) (s : Stored) (coid : Coid) (at : Spot) (own : Kind) (wi
   after_is Pipe new number now = refl
   after_is kind new number now = refl
 
-  missing_is : (new : New) → may_make s.inodes s.user at.parent wish.flags ≡ Ok new → open_missing own (with_stored r s) coid at wish ≡ opened coid wish.flags new.inode (after own new)
+  missing_is : (new : New) → may_make s.inodes s.user at.parent wish.flags ≡ Ok new → open_missing own (with_stored r s) over at wish ≡ opened over wish.flags new.inode (after own new)
   missing_is new may = let it = missing_makes s.inodes s.user at.parent new wish.flags may in rw (it.creates, it.writable_is, it.block_is, it.number_is) refl
 
   pub missing_done : (new : New) (now : Inodes) (number : ℕ) → may_make s.inodes s.user at.parent wish.flags ≡ Ok new
-      → with_number now (Ok number) ≡ open_block (with_made at new.inode new.parent own wish.mode wish.moment s).inodes new.inode wish.flags
-      → open_missing own (with_stored r s) coid at wish
-      ≡ Ok (given.open_given coid own (record { number = number; inode = new.inode; is_new = true }) (with_stored r (record (with_made at new.inode new.parent own wish.mode wish.moment s) { inodes = now })))
+      → with_number now (Ok number) ≡ open_block (with_made at new.inode new.parent own wish.mode wish.moment s).inodes new.inode wish.flags over.client
+      → open_missing own (with_stored r s) over at wish
+      ≡ Ok (given.open_given over.coid own (record { number = number; inode = new.inode; is_new = true }) (with_stored r (record (with_made at new.inode new.parent own wish.mode wish.moment s) { inodes = now })))
   missing_done new now number may is =
       missing_is new may
-      ∙ (opened_deed (with_made at new.inode new.parent own wish.mode wish.moment s).inodes now new.inode number wish.flags is coid (after own new) (after_inodes own new)
-      ∙ ap (λ (after : Resources). Ok (reply_alone coid.0 [] (Opens coid number) after)) (after_is own new number now))
+      ∙ (opened_deed over (after own new) now number new.inode wish.flags (is ∙ ap (λ (from : Inodes). open_block from new.inode wish.flags over.client) (sym (after_inodes own new)))
+      ∙ ap (λ (after : Resources). Ok (reply_alone over.coid.0 [] (Opens over.coid number) after)) (after_is own new number now))
 
-  pub missing_allowed : (new : New) → may_make s.inodes s.user at.parent wish.flags ≡ Ok new → IsOk (open_missing own (with_stored r s) coid at wish)
+  pub missing_allowed : (new : New) → may_make s.inodes s.user at.parent wish.flags ≡ Ok new → IsOk (open_missing own (with_stored r s) over at wish)
   missing_allowed new may =
       let free = (missing_makes s.inodes s.user at.parent new wish.flags may).block_is in
       let number : IsOk (block_number s.inodes) = rw free refl in
-      subst IsOk (sym (missing_is new may)) (opened_ok coid wish.flags new.inode (after own new) (subst (λ (inodes : Inodes). IsOk (block_number inodes)) (sym (after_inodes own new)) number))
+      subst IsOk (sym (missing_is new may)) (opened_ok over wish.flags new.inode (after own new) (subst (λ (inodes : Inodes). IsOk (block_number inodes)) (sym (after_inodes own new)) number))

@@ -1,11 +1,12 @@
 -- Tables of which one row changes.
-use Rattle.std.proofs.Common.{◌≡◌, ◌≢◌, ℕ, zero, suc, ◌<◌, ◌≤◌, Bool, true, false, List, [], ◌∷◌, ◌++◌, length, refl, sym, ap, ◌∙◌, inl, inr, arith, subst, Option, Some, None, nat_lt, option_map, slice_set, length-append}
-use Rattle.std.specs.Prelude.{IsSome, if◌then◌else◌}
+use Rattle.std.proofs.Common.{◌≡◌, ◌≢◌, ℕ, zero, suc, ◌<◌, ◌≤◌, List, [], ◌∷◌, length, refl, sym, ap, ◌∙◌, inl, inr, arith, subst, Option, Some, option_map, slice_set}
+use Rattle.std.specs.Prelude.{IsSome}
 use Rattle.std.proofs.Math.ListN.{length-set}
-use Rattle.std.proofs.lemmas.Bool.{cases_eq, ltb-false, ltb-true}
-use Rattle.qx_attr.proofs.TableLemmas.{no_value}
+use Rattle.std.proofs.lemmas.Bool.{cases_eq}
+use Rattle.qx_attr.proofs.TableLemmas.{longer_put, no_value, put_other}
+pub use Rattle.qx_attr.proofs.TableLemmas.{lowest_within, put_at, row-freed, set_at}
 use Rattle.qx_machine.proofs.Places.{row_at-set_other, set-row_at}
-use Rattle.qx_machine.specs.Rows.{lowest_from, put_row, row_at, taken_places, with_row}
+use Rattle.qx_machine.specs.Rows.{put_row, row_at, with_row}
 
 -- at one place, and at all others
 pub by_place : (P : ℕ → Type 0) (n : ℕ) → P n → ((m : ℕ) → m ≢ n → P m) → (m : ℕ) → P m
@@ -32,54 +33,8 @@ module _ {A : Type 0} where
     longer = let same = length-set places n row in omega (arith, same);
   }
 
-  pub row-freed : (places : List (Option A)) (n : ℕ) → row_at (slice_set places n None) n ≡ None
-  row-freed [] n = refl
-  row-freed (place ∷ places) zero = refl
-  row-freed (place ∷ places) (suc n) = row-freed places n
-
-  pub set_at : (places : List (Option A)) (n : ℕ) (row : A) → n < length places → row_at (slice_set places n (Some row)) n ≡ Some row
-  set_at [] n row inside = absurd (omega (arith, inside))
-  set_at (place ∷ places) zero row inside = refl
-  set_at (place ∷ places) (suc n) row inside = set_at places n row (omega (arith, inside))
-
-  -- ---- a row comes to a place, or is the next one
-
-  last_at : (places : List (Option A)) (row : A) → row_at (places ++ Some row ∷ []) (length places) ≡ Some row
-  last_at [] row = refl
-  last_at (place ∷ places) row = last_at places row
-
-  last_other : (places : List (Option A)) (row : A) (m : ℕ) → m ≢ length places → row_at (places ++ Some row ∷ []) m ≡ row_at places m
-  last_other [] row zero apart = absurd (apart refl)
-  last_other [] row (suc m) apart = refl
-  last_other (place ∷ places) row zero apart = refl
-  last_other (place ∷ places) row (suc m) apart = last_other places row m (λ same. apart (ap suc same))
-
-  by_put : (places : List (Option A)) (n : ℕ) (row : A) (P : List (Option A) → Type 0) → n ≤ length places → (n < length places → P (slice_set places n (Some row))) → (length places ≡ n → P (places ++ Some row ∷ [])) → P (put_row places n row)
-  by_put places n row P within inside last = by_test (nat_lt n (length places)) refl
-    where
-      by_test : (test : Bool) → nat_lt n (length places) ≡ test → P (if test then slice_set places n (Some row) else places ++ Some row ∷ [])
-      by_test true is = inside (ltb-true n (length places) is)
-      by_test false is = let past = ltb-false n (length places) is in last (omega (arith, within, past))
-
-  pub put_at : (places : List (Option A)) (n : ℕ) (row : A) → n ≤ length places → row_at (put_row places n row) n ≡ Some row
-  put_at places n row within =
-      by_put places n row (λ rows. row_at rows n ≡ Some row) within (set_at places n row) (λ last. subst (λ m. row_at (places ++ Some row ∷ []) m ≡ Some row) last (last_at places row))
-
   pub put_differ : (places : List (Option A)) (n : ℕ) (row : A) → n ≤ length places → Differ places (put_row places n row) n
-  put_differ places n row within =
-      let more = length-append places (Some row ∷ []) in
-      by_put places n row (λ rows. Differ places rows n) within (λ inside. set_differ places n (Some row))
-      (λ last. record { others = λ m apart. last_other places row m (λ same. apart (same ∙ last)); longer = omega (arith, more) })
-
-  taken_within : (places : List (Option A)) → taken_places places ≤ length places
-  taken_within [] = omega arith
-  taken_within (None ∷ places) = omega arith
-  taken_within (Some row ∷ places) = let rest = taken_within places in omega (arith, rest)
-
-  -- the lowest free number is in the table, or is the next one
-  pub lowest_within : (places : List (Option A)) → 0 < length places → lowest_from 1 places ≤ length places
-  lowest_within [] some = absurd (omega (arith, some))
-  lowest_within (place ∷ places) some = let rest = taken_within places in omega (arith, rest)
+  put_differ places n row within = record { others = put_other places n row within; longer = longer_put places n row }
 
   -- ---- a row that changes, or stays as it is
 

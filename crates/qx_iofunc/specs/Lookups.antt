@@ -6,6 +6,7 @@ use Rattle.qx_iofunc.specs.declared.found.Lookup.TheVariants.{Found, Missing}
 use Rattle.qx_iofunc.specs.Makes.{may_make}
 use Rattle.qx_iofunc.specs.Store.{Stored, with_stored}
 use Rattle.qx_machine.specs.declared.rows.Kind.{Kind}
+use Rattle.qx_machine.specs.declared.rows.NewOpen.{NewOpen}
 use Rattle.qx_machine.specs.declared.rows.Wish.{Wish}
 use Rattle.qx_machine.specs.Defaults.{open_existing, open_missing}
 use Rattle.qx_machine.specs.Functions.{Deed}
@@ -17,11 +18,10 @@ use Rattle.qx_names.specs.Paths.{HasPath, path_of}
 use Rattle.qx_names.specs.Spots.{spot_of}
 use Rattle.qx_types.specs.declared.errno.Errno.{Errno}
 use Rattle.qx_types.specs.declared.flags.OFlags.{OFlags}
-use Rattle.qx_types.specs.declared.names.Coid.{Coid}
 
-abbrev pub open_found : Kind → Resources → Coid → Lookup → Wish → Result (Deed Resources) Errno
-open_found own r coid (Found inode) wish = open_existing r coid inode wish
-open_found own r coid (Missing at new) wish = open_missing own r coid (spot_of r.names at) wish
+abbrev pub open_found : Kind → Resources → NewOpen → Lookup → Wish → Result (Deed Resources) Errno
+open_found own r over (Found inode) wish = open_existing r over inode wish
+open_found own r over (Missing at new) wish = open_missing own r over (spot_of r.names at) wish
 
 -- how many inodes and open control blocks it needs room for
 abbrev pub needed : Lookup → ℕ
@@ -29,10 +29,10 @@ needed (Found inode) = 1
 needed (Missing at new) = 2
 
 -- an open, once it was looked up what it opens
-abbrev pub open_looked_up : Kind → Resources → Coid → Result Lookup Errno → Wish → Result (Deed Resources) Errno
-open_looked_up own r coid lookup wish = do
+abbrev pub open_looked_up : Kind → Resources → NewOpen → Result Lookup Errno → Wish → Result (Deed Resources) Errno
+open_looked_up own r over lookup wish = do
   there ← lookup
-  open_found own r coid there wish
+  open_found own r over there wish
 
 -- what is missing has a directory, in which nothing has its name
 abbrev pub HasFreeName : Names → Lookup → Type 0
@@ -48,4 +48,4 @@ IsJudged inodes user flags (Missing at new) = may_make inodes user at.parent fla
 pub record IsAllowed (s : Stored) (flags : OFlags) (lookup : Lookup) : Type 0 where
   pub free : HasFreeName s.names lookup
   pub judged : IsJudged s.inodes s.user flags lookup
-  pub opens : (r : Resources) (coid : Coid) (own : Kind) (mode moment : ℕ) → IsOk (open_found own (with_stored r s) coid lookup (record { flags = flags; mode = mode; moment = moment }))
+  pub opens : (r : Resources) (over : NewOpen) (own : Kind) (mode moment : ℕ) → IsOk (open_found own (with_stored r s) over lookup (record { flags = flags; mode = mode; moment = moment }))

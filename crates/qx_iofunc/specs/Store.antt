@@ -32,7 +32,7 @@ with_stored r s = record r { user = s.user; inodes = s.inodes; names = s.names; 
 abbrev pub boot_store : ℕ → Stored
 boot_store user = record {
   user = user;
-  inodes = record { attributes = None ∷ Some (root_attribute user) ∷ []; blocks = None ∷ [] };
+  inodes = record { attributes = None ∷ Some (root_attribute user) ∷ []; blocks = None ∷ []; made = [] };
   names = with_root empty top_inode;
   files = no_files;
 }
@@ -43,8 +43,6 @@ with_mount_root root s = record s {
   inodes = record s.inodes { attributes = put_row s.inodes.attributes root (root_attribute s.user) };
   names = with_root s.names root;
 }
-
--- ---- what comes, and other sizes
 
 -- ---- what goes
 

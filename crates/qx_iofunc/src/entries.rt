@@ -12,7 +12,7 @@ ghost use Rattle.qx_machine.specs.Rows.{row_at};
 use crate::found::New;
 use bitflags::Flags;
 use qx_attr::{Inodes, check_access};
-use qx_machine::{Access, Attribute, Kind};
+use qx_machine::{Access, Attribute, Client, Kind};
 use qx_names::Spot;
 use qx_types::{Errno, OFlags, User};
 
@@ -152,15 +152,15 @@ pub fn made(inodes: &mut Inodes, attribute: Attribute)
     }
 }
 
-/// Opens an inode, for which there is a number and room.
-pub fn opened(inodes: &mut Inodes, inode: u32, flags: OFlags) -> u16
+/// Opens an inode for a client, for which there is a number and room.
+pub fn opened(inodes: &mut Inodes, inode: u32, flags: OFlags, client: Client) -> u16
     requires there { IsSome (row_at inodes.old.inodes.attributes inode) }
     requires room { 0 < inodes.old.room }
     requires number { IsOk (of_inodes.block_number inodes.old.inodes) }
-    ensures opened { with_number inodes.new.inodes (Ok result) ≡ of_inodes.open_block inodes.old.inodes inode flags }
+    ensures opened { with_number inodes.new.inodes (Ok result) ≡ of_inodes.open_block inodes.old.inodes inode flags client }
     ensures room { inodes.new.room ≡ inodes.old.room - 1 }
 {
-    match inodes.open_block(inode, flags) {
+    match inodes.open_block(inode, flags, client) {
         Ok(Ok(number)) => number,
         _ => unreachable!(),
     }

@@ -9,7 +9,9 @@ ghost use Rattle.qx_iofunc.specs.Store.{Stored, with_stored};
 ghost use Rattle.qx_machine.specs.Defaults as machine;
 ghost use Rattle.qx_machine.specs.Names.{under};
 ghost use Rattle.qx_machine.specs.Resources.{Resources};
+ghost use Rattle.qx_machine.specs.declared.rows.Client.{Client as AnyClient};
 ghost use Rattle.qx_machine.specs.declared.rows.Kind.{Kind as AnyKind};
+ghost use Rattle.qx_machine.specs.declared.rows.NewOpen.{NewOpen as AnyOpen};
 ghost use Rattle.qx_names.specs.Paths.{HasPath, path_of};
 ghost use Rattle.qx_names.specs.Spots.{spot_of};
 ghost use Rattle.qx_types.specs.declared.names.Coid.{Coid as AnyCoid};
@@ -18,7 +20,7 @@ use crate::entries::{may_make, may_open, opened};
 use crate::found::{Lookup, New, Opening};
 use crate::store::Store;
 use bitflags::Flags;
-use qx_machine::{Kind, Wish};
+use qx_machine::{Client, Kind, Wish};
 use qx_names::Spot;
 use qx_types::{Errno, OFlags};
 use qx_wire::Rest;
@@ -29,7 +31,7 @@ impl Store {
     /// `iofunc_open`). The errors of a walk; of what is there EEXIST for CREAT with EXCL, EISDIR for a directory with WRITE,
     /// EACCES by its mode, ENFILE; of what is missing ENOENT without CREAT, EACCES by its directory's mode, ENFILE, ENOSPC.
     pub fn lookup<'a>(&self, root: u32, rest: &Rest<'a>, flags: OFlags) -> Result<Lookup<'a>, Errno>
-        ensures opens { (r : Resources) (coid : AnyCoid) (own : AnyKind) (mode moment : ℕ) → machine.open_path own (with_stored r self.now.stored) (record { coid = coid; root = root }) rest.now (record { flags = flags; mode = mode; moment = moment }) ≡ open_looked_up own (with_stored r self.now.stored) coid result (record { flags = flags; mode = mode; moment = moment }) }
+        ensures opens { (r : Resources) (coid : AnyCoid) (client : AnyClient) (own : AnyKind) (mode moment : ℕ) → machine.open_path own (with_stored r self.now.stored) (record { coid = coid; client = client; root = root }) rest.now (record { flags = flags; mode = mode; moment = moment }) ≡ open_looked_up own (with_stored r self.now.stored) (record { coid = coid; client = client; root = root }) result (record { flags = flags; mode = mode; moment = moment }) }
         ensures allowed { IfOk result (IsAllowed self.now.stored flags) }
     {
         if rest.components().next().is_none() {
@@ -53,35 +55,46 @@ impl Store {
 
     // What is there, where it may be opened so.
     fn found<'a>(&self, inode: u32, flags: OFlags) -> Result<Lookup<'a>, Errno>
-        ensures opens { (r : Resources) (coid : AnyCoid) (own : AnyKind) (mode moment : ℕ) → machine.open_existing (with_stored r self.now.stored) coid inode (record { flags = flags; mode = mode; moment = moment }) ≡ open_looked_up own (with_stored r self.now.stored) coid result (record { flags = flags; mode = mode; moment = moment }) }
+        ensures opens { (r : Resources) (over : AnyOpen) (own : AnyKind) (mode moment : ℕ) → machine.open_existing (with_stored r self.now.stored) over inode (record { flags = flags; mode = mode; moment = moment }) ≡ open_looked_up own (with_stored r self.now.stored) over result (record { flags = flags; mode = mode; moment = moment }) }
         ensures allowed { IfOk result (IsAllowed self.now.stored flags) }
     {
         may_open(&self.tables.inodes, self.tables.user, inode, flags)?;
         Ok(Lookup::Found(inode))
     }
 
-    /// Opens what a lookup found, or makes what is missing, of the manager's own kind, and opens it; an open for writing with
-    /// TRUNC makes a file empty. What is in an inode that is made elsewhere, a pipe, is the caller's to make. Where memory is
-    /// short, nothing changes.
-    pub fn open(&mut self, own: Kind, lookup: Lookup<'_>, wish: Wish) -> Result<Opening, AllocError>
+    /// Opens for a client what a lookup found, or makes what is missing, of the manager's own kind, and opens it; an open for
+    /// writing with TRUNC makes a file empty. What is in an inode that is made elsewhere, a pipe, is the caller's to make.
+    /// Where memory is short, nothing changes.
+    pub fn open(
+        &mut self,
+        own: Kind,
+        client: Client,
+        lookup: Lookup<'_>,
+        wish: Wish,
+    ) -> Result<Opening, AllocError>
         requires allowed { IsAllowed self.old.stored wish.flags lookup }
         ensures user { self.new.stored.user ≡ self.old.stored.user }
-        ensures opened { IfOk result (λ o. (r : Resources) (coid : AnyCoid) → open_found own (with_stored r self.old.stored) coid lookup.entry wish ≡ Ok (given.open_given coid own o (with_stored r self.new.stored))) }
+        ensures opened { IfOk result (λ o. (r : Resources) (coid : AnyCoid) (root : ℕ) → open_found own (with_stored r self.old.stored) (record { coid = coid; client = client; root = root }) lookup.entry wish ≡ Ok (given.open_given coid own o (with_stored r self.new.stored))) }
         ensures err { OnErr result (self.new.stored ≡ self.old.stored) }
         ensures room { OnOk result (self.new.room ≡ self.old.room - needed lookup.entry) }
         ensures spare { self.new.room ≤ max self.old.room (needed lookup.entry) }
     {
         match lookup {
-            Lookup::Found(inode) => self.open_existing(inode, wish),
-            Lookup::Missing { at, new } => self.open_missing(own, at, new, wish),
+            Lookup::Found(inode) => self.open_existing(client, inode, wish),
+            Lookup::Missing { at, new } => self.open_missing(own, client, at, new, wish),
         }
     }
 
     // Opens what is there.
-    fn open_existing(&mut self, inode: u32, wish: Wish) -> Result<Opening, AllocError>
-        requires allowed { (r : Resources) (coid : AnyCoid) → IsOk (machine.open_existing (with_stored r self.old.stored) coid inode wish) }
+    fn open_existing(
+        &mut self,
+        client: Client,
+        inode: u32,
+        wish: Wish,
+    ) -> Result<Opening, AllocError>
+        requires allowed { (r : Resources) (over : AnyOpen) → IsOk (machine.open_existing (with_stored r self.old.stored) over inode wish) }
         ensures user { self.new.stored.user ≡ self.old.stored.user }
-        ensures opened { IfOk result (λ o. (r : Resources) (coid : AnyCoid) (own : AnyKind) → machine.open_existing (with_stored r self.old.stored) coid inode wish ≡ Ok (given.open_given coid own o (with_stored r self.new.stored))) }
+        ensures opened { IfOk result (λ o. (r : Resources) (coid : AnyCoid) (root : ℕ) (own : AnyKind) → machine.open_existing (with_stored r self.old.stored) (record { coid = coid; client = client; root = root }) inode wish ≡ Ok (given.open_given coid own o (with_stored r self.new.stored))) }
         ensures err { OnErr result (self.new.stored ≡ self.old.stored) }
         ensures room { OnOk result (self.new.room ≡ self.old.room - 1) }
         ensures spare { self.new.room ≤ max self.old.room 1 }
@@ -91,7 +104,7 @@ impl Store {
             self.tables.truncate(inode, wish.moment);
         }
         Ok(Opening {
-            number: opened(&mut self.tables.inodes, inode, wish.flags),
+            number: opened(&mut self.tables.inodes, inode, wish.flags, client),
             inode,
             is_new: false,
         })
@@ -101,6 +114,7 @@ impl Store {
     fn open_missing(
         &mut self,
         own: Kind,
+        client: Client,
         at: Spot<'_>,
         new: New,
         wish: Wish,
@@ -109,7 +123,7 @@ impl Store {
         requires missing { get self.old.stored.names (under (path_of self.old.stored.names at.parent) at.name.now) ≡ None }
         requires judged { may_make self.old.stored.inodes self.old.stored.user at.parent wish.flags ≡ Ok new }
         ensures user { self.new.stored.user ≡ self.old.stored.user }
-        ensures opened { IfOk result (λ o. (r : Resources) (coid : AnyCoid) → machine.open_missing own (with_stored r self.old.stored) coid (spot_of self.old.stored.names at.entry) wish ≡ Ok (given.open_given coid own o (with_stored r self.new.stored))) }
+        ensures opened { IfOk result (λ o. (r : Resources) (coid : AnyCoid) (root : ℕ) → machine.open_missing own (with_stored r self.old.stored) (record { coid = coid; client = client; root = root }) (spot_of self.old.stored.names at.entry) wish ≡ Ok (given.open_given coid own o (with_stored r self.new.stored))) }
         ensures err { OnErr result (self.new.stored ≡ self.old.stored) }
         ensures room { OnOk result (self.new.room ≡ self.old.room - 2) }
         ensures spare { self.new.room ≤ max self.old.room 2 }
@@ -117,7 +131,7 @@ impl Store {
         self.tables.inodes.reserve(2)?;
         self.tables.make(at, new, own, wish.mode, wish.moment)?;
         Ok(Opening {
-            number: opened(&mut self.tables.inodes, new.inode, wish.flags),
+            number: opened(&mut self.tables.inodes, new.inode, wish.flags, client),
             inode: new.inode,
             is_new: true,
         })

@@ -1,5 +1,6 @@
 -- Which events are due rests on the conditions of their blocks alone.
 use Rattle.std.proofs.Common.{◌≡◌, inl, inr, ℕ, Bool, true, false, not, List, [], ◌∷◌, refl, sym, ◌∙◌, ap}
+use Rattle.std.proofs.Math.Bool.{and-false, and-not_self}
 use Rattle.std.specs.Prelude.{filter, ◌&&◌, ◌||◌}
 use Rattle.std.specs.List.{AllByRecursion}
 use Rattle.std.proofs.lemmas.Bool.{cases_Bool}
@@ -8,6 +9,10 @@ use Rattle.qx_machine.specs.declared.rows.Conditions.{Conditions}
 use Rattle.qx_machine.specs.declared.rows.Event.{Event}
 use Rattle.qx_machine.specs.declared.rows.Pulse.{Pulse}
 use Rattle.qx_machine.specs.Events.{Events, come_to_hold, is_any, is_due, is_wanted, pulse_of, triggered, wanted_of, with_pulse, with_pulses}
+
+and-first : (a b : Bool) → (a && b) ≡ true → a ≡ true
+and-first true b is = refl
+and-first false b is = is
 
 module _ (before after other later : ℕ → Conditions) where
   -- an event is due by both alike, and gives the same pulse then
@@ -30,28 +35,22 @@ module _ (before after other later : ℕ → Conditions) where
     | inr not ↦ let also : two e ≡ false = sym agree.0.0 ∙ not in rw (not, also) (given-alike one two es pulses agree.1)
   ]
 
-  both : (events : List Event) → AllByRecursion Agree events → AllByRecursion (λ event. (is_due before after event ≡ is_due other later event) × (is_due before after event ≡ true → after event.block ≡ later event.block)) events
-  both [] agree = tt
-  both (e ∷ es) agree = ((agree.0.due, agree.0.holding), both es agree.1)
+  module _ (lives : ℕ → Bool) where
+    both : (events : List Event) → AllByRecursion Agree events
+        → AllByRecursion (λ event. ((is_due before after event && lives event.process) ≡ (is_due other later event && lives event.process)) × ((is_due before after event && lives event.process) ≡ true → after event.block ≡ later event.block)) events
+    both [] agree = tt
+    both (e ∷ es) agree = ((ap (λ due. due && lives e.process) agree.0.due, λ gives. agree.0.holding (and-first _ _ gives)), both es agree.1)
 
-  pub triggered-alike : (events : Events) → AllByRecursion Agree events.armed → triggered before after events ≡ triggered other later events
-  triggered-alike events agree =
-      let armed = stay-alike events.armed agree in
-      let pulses = given-alike (is_due before after) (is_due other later) events.armed events.pulses (both events.armed agree) in
-      λ i. record { armed = armed i; pulses = pulses i }
+    pub triggered-alike : (events : Events) → AllByRecursion Agree events.armed → triggered lives before after events ≡ triggered lives other later events
+    triggered-alike events agree =
+        let armed = stay-alike events.armed agree in
+        let pulses = given-alike (λ event. is_due before after event && lives event.process) (λ event. is_due other later event && lives event.process) events.armed events.pulses (both events.armed agree) in
+        λ i. record { armed = armed i; pulses = pulses i }
 
 -- ---- nothing is due where all conditions are as they were
 
-no-both : (b : Bool) → (b && not b) ≡ false
-no-both true = refl
-no-both false = refl
-
-and-false : (b : Bool) → (b && false) ≡ false
-and-false true = refl
-and-false false = refl
-
 none-new : (wanted_input wanted_output : Bool) (c : Conditions) → ((wanted_input && (c.input && not c.input)) || (wanted_output && (c.output && not c.output))) ≡ false
-none-new wanted_input wanted_output c = rw (no-both c.input, no-both c.output, and-false wanted_input, and-false wanted_output) refl
+none-new wanted_input wanted_output c = rw (and-not_self c.input, and-not_self c.output, and-false wanted_input, and-false wanted_output) refl
 
 module _ (before after : ℕ → Conditions) where
   not-due : (event : Event) → before event.block ≡ after event.block → is_due before after event ≡ false
@@ -65,12 +64,13 @@ module _ (before after : ℕ → Conditions) where
   none-given due [] pulses none = refl
   none-given due (e ∷ es) pulses none = rw none.0 (none-given due es pulses none.1)
 
-  none-due : (events : List Event) → AllByRecursion (λ event. before event.block ≡ after event.block) events → AllByRecursion (λ event. is_due before after event ≡ false) events
-  none-due [] same = tt
-  none-due (e ∷ es) same = (not-due e same.0, none-due es same.1)
+  module _ (lives : ℕ → Bool) where
+    none-due : (events : List Event) → AllByRecursion (λ event. before event.block ≡ after event.block) events → AllByRecursion (λ event. (is_due before after event && lives event.process) ≡ false) events
+    none-due [] same = tt
+    none-due (e ∷ es) same = (ap (λ due. due && lives e.process) (not-due e same.0), none-due es same.1)
 
-  pub triggered-none : (events : Events) → AllByRecursion (λ event. before event.block ≡ after event.block) events.armed → triggered before after events ≡ events
-  triggered-none events same =
-      let armed = all-stay events.armed same in
-      let pulses = none-given (is_due before after) events.armed events.pulses (none-due events.armed same) in
-      λ i. record { armed = armed i; pulses = pulses i }
+    pub triggered-none : (events : Events) → AllByRecursion (λ event. before event.block ≡ after event.block) events.armed → triggered lives before after events ≡ events
+    triggered-none events same =
+        let armed = all-stay events.armed same in
+        let pulses = none-given (λ event. is_due before after event && lives event.process) events.armed events.pulses (none-due events.armed same) in
+        λ i. record { armed = armed i; pulses = pulses i }

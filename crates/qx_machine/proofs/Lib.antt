@@ -32,3 +32,7 @@ pub mod Workers
 pub mod EventFacts
 -- nothing is due where nothing changed, and what is taken away is not there
 pub mod NotifyLemmas
+-- nothing is left to be settled between steps
+pub mod Settled
+-- no process ends as an item is performed
+pub mod Living

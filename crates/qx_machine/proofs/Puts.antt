@@ -1,6 +1,6 @@
--- How many items the performing of an item puts into lines.
-use Rattle.std.proofs.Common.{◌≡◌, ℕ, ◌+◌, ◌≤◌, List, [], ◌∷◌, ◌++◌, map, refl, arith}
-use Rattle.std.specs.Prelude.{Option, Some, None, Result, Ok, Err, if◌then◌else◌, is_some, take}
+-- What the performing of an item puts into lines, by any measure of changes by which a removal is nothing and a disconnect pulse 1 at most.
+use Rattle.std.proofs.Common.{◌≡◌, ◌∙◌, ℕ, ◌+◌, ◌≤◌, List, [], ◌∷◌, ◌++◌, map, refl, arith}
+use Rattle.std.specs.Prelude.{Option, Some, None, Result, Ok, Err, if◌then◌else◌, is_some, sum_by, take}
 use Rattle.std.proofs.lemmas.Bool.{cond_both}
 use Rattle.std.proofs.lemmas.List.Sums.{sum_by-append, sum_by-cons}
 use Rattle.qx_types.specs.Configuration.{Configuration}
@@ -22,58 +22,72 @@ use Rattle.qx_machine.specs.Judgements.{◌>>=◌, found}
 use Rattle.qx_machine.specs.Laws.{is_put, most_put, put_count}
 use Rattle.qx_machine.specs.Parts.{Change, Part, Remove, disconnect, disconnects}
 use Rattle.qx_machine.specs.Performing.{Served, after_message, answered_changes, caller_of, context_of, deed_of, or_kept, own_change, served_by, served_changes, taken_in}
+use Rattle.qx_machine.specs.Managers.{close_client}
 use Rattle.qx_machine.specs.PipeManager.{cancel_call}
 use Rattle.qx_machine.specs.Processes.{Process, lost_servers}
 use Rattle.qx_machine.specs.Resources.{Resources}
 use Rattle.qx_machine.specs.Rows.{row_at}
 use Rattle.qx_machine.specs.Users.{serve}
 
-both-put : (first second : List Change) → put_count (first ++ second) ≡ put_count first + put_count second
-both-put first second = sum_by-append (λ change. if is_put change then 1 else 0) first second
+module _ (measure : Change → ℕ) (removal-is : (manager : Manager) (removed : OwnItem) → measure (Remove manager removed) ≡ 0)
+    (disconnect-is : (process : ℕ) (server : ServerName) → measure (disconnect process server) ≤ 1) where
+  abbrev put_by : List Change → ℕ
+  put_by changes = sum_by measure changes
 
-answers-put : (manager : Manager) (answers : List (WaitingCall × Answer)) → put_count (answered_changes manager answers) ≡ 0
-answers-put manager [] = refl
-answers-put manager (first ∷ rest) =
-    omega (arith, answers-put manager rest, sum_by-cons (λ change. if is_put change then 1 else 0) (Remove manager (item.Unblock first.0.process first.0.thread first.0.call)) (answered_changes manager rest))
+  removal-put : (manager : Manager) (removed : OwnItem) (changes : List Change) → put_by (Remove manager removed ∷ changes) ≡ put_by changes
+  removal-put manager removed changes = omega (arith, removal-is manager removed, sum_by-cons measure (Remove manager removed) changes)
 
-own-put : (manager : Manager) (caller : Caller) (deed : Deed Resources) → put_count (if is_some deed.reply then own_change manager caller ∷ [] else []) ≡ 0
-own-put manager caller deed = cond_both (is_some deed.reply) _ _ (λ changes. put_count changes ≡ 0) (λ replied. refl) (λ waits. refl)
+  answers-put : (manager : Manager) (answers : List (WaitingCall × Answer)) → put_by (answered_changes manager answers) ≡ 0
+  answers-put manager [] = refl
+  answers-put manager (first ∷ rest) =
+      removal-put manager (item.Unblock first.0.process first.0.thread first.0.call) (answered_changes manager rest) ∙ answers-put manager rest
 
-served-put : (manager : Manager) (caller : Caller) (lost : List Change) (given : Result (Deed Resources) Errno) → put_count (served_changes manager caller lost given) ≡ put_count lost
-served-put manager caller lost (Ok deed) =
-    let own = if is_some deed.reply then own_change manager caller ∷ [] else [] in
-    let answers = answered_changes manager deed.answers in
-    let all : put_count (served_changes manager caller lost (Ok deed)) ≡ put_count (own ++ lost) + put_count answers = both-put (own ++ lost) answers in
-    omega (arith, all, own-put manager caller deed, answers-put manager deed.answers, both-put own lost)
-served-put manager caller lost (Err error) = refl
+  own-put : (manager : Manager) (caller : Caller) (deed : Deed Resources) → put_by (if is_some deed.reply then own_change manager caller ∷ [] else []) ≡ 0
+  own-put manager caller deed =
+      cond_both (is_some deed.reply) _ _ (λ changes. put_by changes ≡ 0) (λ replied. removal-put manager (item.Unblock caller.process caller.thread caller.call) []) (λ waits. refl)
 
-first-put : (process : ℕ) (lost : List ServerName) → put_count (map (disconnect process) (take 1 lost)) ≤ 1
-first-put process [] = omega arith
-first-put process (first ∷ rest) = omega arith
+  served-put : (manager : Manager) (caller : Caller) (lost : List Change) (given : Result (Deed Resources) Errno) → put_by (served_changes manager caller lost given) ≡ put_by lost
+  served-put manager caller lost (Ok deed) =
+      let own = if is_some deed.reply then own_change manager caller ∷ [] else [] in
+      let answers = answered_changes manager deed.answers in
+      let all : put_by (served_changes manager caller lost (Ok deed)) ≡ put_by (own ++ lost) + put_by answers = sum_by-append measure (own ++ lost) answers in
+      omega (arith, all, own-put manager caller deed, answers-put manager deed.answers, sum_by-append measure own lost)
+  served-put manager caller lost (Err error) = removal-put manager (item.Unblock caller.process caller.thread caller.call) lost
 
-disconnects-put : (number : ℕ) (change : Process → Process) (process : Option Process) → put_count (disconnects number change process) ≤ 1
-disconnects-put number change None = omega arith
-disconnects-put number change (Some process) = first-put number (lost_servers process (change process))
+  disconnects-put : (number : ℕ) (change : Process → Process) (process : Option Process) → put_by (disconnects number change process) ≤ 1
+  disconnects-put number change None = omega arith
+  disconnects-put number change (Some process) = first-put (lost_servers process (change process))
+    where
+      first-put : (lost : List ServerName) → put_by (map (disconnect number) (take 1 lost)) ≤ 1
+      first-put [] = omega arith
+      first-put (first ∷ rest) = omega (arith, disconnect-is number first, sum_by-cons measure (disconnect number first) [])
 
-by-put : (part : Part) (caller : Caller) (sent : Sent) (given : Result (Deed Resources) Errno) → put_count (served_by part caller sent given).changes ≤ 1
-by-put part caller sent given =
-    let change = after_message caller.thread sent.target.over given in
-    let lost = disconnects caller.process change (row_at part.processes caller.process) in
-    omega (arith, disconnects-put caller.process change (row_at part.processes caller.process), served-put sent.target.manager caller lost given)
+  by-put : (part : Part) (caller : Caller) (sent : Sent) (given : Result (Deed Resources) Errno) → put_by (served_by part caller sent given).changes ≤ 1
+  by-put part caller sent given =
+      let change = after_message caller.thread sent.target.over given in
+      let lost = disconnects caller.process change (row_at part.processes caller.process) in
+      omega (arith, disconnects-put caller.process change (row_at part.processes caller.process), served-put sent.target.manager caller lost given)
 
-abbrev PutsAtMost : ℕ → Part → Result Served Outcome → Type 0
-PutsAtMost most part given = put_count (or_kept part given).changes ≤ most
+  abbrev PutsAtMost : ℕ → Part → Result Served Outcome → Type 0
+  PutsAtMost most part given = put_by (or_kept part given).changes ≤ most
 
-put_on : {A : Type 0} (most : ℕ) (part : Part) (first : Result A Outcome) (next : A → Result Served Outcome) → ((value : A) → PutsAtMost most part (next value)) → PutsAtMost most part (first >>= next)
-put_on most part (Ok value) next h = h value
-put_on most part (Err outcome) next h = omega arith
+  put_on : {A : Type 0} (most : ℕ) (part : Part) (first : Result A Outcome) (next : A → Result Served Outcome) → ((value : A) → PutsAtMost most part (next value)) → PutsAtMost most part (first >>= next)
+  put_on most part (Ok value) next h = h value
+  put_on most part (Err outcome) next h = omega arith
 
+  answered-put : (answers : List (WaitingCall × Answer)) → put_by (answered_changes managers.Pipe answers) ≤ 0
+  answered-put answers = omega (arith, answers-put managers.Pipe answers)
+
+  pub serve_puts_by : (config : Configuration) (user : ℕ) (held : List OwnItem) (part : Part) (done : OwnItem) (moment : ℕ) → put_by (serve config user held part done moment).changes ≤ most_put done
+  unfolding serve
+  serve_puts_by config user held part (item.Message process thread) moment =
+      put_on 1 part (found (row_at part.processes process) WrongState) _ (λ its. put_on 1 part (found (row_at its.threads thread) WrongState) _ (λ row. put_on 1 part (found (taken_in row.state) WrongState) _ (λ sent.
+      by-put part (caller_of process thread row sent) sent (deed_of part.resources (context_of its (caller_of process thread row sent) sent.target moment (meaning sent.bytes)) (meaning sent.bytes)))))
+  serve_puts_by config user held part (item.Unblock process thread call) moment =
+      put_on 0 part (cancel_call part.resources process thread call moment) _ (λ deed. answered-put deed.answers)
+  serve_puts_by config user held part (item.Disconnect process server) moment =
+      put_on 0 part (found (row_at part.processes process) WrongState) _ (λ its. answered-put (close_client part.resources (record { process = process; server = server }) moment).answers)
+
+-- each item counts 1
 pub serve_puts : (config : Configuration) (user : ℕ) (held : List OwnItem) (part : Part) (done : OwnItem) (moment : ℕ) → put_count (serve config user held part done moment).changes ≤ most_put done
-unfolding serve
-serve_puts config user held part (item.Message process thread) moment =
-    put_on 1 part (found (row_at part.processes process) WrongState) _ (λ its. put_on 1 part (found (row_at its.threads thread) WrongState) _ (λ row. put_on 1 part (found (taken_in row.state) WrongState) _ (λ sent.
-    by-put part (caller_of process thread row sent) sent (deed_of part.resources (context_of its (caller_of process thread row sent) sent.target moment (meaning sent.bytes)) (meaning sent.bytes)))))
-serve_puts config user held part (item.Unblock process thread call) moment =
-    put_on 0 part (cancel_call part.resources process thread call moment) _ (λ deed. let none = answers-put managers.Pipe deed.answers in omega (arith, none))
-serve_puts config user held part (item.Disconnect process server) moment =
-    put_on 0 part (found (row_at part.processes process) WrongState) _ (λ its. omega arith)
+serve_puts = serve_puts_by (λ change. if is_put change then 1 else 0) (λ manager removed. refl) (λ process server. omega arith)

@@ -9,20 +9,19 @@ use Rattle.qx_types.specs.declared.outcome.Answer.{Answer}
 use Rattle.qx_types.specs.declared.outcome.Answer.TheVariants as answer
 use Rattle.qx_types.specs.declared.outcome.Outcome.{Outcome}
 use Rattle.qx_types.specs.declared.step.Step.{Step}
-use Rattle.qx_types.specs.declared.step.Step.TheVariants.{Spawn, Call, TakeReply, TakePulse, SetPrio, Interrupt, Mount}
+use Rattle.qx_types.specs.declared.step.Step.TheVariants.{Spawn, Exit, Call, TakeReply, TakePulse, SetPrio, Interrupt, Mount}
 use Rattle.qx_machine.specs.declared.rows.OwnItem.{OwnItem}
 use Rattle.qx_machine.specs.declared.rows.Pulse.{Pulse}
 use Rattle.qx_machine.specs.declared.rows.State.{State}
 use Rattle.qx_machine.specs.declared.rows.State.TheVariants.{Queued as queued, Taken, Waiting}
 use Rattle.qx_machine.specs.Judgements.{◌>>=◌}
-use Rattle.qx_machine.specs.Laws.{is_refusal}
+use Rattle.qx_machine.specs.Laws.{IsSettled, is_refusal}
 use Rattle.qx_machine.specs.Machine.{World, step_end, client_step, own_held, step, step_of}
 use Rattle.qx_types.specs.Step.{actor_of, user_of}
 use Rattle.qx_machine.specs.Rows.{row_at}
 use Rattle.qx_machine.specs.Clients.{ClientStep, client_given, interrupt_in, or_unchanged, outcome_of, pulse_taken}
 use Rattle.qx_machine.specs.Parts.{Part}
-use Rattle.qx_machine.specs.Users.{client, settle_part}
-use Rattle.qx_machine.proofs.NotifyLemmas.{settled-unchanged}
+use Rattle.qx_machine.specs.Users.{client}
 use Rattle.qx_machine.proofs.Places.{set-row_at}
 use Rattle.qx_machine.proofs.Workers.{server_same}
 
@@ -57,6 +56,7 @@ pulse_goes part process (Some first) = record { goes = refl }
 
 given_goes : (config : Configuration) (user : ℕ) (held : List OwnItem) (part : Part) (e : Step) → Goes (client_given config user held part e)
 given_goes config user held part (Spawn of threads prio) = search (goes_on, done_goes)
+given_goes config user held part (Exit proc) = search (goes_on, done_goes)
 given_goes config user held part (Call thread request) = search (goes_on, done_goes)
 given_goes config user held part (TakeReply thread) = search (goes_on, done_goes, answer_goes)
 given_goes config user held part (TakePulse proc) = search (goes_on, pulse_goes)
@@ -74,27 +74,20 @@ client_stays : (config : Configuration) (user : ℕ) (held : List OwnItem) (part
 unfolding client
 client_stays config user held part e refused = unchanged_stays part (client_given config user held part e) (given_goes config user held part e) refused
 
--- nothing is due where nothing changed
-settled_same : (part : Part) (held : List OwnItem) → settle_part part held part ≡ part
-unfolding settle_part
-settled_same part held =
-    ap (λ events. record part { resources = record part.resources { events = events } })
-    (settled-unchanged part.resources part.resources refl refl)
-
 -- rows that stay are put back where they were
-acted_same : (w : World) (user : ℕ) (part : Part) → row_at w.parts user ≡ Some part → step_end user part part [] w ≡ w
-acted_same w user part here =
-    ap (λ parts. record w { parts = parts }) (ap (λ settled. slice_set w.parts user (Some settled)) (settled_same part (own_held user w.hands)) ∙ ap (slice_set w.parts user) (sym here) ∙ set-row_at w.parts user)
+acted_same : (w : World) (user : ℕ) (part : Part) → IsSettled w → row_at w.parts user ≡ Some part → step_end user part part [] w ≡ w
+acted_same w user part settled here =
+    ap (λ parts. record w { parts = parts }) (ap (λ settled. slice_set w.parts user (Some settled)) (settled user part here) ∙ ap (slice_set w.parts user) (sym here) ∙ set-row_at w.parts user)
 
-client_same : (w : World) (user : ℕ) (e : Step) (row : Option Part) → row_at w.parts user ≡ row → is_refusal (client_step w user e row).outcome ≡ true → (client_step w user e row).world ≡ w
-client_same w user e None here refused = refl
-client_same w user e (Some part) here refused =
-    ap (λ given. step_end user part given.part given.changes w) (client_stays w.config user (own_held user w.hands) part e refused) ∙ acted_same w user part here
+client_same : (w : World) (user : ℕ) (e : Step) (row : Option Part) → IsSettled w → row_at w.parts user ≡ row → is_refusal (client_step w user e row).outcome ≡ true → (client_step w user e row).world ≡ w
+client_same w user e None settled here refused = refl
+client_same w user e (Some part) settled here refused =
+    ap (λ given. step_end user part given.part given.changes w) (client_stays w.config user (own_held user w.hands) part e refused) ∙ acted_same w user part settled here
 
-step_of_same : (w : World) (e : Step) (by : Option Actor) → is_refusal (step_of w e by).outcome ≡ true → (step_of w e by).world ≡ w
-step_of_same w e None refused = server_same w e refused
-step_of_same w e (Some actor) refused = client_same w (user_of actor) e _ refl refused
+step_of_same : (w : World) (e : Step) (by : Option Actor) → IsSettled w → is_refusal (step_of w e by).outcome ≡ true → (step_of w e by).world ≡ w
+step_of_same w e None settled refused = server_same w e refused
+step_of_same w e (Some actor) settled refused = client_same w (user_of actor) e _ settled refl refused
 
-pub refused_same : (w : World) (e : Step) → is_refusal (step w e).outcome ≡ true → (step w e).world ≡ w
+pub refused_same : (w : World) (e : Step) → IsSettled w → is_refusal (step w e).outcome ≡ true → (step w e).world ≡ w
 unfolding step
-refused_same w e refused = step_of_same w e (actor_of e) refused
+refused_same w e settled refused = step_of_same w e (actor_of e) settled refused

@@ -17,7 +17,7 @@ use Rattle.qx_machine.specs.Runs.{seen_by}
 use Rattle.qx_types.specs.declared.outcome.Outcome.{Outcome}
 
 reached_server : (w : World) (e : Step) → IsReached w → IsReached (server_step w e).world
-reached_server w e h = server_leaves w e IsReached h (λ worker manager taken. reached_receive w worker manager taken h) (λ worker moment held. reached_perform w worker moment held h)
+reached_server w e h = server_leaves w e IsReached h (λ worker manager taken is. reached_receive w worker manager taken h) (λ worker moment held is. reached_perform w worker moment held h)
 
 reached_of : (w : World) (e : Step) (by : Option Actor) → IsReached w → IsReached (step_of w e by).world
 reached_of w e None h = reached_server w e h

@@ -22,6 +22,7 @@ use Rattle.qx_wire.specs.declared.message.Meaning.{Meaning}
 use Rattle.qx_wire.specs.declared.message.Message.{Message}
 use Rattle.qx_wire.specs.declared.message.Message.TheVariants as msg
 use Rattle.qx_machine.specs.declared.rows.Caller.{Caller}
+use Rattle.qx_machine.specs.declared.rows.Client.{Client}
 use Rattle.qx_machine.specs.declared.rows.Context.{Context}
 use Rattle.qx_machine.specs.declared.rows.Effect.{Effect}
 use Rattle.qx_machine.specs.declared.rows.Attribute.{Attribute}
@@ -37,18 +38,18 @@ use Rattle.qx_machine.specs.declared.rows.Sides.{Sides}
 use Rattle.qx_machine.specs.declared.rows.Target.{Target}
 use Rattle.qx_machine.specs.declared.rows.WaitingCall.{WaitingCall}
 use Rattle.qx_machine.specs.declared.rows.Wish.{Wish}
-use Rattle.qx_machine.specs.Defaults.{MadeInode, allows, chmod_block, close, dup_open, is_own, list_block, made_at, make_directory, open_spot, open_existing, open_missing, open_path, opened, own_block, stat_block, stat_path, unlink_path, without_block, without_name, without_unused, writable}
+use Rattle.qx_machine.specs.Defaults.{MadeInode, allows, chmod_block, close_last, close_ocb, dup_open, free_block, is_own, list_block, made_at, make_directory, open_spot, open_existing, open_missing, open_path, opened, own_block, pipe_in, stat_block, stat_path, unlink_path, without_block, without_name, without_unused, writable}
 use Rattle.qx_machine.specs.Events.{notified}
 use Rattle.qx_machine.specs.Files.{base, moved_by}
 use Rattle.qx_machine.specs.Functions.{Deed, Reply, new_dup, new_open, reply_alone, side_root}
-use Rattle.qx_machine.specs.Inodes.{block_number, dup_block, has, is_shared, is_unused, new_attribute, new_inode, open_block, reads, writes}
+use Rattle.qx_machine.specs.Inodes.{block_number, blocks_of_client, dup_block, has, is_shared, is_unused, new_attribute, new_inode, open_block, reads, writes}
 use Rattle.qx_machine.specs.Judgements.{found, need}
-use Rattle.qx_machine.specs.Managers.{manager_deed}
+use Rattle.qx_machine.specs.Managers.{close_all, close_client, manager_deed, or_unreplied, own_kind}
 use Rattle.qx_machine.specs.Names.{Spot, is_directory, is_empty, names_in, spot}
 use Rattle.qx_machine.specs.Notification.{conditions_at, event_of, notify_block}
 use Rattle.qx_machine.specs.Performing.{context_of, deed_of, dup_of, opened_by, read_message, works_over}
 use Rattle.qx_machine.specs.PipeManager.{cancel_call, read_pipe, released, seek_pipe, deed_of_pipe, write_pipe}
-use Rattle.qx_machine.specs.Pipes.{PipeAfter, Pipe, all_answered, and_then, cancel, clean, clean_read, clean_write, dismissed, first_answered, fits, nobody_answered, one_answered, portion, read, readers_dismissed, readers_ended, release, removed, served, settle, waiting_unless, without_bytes, write, writers_dismissed, writers_ended}
+use Rattle.qx_machine.specs.Pipes.{PipeAfter, Pipe, all_answered, and_then, cancel, clean, clean_read, clean_write, dismissed, first_answered, fits, nobody_answered, one_answered, portion, read, readers_dismissed, readers_ended, release, served, settle, staying, waiting_unless, without_bytes, write, writers_dismissed, writers_ended}
 use Rattle.qx_machine.specs.Processes.{Process}
 use Rattle.qx_machine.specs.RamManager.{emptied, read_file, seek_file, write_file, written_at}
 use Rattle.qx_machine.specs.Resources.{Resources, with_empty, without_content}
@@ -125,9 +126,6 @@ module _ {W : Type 0} (P : W → Type 0) where
 
   -- ---- who leaves
 
-  removed-keeps : (leaves : W → Bool) (p : Pipe W) → InPipe p → InPipe (removed leaves p)
-  removed-keeps leaves p h = record { readers = all-filter P _ p.readers h.readers; writers = all-filter P _ p.writers h.writers }
-
   readers_dismissed-keeps : (leaves : W → Bool) (answer : Answer) (p : Pipe W) → InPipe p → InAfter (readers_dismissed leaves answer p)
   readers_dismissed-keeps leaves answer p h = record {
     pipe = record { readers = all-filter P _ p.readers h.readers; writers = h.writers };
@@ -142,13 +140,6 @@ module _ {W : Type 0} (P : W → Type 0) where
 
   dismissed-keeps : (leaves : W → Bool) (answer : Answer) (p : Pipe W) → InPipe p → InAfter (dismissed leaves answer p)
   dismissed-keeps leaves answer p h = then-keeps _ _ (readers_dismissed-keeps leaves answer p h) (writers_dismissed-keeps leaves answer)
-
-  module _ (wanted : W → ℕ) (offered : W → List ℕ) (gone : W → Bool) where
-    clean-keeps : (p : Pipe W) → InPipe p → InAfter (clean wanted offered gone p)
-    clean-keeps p h = settle-keeps wanted offered _ (removed-keeps gone p h)
-
-    cancel-keeps : (is_asked : W → Bool) (p : Pipe W) → InPipe p → InAfter (cancel wanted offered gone is_asked p)
-    cancel-keeps is_asked p h = then-keeps _ _ (then-keeps _ _ (clean-keeps p h) (dismissed-keeps is_asked _)) (settle-keeps wanted offered)
 
   -- ---- READ and WRITE
 
@@ -177,12 +168,6 @@ module _ {W : Type 0} (P : W → Type 0) where
         (if-keeps ((length p.writers == 0) && fits offered p.bytes writer) _ _ (first-keeps writer _ _ own (settle-keeps wanted offered _ (record { readers = h.readers; writers = h.writers })))
         (waiting-keeps manner writer p _ own h (record { readers = h.readers; writers = all-append P p.writers (writer ∷ []) h.writers (own, tt) }))))
 
-    read-keeps : (gone : W → Bool) (manner : Manner) (reader : W) (p : Pipe W) → P reader → InPipe p → InAfter (read wanted offered gone manner reader p)
-    read-keeps gone manner reader p own h = then-keeps _ _ (clean-keeps wanted offered gone p h) (clean_read-keeps manner reader own)
-
-    write-keeps : (gone : W → Bool) (manner : Manner) (writer : W) (p : Pipe W) → P writer → InPipe p → InAfter (write wanted offered gone manner writer p)
-    write-keeps gone manner writer p own h = then-keeps _ _ (clean-keeps wanted offered gone p h) (clean_write-keeps manner writer own)
-
   -- ---- the freeing of a block
 
   readers_ended-keeps : (sides : Sides) (p : Pipe W) → InPipe p → InAfter (readers_ended sides p)
@@ -194,10 +179,42 @@ module _ {W : Type 0} (P : W → Type 0) where
   without_bytes-keeps : (sides : Sides) (p : Pipe W) → InPipe p → InAfter (without_bytes sides p)
   without_bytes-keeps sides p h = nobody-keeps _ (cond_both (sides.for_reading || sides.for_writing) p (record p { bytes = [] }) InPipe (λ some. h) (λ none. record { readers = h.readers; writers = h.writers }))
 
-  release-keeps : (wanted : W → ℕ) (offered : W → List ℕ) (gone is_on_it : W → Bool) (sides : Sides) (p : Pipe W) → InPipe p → InAfter (release wanted offered gone is_on_it sides p)
-  release-keeps wanted offered gone is_on_it sides p h =
-      then-keeps _ _ (then-keeps _ _ (then-keeps _ _ (then-keeps _ _ (then-keeps _ _ (clean-keeps wanted offered gone p h) (dismissed-keeps is_on_it _)) (readers_ended-keeps sides)) (writers_ended-keeps sides))
-      (settle-keeps wanted offered)) (without_bytes-keeps sides)
+  -- ---- those whose process has not ended
+
+  -- a property and that one are what cleaning leaves of it
+  abbrev pub Left : (W → Bool) → W → Type 0
+  Left gone who = P who × (gone who ≡ false)
+
+  left-kept : (gone : W → Bool) (xs : List W) → AllByRecursion P xs → AllByRecursion (Left gone) (staying gone xs)
+  left-kept gone [] h = tt
+  left-kept gone (x ∷ xs) h = left-if (gone x) refl (left-kept gone xs h.1) where
+    left-if : (is : Bool) → gone x ≡ is → AllByRecursion (Left gone) (staying gone xs) → AllByRecursion (Left gone) (if not is then x ∷ staying gone xs else staying gone xs)
+    left-if true is rest = rest
+    left-if false is rest = ((h.0, is), rest)
+
+module _ {W : Type 0} (P : W → Type 0) (wanted : W → ℕ) (offered : W → List ℕ) (gone : W → Bool) where
+  abbrev IsLeft : W → Type 0
+  IsLeft = Left P gone
+
+  clean-keeps : (p : Pipe W) → InPipe P p → InAfter IsLeft (clean wanted offered gone p)
+  clean-keeps p h = settle-keeps IsLeft wanted offered _ (record { readers = left-kept P gone p.readers h.readers; writers = left-kept P gone p.writers h.writers })
+
+  cancel-keeps : (is_asked : W → Bool) (p : Pipe W) → InPipe P p → InAfter IsLeft (cancel wanted offered gone is_asked p)
+  cancel-keeps is_asked p h = then-keeps IsLeft _ _ (then-keeps IsLeft _ _ (clean-keeps p h) (dismissed-keeps IsLeft is_asked _)) (settle-keeps IsLeft wanted offered)
+
+  read-keeps : (manner : Manner) (reader : W) (p : Pipe W) → IsLeft reader → InPipe P p → InAfter IsLeft (read wanted offered gone manner reader p)
+  read-keeps manner reader p own h = then-keeps IsLeft _ _ (clean-keeps p h) (clean_read-keeps IsLeft wanted offered manner reader own)
+
+  write-keeps : (manner : Manner) (writer : W) (p : Pipe W) → IsLeft writer → InPipe P p → InAfter IsLeft (write wanted offered gone manner writer p)
+  write-keeps manner writer p own h = then-keeps IsLeft _ _ (clean-keeps p h) (clean_write-keeps IsLeft wanted offered manner writer own)
+
+  release-keeps : (is_on_it : W → Bool) (sides : Sides) (p : Pipe W) → InPipe P p → InAfter IsLeft (release wanted offered gone is_on_it sides p)
+  release-keeps is_on_it sides p h =
+      then-keeps IsLeft _ _
+      (then-keeps IsLeft _ _
+      (then-keeps IsLeft _ _ (then-keeps IsLeft _ _ (then-keeps IsLeft _ _ (clean-keeps p h) (dismissed-keeps IsLeft is_on_it _)) (readers_ended-keeps IsLeft sides)) (writers_ended-keeps IsLeft sides))
+      (settle-keeps IsLeft wanted offered))
+      (without_bytes-keeps IsLeft sides)
 
 -- ---- the pipes of a user
 
@@ -206,10 +223,14 @@ module _ (P : WaitingCall → Type 0) where
   pub record InPipes (pipes : Pipes) : Type 0 where
     pub each : (inode : ℕ) (pipe : Pipe WaitingCall) → row_at pipes inode ≡ Some pipe → InPipe P pipe
 
+  -- who is answered has it, and its process has not ended
+  abbrev pub Stays : WaitingCall → Type 0
+  Stays = Left P is_gone
+
   -- who waits in the pipes after a deed, and who is answered by it
   pub record InDeed (deed : Deed Resources) : Type 0 where
     pub pipes : InPipes deed.state.pipes
-    pub answers : Answered P deed.answers
+    pub answers : Answered Stays deed.answers
 
   set-keeps : (pipes : Pipes) (inode : ℕ) (row : Option (Pipe WaitingCall)) → InPipes pipes → ((pipe : Pipe WaitingCall) → row ≡ Some pipe → InPipe P pipe) → InPipes (slice_set pipes inode row)
   set-keeps pipes inode row h new = record {
@@ -228,9 +249,14 @@ module _ (P : WaitingCall → Type 0) where
 
   -- ---- what is done to a pipe
 
-  after-keeps : (r : Resources) (inode moment : ℕ) (after : PipeAfter WaitingCall) → InPipes r.pipes → InAfter P after → InDeed (deed_of_pipe r inode moment after)
+  -- whoever stays in a pipe has the property
+  stay : (calls : List WaitingCall) → AllByRecursion Stays calls → AllByRecursion P calls
+  stay [] h = tt
+  stay (call ∷ calls) h = (h.0.0, stay calls h.1)
+
+  after-keeps : (r : Resources) (inode moment : ℕ) (after : PipeAfter WaitingCall) → InPipes r.pipes → InAfter Stays after → InDeed (deed_of_pipe r inode moment after)
   after-keeps r inode moment after h k = record {
-    pipes = set-keeps r.pipes inode (Some after.pipe) h (λ pipe put. subst (InPipe P) (same_Some _ _ put) k.pipe);
+    pipes = set-keeps r.pipes inode (Some after.pipe) h (λ pipe put. subst (InPipe P) (same_Some _ _ put) (record { readers = stay after.pipe.readers k.pipe.readers; writers = stay after.pipe.writers k.pipe.writers }));
     answers = k.answers;
   }
 
@@ -239,14 +265,14 @@ module _ (P : WaitingCall → Type 0) where
       gives_on _ (found (row_at r.inodes.blocks over.number) EBADF) _ (λ block opened.
       gives_on _ (need (reads block.flags) EBADF) _ (λ may allowed.
       gives_on _ (found (row_at r.pipes block.inode) EISDIR) _ (λ pipe here.
-      gives_done _ _ (after-keeps r block.inode over.moment _ h (read-keeps P wanted offered is_gone _ _ pipe own (h.each block.inode pipe (found-row _ _ pipe here)))))))
+      gives_done _ _ (after-keeps r block.inode over.moment _ h (read-keeps P wanted offered is_gone _ _ pipe (own, refl) (h.each block.inode pipe (found-row _ _ pipe here)))))))
 
   write-gives : (r : Resources) (over : Opened) (bytes : List ℕ) → InPipes r.pipes → P (waiting_call over 0 bytes) → Gives InDeed (write_pipe r over bytes)
   write-gives r over bytes h own =
       gives_on _ (found (row_at r.inodes.blocks over.number) EBADF) _ (λ block opened.
       gives_on _ (need (writes block.flags) EBADF) _ (λ may allowed.
       gives_on _ (found (row_at r.pipes block.inode) EBADF) _ (λ pipe here.
-      gives_done _ _ (after-keeps r block.inode over.moment _ h (write-keeps P wanted offered is_gone _ _ pipe own (h.each block.inode pipe (found-row _ _ pipe here)))))))
+      gives_done _ _ (after-keeps r block.inode over.moment _ h (write-keeps P wanted offered is_gone _ _ pipe (own, refl) (h.each block.inode pipe (found-row _ _ pipe here)))))))
 
   released-keeps : (r : Resources) (number inode moment : ℕ) (row : Option (Pipe WaitingCall)) → InPipes r.pipes → ((pipe : Pipe WaitingCall) → row ≡ Some pipe → InPipe P pipe) → InDeed (released r number inode moment row)
   released-keeps r number inode moment None h here = record { pipes = h; answers = tt }
@@ -276,37 +302,37 @@ module _ (K : Pipes → Type 0) where
   dup-gives : (r : Resources) (dup : NewDup) → K r.pipes → Gives (Quiet K) (dup_open r dup)
   dup-gives r dup h = gives_on _ (dup_block r.inodes dup.old.number) _ (λ inodes is. gives_done _ _ (reply-quiet _ _ _ _ h))
 
-  opened-gives : (coid : Coid) (flags : OFlags) (inode : ℕ) (r : Resources) → K r.pipes → Gives (Quiet K) (opened coid flags inode r)
-  opened-gives coid flags inode r h = gives_on _ (open_block r.inodes inode flags) _ (λ block is. gives_done _ _ (reply-quiet _ _ _ _ h))
+  opened-gives : (over : NewOpen) (flags : OFlags) (inode : ℕ) (r : Resources) → K r.pipes → Gives (Quiet K) (opened over flags inode r)
+  opened-gives over flags inode r h = gives_on _ (open_block r.inodes inode flags over.client) _ (λ block is. gives_done _ _ (reply-quiet _ _ _ _ h))
 
-  existing-gives : (r : Resources) (coid : Coid) (inode : ℕ) (wish : Wish) → K r.pipes → Gives (Quiet K) (open_existing r coid inode wish)
-  existing-gives r coid inode wish h =
+  existing-gives : (r : Resources) (over : NewOpen) (inode : ℕ) (wish : Wish) → K r.pipes → Gives (Quiet K) (open_existing r over inode wish)
+  existing-gives r over inode wish h =
       gives_on _ (found (row_at r.inodes.attributes inode) ENOENT) _ (λ attribute there.
       gives_on _ (need (not (has wish.flags CREAT && has wish.flags EXCL)) EEXIST) _ (λ shared is_shared.
       gives_on _ (need (not (is_directory attribute.kind && writes wish.flags)) EISDIR) _ (λ fitting is_fitting.
       gives_on _ (need (allows attribute r.user wish.flags) EACCES) _ (λ allowed is_allowed.
-      opened-gives coid wish.flags inode (emptied wish.flags inode wish.moment r) (emptied-keeps wish.flags inode wish.moment r h)))))
+      opened-gives over wish.flags inode (emptied wish.flags inode wish.moment r) (emptied-keeps wish.flags inode wish.moment r h)))))
 
   made-gives : (r : Resources) (at : Spot) (parent : Attribute) (kind : Kind) (mode moment : ℕ) → ((inode : ℕ) (s : Resources) → K s.pipes → K (with_empty kind inode s).pipes) → K r.pipes
       → Gives (λ (made : MadeInode). K made.after.pipes) (made_at r at parent kind mode moment)
   made-gives r at parent kind mode moment empty h = gives_on _ (new_inode r.inodes (new_attribute kind mode r.user moment)) _ (λ made is. gives_done _ _ (empty made.number _ h))
 
-  missing-gives : (own : Kind) (r : Resources) (coid : Coid) (at : Spot) (wish : Wish) → ((inode : ℕ) (s : Resources) → K s.pipes → K (with_empty own inode s).pipes) → K r.pipes → Gives (Quiet K) (open_missing own r coid at wish)
-  missing-gives own r coid at wish empty h =
+  missing-gives : (own : Kind) (r : Resources) (over : NewOpen) (at : Spot) (wish : Wish) → ((inode : ℕ) (s : Resources) → K s.pipes → K (with_empty own inode s).pipes) → K r.pipes → Gives (Quiet K) (open_missing own r over at wish)
+  missing-gives own r over at wish empty h =
       gives_on _ (need (has wish.flags CREAT) ENOENT) _ (λ making is_making.
       gives_on _ (writable r.inodes r.user at.parent) _ (λ parent is_parent.
       gives_on _ (block_number r.inodes) _ (λ free is_free.
       gives_by (λ (made : MadeInode). K made.after.pipes) _ (made_at r at parent own wish.mode wish.moment) _ (made-gives r at parent own wish.mode wish.moment empty h) (λ made kept.
-      opened-gives coid wish.flags made.inode made.after kept))))
+      opened-gives over wish.flags made.inode made.after kept))))
 
-  open_at-gives : (own : Kind) (r : Resources) (coid : Coid) (at : Spot) (there : Option ℕ) (wish : Wish) → ((inode : ℕ) (s : Resources) → K s.pipes → K (with_empty own inode s).pipes) → K r.pipes → Gives (Quiet K) (open_spot own r coid at there wish)
-  open_at-gives own r coid at (Some inode) wish empty h = existing-gives r coid inode wish h
-  open_at-gives own r coid at None wish empty h = missing-gives own r coid at wish empty h
+  open_at-gives : (own : Kind) (r : Resources) (over : NewOpen) (at : Spot) (there : Option ℕ) (wish : Wish) → ((inode : ℕ) (s : Resources) → K s.pipes → K (with_empty own inode s).pipes) → K r.pipes → Gives (Quiet K) (open_spot own r over at there wish)
+  open_at-gives own r over at (Some inode) wish empty h = existing-gives r over inode wish h
+  open_at-gives own r over at None wish empty h = missing-gives own r over at wish empty h
 
   open-gives : (own : Kind) (r : Resources) (over : NewOpen) (rest : List (List ℕ)) (wish : Wish) → ((inode : ℕ) (s : Resources) → K s.pipes → K (with_empty own inode s).pipes) → K r.pipes → Gives (Quiet K) (open_path own r over rest wish)
-  open-gives own r over [] wish empty h = existing-gives r over.coid over.root wish h
+  open-gives own r over [] wish empty h = existing-gives r over over.root wish h
   open-gives own r over (name ∷ rest) wish empty h =
-      gives_on _ (spot r.inodes r.names r.user over.root (name ∷ rest) ENOENT) _ (λ at is. open_at-gives own r over.coid at at.inode wish empty h)
+      gives_on _ (spot r.inodes r.names r.user over.root (name ∷ rest) ENOENT) _ (λ at is. open_at-gives own r over at at.inode wish empty h)
 
   directory-gives : (r : Resources) (root mode : ℕ) (rest : List (List ℕ)) (moment : ℕ) → K r.pipes → Gives (Quiet K) (make_directory r root mode rest moment)
   directory-gives r root mode rest moment h =
@@ -372,11 +398,44 @@ module _ (K : Pipes → Type 0) where
       gives_on _ (found (row_at r.files block.inode) EBADF) _ (λ bytes here.
       cond_both (length new == 0) _ _ (Gives (Quiet K)) (λ none. gives_done _ _ (reply-quiet _ _ _ _ h)) (λ some. written-gives r over.number block.inode bytes _ new over.moment h))))
 
+-- ---- a client that is gone
+
+module _ (P : WaitingCall → Type 0) where
+  freed-gives : (own : Kind) (r : Resources) (number moment : ℕ) → InPipes P r.pipes → Gives (InDeed P) (free_block own r number moment)
+  freed-gives own r number moment h =
+      gives_on _ (own_block r.inodes number own) _ (λ block is.
+      let left = released-keeps P (without_block number r) number block.inode moment (pipe_in own r block.inode) h (here own block.inode) in
+      gives_done _ _ (record { pipes = unused-keeps (InPipes P) own (content-keeps P own) block.inode (released (without_block number r) number block.inode moment (pipe_in own r block.inode)).state left.pipes; answers = left.answers })) where
+        here : (own : Kind) (inode : ℕ) (pipe : Pipe WaitingCall) → pipe_in own r inode ≡ Some pipe → InPipe P pipe
+        here kind.Pipe inode pipe is = h.each inode pipe is
+        here File inode pipe is = absurd (cc)
+        here Directory inode pipe is = absurd (cc)
+
+  ocb-gives : (own : Kind) (r : Resources) (number moment : ℕ) → InPipes P r.pipes → Gives (InDeed P) (close_ocb own r number moment)
+  ocb-gives own r number moment h =
+      gives_by (InDeed P) _ (free_block own r number moment) _ (freed-gives own r number moment h) (λ deed left. gives_done _ _ (record { pipes = left.pipes; answers = left.answers }))
+
+  or-keeps : (r : Resources) (given : Result (Deed Resources) Errno) → InPipes P r.pipes → Gives (InDeed P) given → InDeed P (or_unreplied r given)
+  or-keeps r (Ok deed) h gives = gives-value (InDeed P) (Ok deed) deed refl gives
+  or-keeps r (Err error) h gives = record { pipes = h; answers = tt }
+
+  all-keeps : (manager : Manager) (moment : ℕ) (numbers : List ℕ) (r : Resources) → InPipes P r.pipes → InDeed P (close_all manager moment numbers r)
+  all-keeps manager moment [] r h = record { pipes = h; answers = tt }
+  all-keeps manager moment (number ∷ numbers) r h =
+      let first = or-keeps r (close_ocb (own_kind manager) r number moment) h (ocb-gives (own_kind manager) r number moment h) in
+      let deed = or_unreplied r (close_ocb (own_kind manager) r number moment) in
+      let rest = all-keeps manager moment numbers deed.state first.pipes in
+      record { pipes = rest.pipes; answers = all-append (λ answer. Stays P answer.0) deed.answers (close_all manager moment numbers deed.state).answers first.answers rest.answers }
+
+  -- whoever waits once a client is gone, or is answered by that, has the property
+  pub client-keeps : (r : Resources) (client : Client) (moment : ℕ) → InPipes P r.pipes → InDeed P (close_client r client moment)
+  client-keeps r client moment h = all-keeps client.server.manager moment (blocks_of_client r.inodes client) r h
+
 -- ---- the managers
 
 -- the call of a thread over a block, to read so many bytes or to write these
 abbrev pub call_of : Caller → ℕ → ℕ → List ℕ → WaitingCall
-call_of caller block wanted bytes = record { process = caller.process; thread = caller.thread; call = caller.call; block = block; wanted = wanted; bytes = bytes }
+call_of caller block wanted bytes = record { process = caller.process; thread = caller.thread; call = caller.call; block = block; wanted = wanted; bytes = bytes; is_gone = false }
 
 -- the message is replied to, nobody else is answered, and the pipes are as before
 abbrev pub IsAlone : Resources → Deed Resources → Type 0
@@ -392,13 +451,26 @@ module _ (resources : Resources) (context : Context) where
   abbrev Same : Pipes → Type 0
   Same pipes = pipes ≡ resources.pipes
 
-  file-closed : (over : Opened) → Gives (Quiet Same) (close File resources over)
+  -- the pipes are as before, and nobody is answered
+  record LeavesPipes (deed : Deed Resources) : Type 0 where
+    pipes : Same deed.state.pipes
+    answers : deed.answers ≡ []
+
+  file-freed : (number moment : ℕ) → Gives LeavesPipes (free_block File resources number moment)
+  file-freed number moment =
+      gives_on _ (own_block resources.inodes number File) _ (λ block is.
+      gives_done _ _ (record { pipes = unused-keeps Same File (λ inode s h. h) block.inode (without_block number resources) refl; answers = refl }))
+
+  file-ocb : (number moment : ℕ) → Gives LeavesPipes (close_ocb File resources number moment)
+  file-ocb number moment = gives_by LeavesPipes _ (free_block File resources number moment) _ (file-freed number moment) (λ deed left. gives_done _ _ (record { pipes = left.pipes; answers = left.answers }))
+
+  file-closed : (over : Opened) → Gives (Quiet Same) (close_last File resources over)
   file-closed over =
-      gives_on _ (own_block resources.inodes over.number File) _ (λ block is.
-      gives_done _ _ (record { replied = refl; pipes = unused-keeps Same File (λ inode s h. h) block.inode (without_block over.number resources) refl; answers = refl }))
+      gives_by LeavesPipes _ (close_ocb File resources over.number over.moment) _ (file-ocb over.number over.moment) (λ deed left.
+      gives_done _ _ (record { replied = refl; pipes = left.pipes; answers = left.answers }))
 
   ram-gives : (message : Message) → Gives (IsAlone resources) (manager_deed managers.Ram resources context message)
-  ram-gives (msg.Open flags mode rest) = gives_on _ (new_open context.target) _ (λ over is. open-gives Same File resources over rest _ (λ inode s h. h) refl)
+  ram-gives (msg.Open flags mode rest) = gives_on _ (new_open context) _ (λ over is. open-gives Same File resources over rest _ (λ inode s h. h) refl)
   ram-gives (msg.Stat rest) = gives_on _ (side_root context.target) _ (λ root is. stat_path-gives Same resources root rest context.moment refl)
   ram-gives (msg.Unlink rest) = gives_on _ (side_root context.target) _ (λ root is. unlink-gives Same File (λ inode s h. h) resources root rest context.moment refl)
   ram-gives (msg.Mknod mode rest) = gives_on _ (side_root context.target) _ (λ root is. directory-gives Same resources root mode rest context.moment refl)
@@ -406,7 +478,7 @@ module _ (resources : Resources) (context : Context) where
   ram-gives (msg.Write bytes) = gives_on _ context.opened _ (λ over is. write_file-gives Same resources over bytes refl)
   ram-gives msg.Close = gives_on _ context.opened _ (λ over is.
       gives_if _ (is_shared (row_at resources.inodes.blocks over.number)) _ _ (gives_done _ _ (reply-quiet Same _ _ _ _ refl))
-      (gives_by (Quiet Same) _ (close File resources over) _ (file-closed over) (λ deed quiet. gives_done _ _ (record { replied = quiet.replied; pipes = quiet.pipes; answers = quiet.answers }))))
+      (file-closed over))
   ram-gives (msg.Dup old) = gives_on _ (new_dup context) _ (λ dup is. dup-gives Same resources dup refl)
   ram-gives (msg.Lseek whence offset) = gives_on _ context.opened _ (λ over is. seek_file-gives Same resources over whence offset refl)
   ram-gives msg.Fstat = gives_on _ context.opened _ (λ over is. stat_block-gives Same resources over refl)
@@ -431,7 +503,7 @@ module _ (P : WaitingCall → Type 0) (caller : Caller) where
   own-waits opened wanted bytes same own = subst (λ who. P (call_of who opened.number wanted bytes)) (sym same) (own opened.number wanted bytes)
 
   quiet-keeps : (deed : Deed Resources) → Quiet (InPipes P) deed → DeedKeeps deed
-  quiet-keeps deed quiet = record { keeps = λ own. record { pipes = quiet.pipes; answers = subst (Answered P) (sym quiet.answers) tt } }
+  quiet-keeps deed quiet = record { keeps = λ own. record { pipes = quiet.pipes; answers = subst (Answered (Stays P)) (sym quiet.answers) tt } }
 
   alone-keeps : (resources : Resources) (deed : Deed Resources) → InPipes P resources.pipes → IsAlone resources deed → DeedKeeps deed
   alone-keeps resources deed h alone = quiet-keeps deed (record { replied = alone.replied; pipes = subst (InPipes P) (sym alone.pipes) h; answers = alone.answers })
@@ -445,11 +517,10 @@ module _ (P : WaitingCall → Type 0) (caller : Caller) where
   own-gives (Err error) none h = gives_error _ _
 
   module _ (resources : Resources) (h : InPipes P resources.pipes) (context : Context) (callers : (over : Opened) → context.opened ≡ Ok over → over.caller ≡ caller) where
-    pipe-closed : (over : Opened) → Gives DeedKeeps (close kind.Pipe resources over)
+    pipe-closed : (over : Opened) → Gives DeedKeeps (close_last kind.Pipe resources over)
     pipe-closed over =
-        gives_on _ (own_block resources.inodes over.number kind.Pipe) _ (λ block is.
-        let left = released-keeps P (without_block over.number resources) over.number block.inode over.moment (row_at resources.pipes block.inode) h (h.each block.inode) in
-        gives_done _ _ (record { keeps = λ own. record { pipes = unused-keeps (InPipes P) kind.Pipe (content-keeps P kind.Pipe) block.inode (released (without_block over.number resources) over.number block.inode over.moment (row_at resources.pipes block.inode)).state left.pipes; answers = left.answers } }))
+        gives_by (InDeed P) _ (close_ocb kind.Pipe resources over.number over.moment) _ (ocb-gives P kind.Pipe resources over.number over.moment h) (λ deed left.
+        gives_done _ _ (record { keeps = λ own. record { pipes = left.pipes; answers = left.answers } }))
 
     read-own : (over : Opened) (count : ℕ) → over.caller ≡ caller → Gives DeedKeeps (read_pipe resources over count)
     read-own over count same = own-gives _ (λ deed is. gives-value (λ (d : Deed Resources). d.reply ≡ None) _ deed is (search (gives_on, gives_done))) (λ own. read-gives P resources over count h (own-waits over count [] same own))
@@ -458,7 +529,7 @@ module _ (P : WaitingCall → Type 0) (caller : Caller) where
     write-own over bytes same = own-gives _ (λ deed is. gives-value (λ (d : Deed Resources). d.reply ≡ None) _ deed is (search (gives_on, gives_done))) (λ own. write-gives P resources over bytes h (own-waits over 0 bytes same own))
 
     pipe-gives : (message : Message) → Gives DeedKeeps (manager_deed managers.Pipe resources context message)
-    pipe-gives (msg.Open flags mode rest) = gives_on _ (new_open context.target) _ (λ over is. quiet-gives _ (open-gives (InPipes P) kind.Pipe resources over rest _ (empty-keeps P kind.Pipe) h))
+    pipe-gives (msg.Open flags mode rest) = gives_on _ (new_open context) _ (λ over is. quiet-gives _ (open-gives (InPipes P) kind.Pipe resources over rest _ (empty-keeps P kind.Pipe) h))
     pipe-gives (msg.Stat rest) = gives_on _ (side_root context.target) _ (λ root is. quiet-gives _ (stat_path-gives (InPipes P) resources root rest context.moment h))
     pipe-gives (msg.Unlink rest) = gives_on _ (side_root context.target) _ (λ root is. quiet-gives _ (unlink-gives (InPipes P) kind.Pipe (content-keeps P kind.Pipe) resources root rest context.moment h))
     pipe-gives (msg.Mknod mode rest) = gives_error _ _
@@ -466,7 +537,7 @@ module _ (P : WaitingCall → Type 0) (caller : Caller) where
     pipe-gives (msg.Write bytes) = gives_on _ context.opened _ (λ over is. write-own over bytes (callers over is))
     pipe-gives msg.Close = gives_on _ context.opened _ (λ over is.
         gives_if _ (is_shared (row_at resources.inodes.blocks over.number)) _ _ (gives_done _ _ (quiet-keeps _ (reply-quiet (InPipes P) _ _ _ _ h)))
-        (gives_by DeedKeeps _ (close kind.Pipe resources over) _ (pipe-closed over) (λ deed kept. gives_done _ _ (record { keeps = λ own. let left = kept.keeps own in record { pipes = left.pipes; answers = left.answers } }))))
+        (pipe-closed over))
     pipe-gives (msg.Dup old) = gives_on _ (new_dup context) _ (λ dup is. quiet-gives _ (dup-gives (InPipes P) resources dup h))
     pipe-gives (msg.Lseek whence offset) = gives_on _ context.opened _ (λ over is. quiet-gives _ (seek_pipe-gives (InPipes P) resources over whence offset))
     pipe-gives msg.Fstat = gives_on _ context.opened _ (λ over is. quiet-gives _ (stat_block-gives (InPipes P) resources over h))

@@ -118,11 +118,11 @@ after_item_both w (Ok held) next P same given = given held refl
 after_item_both w (Err outcome) next P same given = same
 
 pub server_leaves : (w : World) (e : Step) (P : World → Type 0) → P w
-    → ((worker : ℕ) (manager : Manager) (taken : Held) → P (after_taking w worker manager taken).world)
-    → ((worker moment : ℕ) (held : Held) → P (after_doing w worker moment held).world)
+    → ((worker : ℕ) (manager : Manager) (taken : Held) → item_to_take w worker manager ≡ Ok taken → P (after_taking w worker manager taken).world)
+    → ((worker moment : ℕ) (held : Held) → item_to_do w worker ≡ Ok held → P (after_doing w worker moment held).world)
     → P (server_step w e).world
-server_leaves w (Receive worker manager) P same takes does = after_item_both w (item_to_take w worker.0 manager) (after_taking w worker.0 manager) P same (λ taken is. takes worker.0 manager taken)
-server_leaves w (Perform worker moment) P same takes does = after_item_both w (item_to_do w worker.0) (after_doing w worker.0 moment) P same (λ held is. does worker.0 moment held)
+server_leaves w (Receive worker manager) P same takes does = after_item_both w (item_to_take w worker.0 manager) (after_taking w worker.0 manager) P same (takes worker.0 manager)
+server_leaves w (Perform worker moment) P same takes does = after_item_both w (item_to_do w worker.0) (after_doing w worker.0 moment) P same (does worker.0 moment)
 server_leaves w _ P same takes does = same
 
 -- a step that has no item changes nothing

@@ -1,5 +1,5 @@
 -- What a client's step does to the rows of its user.
-use Rattle.std.specs.Prelude.{ℕ, Bool, false, if◌then◌else◌, List, [], ◌∷◌, ◌&&◌, Option, Some, None, Result, Ok, Err, nat_le}
+use Rattle.std.specs.Prelude.{ℕ, Bool, false, true, if◌then◌else◌, List, [], ◌∷◌, ◌++◌, ◌+◌, ◌&&◌, Option, Some, None, Result, Ok, Err, map, nat_le, option_map}
 use Rattle.qx_types.specs.Configuration.{Configuration, name_bytes}
 use Rattle.qx_types.specs.declared.errno.Errno.TheVariants.{EAGAIN, EINTR, EINVAL}
 use Rattle.qx_types.specs.declared.limits.TheConstants.Limits.{PRIORITY, PROCESSES, THREADS}
@@ -13,7 +13,7 @@ use Rattle.qx_types.specs.declared.outcome.Outcome.TheVariants as outcome
 use Rattle.qx_types.specs.declared.outcome.Outcome.TheVariants.{Spawned, Refused, Done, Reply, Failed, NoPulse, WrongState, Pulse as PulseGiven}
 use Rattle.qx_types.specs.declared.request.Request.{Request}
 use Rattle.qx_types.specs.declared.step.Step.{Step}
-use Rattle.qx_types.specs.declared.step.Step.TheVariants.{Spawn, Call, TakeReply, TakePulse, SetPrio, Interrupt, Mount}
+use Rattle.qx_types.specs.declared.step.Step.TheVariants.{Spawn, Exit, Call, TakeReply, TakePulse, SetPrio, Interrupt, Mount}
 use Rattle.qx_paths.specs.Prefixes.{MountPoint}
 use Rattle.qx_machine.specs.declared.rows.Addressed.{Addressed}
 use Rattle.qx_machine.specs.declared.rows.OwnItem.{OwnItem}
@@ -22,14 +22,19 @@ use Rattle.qx_machine.specs.declared.rows.Pulse.{Pulse}
 use Rattle.qx_machine.specs.declared.rows.Sent.{Sent}
 use Rattle.qx_machine.specs.declared.rows.State.{State}
 use Rattle.qx_machine.specs.declared.rows.State.TheVariants.{Answered, Queued, Taken, Waiting}
+use Rattle.qx_machine.specs.declared.rows.ThreadRow.{ThreadRow}
+use Rattle.qx_machine.specs.declared.rows.WaitingCall.{WaitingCall}
 use Rattle.qx_machine.specs.Calls.{address, bytes_of, content_of, is_ready, may_call, target_at}
-use Rattle.qx_machine.specs.Events.{first_pulse, without_first_pulse}
+use Rattle.qx_machine.specs.Events.{first_pulse, without_first_pulse, without_pulses}
 use Rattle.qx_machine.specs.Judgements.{◌>>=◌, found, need, or_refused}
 use Rattle.qx_machine.specs.Mounting.{new_mount, with_mount}
-use Rattle.qx_machine.specs.Parts.{Part, Change, Put, Remove, disconnects, thread_at, with_process, with_thread_of}
+use Rattle.qx_machine.specs.Parts.{Part, Change, Put, Remove, disconnect, disconnects, thread_at, with_process, with_thread_of}
 use Rattle.qx_machine.specs.Performing.{after_answer, after_message}
-use Rattle.qx_machine.specs.Processes.{Process, asked_thread, new_process, with_queued, ranked_thread, ready_thread}
+use Rattle.qx_machine.specs.Pipes.{Pipe}
+use Rattle.qx_machine.specs.Processes.{Process, asked_thread, ended, living, lost_servers, new_process, with_queued, ranked_thread, ready_thread}
+use Rattle.qx_machine.specs.Resources.{Resources}
 use Rattle.qx_machine.specs.Rows.{lowest_from, put_row, row_at}
+use Rattle.qx_machine.specs.Waiting.{is_of_process}
 
 -- what a client's step gives
 pub record ClientStep : Type 0 where
@@ -98,8 +103,50 @@ pulse_taken part process (Some first) = record {
 -- a process takes its first pulse (C Library Reference: MsgReceivePulse)
 abbrev pub take_pulse : Part → Proc → Result ClientStep Outcome
 take_pulse part proc = do
-  process ← found (row_at part.processes proc.num) WrongState
+  process ← found (living (row_at part.processes proc.num)) WrongState
   Ok (pulse_taken part proc.num (first_pulse proc.num part.resources.events))
+
+-- ---- exit
+
+-- what stands in a line of a thread in this state, after so many calls: its message, or the pulse that asks to unblock it
+abbrev pub dropped_in : ℕ → ℕ → ℕ → State → List Change
+dropped_in process thread calls (Queued sent) = Remove sent.target.manager (item.Message process thread) ∷ []
+dropped_in process thread calls (Taken sent) = Remove sent.target.manager (item.Unblock process thread calls) ∷ []
+dropped_in process thread calls (Waiting sent) = Remove sent.target.manager (item.Unblock process thread calls) ∷ []
+dropped_in process thread calls _ = []
+
+abbrev pub dropped_by : ℕ → ℕ → Option ThreadRow → List Change
+dropped_by process thread None = []
+dropped_by process thread (Some row) = dropped_in process thread row.calls row.state
+
+-- of all threads from a number on
+abbrev pub dropped : ℕ → ℕ → List (Option ThreadRow) → List Change
+dropped process thread [] = []
+dropped process thread (row ∷ rows) = dropped_by process thread row ++ dropped process (thread + 1) rows
+
+-- a call of the process that waits is one of a process that has ended
+abbrev pub abandoned : ℕ → WaitingCall → WaitingCall
+abandoned process call = if is_of_process process call then record call { is_gone = true } else call
+
+abbrev pub with_abandoned : ℕ → Pipe WaitingCall → Pipe WaitingCall
+with_abandoned process pipe = record pipe { readers = map (abandoned process) pipe.readers; writers = map (abandoned process) pipe.writers }
+
+-- what is kept of a process that ends: its calls wait on until their pipes are worked on, and its pulses go
+abbrev pub without_process : ℕ → Resources → Resources
+without_process process r = record r { pipes = map (option_map (with_abandoned process)) r.pipes; events = without_pulses process r.events }
+
+-- a process ends: what it has in lines goes, and each of its server connections that is left by that gives its disconnect pulse (C Library
+-- Reference: _exit; System Architecture: a client that dies)
+abbrev pub exit : Part → Proc → Result ClientStep Outcome
+exit part proc = do
+  process ← found (living (row_at part.processes proc.num)) WrongState
+  Ok (record {
+    outcome = Done;
+    part = with_process proc.num ended (record part { resources = without_process proc.num part.resources });
+    changes = dropped proc.num 0 process.threads ++ map (disconnect proc.num) (lost_servers process (ended process));
+  })
+
+-- ---- what threads do
 
 -- a thread gets another priority
 abbrev pub set_prio : Part → Thread → ℕ → Result ClientStep Outcome
@@ -159,6 +206,7 @@ mount config user part thread path manager = do
 -- what a client's step gives, or the outcome of one that changes nothing
 abbrev pub client_given : Configuration → ℕ → List OwnItem → Part → Step → Result ClientStep Outcome
 client_given config user held part (Spawn of_user threads prio) = spawn part threads prio.0
+client_given config user held part (Exit proc) = exit part proc
 client_given config user held part (Call thread request) = call config user part thread request
 client_given config user held part (TakeReply thread) = take_reply part thread
 client_given config user held part (TakePulse proc) = take_pulse part proc

@@ -7,7 +7,6 @@ use Rattle.qx_types.specs.declared.errno.Errno.{Errno}
 use Rattle.qx_types.specs.declared.errno.Errno.TheVariants.{EACCES, EBADF, EBUSY, EEXIST, EISDIR, ENOENT, ENOTDIR, ENOTEMPTY, EPERM}
 use Rattle.qx_types.specs.declared.flags.OFlags.{OFlags}
 use Rattle.qx_types.specs.declared.flags.TheConstants.OFlags.{CREAT, EXCL}
-use Rattle.qx_types.specs.declared.names.Coid.{Coid}
 use Rattle.qx_machine.specs.declared.rows.Access.TheVariants.{Read, Write}
 use Rattle.qx_machine.specs.declared.rows.Attribute.{Attribute}
 use Rattle.qx_machine.specs.declared.rows.Effect.TheVariants.{Closes, Keeps, Opens}
@@ -63,44 +62,44 @@ made_at r at parent kind mode moment = do
 
 -- ---- open
 
--- a connection gets an open control block of an inode, and the status is the connection (C Library Reference: open)
-abbrev pub opened : Coid → OFlags → ℕ → Resources → Result (Deed Resources) Errno
-opened coid flags inode r = do
-  block ← open_block r.inodes inode flags
-  Ok (reply_alone coid.0 [] (Opens coid block.number) (record r { inodes = block.inodes }))
+-- a client's connection gets an open control block of an inode, and the status is the connection (C Library Reference: open)
+abbrev pub opened : NewOpen → OFlags → ℕ → Resources → Result (Deed Resources) Errno
+opened over flags inode r = do
+  block ← open_block r.inodes inode flags over.client
+  Ok (reply_alone over.coid.0 [] (Opens over.coid block.number) (record r { inodes = block.inodes }))
 
 -- whether an inode may be opened so
 abbrev pub allows : Attribute → ℕ → OFlags → Bool
 allows attribute user flags = (not (reads flags) || may attribute user Read) && (not (writes flags) || may attribute user Write)
 
 -- what is there is opened
-abbrev pub open_existing : Resources → Coid → ℕ → Wish → Result (Deed Resources) Errno
-open_existing r coid inode wish = do
+abbrev pub open_existing : Resources → NewOpen → ℕ → Wish → Result (Deed Resources) Errno
+open_existing r over inode wish = do
   attribute ← found (row_at r.inodes.attributes inode) ENOENT
   shared ← need (not (has wish.flags CREAT && has wish.flags EXCL)) EEXIST
   fitting ← need (not (is_directory attribute.kind && writes wish.flags)) EISDIR
   allowed ← need (allows attribute r.user wish.flags) EACCES
-  opened coid wish.flags inode (emptied wish.flags inode wish.moment r)
+  opened over wish.flags inode (emptied wish.flags inode wish.moment r)
 
 -- what is missing is made, of the manager's kind, and opened whatever its mode
-abbrev pub open_missing : Kind → Resources → Coid → Spot → Wish → Result (Deed Resources) Errno
-open_missing own r coid at wish = do
+abbrev pub open_missing : Kind → Resources → NewOpen → Spot → Wish → Result (Deed Resources) Errno
+open_missing own r over at wish = do
   making ← need (has wish.flags CREAT) ENOENT
   parent ← writable r.inodes r.user at.parent
   free ← block_number r.inodes
   made ← made_at r at parent own wish.mode wish.moment
-  opened coid wish.flags made.inode made.after
+  opened over wish.flags made.inode made.after
 
-abbrev pub open_spot : Kind → Resources → Coid → Spot → Option ℕ → Wish → Result (Deed Resources) Errno
-open_spot own r coid at (Some inode) wish = open_existing r coid inode wish
-open_spot own r coid at None wish = open_missing own r coid at wish
+abbrev pub open_spot : Kind → Resources → NewOpen → Spot → Option ℕ → Wish → Result (Deed Resources) Errno
+open_spot own r over at (Some inode) wish = open_existing r over inode wish
+open_spot own r over at None wish = open_missing own r over at wish
 
 -- where a path leads from a mount's root
 abbrev pub open_path : Kind → Resources → NewOpen → List (List ℕ) → Wish → Result (Deed Resources) Errno
-open_path own r over [] wish = open_existing r over.coid over.root wish
+open_path own r over [] wish = open_existing r over over.root wish
 open_path own r over rest wish = do
   at ← spot r.inodes r.names r.user over.root rest ENOENT
-  open_spot own r over.coid at at.inode wish
+  open_spot own r over at at.inode wish
 
 -- ---- other messages to a path
 
@@ -173,32 +172,35 @@ abbrev pub pipe_in : Kind → Resources → ℕ → Option (pipes.Pipe WaitingCa
 pipe_in Pipe r inode = row_at r.pipes inode
 pipe_in _ r inode = None
 
--- the connection goes, and what it had open, if that was all that kept it
-abbrev pub closed : Kind → Coid → ℕ → Deed Resources → Deed Resources
-closed own coid inode deed = record deed {
-  reply = Some (record { status = 0; bytes = []; effect = Closes coid });
-  state = without_unused own inode deed.state;
-}
+-- what an open control block had open goes too, if that was all that kept it
+abbrev pub unopened : Kind → ℕ → Deed Resources → Deed Resources
+unopened own inode deed = record deed { state = without_unused own inode deed.state }
 
--- a close takes the connection and its open control block away (C Library Reference: close); who waits over the block is answered
-abbrev pub close : Kind → Resources → Opened → Result (Deed Resources) Errno
-close own r opened = do
-  block ← own_block r.inodes opened.number own
-  Ok (closed own opened.coid block.inode (released (without_block opened.number r) opened.number block.inode opened.moment (pipe_in own r block.inode)))
+-- an open control block goes (C Library Reference: close); who waits over it is answered
+abbrev pub free_block : Kind → Resources → ℕ → ℕ → Result (Deed Resources) Errno
+free_block own r number moment = do
+  block ← own_block r.inodes number own
+  Ok (unopened own block.inode (released (without_block number r) number block.inode moment (pipe_in own r block.inode)))
 
--- the event of a block goes with it (Writing a Resource Manager: iofunc_notify_remove)
-abbrev pub close_with_event : Kind → Resources → Opened → Result (Deed Resources) Errno
-close_with_event own r opened = do
-  deed ← close own r opened
-  Ok (record deed { state = record deed.state { events = disarmed opened.number deed.state.events } })
+-- and its event with it (Writing a Resource Manager: iofunc_close_ocb, iofunc_notify_remove)
+abbrev pub close_ocb : Kind → Resources → ℕ → ℕ → Result (Deed Resources) Errno
+close_ocb own r number moment = do
+  deed ← free_block own r number moment
+  Ok (record deed { state = record deed.state { events = disarmed number deed.state.events } })
+
+-- a close of the last connection that has a block takes both away
+abbrev pub close_last : Kind → Resources → Opened → Result (Deed Resources) Errno
+close_last own r opened = do
+  deed ← close_ocb own r opened.number opened.moment
+  Ok (record deed { reply = Some (record { status = 0; bytes = []; effect = Closes opened.coid }) })
 
 -- a close takes the connection away, and what it had open where no other connection has that (Writing a Resource Manager:
--- iofunc_close_dup, iofunc_close_ocb)
+-- iofunc_close_dup)
 abbrev pub close_dup : Kind → Resources → Opened → Result (Deed Resources) Errno
 close_dup own r opened =
     if is_shared (row_at r.inodes.blocks opened.number)
     then Ok (reply_alone 0 [] (Closes opened.coid) (record r { inodes = without_use r.inodes opened.number }))
-    else close_with_event own r opened
+    else close_last own r opened
 
 -- ---- other messages over what is open
 

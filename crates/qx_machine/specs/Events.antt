@@ -111,16 +111,16 @@ is_due before after event = is_any (wanted_of event.conditions (come_to_hold (be
 abbrev pub with_pulse : ℕ → Pulse → List (List Pulse) → List (List Pulse)
 with_pulse process new pulses = with_line pulses process (λ queue. queue ++ new ∷ [])
 
--- the due among some events give their pulses, in order
+-- those of some events that give pulses give them, in order
 abbrev pub with_pulses : (Event → Bool) → (ℕ → Conditions) → List Event → List (List Pulse) → List (List Pulse)
-with_pulses due after [] pulses = pulses
-with_pulses due after (event ∷ events) pulses = with_pulses due after events (if due event then with_pulse event.process (pulse_of event (after event.block)) pulses else pulses)
+with_pulses gives after [] pulses = pulses
+with_pulses gives after (event ∷ events) pulses = with_pulses gives after events (if gives event then with_pulse event.process (pulse_of event (after event.block)) pulses else pulses)
 
--- after a step, each due event is armed no more and gives one pulse
-abbrev pub triggered : (ℕ → Conditions) → (ℕ → Conditions) → Events → Events
-triggered before after events = record {
+-- after a step, each due event is armed no more, and gives one pulse where its process has not ended
+abbrev pub triggered : (ℕ → Bool) → (ℕ → Conditions) → (ℕ → Conditions) → Events → Events
+triggered lives before after events = record {
   armed = filter (λ event. not (is_due before after event)) events.armed;
-  pulses = with_pulses (is_due before after) after events.armed events.pulses;
+  pulses = with_pulses (λ event. is_due before after event && lives event.process) after events.armed events.pulses;
 }
 
 -- the first pulse of a process (C Library Reference: MsgReceivePulse)

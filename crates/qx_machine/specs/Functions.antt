@@ -80,11 +80,11 @@ is_side Side = true
 is_side _ = false
 
 -- an open comes over a connection that its call made
-abbrev pub new_open : Target → Result NewOpen Errno
-new_open target = do
-  coid ← found (new_coid target.over) EINVAL
-  root ← found target.root EINVAL
-  Ok (record { coid = coid; root = root })
+abbrev pub new_open : Context → Result NewOpen Errno
+new_open context = do
+  coid ← found (new_coid context.target.over) EINVAL
+  root ← found context.target.root EINVAL
+  Ok (record { coid = coid; client = context.client; root = root })
 
 -- a dup comes over a connection that its call made; what is open over the old one is asked then
 abbrev pub new_dup : Context → Result NewDup Errno
@@ -112,7 +112,7 @@ function_deed function over deed = do
 -- a message is served by one function of one of the manager's tables
 abbrev pub message_deed : {S : Type 0} → ConnectFunctions S → IoFunctions S → S → Context → Message → Result (Deed S) Errno
 message_deed connect io state context (msg.Open flags mode rest) =
-    function_deed connect.«open» (new_open context.target) (λ f over. f state over rest (record { flags = flags; mode = mode; moment = context.moment }))
+    function_deed connect.«open» (new_open context) (λ f over. f state over rest (record { flags = flags; mode = mode; moment = context.moment }))
 message_deed connect io state context (msg.Stat rest) = function_deed connect.stat (side_root context.target) (λ f root. f state root rest context.moment)
 message_deed connect io state context (msg.Unlink rest) = function_deed connect.unlink (side_root context.target) (λ f root. f state root rest context.moment)
 message_deed connect io state context (msg.Mknod mode rest) = function_deed connect.mknod (side_root context.target) (λ f root. f state root mode rest context.moment)

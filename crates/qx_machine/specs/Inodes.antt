@@ -1,27 +1,30 @@
 -- The inodes and open control blocks of one user, at all managers (Writing a Resource Manager: iofunc_attr_t, iofunc_ocb_t; that each user
 -- has numbers of their own is this profile).
-use Rattle.std.specs.Prelude.{ℕ, Bool, true, false, ◌+◌, ◌-◌, ◌==◌, ◌&&◌, not, List, [], ◌∷◌, Option, Some, None, Result, Ok, Err, count_by, nat_le, nat_lt, slice_set, if◌then◌else◌}
+use Rattle.std.specs.Prelude.{ℕ, Bool, true, false, ◌+◌, ◌-◌, ◌==◌, ◌&&◌, not, List, [], ◌∷◌, ◌++◌, Option, Some, None, Result, Ok, Err, count_by, filter, nat_le, nat_lt, slice_set, if◌then◌else◌}
 use Rattle.std.specs.Int.RustNames.{bit_and}
 use Rattle.qx_types.specs.declared.errno.Errno.{Errno}
 use Rattle.qx_types.specs.declared.errno.Errno.TheVariants.{EBADF, EMFILE, ENFILE, ENOSPC}
 use Rattle.qx_types.specs.declared.flags.OFlags.{OFlags}
 use Rattle.qx_types.specs.declared.flags.TheConstants.OFlags.{READ, WRITE}
 use Rattle.qx_types.specs.declared.limits.TheConstants.Limits.{BLOCKS, INODES, LAST_CONNECTION}
+use Rattle.qx_types.specs.Managers.{manager_number}
 use Rattle.qx_machine.specs.declared.rows.Access.{Access}
 use Rattle.qx_machine.specs.declared.rows.Access.TheVariants.{Read, Write, Search}
 use Rattle.qx_machine.specs.declared.rows.Attribute.{Attribute}
+use Rattle.qx_machine.specs.declared.rows.Client.{Client}
 use Rattle.qx_machine.specs.declared.rows.Kind.{Kind}
 use Rattle.qx_machine.specs.declared.rows.Ocb.{Ocb}
 use Rattle.qx_machine.specs.Judgements.{◌>>=◌, found, need}
 use Rattle.qx_machine.specs.Rows.{row_at, lowest_from, put_row, with_row}
 
--- inodes from 1, each as its attribute, and open control blocks from 1
+-- inodes from 1, each as its attribute, and open control blocks from 1, with the numbers of those that are there in order of making
 pub record Inodes : Type 0 where
   pub attributes : List (Option Attribute)
   pub blocks : List (Option Ocb)
+  pub made : List ℕ
 
 abbrev pub no_inodes : Inodes
-no_inodes = record { attributes = None ∷ []; blocks = None ∷ [] }
+no_inodes = record { attributes = None ∷ []; blocks = None ∷ []; made = [] }
 
 -- whether all of some flags are among others
 abbrev pub has : OFlags → OFlags → Bool
@@ -101,11 +104,15 @@ readers_of = open_with reads
 abbrev pub writers_of : Inodes → ℕ → ℕ
 writers_of = open_with writes
 
--- an open makes an open control block, which begins at the beginning (C Library Reference: open)
-abbrev pub open_block : Inodes → ℕ → OFlags → Result Numbered Errno
-open_block inodes inode flags = do
+-- an open control block as it is made, which begins at the beginning (C Library Reference: open)
+abbrev pub new_block : ℕ → OFlags → Client → Ocb
+new_block inode flags client = record { inode = inode; flags = flags; offset = 0; uses = 1; client = client }
+
+-- an open of a client makes an open control block
+abbrev pub open_block : Inodes → ℕ → OFlags → Client → Result Numbered Errno
+open_block inodes inode flags client = do
   number ← block_number inodes
-  Ok (record { number = number; inodes = record inodes { blocks = put_row inodes.blocks number (record { inode = inode; flags = flags; offset = 0; uses = 1 }) } })
+  Ok (record { number = number; inodes = record inodes { blocks = put_row inodes.blocks number (new_block inode flags client); made = inodes.made ++ number ∷ [] } })
 
 abbrev pub moved_to : ℕ → Ocb → Ocb
 moved_to offset block = record block { offset = offset }
@@ -133,7 +140,21 @@ without_use inodes number = record inodes { blocks = with_row inodes.blocks numb
 
 -- an open control block goes, and its number is free (C Library Reference: close)
 abbrev pub close_block : Inodes → ℕ → Inodes
-close_block inodes number = record inodes { blocks = slice_set inodes.blocks number None }
+close_block inodes number = record inodes { blocks = slice_set inodes.blocks number None; made = filter (λ other. not (other == number)) inodes.made }
+
+-- ---- the blocks of one client
+
+abbrev pub is_same_client : Client → Client → Bool
+is_same_client one other =
+    (one.process == other.process) && (manager_number one.server.manager == manager_number other.server.manager) && (one.server.number == other.server.number)
+
+abbrev pub is_clients : Client → Option Ocb → Bool
+is_clients client None = false
+is_clients client (Some block) = is_same_client block.client client
+
+-- the open control blocks that a client has, in order of making
+abbrev pub blocks_of_client : Inodes → Client → List ℕ
+blocks_of_client inodes client = filter (λ number. is_clients client (row_at inodes.blocks number)) inodes.made
 
 -- whether nothing names an inode and nothing has it open
 abbrev pub is_unused : Inodes → ℕ → Option Attribute → Bool

@@ -1,5 +1,5 @@
 -- The words of the machine's laws.
-use Rattle.std.specs.Prelude.{◌≡◌, ℕ, ◌≤◌, Bool, true, false, List, [], ◌∷◌, AllPairs, count_by, if◌then◌else◌}
+use Rattle.std.specs.Prelude.{◌≡◌, ℕ, ◌≤◌, Bool, true, false, List, [], ◌∷◌, AllPairs, Some, count_by, if◌then◌else◌}
 use Rattle.qx_types.specs.Configuration.{Configuration}
 use Rattle.qx_types.specs.declared.outcome.Outcome.{Outcome}
 use Rattle.qx_types.specs.declared.outcome.Outcome.TheVariants.{Refused, WrongState, Idle, Busy, Nothing}
@@ -7,9 +7,11 @@ use Rattle.qx_types.specs.declared.step.Step.{Step}
 use Rattle.qx_machine.specs.declared.rows.Entry.{Entry}
 use Rattle.qx_machine.specs.declared.rows.OwnItem.{OwnItem}
 use Rattle.qx_machine.specs.declared.rows.OwnItem.TheVariants.{Message}
-use Rattle.qx_machine.specs.Machine.{World, step, owner}
-use Rattle.qx_machine.specs.Parts.{Change, Put, Remove}
+use Rattle.qx_machine.specs.Machine.{World, own_held, step, owner}
+use Rattle.qx_machine.specs.Parts.{Change, Part, Put, Remove}
+use Rattle.qx_machine.specs.Rows.{row_at}
 use Rattle.qx_machine.specs.Runs.{run, is_owner}
+use Rattle.qx_machine.specs.Users.{settle_part}
 
 -- no item has a higher priority than one before it
 abbrev pub IsInOrder : {A : Type 0} → (A → ℕ) → List A → Type 0
@@ -39,6 +41,10 @@ put_count changes = count_by is_put changes
 abbrev pub most_put : OwnItem → ℕ
 most_put (Message process thread) = 1
 most_put _ = 0
+
+-- no user's rows have anything left that the end of a step would settle
+abbrev pub IsSettled : World → Type 0
+IsSettled w = (user : ℕ) (part : Part) → row_at w.parts user ≡ Some part → settle_part part (own_held user w.hands) part ≡ part
 
 -- a step was refused at once
 abbrev pub is_refusal : Outcome → Bool

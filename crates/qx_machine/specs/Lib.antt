@@ -26,6 +26,7 @@ pub mod Resources
 pub mod Rows
 pub mod Runs
 pub mod Servers
+pub mod Settling
 pub mod Users
 pub mod Waiting
 pub mod Wants

@@ -22,7 +22,7 @@ abbrev pub new_resources : ℕ → List ℕ → Resources
 new_resources user name = record {
   user = user;
   mounts = boot_mounts name top_inode;
-  inodes = record { attributes = None ∷ Some (root_attribute user) ∷ []; blocks = None ∷ [] };
+  inodes = record { attributes = None ∷ Some (root_attribute user) ∷ []; blocks = None ∷ []; made = [] };
   names = with_root empty top_inode;
   files = no_files;
   pipes = no_pipes;

@@ -1,6 +1,6 @@
 -- Notification: which conditions hold of what is open, and what a message that asks for it does (C Library Reference: ionotify; Writing a
 -- Resource Manager: iofunc_notify; that files and directories always have both is this profile).
-use Rattle.std.specs.Prelude.{ℕ, ◌==◌, ◌||◌, not, true, Option, Some, None, Result, Ok, [], length, nat_lt}
+use Rattle.std.specs.Prelude.{ℕ, ◌==◌, ◌||◌, not, Bool, true, Option, Some, None, Result, Ok, [], length, nat_lt}
 use Rattle.qx_types.specs.declared.errno.Errno.{Errno}
 use Rattle.qx_types.specs.declared.errno.Errno.TheVariants.{EBADF}
 use Rattle.qx_types.specs.declared.fields.NotifyAction.{NotifyAction}
@@ -50,6 +50,6 @@ notify_block r opened action wish = do
   given ← notified action (event_of opened wish) (conditions_at r (Some block)) r.events
   Ok (reply_alone given.status [] Keeps (record r { events = given.events }))
 
--- after a step of the user, events whose wanted conditions have come to hold since before it give their pulses
-abbrev pub events_settled : Resources → Resources → Events
-events_settled before after = triggered (block_conditions before) (block_conditions after) after.events
+-- after a step of the user, events whose wanted conditions have come to hold since before it give their pulses to the processes that live
+abbrev pub events_settled : (ℕ → Bool) → Resources → Resources → Events
+events_settled lives before after = triggered lives (block_conditions before) (block_conditions after) after.events

@@ -1,5 +1,5 @@
 -- What a message that a worker holds does to the rows of its user.
-use Rattle.std.specs.Prelude.{ℕ, List, [], ◌∷◌, ◌++◌, Option, Some, None, Result, Ok, Err, is_some, map, if◌then◌else◌}
+use Rattle.std.specs.Prelude.{ℕ, List, [], ◌∷◌, ◌++◌, Option, Some, None, Result, Ok, Err, is_some, map, unwrap_or, if◌then◌else◌}
 use Rattle.qx_types.specs.Managers.{manager_number}
 use Rattle.qx_types.specs.declared.errno.Errno.{Errno}
 use Rattle.qx_types.specs.declared.errno.Errno.TheVariants.{EBADF, EINVAL, ENOSYS}
@@ -17,12 +17,12 @@ use Rattle.qx_wire.specs.declared.message.Message.{Message}
 use Rattle.qx_wire.specs.declared.message.Message.TheVariants as msg
 use Rattle.qx_wire.specs.Reading.{meaning}
 use Rattle.qx_machine.specs.declared.rows.Caller.{Caller}
+use Rattle.qx_machine.specs.declared.rows.Client.{Client}
 use Rattle.qx_machine.specs.declared.rows.Context.{Context}
 use Rattle.qx_machine.specs.declared.rows.Opened.{Opened}
 use Rattle.qx_machine.specs.declared.rows.Over.{Over}
 use Rattle.qx_machine.specs.declared.rows.OwnItem.TheVariants as item
 use Rattle.qx_machine.specs.declared.rows.Sent.{Sent}
-use Rattle.qx_machine.specs.declared.rows.ServerName.{ServerName}
 use Rattle.qx_machine.specs.declared.rows.State.{State}
 use Rattle.qx_machine.specs.declared.rows.State.TheVariants.{Taken}
 use Rattle.qx_machine.specs.declared.rows.Target.{Target}
@@ -30,13 +30,13 @@ use Rattle.qx_machine.specs.declared.rows.ThreadRow.{ThreadRow}
 use Rattle.qx_machine.specs.declared.rows.WaitingCall.{WaitingCall}
 use Rattle.qx_machine.specs.Functions.{Deed, Reply, existing_coid}
 use Rattle.qx_machine.specs.Judgements.{◌>>=◌, found, need}
-use Rattle.qx_machine.specs.Managers.{manager_deed}
+use Rattle.qx_machine.specs.Managers.{close_client, manager_deed}
 use Rattle.qx_machine.specs.Parts.{Part, Change, Remove, disconnects, with_process}
 use Rattle.qx_machine.specs.PipeManager.{cancel_call}
-use Rattle.qx_machine.specs.Processes.{Process, after_error, after_reply, answered_thread, served_thread, with_thread, without_server}
+use Rattle.qx_machine.specs.Processes.{Process, after_error, after_reply, answered_thread, served_thread, servers_at, with_thread, without_server}
 use Rattle.qx_machine.specs.Resources.{Resources}
 use Rattle.qx_machine.specs.Rows.{row_at}
-use Rattle.qx_machine.specs.Servers.{is_numbered}
+use Rattle.qx_machine.specs.Servers.{in_use, is_numbered}
 
 -- what performing an item gives
 pub record Served : Type 0 where
@@ -62,9 +62,18 @@ opened_by process caller target moment old = do
   number ← found connection.block EBADF
   Ok (record { caller = caller; coid = coid; number = number; moment = moment })
 
+-- a process as a manager knows it; one that has no server connection in use there has none of number 0
+abbrev pub client_at : ℕ → Manager → Process → Client
+client_at number manager process = record { process = number; server = record { manager = manager; number = unwrap_or (in_use (servers_at manager process)) 0 } }
+
 -- what a message of a process that means this is served with
 abbrev pub context_of : Process → Caller → Target → ℕ → Meaning → Context
-context_of process caller target moment given = record { target = target; opened = opened_by process caller target moment (dup_of given); moment = moment }
+context_of process caller target moment given = record {
+  target = target;
+  client = client_at caller.process target.manager process;
+  opened = opened_by process caller target moment (dup_of given);
+  moment = moment;
+}
 
 -- the message that a manager reads, or how it answers other bytes (Writing a Resource Manager: ENOSYS for an unknown message; that
 -- malformed ones are EINVAL is this profile)
@@ -140,20 +149,25 @@ serve_message part number thread moment = do
   sent ← found (taken_in row.state) WrongState
   Ok (served_by part (caller_of number thread row sent) sent (deed_of part.resources (context_of process (caller_of number thread row sent) sent.target moment (meaning sent.bytes)) (meaning sent.bytes)))
 
+-- calls that waited are answered by what was done
+abbrev pub answering : Part → Deed Resources → Served
+answering part deed = record {
+  part = with_answers deed.answers (record part { resources = deed.state });
+  changes = answered_changes Pipe deed.answers;
+}
+
 -- an unblock pulse is for a call that waits in a pipe, and for no other (Writing a Resource Manager: the unblock pulse)
 abbrev pub serve_pulse : Part → ℕ → ℕ → ℕ → ℕ → Result Served Outcome
 serve_pulse part process thread call moment = do
   deed ← cancel_call part.resources process thread call moment
-  Ok (record {
-    part = with_answers deed.answers (record part { resources = deed.state });
-    changes = answered_changes Pipe deed.answers;
-  })
+  Ok (answering part deed)
 
--- with a disconnect pulse goes its server connection (Writing a Resource Manager: _PULSE_CODE_DISCONNECT)
-abbrev pub serve_disconnect : Part → ℕ → ServerName → Result Served Outcome
-serve_disconnect part number server = do
-  process ← found (row_at part.processes number) WrongState
-  Ok (record { part = with_process number (without_server server) part; changes = [] })
+-- with a disconnect pulse go the open control blocks of its client, and its server connection (Writing a Resource Manager:
+-- _PULSE_CODE_DISCONNECT)
+abbrev pub serve_disconnect : Part → Client → ℕ → Result Served Outcome
+serve_disconnect part client moment = do
+  process ← found (row_at part.processes client.process) WrongState
+  Ok (answering (with_process client.process (without_server client.server) part) (close_client part.resources client moment))
 
 -- else nothing is done
 abbrev pub or_kept : Part → Result Served Outcome → Served

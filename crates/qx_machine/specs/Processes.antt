@@ -1,6 +1,6 @@
 -- Processes with their threads and connections, and how these change.
-use Rattle.std.specs.Prelude.{ℕ, Bool, false, true, ◌+◌, ◌&&◌, List, [], ◌∷◌, Option, Some, None, if◌then◌else◌, is_none, length, nat_le, replicate, slice_set}
-use Rattle.std.specs.List.{flat_map}
+use Rattle.std.specs.Prelude.{ℕ, Bool, false, true, ◌+◌, ◌==◌, ◌&&◌, List, [], ◌∷◌, Option, Some, None, if◌then◌else◌, is_none, is_some, length, map, nat_le, option_map, replicate, slice_set}
+use Rattle.std.specs.List.{flat_map, list_any}
 use Rattle.qx_bytes.specs.declared.message.TheConstants.MessageBytes.{INLINE}
 use Rattle.qx_types.specs.Managers.{manager_number, managers}
 use Rattle.qx_types.specs.declared.limits.TheConstants.Limits.{FIRST_CONNECTION, THREADS}
@@ -22,24 +22,31 @@ use Rattle.qx_machine.specs.Lines.{line_at, with_line}
 use Rattle.qx_machine.specs.Rows.{put_row, row_at, with_row}
 use Rattle.qx_machine.specs.Servers.{Servers, in_use, is_attached, lost_by, no_servers, servers_from, without_left}
 
--- threads from 1 and connections from 3; at which manager each thread has a side connection; and the server connections at each manager,
--- under its number
+-- threads from 1 and connections from 3; at which manager each thread has a side connection; the server connections at each manager, under
+-- its number; and of a process that has ended, under the number of each thread that it had, the bytes of the thread's message if that was
+-- received and not served: a worker holds it still
 pub record Process : Type 0 where
   pub threads : List (Option ThreadRow)
   pub connections : List (Option Connection)
   pub sides : List (Option Manager)
   pub servers : List Servers
+  pub held : List (Option (List ℕ))
 
 abbrev pub new_thread : ℕ → ThreadRow
 new_thread prio = record { state = Ready; prio = record { 0 = prio }; calls = 0; has_room = false }
+
+-- no thread has a side connection
+abbrev pub no_sides : List (Option Manager)
+no_sides = replicate (THREADS + 1) None
 
 -- a process with so many threads, all ready, and nothing attached
 abbrev pub new_process : ℕ → ℕ → Process
 new_process threads prio = record {
   threads = None ∷ replicate threads (Some (new_thread prio));
   connections = replicate FIRST_CONNECTION None;
-  sides = replicate (THREADS + 1) None;
+  sides = no_sides;
   servers = replicate COUNT no_servers;
+  held = [];
 }
 
 -- the server connections follow what is attached
@@ -155,3 +162,30 @@ ranked_thread prio row = record row { prio = record { 0 = prio } }
 -- a message of a thread goes out
 abbrev pub with_queued : ℕ → Sent → Process → Process
 with_queued thread sent process = with_over thread sent.target.manager sent.target.over (with_thread thread (queued_thread sent) process)
+
+-- ---- the end of a process
+
+-- a process has ended: it has no threads any more
+abbrev pub has_ended : Process → Bool
+has_ended process = length process.threads == 0
+
+-- a process that has not
+abbrev pub living : Option Process → Option Process
+living None = None
+living (Some process) = if has_ended process then None else Some process
+
+-- the bytes of a thread's message that was received and is not served, and else none
+abbrev pub received_in : State → List ℕ
+received_in (Taken sent) = sent.bytes
+received_in _ = []
+
+abbrev pub received_by : Option ThreadRow → Option (List ℕ)
+received_by row = option_map (λ thread. received_in thread.state) row
+
+-- a process ends: threads and connections go, and all its server connections are left (C Library Reference: _exit)
+abbrev pub ended : Process → Process
+ended process = with_servers (record process { threads = []; connections = []; sides = no_sides; held = map received_by process.threads })
+
+-- a process has a server connection somewhere
+abbrev pub has_server : Process → Bool
+has_server process = list_any (list_any is_some) process.servers

@@ -6,10 +6,10 @@ use Rattle.qx_machine.specs.declared.rows.OwnItem.{OwnItem}
 use Rattle.qx_machine.specs.declared.rows.OwnItem.TheVariants.{Message, Unblock, Disconnect}
 use Rattle.qx_machine.specs.Clients.{ClientStep, client_given, or_unchanged}
 use Rattle.qx_machine.specs.Mounting.{new_resources}
-use Rattle.qx_machine.specs.Notification.{events_settled}
 use Rattle.qx_machine.specs.Parts.{Part, with_process}
 use Rattle.qx_machine.specs.Performing.{Served, or_kept, serve_disconnect, serve_message, serve_pulse}
 use Rattle.qx_machine.specs.Processes.{taken_thread, with_thread}
+use Rattle.qx_machine.specs.Settling.{settled}
 
 -- the rows of a user at boot
 unfoldable pub boot_part : Configuration → ℕ → Part
@@ -29,8 +29,9 @@ take part (Disconnect process server) = part
 unfoldable pub serve : Configuration → ℕ → List OwnItem → Part → OwnItem → ℕ → Served
 serve config user held part (Message process thread) moment = or_kept part (serve_message part process thread moment)
 serve config user held part (Unblock process thread call) moment = or_kept part (serve_pulse part process thread call moment)
-serve config user held part (Disconnect process server) moment = or_kept part (serve_disconnect part process server)
+serve config user held part (Disconnect process server) moment = or_kept part (serve_disconnect part (record { process = process; server = server }) moment)
 
--- what the end of each step of a user settles, from the rows before it: due events give their pulses
+-- what the end of each step of a user settles, from the rows before it: due events give their pulses, and processes that have ended are
+-- freed once nothing of them is left
 unfoldable pub settle_part : Part → List OwnItem → Part → Part
-settle_part before held after = record after { resources = record after.resources { events = events_settled before.resources after.resources } }
+settle_part before held after = settled before held after

@@ -25,7 +25,7 @@ no_pipes = replicate (INODES + 1) None
 
 -- a call that reads so many bytes or writes these
 abbrev pub waiting_call : Opened → ℕ → List ℕ → WaitingCall
-waiting_call opened wanted bytes = record { process = opened.caller.process; thread = opened.caller.thread; call = opened.caller.call; block = opened.number; wanted = wanted; bytes = bytes }
+waiting_call opened wanted bytes = record { process = opened.caller.process; thread = opened.caller.thread; call = opened.caller.call; block = opened.number; wanted = wanted; bytes = bytes; is_gone = false }
 
 abbrev pub wanted : WaitingCall → ℕ
 wanted call = call.wanted
@@ -33,9 +33,13 @@ wanted call = call.wanted
 abbrev pub offered : WaitingCall → List ℕ
 offered call = call.bytes
 
--- a waiting call's process has ended; none ends yet
+-- a waiting call's process has ended
 abbrev pub is_gone : WaitingCall → Bool
-is_gone call = false
+is_gone call = call.is_gone
+
+-- a call of a thread of that process
+abbrev pub is_of_process : ℕ → WaitingCall → Bool
+is_of_process process call = call.process == process
 
 -- that call of a thread
 abbrev pub is_call : ℕ → ℕ → ℕ → WaitingCall → Bool

@@ -1,6 +1,6 @@
 //! The laws of the machine, each a theorem over every configuration, every list of steps and every user number.
 
-ghost use Rattle.std.specs.Prelude.{◌≡◌, ◌≢◌, ℕ, ◌<◌, ◌≤◌, false, true, All, filter, length, slice_get, List, [], Option, Some, None};
+ghost use Rattle.std.specs.Prelude.{◌≡◌, ◌≢◌, ℕ, ◌<◌, ◌≤◌, Bool, false, true, All, filter, length, slice_get, List, [], Option, Some, None};
 ghost use Rattle.std.specs.Cmp.Lexicographic.{slice_cmp};
 ghost use Rattle.std.specs.List.Sorted.{IsStrictlySortedBy};
 ghost use Rattle.std.specs.Ordering.{nat_cmp};
@@ -13,15 +13,17 @@ ghost use Rattle.qx_machine.specs.declared.rows.Conditions.{Conditions};
 ghost use Rattle.qx_machine.specs.declared.rows.Event.{Event};
 ghost use Rattle.qx_machine.specs.declared.rows.OwnItem.{OwnItem};
 ghost use Rattle.qx_machine.specs.Events.{Events, is_due, is_on, polled, triggered};
-ghost use Rattle.qx_machine.specs.Laws.{HoldsOfOwnSteps, IsInOrder, is_refusal, most_put, own_entries, put_count};
+ghost use Rattle.qx_machine.specs.Laws.{HoldsOfOwnSteps, IsInOrder, IsSettled, is_refusal, most_put, own_entries, put_count};
 ghost use Rattle.qx_machine.specs.Listings.{HasAtMostOnePath, HasSizedNames, IsZeroFree, listed_by, listed_next};
-ghost use Rattle.qx_machine.specs.Machine.{World, boot, line_of, owner, rank, step, view};
+ghost use Rattle.qx_machine.specs.Machine.{World, boot, line_of, own_held, owner, rank, step, view};
 ghost use Rattle.qx_machine.specs.Names.{Names, listing, names_in};
 ghost use Rattle.qx_machine.specs.Notification.{events_settled};
 ghost use Rattle.qx_machine.specs.Parts.{Part};
+ghost use Rattle.qx_machine.specs.Processes.{Process, has_ended};
 ghost use Rattle.qx_machine.specs.Resources.{Resources};
 ghost use Rattle.qx_machine.specs.Rows.{lowest_from, row_at};
 ghost use Rattle.qx_machine.specs.Runs.{erase, is_owner, received, run};
+ghost use Rattle.qx_machine.specs.Settling.{is_kept};
 ghost use Rattle.qx_machine.specs.Users.{serve};
 
 /// A user receives the same if all steps that are not taken by or for that user are left out.
@@ -68,12 +70,23 @@ pub fn nobody_idle()
 
 /// A step that is refused changes nothing.
 pub fn refusal_changes_nothing()
-    ensures { (w : World) (e : Step) → is_refusal (step w e).outcome ≡ true → (step w e).world ≡ w }
+    ensures { (config : Configuration) (steps : List Step) (e : Step) → is_refusal (step (run config steps).world e).outcome ≡ true → (step (run config steps).world e).world ≡ (run config steps).world }
+{}
+
+/// Between steps nothing is left to be settled: no event is due, and no process that has ended could be freed.
+pub fn always_settled()
+    ensures { (config : Configuration) (steps : List Step) → IsSettled (run config steps).world }
+{}
+
+/// A process that has ended has a server connection, an item in a worker's hand or a call that waits; once it has none of
+/// these, it is gone with its number.
+pub fn ended_processes_are_freed()
+    ensures { (config : Configuration) (steps : List Step) (user : ℕ) (part : Part) (number : ℕ) (process : Process) → row_at (run config steps).world.parts user ≡ Some part → row_at part.processes number ≡ Some process → has_ended process ≡ true → is_kept (own_held user (run config steps).world.hands) part.resources.pipes number process ≡ true }
 {}
 
 /// Nothing is due in a step that leaves all pipes and open control blocks as they were.
 pub fn unchanged_conditions_trigger_nothing()
-    ensures { (before after : Resources) → after.inodes ≡ before.inodes → after.pipes ≡ before.pipes → events_settled before after ≡ after.events }
+    ensures { (lives : ℕ → Bool) (before after : Resources) → after.inodes ≡ before.inodes → after.pipes ≡ before.pipes → events_settled lives before after ≡ after.events }
 {}
 
 /// A poll leaves nothing armed on its block (Writing a Resource Manager: `iofunc_notify`).
@@ -83,7 +96,7 @@ pub fn poll_disarms()
 
 /// An event that is due is armed no more.
 pub fn due_events_are_unarmed()
-    ensures { (before after : ℕ → Conditions) (events : Events) → filter (is_due before after) (triggered before after events).armed ≡ [] }
+    ensures { (lives : ℕ → Bool) (before after : ℕ → Conditions) (events : Events) → filter (is_due before after) (triggered lives before after events).armed ≡ [] }
 {}
 
 /// Performing a message puts one pulse into a line at most, and performing a pulse puts none, so that serving all that waits

@@ -26,8 +26,8 @@ pub mod laws;
 pub mod rows;
 
 pub use rows::{
-    Access, Addressed, Attribute, Caller, Conditions, Connection, Content, Context, Effect, Entry,
-    Event, Held, Kind, Manner, NewDup, NewOpen, Ocb, Opened, Over, OwnItem, Pulse, PulseWish,
-    Queued, Seen, Sent, ServerConnection, ServerName, Sides, State, Target, ThreadRow, WaitingCall,
-    Wish,
+    Access, Addressed, Attribute, Caller, Client, Conditions, Connection, Content, Context, Effect,
+    Entry, Event, Held, Kind, Manner, NewDup, NewOpen, Ocb, Opened, Over, OwnItem, Pulse,
+    PulseWish, Queued, Seen, Sent, ServerConnection, ServerName, Sides, State, Target, ThreadRow,
+    WaitingCall, Wish,
 };

@@ -95,6 +95,14 @@ pub struct ServerName {
     pub number: u8,
 }
 
+/// A client of a manager: a process, by one of its server connections (Writing a Resource Manager: `resmgr_context_t`, the
+/// `scoid`).
+#[derive(Clone, Copy, Debug, PartialEq, Eq)]
+pub struct Client {
+    pub process: u8,
+    pub server: ServerName,
+}
+
 /// What a message does to the connection that it came over, once it is done.
 #[derive(Clone, Copy, Debug, PartialEq, Eq)]
 pub enum Effect {
@@ -125,18 +133,19 @@ pub struct Opened {
     pub moment: u64,
 }
 
-/// What a message is served with beside its own fields: where it was sent, what it has open, or the error if that is nothing,
-/// and the moment (Writing a Resource Manager: `resmgr_context_t`).
+/// What a message is served with beside its own fields: where it was sent, by which client, what it has open, or the error if
+/// that is nothing, and the moment (Writing a Resource Manager: `resmgr_context_t`).
 #[derive(Clone, Copy, Debug, PartialEq, Eq)]
 pub struct Context {
     pub target: Target,
+    pub client: Client,
     pub opened: Result<Opened, Errno>,
     pub moment: u64,
 }
 
 /// A call that waits in a pipe (Writing a Resource Manager: a client to whom no reply is made yet): of which thread, over
-/// which open control block, how many bytes it reads, and which it writes. Its message's bytes are here and not with the
-/// thread.
+/// which open control block, how many bytes it reads, and which it writes; and whether its process has ended since. Its
+/// message's bytes are here and not with the thread.
 #[derive(Debug, Drop, PartialEq, Eq)]
 pub struct WaitingCall {
     pub process: u8,
@@ -145,13 +154,15 @@ pub struct WaitingCall {
     pub block: u16,
     pub wanted: u32,
     pub bytes: MessageBytes,
+    pub is_gone: bool,
 }
 
-/// What an open is given: the connection that its call made, and the inode of the root of the mount that its path led to
-/// (Writing a Resource Manager: the handle that connect functions are given).
+/// What an open is given: the connection that its call made, of which client, and the inode of the root of the mount that its
+/// path led to (Writing a Resource Manager: the handle that connect functions are given).
 #[derive(Clone, Copy, Debug, PartialEq, Eq)]
 pub struct NewOpen {
     pub coid: Coid,
+    pub client: Client,
     pub root: u32,
 }
 
@@ -191,14 +202,16 @@ pub struct Attribute {
     pub ctime: u64,
 }
 
-/// An open control block: the inode that it has open, the flags of the open, where the next read or write begins, and how
-/// many connections have it (Writing a Resource Manager: `iofunc_ocb_t`; C Library Reference: `dup`).
+/// An open control block: the inode that it has open, the flags of the open, where the next read or write begins, how many
+/// connections have it, and the client who opened it (Writing a Resource Manager: `iofunc_ocb_t`; C Library Reference:
+/// `dup`).
 #[derive(Clone, Copy, Debug, PartialEq, Eq)]
 pub struct Ocb {
     pub inode: u32,
     pub flags: OFlags,
     pub offset: u64,
     pub uses: u8,
+    pub client: Client,
 }
 
 /// What an inode's mode may allow (C Library Reference: `access`).

@@ -1,8 +1,8 @@
 -- A user's events stay within the limits, as events come and go.
-use Rattle.std.proofs.Common.{◌≡◌, ◌+◌, ◌<◌, ◌≤◌, inl, inr, ℕ, Bool, not, List, [], ◌∷◌, ◌++◌, length, get_or, length-append, refl, ◌∙◌, arith}
-use Rattle.std.specs.Prelude.{filter, sum_by}
+use Rattle.std.proofs.Common.{◌≡◌, ◌+◌, ◌<◌, ◌≤◌, inl, inr, ℕ, Bool, true, false, not, List, [], ◌∷◌, ◌++◌, length, get_or, length-append, refl, ◌∙◌, arith}
+use Rattle.std.specs.Prelude.{◌&&◌, filter, sum_by}
 use Rattle.std.specs.List.{AllByRecursion}
-use Rattle.std.proofs.lemmas.Bool.{cases_Bool}
+use Rattle.std.proofs.lemmas.Bool.{cases_Bool, false≢true}
 use Rattle.std.proofs.lemmas.Bool.Decides.{eqb_tells}
 use Rattle.std.proofs.lemmas.List.{length-set}
 use Rattle.std.proofs.lemmas.List.Elements.{filter-append}
@@ -82,33 +82,52 @@ limited-queue events process change within are fewer =
       once = are.once;
     }
 
-module _ (due : Event → Bool) (after : ℕ → Conditions) where
-  given-length : (events : List Event) (pulses : List (List Pulse)) → length (with_pulses due after events pulses) ≡ length pulses
+-- one more pulse stands in a queue
+pub pulse-count : (pulses : List (List Pulse)) (process : ℕ) (new : Pulse) → process < length pulses → sum_by length (with_pulse process new pulses) ≡ sum_by length pulses + 1
+pulse-count pulses process new within =
+    let one : length (line_at pulses process ++ new ∷ []) ≡ length (line_at pulses process) + 1 = rw length-append refl in
+    omega (arith, queue-count pulses process (λ queue. queue ++ new ∷ []) within, one)
+
+-- both hold, so the first does
+and-first : (a b : Bool) → (a && b) ≡ true → a ≡ true
+and-first true b is = refl
+and-first false b is = absurd (false≢true is)
+
+module _ (gives : Event → Bool) (after : ℕ → Conditions) where
+  given-length : (events : List Event) (pulses : List (List Pulse)) → length (with_pulses gives after events pulses) ≡ length pulses
   given-length [] pulses = refl
-  given-length (e ∷ es) pulses = elim (cases_Bool (due e)) [
+  given-length (e ∷ es) pulses = elim (cases_Bool (gives e)) [
     | inl is ↦ rw is (given-length es (with_pulse e.process (pulse_of e (after e.block)) pulses) ∙ length-set pulses e.process _)
     | inr not ↦ rw not (given-length es pulses)
   ]
 
-  given-count : (events : List Event) (pulses : List (List Pulse)) → length pulses ≡ PROCESSES + 1 → AllByRecursion (λ event. event.process ≤ PROCESSES) events → length (filter (λ event. not (due event)) events) + sum_by length (with_pulses due after events pulses) ≡ length events + sum_by length pulses
-  given-count [] pulses places within = refl
-  given-count (e ∷ es) pulses places within = elim (cases_Bool (due e)) [
-    | inl is ↦ rw is (
+  -- each event that gives a pulse goes
+  given-count : (due : Event → Bool) → ((event : Event) → gives event ≡ true → due event ≡ true) → (events : List Event) (pulses : List (List Pulse)) → length pulses ≡ PROCESSES + 1 → AllByRecursion (λ event. event.process ≤ PROCESSES) events
+      → length (filter (λ event. not (due event)) events) + sum_by length (with_pulses gives after events pulses) ≤ length events + sum_by length pulses
+  given-count due are_due [] pulses places within = omega arith
+  given-count due are_due (e ∷ es) pulses places within = elim (cases_Bool (gives e)) [
+    | inl is ↦
         let here : e.process < length pulses = omega (arith, within.0, places) in
         let next = with_pulse e.process (pulse_of e (after e.block)) pulses in
-        let one : length (line_at pulses e.process ++ pulse_of e (after e.block) ∷ []) ≡ length (line_at pulses e.process) + 1 = rw length-append refl in
-        omega (arith, given-count es next (length-set pulses e.process _ ∙ places) within.1, queue-count pulses e.process (λ queue. queue ++ pulse_of e (after e.block) ∷ []) here, one))
-    | inr not ↦ rw not (omega (arith, given-count es pulses places within.1))
+        rw (is, are_due e is) (omega (arith, given-count due are_due es next (length-set pulses e.process _ ∙ places) within.1, pulse-count pulses e.process (pulse_of e (after e.block)) here))
+    | inr not ↦ rw not (elim (cases_Bool (due e)) [
+      | inl goes ↦ rw goes (omega (arith, given-count due are_due es pulses places within.1))
+      | inr stays ↦ rw stays (omega (arith, given-count due are_due es pulses places within.1))
+    ])
   ]
 
-module _ (before after : ℕ → Conditions) (events : Events) (are : AreLimited events) where
-  pub count-triggered : event_count (triggered before after events) ≡ event_count events
-  count-triggered = given-count (is_due before after) after events.armed events.pulses are.places are.processes
+module _ (lives : ℕ → Bool) (before after : ℕ → Conditions) (events : Events) (are : AreLimited events) where
+  -- an event that gives a pulse is due
+  is_due-given : (event : Event) → (is_due before after event && lives event.process) ≡ true → is_due before after event ≡ true
+  is_due-given event is = and-first (is_due before after event) (lives event.process) is
 
-  pub limited-triggered : AreLimited (triggered before after events)
+  count-triggered : event_count (triggered lives before after events) ≤ event_count events
+  count-triggered = given-count (λ event. is_due before after event && lives event.process) after (is_due before after) is_due-given events.armed events.pulses are.places are.processes
+
+  pub limited-triggered : AreLimited (triggered lives before after events)
   limited-triggered = record {
-    few = rw count-triggered are.few;
-    places = given-length (is_due before after) after events.armed events.pulses ∙ are.places;
+    few = omega (arith, count-triggered, are.few);
+    places = given-length (λ event. is_due before after event && lives event.process) after events.armed events.pulses ∙ are.places;
     processes = all-fewer _ (λ event. not (is_due before after event)) events.armed are.processes;
     once = λ block. omega (arith, are.once block, filter-fewer (λ event. not (is_due before after event)) (is_on block) events.armed);
   }

@@ -15,7 +15,7 @@ use std::alloc::{AllocError, Global};
 use std::marker::Model;
 
 /// The armed events and the untaken pulses of all users. An event's node is made as it is armed, is moved as it gives its
-/// pulse, and is given back as the pulse is taken.
+/// pulse, and is given back as the pulse is taken, or at once where it gives none.
 #[derive(Drop)]
 pub struct AllEvents {
     table: Table<Event>,
@@ -156,12 +156,12 @@ impl AllEvents {
         }
     }
 
-    /// After a step's work each due event of a user is armed no more and gives one pulse, which goes last into the queue of
-    /// its process, in order of arming (C Library Reference: `iofunc_notify_trigger`). Where nothing is armed, that is seen
-    /// at once.
+    /// After a step's work each due event of a user is armed no more, and gives one pulse where its process lives, which goes
+    /// last into the queue of the process, in order of arming (C Library Reference: `iofunc_notify_trigger`). One that gives
+    /// none has its node given back. Where nothing is armed, that is seen at once.
     pub fn trigger<C: Changes>(&mut self, user: User, changes: &C)
         requires user { user.0 < length self.old.events }
-        ensures { self.new ≡ with_events self.old user.0 (machine.triggered (C.before changes.now) (C.after changes.now) (events_of self.old user.0)) }
+        ensures { self.new ≡ with_events self.old user.0 (machine.triggered (C.lives changes.now) (C.before changes.now) (C.after changes.now) (events_of self.old user.0)) }
     {
         self.table.know();
         let armed = armed_of(&self.lists, user);
@@ -171,7 +171,10 @@ impl AllEvents {
             next = self.table.next(armed, node);
             let event = *self.table.value(node);
             let change = changes.of(event.block);
-            if is_any(wanted_of(event.conditions, come_to_hold(change))) {
+            if !is_any(wanted_of(event.conditions, come_to_hold(change))) {
+                continue;
+            }
+            if changes.lives(event.process) {
                 let proc = Proc {
                     user,
                     num: event.process,
@@ -182,6 +185,9 @@ impl AllEvents {
                 };
                 let queue = pulses_of(&self.lists, proc);
                 move_to(&mut self.table, armed, node, queue, pulse);
+            } else {
+                take_out(&mut self.table, armed, node);
+                self.counts[user.0 as usize] -= 1;
             }
         }
     }

@@ -1,6 +1,6 @@
-//! What a step's work changed of the conditions of a user's open control blocks.
+//! What a step's work changed of the conditions of a user's open control blocks, and which processes live after it.
 
-ghost use Rattle.std.specs.Prelude.{◌≡◌, ℕ};
+ghost use Rattle.std.specs.Prelude.{◌≡◌, ℕ, Bool};
 ghost use Rattle.qx_machine.specs.declared.rows.Conditions.{Conditions as AllConditions};
 
 use qx_machine::Conditions;
@@ -12,8 +12,8 @@ pub struct Change {
     pub after: Conditions,
 }
 
-/// What a step's work changed of the conditions of a user's open control blocks. Of a block whose pipe was not worked on both
-/// are the same, whatever they are.
+/// What a step's work changed of the conditions of a user's open control blocks, and which of the user's processes live after
+/// it. Of a block whose pipe was not worked on both conditions are the same, whatever they are.
 pub trait Changes {
     /// Which conditions held of each block before the work.
     ghost before: { Self → ℕ → AllConditions };
@@ -21,8 +21,15 @@ pub trait Changes {
     /// Which conditions hold of each block after it.
     ghost after: { Self → ℕ → AllConditions };
 
+    /// Which processes are there and have not ended.
+    ghost lives: { Self → ℕ → Bool };
+
     /// Which conditions held and hold of a block.
     fn of(&self, block: u16) -> Change
         ensures before { result.before ≡ before self.now block }
         ensures after { result.after ≡ after self.now block };
+
+    /// Whether a process is there and has not ended.
+    fn lives(&self, process: u8) -> bool
+        ensures lives { result ≡ lives self.now process };
 }

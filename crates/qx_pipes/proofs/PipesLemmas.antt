@@ -21,12 +21,12 @@ use Rattle.qx_machine.specs.declared.rows.Attribute.{Attribute}
 use Rattle.qx_machine.specs.declared.rows.Effect.TheVariants.{Keeps, Opens}
 use Rattle.qx_machine.specs.declared.rows.Effect.{Effect}
 use Rattle.qx_machine.specs.declared.rows.Kind.TheVariants as kind
+use Rattle.qx_machine.specs.declared.rows.NewOpen.{NewOpen}
 use Rattle.qx_machine.specs.declared.rows.Ocb.{Ocb}
-use Rattle.qx_machine.specs.declared.rows.Opened.{Opened}
 use Rattle.qx_machine.specs.declared.rows.Sides.{Sides}
 use Rattle.qx_machine.specs.declared.rows.WaitingCall.{WaitingCall}
 use Rattle.qx_machine.specs.declared.rows.Wish.{Wish}
-use Rattle.qx_machine.specs.Defaults.{close, closed, open_existing, open_missing, own_block, without_unused}
+use Rattle.qx_machine.specs.Defaults.{free_block, open_existing, open_missing, own_block, unopened, without_unused}
 use Rattle.qx_machine.specs.Functions.{Deed, reply_alone}
 use Rattle.qx_machine.specs.Inodes.{Inodes, has, is_unused}
 use Rattle.qx_machine.specs.Judgements.{◌>>=◌}
@@ -43,7 +43,6 @@ use Rattle.qx_shared.proofs.AfterLemmas.{pipe_at-after, then-after}
 use Rattle.qx_shared.specs.Shared.{HasPipe, Shared, pipe_at, pipes_of, went_in, with_pipe_after, with_pipes, with_row_at}
 use Rattle.qx_types.specs.declared.errno.Errno.{Errno}
 use Rattle.qx_types.specs.declared.flags.OFlags.{OFlags}
-use Rattle.qx_types.specs.declared.names.Coid.{Coid}
 
 -- ---- one pipe among those of all
 
@@ -156,26 +155,26 @@ module _ {E : Type 0} (s new : Stored) (c left : Shared) (r : Resources) (inside
       let pipes = slice_set (pipes_of c s.user) inode (Some after.pipe) in
       follows (machine.deed_of_pipe (seen r s c) inode moment after) (ap (λ (s : Stored). s.user) sized_is) left_is (ap (λ new. record (with_stored r new) { pipes = pipes }) (sym sized_is))
 
--- ---- a close, once its block was judged
+-- ---- a block goes, once it was judged
 
-module _ (s new : Stored) (c left : Shared) (r : Resources) (opened : Opened) (inode : ℕ) (inside : s.user < length c.pipes) (own : Ok inode ≡ result_map_both (λ (block : Ocb). block.inode) (λ error. error) (own_block s.inodes opened.number kind.Pipe)) where
+module _ (s new : Stored) (c left : Shared) (r : Resources) (number moment inode : ℕ) (inside : s.user < length c.pipes) (own : Ok inode ≡ result_map_both (λ (block : Ocb). block.inode) (λ error. error) (own_block s.inodes number kind.Pipe)) where
   abbrev freed : Stored
-  freed = block_gone opened.number s
+  freed = block_gone number s
 
   -- what is done to the pipe, and then the rest
   abbrev first : ℕ → Deed Resources
-  first inode = machine.released (seen r freed c) opened.number inode opened.moment (row_at (pipes_of c s.user) inode)
+  first inode = machine.released (seen r freed c) number inode moment (row_at (pipes_of c s.user) inode)
 
   abbrev and_rest : Resources → Deed Resources
-  and_rest state = record (closed kind.Pipe opened.coid inode (first inode)) { state = state }
+  and_rest state = record (first inode) { state = state }
 
-  close-is : (blocks : Result Ocb Errno) → Ok inode ≡ result_map_both (λ (block : Ocb). block.inode) (λ error. error) blocks → Ok (closed kind.Pipe opened.coid inode (first inode)) ≡ (blocks >>= λ block. Ok (closed kind.Pipe opened.coid block.inode (first block.inode)))
-  close-is blocks is = grind (arith, common_steps)
+  freed-is : (blocks : Result Ocb Errno) → Ok inode ≡ result_map_both (λ (block : Ocb). block.inode) (λ error. error) blocks → Ok (unopened kind.Pipe inode (first inode)) ≡ (blocks >>= λ block. Ok (unopened kind.Pipe block.inode (first block.inode)))
+  freed-is blocks is = grind (arith, common_steps)
 
   rest-follows : (inodes : Inodes) (between : Shared) (gone : Bool) → Follows {E = Errno} freed c (record freed { inodes = inodes }) between r (Ok (first inode)) → new ≡ unused_gone kind.Pipe inode (record freed { inodes = inodes }) → gone ≡ unused inodes inode
-      → left ≡ (if gone then with_row_at between s.user inode None else between) → Follows s c new left r (close kind.Pipe (seen r s c) opened)
+      → left ≡ (if gone then with_row_at between s.user inode None else between) → Follows s c new left r (free_block kind.Pipe (seen r s c) number moment)
   rest-follows inodes between gone follow new_is gone_is left_is =
-      subst (Follows s c new left r) (close-is (own_block s.inodes opened.number kind.Pipe) own)
+      subst (Follows s c new left r) (freed-is (own_block s.inodes number kind.Pipe) own)
       (subst (λ state. Follows {E = Errno} s c new left r (Ok (and_rest (without_unused kind.Pipe inode state)))) follow.state
       (rw new_is (subst (λ gone. Follows {E = Errno} s c (gone_if gone inode mid) left r (Ok (and_rest (without_if gone inode (seen r mid between))))) gone_is (by_test gone left_is))))
     where
@@ -194,23 +193,23 @@ module _ (s new : Stored) (c left : Shared) (r : Resources) (opened : Opened) (i
       by_test false left_is = follows s mid c left r inside (and_rest (seen r mid between)) refl (left_is ∙ between_is) refl
 
   -- where there was a pipe
-  pub close-follows : (between : Shared) (filled gone : Bool) (bare : Stored) (sides : Sides) → HasPipe c s.user inode → bare ≡ unused_gone kind.Pipe inode freed → gone ≡ unused freed.inodes inode → sides ≡ sides_of bare.inodes inode
-      → (let after = release wanted offered is_gone (is_over opened.number) sides (pipe_at c s.user inode) in (between ≡ with_pipe_after c s.user inode after) × (filled ≡ went_in after.answers)) → new ≡ resized inode (sized (length (pipe_at between bare.user inode).bytes) filled opened.moment) bare
-      → left ≡ (if gone then with_row_at between s.user inode None else between) → Follows s c new left r (close kind.Pipe (seen r s c) opened)
-  close-follows between filled gone bare sides some bare_is gone_is sides_is did new_is =
+  pub free-follows : (between : Shared) (filled gone : Bool) (bare : Stored) (sides : Sides) → HasPipe c s.user inode → bare ≡ unused_gone kind.Pipe inode freed → gone ≡ unused freed.inodes inode → sides ≡ sides_of bare.inodes inode
+      → (let after = release wanted offered is_gone (is_over number) sides (pipe_at c s.user inode) in (between ≡ with_pipe_after c s.user inode after) × (filled ≡ went_in after.answers)) → new ≡ resized inode (sized (length (pipe_at between bare.user inode).bytes) filled moment) bare
+      → left ≡ (if gone then with_row_at between s.user inode None else between) → Follows s c new left r (free_block kind.Pipe (seen r s c) number moment)
+  free-follows between filled gone bare sides some bare_is gone_is sides_is did new_is =
       let size = length (pipe_at between s.user inode).bytes in
-      let change = sized size filled opened.moment in
-      let first = gone-first freed inode size opened.moment filled in
+      let change = sized size filled moment in
+      let first = gone-first freed inode size moment filled in
       let done = rw (sides_is ∙ ap (λ (s : Stored). sides_of s.inodes inode) bare_is ∙ first.1) at did in
-      let after = release wanted offered is_gone (is_over opened.number) (sides_of freed.inodes inode) (pipe_at c s.user inode) in
+      let after = release wanted offered is_gone (is_over number) (sides_of freed.inodes inode) (pipe_at c s.user inode) in
       let user : bare.user ≡ s.user = ap (λ (s : Stored). s.user) bare_is ∙ first.0 in
-      rest-follows (resized inode change freed).inodes between gone (rw (there c s.user inode some) (after-follows freed (resized inode change freed) c between r inside inode opened.moment after filled some done.0 done.1 refl))
-      (new_is ∙ ap (λ user. resized inode (sized (length (pipe_at between user inode).bytes) filled opened.moment) bare) user ∙ ap (resized inode change) bare_is ∙ first.2)
-      (gone_is ∙ sym (unused-sized freed inode size opened.moment filled))
+      rest-follows (resized inode change freed).inodes between gone (rw (there c s.user inode some) (after-follows freed (resized inode change freed) c between r inside inode moment after filled some done.0 done.1 refl))
+      (new_is ∙ ap (λ user. resized inode (sized (length (pipe_at between user inode).bytes) filled moment) bare) user ∙ ap (resized inode change) bare_is ∙ first.2)
+      (gone_is ∙ sym (unused-sized freed inode size moment filled))
 
   -- where there was none
-  pub close-follows-none : row_at (pipes_of c s.user) inode ≡ None → new ≡ unused_gone kind.Pipe inode freed → left ≡ c → Follows s c new left r (close kind.Pipe (seen r s c) opened)
-  close-follows-none none new_is left_is =
+  pub free-follows-none : row_at (pipes_of c s.user) inode ≡ None → new ≡ unused_gone kind.Pipe inode freed → left ≡ c → Follows s c new left r (free_block kind.Pipe (seen r s c) number moment)
+  free-follows-none none new_is left_is =
       rest-follows freed.inodes c (unused freed.inodes inode) (rw none (record { state = refl; shared = given-same c s.user })) new_is refl
       (cond_both (unused freed.inodes inode) _ c (λ d. left ≡ d) (λ _. left_is ∙ sym (row-free c s.user inode none)) (λ _. left_is))
 
@@ -219,11 +218,11 @@ module _ (s new : Stored) (c left : Shared) (r : Resources) (opened : Opened) (i
 abbrev Leaves : Pipes → Result (Deed Resources) Errno → Type 0
 Leaves pipes meant = IfOk meant (λ deed. deed.state.pipes ≡ pipes)
 
-existing-keeps : (r : Resources) (coid : Coid) (inode : ℕ) (wish : Wish) → Leaves r.pipes (open_existing r coid inode wish)
-existing-keeps r coid inode wish = grind (arith, common_steps)
+existing-keeps : (r : Resources) (over : NewOpen) (inode : ℕ) (wish : Wish) → Leaves r.pipes (open_existing r over inode wish)
+existing-keeps r over inode wish = grind (arith, common_steps)
 
-missing-makes : (r : Resources) (coid : Coid) (at : Spot) (wish : Wish) (new : New) → may_make r.inodes r.user at.parent wish.flags ≡ Ok new → Leaves (slice_set r.pipes new.inode (Some no_bytes)) (open_missing kind.Pipe r coid at wish)
-missing-makes r coid at wish new may = grind (arith, common_steps)
+missing-makes : (r : Resources) (over : NewOpen) (at : Spot) (wish : Wish) (new : New) → may_make r.inodes r.user at.parent wish.flags ≡ Ok new → Leaves (slice_set r.pipes new.inode (Some no_bytes)) (open_missing kind.Pipe r over at wish)
+missing-makes r over at wish new may = grind (arith, common_steps)
 
 -- what the machine gives, and what follows it
 pub record IsTold (s new : Stored) (c left : Shared) (r : Resources) (status : ℕ) (effect : Effect) (meant : Result (Deed Resources) Errno) : Type 0 where
@@ -241,25 +240,25 @@ module _ (s new : Stored) (c left : Shared) (r : Resources) (inside : s.user < l
       let follow = follows {E = Errno} s new c left r inside (reply_alone status [] effect state) user left_is state_is in
       record { told = ap (λ state. Ok (reply_alone status [] effect state)) follow.state ∙ is; follow = subst (Follows s c new left r) is follow }
 
-  module _ (coid : Coid) (wish : Wish) (o : Opening) where
-    opened-told : (meant : Result (Deed Resources) Errno) (pipes : Pipes) → meant ≡ Ok (given.open_given coid kind.Pipe o now) → Leaves pipes meant → left ≡ with_pipes c s.user pipes [] → IsTold s new c left r coid.0 (Opens coid o.number) meant
+  module _ (over : NewOpen) (wish : Wish) (o : Opening) where
+    opened-told : (meant : Result (Deed Resources) Errno) (pipes : Pipes) → meant ≡ Ok (given.open_given over.coid kind.Pipe o now) → Leaves pipes meant → left ≡ with_pipes c s.user pipes [] → IsTold s new c left r over.coid.0 (Opens over.coid o.number) meant
     opened-told meant pipes is leaves left_is =
         let leaves = rw is at leaves in
-        told-by meant coid.0 (Opens coid o.number) (given.with_pipe_made kind.Pipe o now) (sym is) (left_is ∙ ap (λ pipes. with_pipes c s.user pipes []) (sym leaves))
+        told-by meant over.coid.0 (Opens over.coid o.number) (given.with_pipe_made kind.Pipe o now) (sym is) (left_is ∙ ap (λ pipes. with_pipes c s.user pipes []) (sym leaves))
         (cond_both o.is_new _ now (λ state. state ≡ record (with_stored r new) { pipes = state.pipes }) (λ _. refl) (λ _. refl))
 
     -- what is there has its pipe already
-    pub found-told : (inode : ℕ) → open_existing (seen r s c) coid inode wish ≡ Ok (given.open_given coid kind.Pipe o now) → left ≡ c → IsTold s new c left r coid.0 (Opens coid o.number) (open_existing (seen r s c) coid inode wish)
-    found-told inode is left_is = opened-told _ (pipes_of c s.user) is (existing-keeps (seen r s c) coid inode wish) (left_is ∙ given-same c s.user)
+    pub found-told : (inode : ℕ) → open_existing (seen r s c) over inode wish ≡ Ok (given.open_given over.coid kind.Pipe o now) → left ≡ c → IsTold s new c left r over.coid.0 (Opens over.coid o.number) (open_existing (seen r s c) over inode wish)
+    found-told inode is left_is = opened-told _ (pipes_of c s.user) is (existing-keeps (seen r s c) over inode wish) (left_is ∙ given-same c s.user)
 
     abbrev pub missing : ℕ → Key → Spot
     missing parent key = record { parent = parent; key = key; inode = None }
 
     -- what is missing is made with an empty pipe, under a key in its directory
-    pub missing-told : (parent : ℕ) (key : Key) (made : New) → may_make s.inodes s.user parent wish.flags ≡ Ok made → open_missing kind.Pipe (seen r s c) coid (missing parent key) wish ≡ Ok (given.open_given coid kind.Pipe o now)
-        → left ≡ with_row_at c s.user made.inode (Some no_bytes) → IsTold s new c left r coid.0 (Opens coid o.number) (open_missing kind.Pipe (seen r s c) coid (missing parent key) wish)
+    pub missing-told : (parent : ℕ) (key : Key) (made : New) → may_make s.inodes s.user parent wish.flags ≡ Ok made → open_missing kind.Pipe (seen r s c) over (missing parent key) wish ≡ Ok (given.open_given over.coid kind.Pipe o now)
+        → left ≡ with_row_at c s.user made.inode (Some no_bytes) → IsTold s new c left r over.coid.0 (Opens over.coid o.number) (open_missing kind.Pipe (seen r s c) over (missing parent key) wish)
     missing-told parent key made may is left_is =
-        opened-told _ (slice_set (pipes_of c s.user) made.inode (Some no_bytes)) is (missing-makes (seen r s c) coid (missing parent key) wish made may) (left_is ∙ given-row c s.user made.inode (Some no_bytes))
+        opened-told _ (slice_set (pipes_of c s.user) made.inode (Some no_bytes)) is (missing-makes (seen r s c) over (missing parent key) wish made may) (left_is ∙ given-row c s.user made.inode (Some no_bytes))
 
   -- the pipe of an inode that went goes
   pub unlinked-told : (meant : Result (Deed Resources) Errno) (gone : Option ℕ) → given.unlink_given kind.Pipe now (Ok gone) ≡ meant → MatchOption gone (left ≡ c) (λ inode. left ≡ with_row_at c s.user inode None) → IsTold s new c left r 0 Keeps meant

@@ -112,18 +112,18 @@ pub fn seek(store: &Store, opened: Opened) -> Errno
 /// Takes an open control block of a user away (C Library Reference: `close`): the calls that wait over it are answered, and
 /// those whom that concerns; what was open with it goes, with its pipe, where nothing names that and nothing else has it
 /// open. EBADF without a block of a pipe or of a directory.
-pub fn close(shared: &mut Shared, store: &mut Store, opened: Opened) -> Result<(), Errno>
+pub fn close(shared: &mut Shared, store: &mut Store, number: u16, moment: u64) -> Result<(), Errno>
     requires user { store.old.stored.user < length shared.old.pipes }
     ensures user { store.new.stored.user ≡ store.old.stored.user }
-    ensures done { (r : Resources) → result ≡ done_of (defaults.close kind.Pipe (seen r store.old.stored shared.old) opened) }
-    ensures left { (r : Resources) → Follows store.old.stored shared.old store.new.stored shared.new r (defaults.close kind.Pipe (seen r store.old.stored shared.old) opened) }
+    ensures done { (r : Resources) → result ≡ done_of (defaults.free_block kind.Pipe (seen r store.old.stored shared.old) number moment) }
+    ensures left { (r : Resources) → Follows store.old.stored shared.old store.new.stored shared.new r (defaults.free_block kind.Pipe (seen r store.old.stored shared.old) number moment) }
 {
     let user = store.user();
-    let closed = store.close(Kind::Pipe, opened.number)?;
+    let closed = store.close(Kind::Pipe, number)?;
     if shared.has_pipe(user, closed.inode) {
         let sides = store.inodes().sides(closed.inode);
-        let filled = qx_pipe::pipe::release(shared, user, closed.inode, opened.number, sides);
-        set_size(shared, store, closed.inode, filled, opened.moment);
+        let filled = qx_pipe::pipe::release(shared, user, closed.inode, number, sides);
+        set_size(shared, store, closed.inode, filled, moment);
         remove(shared, user, closed.inode, closed.is_gone);
     }
     Ok(())

@@ -12,11 +12,10 @@ ghost use Rattle.qx_pipes.specs.Pipes.{Follows, open_of_block, seen};
 ghost use Rattle.qx_pipes.specs.inner.Pipes.{Stands};
 ghost use Rattle.qx_shared.specs.Shared.{HasPipe, pipes_of, with_row_at};
 ghost use Rattle.qx_types.specs.declared.limits.TheConstants.Limits.{INODES};
-ghost use Rattle.qx_types.specs.declared.names.Coid.{Coid as AnyCoid};
 
 use crate::blocks::remove;
 use qx_iofunc::{Lookup, Store};
-use qx_machine::{Kind, Wish};
+use qx_machine::{Kind, NewOpen, Wish};
 use qx_queues::Leaving;
 use qx_shared::Shared;
 use qx_types::{Errno, User};
@@ -29,22 +28,22 @@ use std::alloc::AllocError;
 pub fn open(
     shared: &mut Shared,
     store: &mut Store,
-    root: u32,
+    over: NewOpen,
     rest: &Rest<'_>,
     wish: Wish,
 ) -> Result<Result<u16, Errno>, AllocError>
     requires user { store.old.stored.user < length shared.old.pipes }
     ensures user { store.new.stored.user ≡ store.old.stored.user }
-    ensures opened { IfOk result (λ o. (r : Resources) (coid : AnyCoid) → open_of_block coid (seen r store.new.stored shared.new) o ≡ machine.open_path kind.Pipe (seen r store.old.stored shared.old) (record { coid = coid; root = root }) rest.now wish) }
-    ensures left { IfOk result (λ o. (r : Resources) (coid : AnyCoid) → Follows store.old.stored shared.old store.new.stored shared.new r (machine.open_path kind.Pipe (seen r store.old.stored shared.old) (record { coid = coid; root = root }) rest.now wish)) }
+    ensures opened { IfOk result (λ o. (r : Resources) → open_of_block over.coid (seen r store.new.stored shared.new) o ≡ machine.open_path kind.Pipe (seen r store.old.stored shared.old) over rest.now wish) }
+    ensures left { IfOk result (λ o. (r : Resources) → Follows store.old.stored shared.old store.new.stored shared.new r (machine.open_path kind.Pipe (seen r store.old.stored shared.old) over rest.now wish)) }
     ensures err { OnErr result ((store.new.stored ≡ store.old.stored) × (shared.new ≡ shared.old)) }
-    ensures wanted { OnErr result ((r : Resources) (coid : AnyCoid) → IsOk (machine.open_path kind.Pipe (seen r store.old.stored shared.old) (record { coid = coid; root = root }) rest.now wish)) }
+    ensures wanted { OnErr result ((r : Resources) → IsOk (machine.open_path kind.Pipe (seen r store.old.stored shared.old) over rest.now wish)) }
 {
-    let lookup = match store.lookup(root, rest, wish.flags) {
+    let lookup = match store.lookup(over.root, rest, wish.flags) {
         Ok(lookup) => lookup,
         Err(error) => return Ok(Err(error)),
     };
-    let number = open_found(shared, store, lookup, wish)?;
+    let number = open_found(shared, store, over, lookup, wish)?;
     Ok(Ok(number))
 }
 
@@ -53,22 +52,23 @@ pub fn open(
 fn open_found(
     shared: &mut Shared,
     store: &mut Store,
+    over: NewOpen,
     lookup: Lookup<'_>,
     wish: Wish,
 ) -> Result<u16, AllocError>
     requires user { store.old.stored.user < length shared.old.pipes }
     requires allowed { IsAllowed store.old.stored wish.flags lookup }
     ensures user { store.new.stored.user ≡ store.old.stored.user }
-    ensures opened { IfOk result (λ number. (r : Resources) (coid : AnyCoid) → open_found kind.Pipe (seen r store.old.stored shared.old) coid lookup.entry wish ≡ open_of_block coid (seen r store.new.stored shared.new) (Ok number)) }
-    ensures left { IfOk result (λ number. (r : Resources) (coid : AnyCoid) → Follows store.old.stored shared.old store.new.stored shared.new r (open_found kind.Pipe (seen r store.old.stored shared.old) coid lookup.entry wish)) }
+    ensures opened { IfOk result (λ number. (r : Resources) → open_found kind.Pipe (seen r store.old.stored shared.old) over lookup.entry wish ≡ open_of_block over.coid (seen r store.new.stored shared.new) (Ok number)) }
+    ensures left { IfOk result (λ number. (r : Resources) → Follows store.old.stored shared.old store.new.stored shared.new r (open_found kind.Pipe (seen r store.old.stored shared.old) over lookup.entry wish)) }
     ensures err { OnErr result ((store.new.stored ≡ store.old.stored) × (shared.new ≡ shared.old)) }
 {
     let Lookup::Missing { new, .. } = lookup else {
-        return Ok(store.open(Kind::Pipe, lookup, wish)?.number);
+        return Ok(store.open(Kind::Pipe, over.client, lookup, wish)?.number);
     };
     let user = store.user();
     let is_made = make_pipe(shared, user, new.inode)?;
-    match store.open(Kind::Pipe, lookup, wish) {
+    match store.open(Kind::Pipe, over.client, lookup, wish) {
         Ok(opening) => {
             empty(shared, user, new.inode);
             Ok(opening.number)

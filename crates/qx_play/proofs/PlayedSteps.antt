@@ -9,7 +9,7 @@ use Rattle.qx_types.specs.declared.step.Step.{Step}
 use Rattle.qx_types.specs.declared.step.Step.TheVariants.{Call, TakeReply, Receive, Perform}
 use Rattle.qx_machine.specs.Machine.{step}
 use Rattle.qx_script.specs.declared.command.Command.{Command}
-use Rattle.qx_script.specs.declared.command.Command.TheVariants.{Take, Serve, Do, Show, Trace}
+use Rattle.qx_script.specs.declared.command.Command.TheVariants.{Take, Serve, Do, Show, Erased, Trace}
 use Rattle.qx_play.specs.Play.{Played, all_served, called, first_worker, hand_emptied, has_answer, is_holding, is_sent, next_manager, played, played_line, played_lines, with_reply_taken, round, rounds, with_lines_served, items_waiting, world_played}
 use Rattle.qx_words.specs.Kinds.{CanNameThread}
 use Rattle.qx_script.specs.Lines.{CanSay}
@@ -71,6 +71,7 @@ line_said config before (Serve moment) said all = served_said config moment befo
 line_said config before (Do moment thread request) said all =
     called_said config moment thread (Call thread request) before.steps said.0 said.1.0 said.1.1 all
 line_said config before (Show user) said all = all
+line_said config before (Erased user) said all = all
 line_said config before Trace said all = all
 
 lines_said : (config : Configuration) (before : Played) (commands : List Command) → All (CanSayCommand config.users) commands → AllSaid config before.steps

@@ -61,8 +61,8 @@ emptied n w worker k = record { same = k.same; hands = simp length-set k.hands; 
 
 server : (n : ℕ) (w : World) (e : Step) → Keeps w n → Keeps (server_step w e).world n
 server n w e k = server_leaves w e (λ v. Keeps v n) k
-    (λ worker manager held. given n _ held (row_at w.parts held.user.0) (taken n w worker manager held k))
-    (λ worker moment held. done n _ held moment (row_at w.parts held.user.0) (emptied n w worker k))
+    (λ worker manager held is. given n _ held (row_at w.parts held.user.0) (taken n w worker manager held k))
+    (λ worker moment held is. done n _ held moment (row_at w.parts held.user.0) (emptied n w worker k))
 
 by : (n : ℕ) (w : World) (e : Step) (actor : Option Actor) → Keeps w n → Keeps (step_of w e actor).world n
 by n w e None k = server n w e k

@@ -11,10 +11,10 @@ use Rattle.qx_types.specs.declared.step.Step.{Step}
 use Rattle.qx_types.specs.declared.step.Step.TheVariants.{Call, TakeReply, Receive, Perform}
 use Rattle.qx_machine.specs.Machine.{World, line_of, step}
 use Rattle.qx_machine.specs.Rows.{row_at}
-use Rattle.qx_machine.specs.Runs.{run, received}
+use Rattle.qx_machine.specs.Runs.{erase, run, received}
 use Rattle.qx_steps.specs.Reads.{is_thread_answered, row_among_parts}
 use Rattle.qx_script.specs.declared.command.Command.{Command}
-use Rattle.qx_script.specs.declared.command.Command.TheVariants.{Take, Serve, Do, Show, Trace}
+use Rattle.qx_script.specs.declared.command.Command.TheVariants.{Take, Serve, Do, Show, Erased, Trace}
 use Rattle.qx_play.specs.Printed.{trace_text, transcript_text}
 
 -- the steps taken and the text printed so far
@@ -107,6 +107,8 @@ played_line config played (Do moment thread request) =
     record { steps = called config moment thread (Call thread request) played.steps; text = played.text }
 played_line config played (Show user) =
     record { steps = played.steps; text = played.text ++ transcript_text config (received user.0 (run config played.steps).entries) }
+played_line config played (Erased user) =
+    record { steps = played.steps; text = played.text ++ transcript_text config (received user.0 (run config (erase user.0 config played.steps)).entries) }
 played_line config played Trace =
     record { steps = played.steps; text = played.text ++ trace_text config (run config played.steps).entries }
 

@@ -6,7 +6,7 @@ ghost use Rattle.qx_types.specs.declared.names.User.{User};
 ghost use Rattle.qx_types.specs.declared.step.Step.{Step};
 ghost use Rattle.qx_machine.specs.Runs.{erase, received, run};
 ghost use Rattle.qx_script.specs.declared.command.Command.{Command};
-ghost use Rattle.qx_script.specs.declared.command.Command.TheVariants.{Show, Take};
+ghost use Rattle.qx_script.specs.declared.command.Command.TheVariants.{Erased, Show, Take};
 ghost use Rattle.qx_script.specs.Lines.{CanSay};
 ghost use Rattle.qx_script.specs.Replay.{replay_text};
 ghost use Rattle.qx_script.specs.Script.{Good, script};
@@ -28,4 +28,9 @@ pub fn trace_replayed()
 /// What `show` prints for a user after any lines is what it prints in the run of these lines' steps without those that are not taken by or for that user.
 pub fn shown_without_others()
     ensures same_text { (config : Configuration) (commands : List Command) (user : User) → shown config (commands ++ Show user ∷ []) ≡ shown config commands ++ transcript_text config (received user.0 (run config (erase user.0 config (played config commands).steps)).entries) }
+{}
+
+/// What `erased` prints for a user after any lines is what `show` prints there.
+pub fn erased_as_shown()
+    ensures same_text { (config : Configuration) (commands : List Command) (user : User) → shown config (commands ++ Erased user ∷ []) ≡ shown config (commands ++ Show user ∷ []) }
 {}

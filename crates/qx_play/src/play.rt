@@ -7,12 +7,14 @@ ghost use Rattle.qx_types.specs.Managers.{managers};
 ghost use Rattle.qx_types.specs.declared.names.TheConstants.Manager.{COUNT};
 ghost use Rattle.qx_types.specs.declared.step.Step.{Step};
 ghost use Rattle.qx_machine.specs.Lines.{line_at};
+ghost use Rattle.qx_machine.specs.Runs.{erase, received, run};
 ghost use Rattle.qx_play.specs.Play as play;
 ghost use Rattle.qx_play.specs.Play.{all_served, called, hand_emptied, has_waiting, played_line, with_reply_taken, with_lines_served, shown, items_waiting, world_played};
+ghost use Rattle.qx_play.specs.Printed.{transcript_text};
 
 use crate::text;
 use qx_script::Command;
-use qx_types::{Config, Manager, NoMemory, Outcome, Request, Step, Thread, Worker};
+use qx_types::{Config, Manager, NoMemory, Outcome, Request, Step, Thread, User, Worker};
 use qx_world::{Traced, World};
 use std::alloc::Global;
 
@@ -56,8 +58,22 @@ fn play_line(
         Command::Show(user) => {
             text::push_transcript(alloc, text, traced.config(), traced.entries(), user)
         }
+        Command::Erased(user) => push_erased(alloc, text, traced, user),
         Command::Trace => text::push_trace(alloc, text, traced.config(), traced.entries()),
     }
+}
+
+/// Runs the steps anew that were taken by or for a user, and gives the text of what the user receives.
+fn push_erased(
+    alloc: Global,
+    text: &mut Vec<u8>,
+    traced: &Traced,
+    user: User,
+) -> Result<(), NoMemory>
+    ensures text { OnOk result (text.new.items ≡ text.old.items ++ transcript_text traced.now.config (received user.0 (run traced.now.config (erase user.0 traced.now.config traced.now.steps)).entries)) }
+{
+    let erased = traced.erased(user)?;
+    text::push_transcript(alloc, text, erased.config(), erased.entries(), user)
 }
 
 /// Takes a step.

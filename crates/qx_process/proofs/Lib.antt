@@ -4,3 +4,5 @@ pub mod RowLemmas
 pub mod ServerLemmas
 -- what a process uses and loses as something is attached, or goes
 pub mod AttachLemmas
+-- what becomes of the threads and the server connections of a process that ends
+pub mod EndLemmas

@@ -1,5 +1,6 @@
 -- What rows are asked.
 use Rattle.std.specs.Prelude.{ℕ, ◌≡◌, ◌≢◌, ◌<◌, ◌≤◌, ◌==◌, ◌&&◌, Bool, true, false, not, List, Option, Some, None, IfSome, is_some, ⊤}
+use Rattle.std.specs.List.{flat_map, list_any}
 use Rattle.std.specs.Option.{option_to_list}
 use Rattle.qx_types.specs.Managers.{manager_number}
 use Rattle.qx_types.specs.declared.limits.TheConstants.Limits.{CALLS, LAST_CONNECTION, PRIORITY, SERVERS}
@@ -123,3 +124,11 @@ pub record Loses (lost : Option ServerName) (before after : Process) : Type 0 wh
   pub lost_is : lost_servers before after ≡ option_to_list lost
   pub was_used : IfSome lost (λ server. is_served server.manager before ≡ true)
   pub uses : (manager : Manager) → is_served manager after ≡ (is_served manager before && not (is_at manager lost))
+
+-- a process has lost those server connections, under the numbers of their managers, and none is in use any more
+pub record LosesAll (lost : List (Option ServerName)) (before after : Process) : Type 0 where
+  pub lost_are : flat_map option_to_list lost ≡ lost_servers before after
+  pub places : (number : ℕ) → IfSome (row_at lost number) (λ server. manager_number server.manager ≡ number)
+  pub were_used : (number : ℕ) → IfSome (row_at lost number) (λ server. is_served server.manager before ≡ true)
+  pub uses : (manager : Manager) → is_served manager before ≡ list_any (is_at manager) lost
+  pub unserved : (manager : Manager) → is_served manager after ≡ false

@@ -1,7 +1,8 @@
 //! One process of a user: its threads, connections, side connections and server connections.
 //!
 //! - `process.rt`: `Process`, with the calls of the crate
-//! - `threads.rt`, `thread.rt`: the threads of a process; one, with the room for its replies
+//! - `threads.rt`, `thread.rt`: the threads of a process, and what is kept of them as it ends; one, with the room for its
+//!   replies
 //! - `room.rt`: memory for a reply, there when a message is sent, which may keep a call's bytes until then; the bytes
 //!   of a reply, with the room or without
 //! - `connections.rt`, `servers.rt`: connections; server connections, and at which manager threads have side
@@ -19,4 +20,5 @@ mod threads;
 
 pub use process::Process;
 pub use room::Room;
+pub use servers::LostServers;
 pub use thread::ThreadCell;

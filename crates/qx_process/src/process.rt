@@ -1,31 +1,34 @@
-ghost use Rattle.std.specs.Prelude.{◌≡◌, ◌+◌, ◌≤◌, count_by, is_some, IfSome, IsOk, IsTrue, OnSome, OnOk, OnErr, Some, None, true};
+ghost use Rattle.std.specs.Prelude.{◌≡◌, ◌+◌, ◌≤◌, count_by, is_some, length, IfSome, IsOk, IsTrue, OnSome, OnOk, OnErr, Some, None, true};
 ghost use Rattle.std.specs.Option.{option_copied, option_copied_mut};
 ghost use Rattle.std.specs.Borrow.{sem};
 ghost use Rattle.qx_types.specs.declared.limits.TheConstants.Limits.{FIRST_CONNECTION, LAST_CONNECTION, SERVERS, THREADS};
+ghost use Rattle.qx_machine.specs.Performing.{client_at};
 ghost use Rattle.qx_machine.specs.Processes as machine;
 ghost use Rattle.qx_machine.specs.Processes.{answered_thread, servers_at, with_thread};
 ghost use Rattle.qx_machine.specs.Rows.{row_at, lowest_from};
-ghost use Rattle.qx_process.specs.Reads.{BringsRoom, CanAttach, CanCall, CanGo, HasNumber, HasPlace, IsPriority, IsRanked, Loses, Uses, UsesBy, has_own_room, is_served};
+ghost use Rattle.qx_process.specs.Reads.{BringsRoom, CanAttach, CanCall, CanGo, HasNumber, HasPlace, IsPriority, IsRanked, Loses, LosesAll, Uses, UsesBy, has_own_room, is_served};
 
 use crate::connections::{self, Connections};
 use crate::places;
 use crate::room::Room;
-use crate::servers::{self, AllServers, Sides};
+use crate::servers::{self, AllServers, LostServers, Sides};
 use crate::thread::ThreadCell;
-use crate::threads::{self, PLACES, Threads};
-use qx_machine::{Connection, Effect, Over, Sent, ServerName, ThreadRow};
-use qx_types::{Answer, Coid, Errno, Limits, Manager, Prio};
+use crate::threads::{self, Held, PLACES, Threads};
+use arrayvec::ArrayVec;
+use qx_machine::{Client, Connection, Effect, Over, Sent, ServerName, ThreadRow};
+use qx_types::{Answer, Coid, Errno, Limits, Manager, MessageBytes, Prio};
 use std::alloc::{AllocError, Global};
 use std::marker::Model;
 
 /// A process: its threads from 1 and its connections from 3, the side connections of its threads, and its server
-/// connections, which follow what is attached.
+/// connections, which follow what is attached. One that has ended has no threads, and keeps the messages that workers hold.
 #[derive(Drop)]
 pub struct Process {
     threads: Threads,
     connections: Connections,
     sides: Sides,
     servers: AllServers,
+    held: Held,
 }
 
 impl Model for Process {
@@ -36,7 +39,7 @@ impl Model for Process {
 
     ghost Value = { machine.Process };
 
-    ghost view = { λ p. record { threads = p.threads.items; connections = p.connections.items; sides = p.sides; servers = p.servers.items } };
+    ghost view = { λ p. record { threads = p.threads.items; connections = p.connections.items; sides = p.sides; servers = p.servers.items; held = p.held.items } };
 
     ghost invariant = { λ p. (p.servers.items ≡ servers_from (λ number. is_attached number p.connections.items p.sides) 0 p.servers.items) × (length p.servers.items ≡ COUNT) };
 }
@@ -55,6 +58,7 @@ impl Process {
             connections: connections::no_connections(),
             sides: [None; PLACES],
             servers: servers::no_servers(),
+            held: ArrayVec::new(),
         }
     }
 
@@ -72,6 +76,13 @@ impl Process {
         ensures row { option_copied_mut result ≡ row_at self.old.threads thread }
     {
         self.threads.get_mut(thread as usize)?.as_mut()
+    }
+
+    /// How many places it has for threads, from 0; none once it has ended.
+    pub fn places(&self) -> u8
+        ensures places { result ≡ length self.now.threads }
+    {
+        self.threads.len() as u8
     }
 
     /// A connection's row; none where it is not there.
@@ -113,6 +124,43 @@ impl Process {
         ensures few { result ≤ SERVERS + 1 }
     {
         servers::servers_at(&self.servers, manager).count()
+    }
+
+    /// Whether there is a server connection at any manager, in use or left.
+    pub fn has_server(&self) -> bool
+        ensures { result ≡ machine.has_server self.now }
+    {
+        servers::has_any(&self.servers)
+    }
+
+    /// The process as a manager knows it, by the process' number.
+    pub fn client(&self, number: u8, manager: Manager) -> Client
+        ensures client { result ≡ client_at number manager self.now }
+    {
+        let in_use = servers::servers_at(&self.servers, manager).in_use();
+        let server = ServerName {
+            manager,
+            number: in_use.unwrap_or(0),
+        };
+        Client {
+            process: number,
+            server,
+        }
+    }
+
+    /// Whether the process has ended.
+    pub fn has_ended(&self) -> bool
+        ensures { result ≡ machine.has_ended self.now }
+    {
+        self.threads.is_empty()
+    }
+
+    /// The bytes of the message of a thread that the process had before it ended, if that was received and is not served, and
+    /// else no bytes; none of a living process.
+    pub fn held(&self, thread: u8) -> Option<&MessageBytes>
+        ensures held { option_copied result ≡ row_at self.now.held thread }
+    {
+        places::row(self.held.as_slice(), thread as usize)
     }
 
     /// A new connection, for which the server connection in use at its manager is used or one is made (C Library Reference:
@@ -261,6 +309,19 @@ impl Process {
         if let Some(cell) = self.thread_mut(thread) {
             cell.answer(answer, room);
         }
+    }
+
+    /// The process ends: its threads go, with their answers and rooms, and its connections, and what workers hold of its messages
+    /// is kept (C Library Reference: `_exit`). Gives the server connections that the process has lost with that, for which
+    /// their disconnect pulses are to be made.
+    pub fn end(&mut self, alloc: Global) -> LostServers
+        ensures process { self.new ≡ machine.ended self.old }
+        ensures lost { LosesAll result self.old self.new }
+    {
+        self.held = threads::end(&mut self.threads, alloc);
+        self.connections.clear();
+        self.sides = [None; PLACES];
+        servers::leave(&mut self.servers)
     }
 
     /// What a message goes over is attached.

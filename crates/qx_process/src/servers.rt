@@ -8,7 +8,7 @@ ghost use Rattle.qx_types.specs.declared.limits.TheConstants.Limits.{SERVERS};
 ghost use Rattle.qx_types.specs.declared.names.Manager.{Manager as TheManager};
 ghost use Rattle.qx_types.specs.declared.names.TheConstants.Manager.{COUNT};
 ghost use Rattle.qx_machine.specs.Lines.{line_at, with_line};
-ghost use Rattle.qx_machine.specs.Rows.{lowest_from, put_row};
+ghost use Rattle.qx_machine.specs.Rows.{lowest_from, put_row, row_at};
 ghost use Rattle.qx_machine.specs.Servers as machine;
 ghost use Rattle.qx_process.specs.Reads.{HasPlace, named};
 
@@ -39,6 +39,9 @@ impl Model for Servers {
 
 /// Those at each manager.
 pub type AllServers = ArrayVec<Servers, MANAGERS>;
+
+/// The server connection that was lost at each manager, under its number.
+pub type LostServers = [Option<ServerName>; MANAGERS];
 
 /// At which manager each thread has a side connection.
 pub type Sides = [Option<Manager>; threads::PLACES];
@@ -84,6 +87,13 @@ impl Servers {
         ensures few { result ≤ SERVERS + 1 }
     {
         self.places.iter().filter(|place| place.is_some()).count()
+    }
+
+    /// Whether there is one, in use or left.
+    pub fn has_any(&self) -> bool
+        ensures any { result ≡ list_any is_some self.now }
+    {
+        self.places.iter().any(|place| place.is_some())
     }
 
     /// One is used or made while something is attached, and left with the last; gives the number of the one that is left.
@@ -160,6 +170,29 @@ pub fn settle(servers: &mut AllServers, manager: Manager, is_attached: bool) -> 
 {
     let number = servers[manager.number()].settle(is_attached)?;
     Some(ServerName { manager, number })
+}
+
+/// Those in use at all managers are left, and are given.
+pub fn leave(servers: &mut AllServers) -> LostServers
+    requires all { length servers.old.items ≡ COUNT }
+    ensures places { length result ≡ COUNT }
+    ensures left { servers.new.items ≡ map (map (option_map machine.leaving)) servers.old.items }
+    ensures lost { (manager : TheManager) → row_at result (manager_number manager) ≡ option_map (named manager) (machine.in_use (line_at servers.old.items (manager_number manager))) }
+{
+    let mut lost = [None; MANAGERS];
+    for number in 0..MANAGERS {
+        if let Some(manager) = Manager::of_number(number) {
+            lost[number] = settle(servers, manager, false);
+        }
+    }
+    lost
+}
+
+/// Whether there is a server connection at any manager.
+pub fn has_any(servers: &AllServers) -> bool
+    ensures any { result ≡ list_any (list_any is_some) servers.now.items }
+{
+    servers.iter().any(|here| here.has_any())
 }
 
 /// A server connection goes, if it was left.

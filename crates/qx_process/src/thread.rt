@@ -2,7 +2,7 @@ ghost use Rattle.std.specs.Prelude.{◌≡◌, ◌<◌, IsOk, IsSome, IsTrue, Ma
 ghost use Rattle.qx_types.specs.declared.limits.TheConstants.Limits.{CALLS};
 ghost use Rattle.qx_machine.specs.Clients.{answer_in};
 ghost use Rattle.qx_machine.specs.Performing.{taken_in};
-ghost use Rattle.qx_machine.specs.Processes.{asked_thread, new_thread, queued_thread, served_thread, taken_thread, answered_thread, ready_thread, ranked_thread};
+ghost use Rattle.qx_machine.specs.Processes.{asked_thread, new_thread, queued_thread, received_in, served_thread, taken_thread, answered_thread, ready_thread, ranked_thread};
 ghost use Rattle.qx_process.specs.Reads.{BringsRoom, IsPriority, IsRanked, has_own_room, unserved_thread};
 
 use crate::room::Room;
@@ -173,6 +173,18 @@ impl ThreadCell {
                 self.row.state = state;
                 None
             }
+        }
+    }
+
+    /// The bytes of the thread's message if that was received and is not served, and else none, as the thread goes with its
+    /// answer and its room (C Library Reference: `_exit`).
+    pub fn into_received(self, alloc: Global) -> MessageBytes
+        ensures bytes { result ≡ received_in self.state }
+    {
+        let ThreadCell { row, room: _ } = self;
+        match row.state {
+            State::Taken(sent) => sent.bytes,
+            _ => MessageBytes::inline(alloc, &[]),
         }
     }
 }

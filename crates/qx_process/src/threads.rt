@@ -1,9 +1,9 @@
 //! The threads of a process, from 1: a place for each number.
 
-ghost use Rattle.std.specs.Prelude.{◌≡◌, ◌≤◌, ◌∷◌, Some, None, replicate, IfSome};
+ghost use Rattle.std.specs.Prelude.{◌≡◌, ◌≤◌, [], ◌∷◌, Some, None, map, replicate, IfSome};
 ghost use Rattle.std.specs.Option.{option_copied};
 ghost use Rattle.qx_types.specs.declared.limits.TheConstants.Limits.{THREADS};
-ghost use Rattle.qx_machine.specs.Processes.{new_thread};
+ghost use Rattle.qx_machine.specs.Processes.{new_thread, received_by};
 ghost use Rattle.qx_machine.specs.Rows.{row_at};
 ghost use Rattle.qx_process.specs.Reads.{IsPriority, IsRanked};
 
@@ -11,13 +11,17 @@ use crate::places;
 use crate::thread::ThreadCell;
 use arrayvec::ArrayVec;
 use qx_machine::ThreadRow;
-use qx_types::{Limits, Prio};
+use qx_types::{Limits, MessageBytes, Prio};
+use std::alloc::Global;
 
 /// A place for each number up to the last.
 pub const PLACES: usize = Limits::THREADS as usize + 1;
 
 /// Place 0 is no thread's.
 pub type Threads = ArrayVec<Option<ThreadCell>, PLACES>;
+
+/// Of each thread that a process had, the bytes of its message if that was received and is not served, and else none.
+pub type Held = ArrayVec<Option<MessageBytes>, PLACES>;
 
 /// So many ready threads.
 pub fn new_threads(count: u8, prio: Prio) -> Threads
@@ -42,4 +46,25 @@ pub fn thread_row(threads: &Threads, thread: u8) -> Option<&ThreadRow>
         Some(cell) => Some(cell.row()),
         None => None,
     }
+}
+
+/// All threads go, and what workers hold of them is kept.
+pub fn end(threads: &mut Threads, alloc: Global) -> Held
+    ensures held { result.items ≡ map received_by threads.old.items }
+    ensures gone { threads.new.items ≡ [] }
+{
+    let mut held = ArrayVec::new();
+    for number in 0..threads.len() {
+        held.push(received(&mut threads[number], alloc));
+    }
+    threads.clear();
+    held
+}
+
+/// A thread goes from its place, and what a worker holds of it is handed out.
+fn received(place: &mut Option<ThreadCell>, alloc: Global) -> Option<MessageBytes>
+    ensures received { result ≡ received_by place.old }
+{
+    let cell = place.take()?;
+    Some(cell.into_received(alloc))
 }

@@ -1,5 +1,7 @@
 -- How calls on a user's processes are judged, and what the processes are then.
-use Rattle.std.specs.Prelude.{ℕ, ◌≡◌, List, Option, Some, None, Result, Ok, Err, nat_le, is_none}
+use Rattle.std.specs.Prelude.{ℕ, ◌≡◌, Bool, false, List, [], Option, Some, None, Result, Ok, Err, nat_le, is_none}
+use Rattle.std.specs.List.{flat_map}
+use Rattle.std.specs.Option.{option_to_list}
 use Rattle.qx_types.specs.declared.errno.Errno.TheVariants.{EAGAIN, EINVAL, EMFILE}
 use Rattle.qx_types.specs.declared.limits.TheConstants.Limits.{FIRST_CONNECTION, LAST_CONNECTION}
 use Rattle.qx_types.specs.declared.names.Coid.{Coid}
@@ -11,9 +13,14 @@ use Rattle.qx_machine.specs.declared.rows.Target.{Target}
 use Rattle.qx_machine.specs.Calls.{can_serve}
 use Rattle.qx_machine.specs.Clients.{is_prio}
 use Rattle.qx_machine.specs.Judgements.{◌>>=◌, found, need}
-use Rattle.qx_machine.specs.Processes.{Process, new_process, ranked_thread, with_side, with_thread}
+use Rattle.qx_machine.specs.Processes.{Process, has_ended, new_process, ranked_thread, with_side, with_thread}
 use Rattle.qx_machine.specs.Rows.{row_at, lowest_from, put_row, with_row}
-use Rattle.qx_process.specs.Reads.{CanAttach, Loses}
+use Rattle.qx_process.specs.Reads.{CanAttach, Loses, LosesAll}
+
+-- a process is there and has ended
+abbrev pub has_ended_in : Option Process → Bool
+has_ended_in None = false
+has_ended_in (Some process) = has_ended process
 
 -- the outcome of a spawn, by the number of the new process
 abbrev pub spawn_outcome : Result ℕ Outcome → Outcome
@@ -70,3 +77,9 @@ abbrev pub LosesAt : Option ServerName → Option Process → Option Process →
 LosesAt lost None None = lost ≡ None
 LosesAt lost (Some before) (Some after) = Loses lost before after
 LosesAt lost _ _ = ⊥
+
+-- the process under a number has ended, and has lost those server connections; where no process is there, none is lost
+abbrev pub EndsAt : List (Option ServerName) → Option Process → Option Process → Type 0
+EndsAt lost None None = flat_map option_to_list lost ≡ []
+EndsAt lost (Some before) (Some after) = LosesAll lost before after
+EndsAt lost _ _ = ⊥

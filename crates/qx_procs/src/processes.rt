@@ -1,20 +1,20 @@
 //! The processes of a user, from 1: a place for each number.
 
-ghost use Rattle.std.specs.Prelude.{◌≡◌, ◌∷◌, ◌<◌, ◌≤◌, [], None, length, IsErr, IsOk, IfSome, IfOk, OnOk, OnErr, OnSome};
+ghost use Rattle.std.specs.Prelude.{◌≡◌, ◌∷◌, ◌<◌, ◌≤◌, [], None, length, slice_set, IsErr, IsOk, IfSome, IfOk, OnOk, OnErr, OnSome};
 ghost use Rattle.std.specs.Option.{option_copied, option_copied_mut};
 ghost use Rattle.std.specs.Borrow.{sem};
-ghost use Rattle.std.specs.List.{sum_by};
+ghost use Rattle.std.specs.List.{list_any, sum_by};
 ghost use Rattle.qx_types.specs.declared.limits.TheConstants.Limits.{PROCESSES};
 ghost use Rattle.qx_machine.specs.Calls as calls;
 ghost use Rattle.qx_machine.specs.Clients as clients;
-ghost use Rattle.qx_machine.specs.Processes.{with_connection, without_connection, with_side};
+ghost use Rattle.qx_machine.specs.Processes.{ended, living, with_connection, without_connection, with_side};
 ghost use Rattle.qx_machine.specs.Rows.{row_at, with_row};
-ghost use Rattle.qx_procs.specs.Calls.{spawn_outcome, spawned, done_or, after_or, with_prio, new_connection_number, with_new_side, LosesAt};
+ghost use Rattle.qx_procs.specs.Calls.{has_ended_in, spawn_outcome, spawned, done_or, after_or, with_prio, new_connection_number, with_new_side, EndsAt, LosesAt};
 ghost use Rattle.qx_machine.specs.Parts.{connection_of, thread_of};
 ghost use Rattle.qx_process.specs.Reads.{IsRanked};
 
 use qx_machine::{Connection, ServerName, ThreadRow};
-use qx_process::{Process, ThreadCell, places};
+use qx_process::{LostServers, Process, ThreadCell, places};
 use qx_types::{Coid, Errno, Limits, Manager, Outcome, Prio};
 use std::alloc::{AllocError, Global};
 use std::marker::Model;
@@ -49,12 +49,35 @@ impl Processes {
         })
     }
 
+    /// How many numbers have a place, the 0 among them, which no process has; the number of each process is below.
+    pub fn places(&self) -> u8
+        ensures places { result ≡ length self.now }
+    {
+        self.rows.len() as u8
+    }
+
+    /// Whether a process is there still that has ended.
+    pub fn has_ended(&self) -> bool
+        ensures ended { result ≡ list_any has_ended_in self.now }
+    {
+        self.rows.iter().any(|row| is_ended(row))
+    }
+
     /// A process; none where it is not there.
     pub fn process(&self, process: u8) -> Option<&Process>
         ensures row { option_copied result ≡ row_at self.now process }
         ensures within { OnSome result (process ≤ PROCESSES) }
     {
         places::row(self.rows.as_slice(), process as usize)
+    }
+
+    /// A process that has not ended; none where there is no such process.
+    pub fn living(&self, process: u8) -> Option<&Process>
+        ensures row { option_copied result ≡ living (row_at self.now process) }
+        ensures within { OnSome result (process ≤ PROCESSES) }
+    {
+        let row = self.process(process)?;
+        if row.has_ended() { None } else { Some(row) }
     }
 
     /// A process, for writing; none where it is not there.
@@ -233,6 +256,37 @@ impl Processes {
         ensures lost { LosesAt result (row_at self.old process) (row_at self.new process) }
     {
         self.process_mut(process)?.detach_side(thread)
+    }
+
+    /// A process ends; gives the server connections that it has lost with that (C Library Reference: `_exit`).
+    #[tactic(auto, using(crate::proofs::LendLemmas::row_lends))]
+    pub fn end(&mut self, process: u8) -> LostServers
+        ensures rows { self.new ≡ with_row self.old process ended }
+        ensures lost { EndsAt result (row_at self.old process) (row_at self.new process) }
+    {
+        let alloc = *self.rows.allocator();
+        match self.process_mut(process) {
+            Some(row) => row.end(alloc),
+            None => [None; Manager::COUNT],
+        }
+    }
+
+    /// A process that has ended goes, and its number is free.
+    pub fn free_ended(&mut self, process: u8)
+        ensures freed { self.new ≡ slice_set self.old process None }
+        ensures free { row_at self.new process ≡ None }
+    {
+        places::free(&mut self.rows, process as usize);
+    }
+}
+
+/// Whether a process is there and has ended.
+fn is_ended(row: &Option<Process>) -> bool
+    ensures ended { result ≡ has_ended_in row.now }
+{
+    match row {
+        Some(process) => process.has_ended(),
+        None => false,
     }
 }
 

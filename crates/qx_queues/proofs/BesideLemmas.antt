@@ -13,6 +13,7 @@ use Rattle.qx_lists.proofs.MapLemmas.{get-insert_other, get-insert_same, same_ma
 use Rattle.qx_lines.specs.declared.Line.{Line}
 use Rattle.qx_lines.specs.Line.{IsOwn}
 use Rattle.qx_queues.specs.inner.Kept.{answered_calls, call_at, given_at, is_line, is_pipes, list_of_line, users_call_carried, waiting_of_node, waiting_lists}
+use Rattle.qx_queues.specs.Queues.{UsersCall, each_changed}
 use Rattle.qx_queues.specs.Waiting.{Waiting}
 use Rattle.qx_queues.specs.inner.Waiting.{given_of}
 use Rattle.qx_queues.proofs.EntryLemmas.{map-agree, or_false, or_true}
@@ -51,6 +52,11 @@ find-mapped f q (e ∷ es) = elim (cases_Bool (eq_by_cmp nat_cmp q e.0)) [
   | inl here ↦ rw here refl
   | inr apart ↦ rw apart (find-mapped f q es)
 ]
+
+-- each call that waits, changed
+pub get-each_changed : (change : UsersCall → UsersCall) (pipes : maps.FinMap nat_cmp (List UsersCall)) (list : ℕ) → maps.get (each_changed change pipes) list ≡ option_map (map change) (maps.get pipes list)
+unfolding each_changed
+get-each_changed change pipes list = maps.get-from_entries nat_cmp_total _ list ∙ find-mapped (map change) list (maps.entries pipes) ∙ ap (option_map (map change)) (sym (maps.get-entries pipes list))
 
 -- who waits in the list of a number
 pub get-waiting_lists : (t : Table Waiting) (lines : List Line) (answered list : ℕ) → maps.get (waiting_lists t lines answered) list ≡ option_map (map (call_at t)) (cond (is_pipes lines answered list) (maps.get t.lists list) None)

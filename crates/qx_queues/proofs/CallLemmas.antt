@@ -1,5 +1,5 @@
 -- The invariant, as the lists that are no line's change and what their nodes carry.
-use Rattle.std.proofs.Common.{◌≡◌, ◌≢◌, inl, inr, ℕ, ◌==◌, true, false, List, [], ◌∷◌, ◌++◌, length, Contains, Option, Some, None, map, option_map, unwrap_or, is_some, refl, sym, ◌∙◌, ap, ap₂}
+use Rattle.std.proofs.Common.{◌≡◌, ◌≢◌, inl, inr, ℕ, ◌==◌, true, false, List, [], ◌∷◌, ◌++◌, length, Contains, Option, Some, None, map, option_map, unwrap_or, is_some, refl, sym, ◌∙◌, ap, ap₂, arith}
 use Rattle.std.specs.FinMap as maps
 use Rattle.std.proofs.lemmas.Bool.{cases_Bool}
 use Rattle.std.proofs.lemmas.Bool.Decides.{eqb_tells}
@@ -8,11 +8,11 @@ use Rattle.std.proofs.lemmas.List.Elements.{Contains-push_cases}
 use Rattle.qx_types.specs.declared.names.Thread.{Thread}
 use Rattle.qx_lists.specs.Table.{Table, ContainsList, ContainsNode, IsFree, IsIn, nodes_of, with_nodes, with_value, without}
 use Rattle.qx_lists.proofs.MapLemmas.{get-insert_other, get-insert_same, get-remove_other, get-remove_same, same_map}
-use Rattle.qx_lists.proofs.ListLemmas.{absent_without, contains_without}
+use Rattle.qx_lists.proofs.ListLemmas.{absent_without, contains_cases, contains_first, contains_later, contains_without, without_keeps}
 use Rattle.qx_lines.specs.declared.Line.{Line}
 use Rattle.qx_lines.proofs.LineFacts.{IsLineOf-same}
 use Rattle.qx_machine.specs.Machine.{rank}
-use Rattle.qx_queues.specs.inner.Kept.{Carries, AreListsOfTable, IsOwners, KnowsPulses, Moved, answered_calls, call_at, entries, entry_of_node, given_at, is_line, is_pipes, node_owner, users_call_carried, waiting_of_node, waiting_lists}
+use Rattle.qx_queues.specs.inner.Kept.{Carries, AreListsOfTable, IsOwners, KnowsPulses, Moved, answered_calls, call_at, entries, entry_of_node, given_at, is_line, is_pipes, nobodys, node_owner, users_call_carried, waiting_of_node, waiting_lists}
 use Rattle.qx_queues.specs.Queues.{Queues, UsersAnswer, with_waiting, without_list}
 use Rattle.qx_queues.specs.Waiting.{Load, Nothing, Waiting, carrying, idle, rank_of}
 use Rattle.qx_queues.specs.inner.Waiting.{given_of}
@@ -26,8 +26,8 @@ use Rattle.qx_queues.proofs.TableLemmas.{absent_is, contains-self, entry-other, 
 
 -- the lines stay as they are, and so does whose each node is
 module _ {answered : ℕ} (old new : Table Waiting) (lines : List Line) (node_of : Owner → Option ℕ) (kept : AreListsOfTable old lines answered node_of) (line_lists : (list : ℕ) → is_line lines list ≡ true → maps.get new.lists list ≡ maps.get old.lists list) (same_entries : (node : ℕ) → entry_of_node new node ≡ entry_of_node old node) where
-  pub Kept-beside : ContainsList new answered → ((node : ℕ) → is_some (maps.get new.values node) ≡ is_some (maps.get old.values node)) → ((list node : ℕ) → is_line lines list ≡ false → IsIn new list node → Carries (list == answered) (waiting_of_node new node) × IsOwners node_of node (node_owner (entry_of_node old node))) → AreListsOfTable new lines answered node_of
-  Kept-beside answers same carries = record {
+  pub Kept-beside : ContainsList new answered → ((node : ℕ) → is_some (maps.get new.values node) ≡ is_some (maps.get old.values node)) → ((node : ℕ) → ((list : ℕ) → IsIn new list node → is_line lines list ≡ false → ⊥) → (waiting_of_node new node).load ≡ Nothing) → ((list node : ℕ) → is_line lines list ≡ false → IsIn new list node → Carries (list == answered) (waiting_of_node new node) × IsOwners node_of node (node_owner (entry_of_node old node))) → AreListsOfTable new lines answered node_of
+  Kept-beside answers same nothing carries = record {
     line = λ number line at. IsLineOf-same rank_of old new line (kept.line number line at) (λ list own. line_lists list (is_line-numbered lines number list (list_of lines number line at ∙ ap Some (sym own)))) (λ node in_line. rank_at-entry new node ∙ ap rank (same_entries node) ∙ sym (rank_at-entry old node));
     apart = kept.apart;
     answers = answers;
@@ -35,6 +35,7 @@ module _ {answered : ℕ} (old new : Table Waiting) (lines : List Line) (node_of
     there = λ owner node has. same node ∙ kept.there owner node has;
     names = λ owner node has. ap node_owner (same_entries node) ∙ kept.names owner node has;
     once = kept.once;
+    unlisted = nothing;
     listed = λ list node at. elim (cases_Bool (is_line lines list)) [
       | inl is ↦
           let earlier : IsIn old list node = rw (ap (λ o. unwrap_or o []) (line_lists list is)) at at in
@@ -58,6 +59,17 @@ module _ {answered : ℕ} (old new : Table Waiting) (lines : List Line) (node_of
           let same : entries new line ≡ entries old line = ap (λ o. map (entry_of_node new) (unwrap_or o [])) (line_lists line.list (within line.list (first line some))) ∙ map-agree (entry_of_node new) (entry_of_node old) (nodes_of old line.list) (λ node at. same_entries node) in
           rw (same, all some (λ list is. within list (later line some list is))) refl
 
+contains_last : (xs : List ℕ) (x : ℕ) → Contains (xs ++ x ∷ []) x
+contains_last [] x = contains_first x []
+contains_last (y ∷ ys) x = contains_later y x (ys ++ x ∷ []) (contains_last ys x)
+
+contains_before : (xs : List ℕ) (x y : ℕ) → Contains xs y → Contains (xs ++ x ∷ []) y
+contains_before [] x y at = contains_later x y [] at
+contains_before (z ∷ zs) x y at = elim (contains_cases z y zs at) [
+  | inl first ↦ rw first (contains_first z (zs ++ x ∷ []))
+  | inr later ↦ contains_later z y (zs ++ x ∷ []) (contains_before zs x y later)
+]
+
 pub equal_itself : (n : ℕ) → (n == n) ≡ true
 equal_itself n = elim (eqb_tells n n) [ inl same ↦ same.0 | inr differs ↦ absurd (differs.1 refl) ]
 
@@ -72,8 +84,12 @@ module _ {answered : ℕ} (old new : Table Waiting) (lines : List Line) (node_of
   line_lists : (other : ℕ) → is_line lines other ≡ true → maps.get new.lists other ≡ maps.get old.lists other
   line_lists other is = moved.lists other (λ same. let clash : true ≡ false = sym is ∙ ap (is_line lines) same ∙ off in cc)
 
-  pub Kept-moved : (list ≡ answered → is_some nodes ≡ true) → ((node : ℕ) → Contains (unwrap_or nodes []) node → Carries (list == answered) (waiting_of_node new node) × IsOwners node_of node (node_owner (entry_of_node old node))) → AreListsOfTable new lines answered node_of
-  Kept-moved there carries = Kept-beside old new lines node_of kept line_lists moved.entries answers moved.there (λ other node apart at. elim (eqb_tells other list) [
+  -- what stands neither there nor in another list carries nothing
+  abbrev pub NothingElse : Type 0
+  NothingElse = (node : ℕ) → (Contains (unwrap_or nodes []) node → ⊥) → ((IsIn old list node → ⊥) → (waiting_of_node old node).load ≡ Nothing) → (waiting_of_node new node).load ≡ Nothing
+
+  pub Kept-moved : (list ≡ answered → is_some nodes ≡ true) → NothingElse → ((node : ℕ) → Contains (unwrap_or nodes []) node → Carries (list == answered) (waiting_of_node new node) × IsOwners node_of node (node_owner (entry_of_node old node))) → AreListsOfTable new lines answered node_of
+  Kept-moved there nothing carries = Kept-beside old new lines node_of kept line_lists moved.entries answers moved.there unlisted (λ other node apart at. elim (eqb_tells other list) [
     | inl same ↦ let here : Contains (unwrap_or nodes []) node = rw (same.1, moved.here) at at in rw same.1 (carries node here)
     | inr differs ↦
         let earlier : IsIn old other node = rw (ap (λ o. unwrap_or o []) (moved.lists other differs.1)) at at in
@@ -86,6 +102,14 @@ module _ {answered : ℕ} (old new : Table Waiting) (lines : List Line) (node_of
         | inl same ↦ rw (same.1, moved.here) (there (sym same.1))
         | inr differs ↦ ap is_some (moved.lists answered differs.1) ∙ kept.answers
       ]
+
+      unlisted : (node : ℕ) → ((other : ℕ) → IsIn new other node → is_line lines other ≡ false → ⊥) → (waiting_of_node new node).load ≡ Nothing
+      unlisted node none = nothing node
+          (λ at. none list (rw (ap (λ o. unwrap_or o []) (sym moved.here)) at at) off)
+          (λ left. kept.unlisted node (λ other at apart. elim (eqb_tells other list) [
+            | inl same ↦ left (rw same.1 at at)
+            | inr differs ↦ none other (rw (ap (λ o. unwrap_or o []) (sym (moved.lists other differs.1))) at at) apart
+          ]))
 
   pub shown-moved : map (entries new) lines ≡ map (entries old) lines
   shown-moved = shown-beside old new lines node_of kept line_lists moved.entries
@@ -166,6 +190,10 @@ module _ (old new : Table Waiting) (list node : ℕ) (nodes : List ℕ) (load : 
     room = ap (λ t. t.room) is;
   }
 
+-- only a list comes or goes in which nothing stands
+pub nothing-changed : (old new : Table Waiting) (list : ℕ) → new.values ≡ old.values → nodes_of old list ≡ [] → (node : ℕ) → ((IsIn old list node → ⊥) → (waiting_of_node old node).load ≡ Nothing) → (waiting_of_node new node).load ≡ Nothing
+nothing-changed old new list values empty node was = ap (λ m. (unwrap_or (maps.get m node) nobodys).load) values ∙ was (λ at. let none : Contains [] node = rw empty at at in omega (arith, none.1))
+
 -- a node leaves its list, and carries nothing any more
 module _ {answered : ℕ} (old new : Table Waiting) (lines : List Line) (node_of : Owner → Option ℕ) (list node : ℕ) (kept : AreListsOfTable old lines answered node_of) (is : new ≡ with_value (with_nodes old list (without node (nodes_of old list))) node (idle (entry_of_node old node))) (at : IsIn old list node) (there : ContainsNode old node) (apart : (one two node : ℕ) → IsIn old one node → IsIn old two node → one ≡ two) where
   pub Moved-out : Moved old new list (Some (without node (nodes_of old list)))
@@ -175,9 +203,15 @@ module _ {answered : ℕ} (old new : Table Waiting) (lines : List Line) (node_of
   stays_left other left = stays-other old new list node _ Nothing is there other (λ same. absent_without node (nodes_of old list) (rw same at left))
 
   pub Kept-out : is_line lines list ≡ false → AreListsOfTable new lines answered node_of
-  Kept-out off = Kept-moved old new lines node_of list _ kept Moved-out off (λ same. refl) (λ other left.
+  Kept-out off = Kept-moved old new lines node_of list _ kept Moved-out off (λ same. refl) nothing_else (λ other left.
       let was = kept.listed list other (contains_without node other (nodes_of old list) left) in
       (rw (stays_left other left) (was.0 off), was.1))
+    where
+      nothing_else : (other : ℕ) → (Contains (without node (nodes_of old list)) other → ⊥) → ((IsIn old list other → ⊥) → (waiting_of_node old other).load ≡ Nothing) → (waiting_of_node new other).load ≡ Nothing
+      nothing_else other left was = elim (eqb_tells other node) [
+        | inl same ↦ rw same.1 (ap (λ w. w.load) (carries-then old new list node _ Nothing is there))
+        | inr differs ↦ ap (λ w. w.load) (stays-other old new list node _ Nothing is there other differs.1) ∙ was (λ at. left (without_keeps node other (nodes_of old list) at differs.1))
+      ]
 
   pub left-out : {B : Type 0} (read : Waiting → B) → map (λ other. read (waiting_of_node new other)) (without node (nodes_of old list)) ≡ map (λ other. read (waiting_of_node old other)) (without node (nodes_of old list))
   left-out read = map-agree _ _ _ (λ other left. ap read (stays_left other left))
@@ -191,10 +225,16 @@ module _ {answered : ℕ} (old new : Table Waiting) (lines : List Line) (node_of
   stays_before other before = stays-other old new list node _ load is free.there other (λ same. nowhere old free list (rw same at before))
 
   pub Kept-in : is_line lines list ≡ false → Carries (list == answered) (carrying (entry_of_node old node) load) → node_of (node_owner (entry_of_node old node)) ≡ Some node → AreListsOfTable new lines answered node_of
-  Kept-in off carries own = Kept-moved old new lines node_of list _ kept Moved-in off (λ same. refl) (λ other now. elim (Contains-push_cases (nodes_of old list) node other now) [
+  Kept-in off carries own = Kept-moved old new lines node_of list _ kept Moved-in off (λ same. refl) nothing_else (λ other now. elim (Contains-push_cases (nodes_of old list) node other now) [
     | inl before ↦ let was = kept.listed list other before in (rw (stays_before other before) (was.0 off), was.1)
     | inr same ↦ rw (← same) (rw (carries-then old new list node _ load is free.there) carries, λ own_name. own)
   ])
+    where
+      nothing_else : (other : ℕ) → (Contains (nodes_of old list ++ node ∷ []) other → ⊥) → ((IsIn old list other → ⊥) → (waiting_of_node old other).load ≡ Nothing) → (waiting_of_node new other).load ≡ Nothing
+      nothing_else other absent was = elim (eqb_tells other node) [
+        | inl same ↦ absurd (absent (rw same.1 (contains_last (nodes_of old list) node)))
+        | inr differs ↦ ap (λ w. w.load) (stays-other old new list node _ load is free.there other differs.1) ∙ was (λ at. absent (contains_before (nodes_of old list) node other at))
+      ]
 
   pub more-in : {B : Type 0} (read : Waiting → B) → map (λ other. read (waiting_of_node new other)) (nodes_of old list ++ node ∷ []) ≡ map (λ other. read (waiting_of_node old other)) (nodes_of old list) ++ read (carrying (entry_of_node old node) load) ∷ []
   more-in read =

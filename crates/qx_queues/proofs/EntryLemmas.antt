@@ -1,7 +1,7 @@
 -- Lists of entries, the nodes that stand for them, and whose they are.
 use Rattle.std.proofs.Common.{zero, suc, slice_set, ◌<◌, ◌∙◌, length, sym, ◌≡◌, ◌≢◌, ◌⊎◌, inl, inr, ℕ, ◌||◌, if◌then◌else◌, Bool, true, false, nat_lt, List, [], ◌∷◌, Contains, nat_eq, Option, Some, None, is_some, map, drop, unwrap_or, refl, ap, arith}
 use Rattle.std.specs.FinMap as maps
-use Rattle.std.specs.List.{AllByRecursion}
+use Rattle.std.specs.List.{AllByRecursion, list_any}
 use Rattle.std.specs.Option.{option_or}
 use Rattle.std.specs.Ordering.{nat_cmp}
 use Rattle.std.proofs.lemmas.Bool.{cases_Bool}
@@ -19,6 +19,14 @@ use Rattle.qx_queues.specs.Queues.{pulse_call, first_field, is_same_thread, as_m
 use Rattle.qx_queues.specs.inner.Kept.{named, nobodys, owner_in, node_owner}
 use Rattle.qx_queues.specs.Waiting.{Waiting}
 use Rattle.qx_queues.specs.Nodes.{Disconnect, Message, Owner, Unblock}
+
+pub or_false : (b : Bool) → (b || false) ≡ b
+or_false true = refl
+or_false false = refl
+
+pub or_true : (b : Bool) → (b || true) ≡ true
+or_true true = refl
+or_true false = refl
 
 -- priority insertion, by what the items stand for
 pub into-map : {A B : Type 0} (by : A → ℕ) (rank : B → ℕ) (f : A → B) → ((x : A) → by x ≡ rank (f x)) → (xs : List A) (x : A) → map f (into by xs x) ≡ into rank (map f xs) (f x)
@@ -48,6 +56,14 @@ contains_into by (z ∷ zs) x y at = elim (cases_Bool (nat_lt (by z) (by x))) [
 pub map-agree : {B : Type 0} (f g : ℕ → B) (xs : List ℕ) → ((x : ℕ) → Contains xs x → f x ≡ g x) → map f xs ≡ map g xs
 map-agree f g [] same = refl
 map-agree f g (x ∷ xs) same = rw (same x (contains_first x xs)) (ap (λ l. g x ∷ l) (map-agree f g xs (λ y at. same y (contains_later x y xs at))))
+
+-- one of what nodes stand for passes a test
+pub any-there : {B : Type 0} (test : B → Bool) (f : ℕ → B) (nodes : List ℕ) (node : ℕ) → Contains nodes node → test (f node) ≡ true → list_any test (map f nodes) ≡ true
+any-there test f [] node at is = absurd (omega (arith, at.1))
+any-there test f (x ∷ xs) node at is = elim (contains_cases x node xs at) [
+  | inl first ↦ rw (sym first, is) refl
+  | inr later ↦ rw (any-there test f xs node later is) (or_true (test (f x)))
+]
 
 pub map-drop : {A B : Type 0} (f : A → B) (xs : List A) → map f (drop 1 xs) ≡ drop 1 (map f xs)
 map-drop f [] = refl
@@ -85,14 +101,6 @@ is_same_thread-differs one other differs = elim (cases_Bool (is_same_thread one 
   | inl same ↦ absurd (differs (is_same_thread-same one other same))
   | inr other_one ↦ other_one
 ]
-
-pub or_false : (b : Bool) → (b || false) ≡ b
-or_false true = refl
-or_false false = refl
-
-pub or_true : (b : Bool) → (b || true) ≡ true
-or_true true = refl
-or_true false = refl
 
 pub or_none : {A : Type 0} (o : Option A) → option_or o None ≡ o
 or_none None = refl

@@ -2,13 +2,15 @@
 use Rattle.std.proofs.Common.{◌≡◌, ◌≢◌, ◌⊎◌, ◌==◌, ◌||◌, ◌++◌, subst, inl, inr, ℕ, zero, suc, Bool, true, false, nat_eq, List, [], ◌∷◌, Contains, Option, Some, None, option_map, map, drop, length, replicate, slice_get, slice_set, unwrap_or, is_some, IfSome, refl, sym, ◌∙◌, ap, arith}
 use Rattle.std.specs.FinMap as maps
 use Rattle.std.specs.List.{IsDistinct, AllByRecursion}
+use Rattle.std.specs.Ordering.{nat_cmp}
 use Rattle.std.proofs.lemmas.Bool.{cases_Bool}
 use Rattle.std.proofs.lemmas.Bool.Decides.{eqb_tells}
 use Rattle.std.proofs.lemmas.Option.{same_Some, slice_get-map}
 use Rattle.qx_types.specs.declared.names.Proc.{Proc}
 use Rattle.qx_types.specs.declared.names.Thread.{Thread}
 use Rattle.qx_lists.specs.Table.{Table, ContainsList, ContainsNode, IsFree, IsIn, nodes_of, without}
-use Rattle.qx_lists.proofs.ListLemmas.{contains_cases, contains_first, contains_later, contains_rest, nowhere_from}
+use Rattle.qx_lists.proofs.ListLemmas.{contains_first, contains_later, contains_rest, nowhere_from}
+use Rattle.qx_lists.proofs.MapLemmas.{get-remove_same}
 use Rattle.qx_lines.specs.declared.Line.{Line}
 use Rattle.qx_lines.specs.Line.{IsInLine, IsLineOf, IsOwn, SameElsewhere, nodes_in}
 use Rattle.qx_lines.proofs.LineFacts.{IsLineOf-same, IsLineOf-elsewhere, apart_from_new}
@@ -18,17 +20,17 @@ use Rattle.qx_machine.specs.declared.rows.Queued.{Queued}
 use Rattle.qx_machine.specs.declared.rows.ServerName.{ServerName}
 use Rattle.qx_machine.specs.Machine.{line_without, rank}
 use Rattle.qx_machine.specs.Lines.{into, line_at, with_line}
-use Rattle.qx_queues.specs.Queues.{IsGone, UsersAnswer, UsersCall, caller, has_call, has_answer_among, pulse_call, first_field, is_same_thread, as_message, no_other, sender, sender_of, stands, own_field, unblock_call}
-use Rattle.qx_queues.specs.inner.Kept.{Carries, AreListsOfTable, IsOwners, PutIn, TakenOut, answered_calls, call_at, given_at, waiting_lists, entries, entry_of_node, is_line, list_of_line, named, owner_in, node_owner, users_call_carried, waiting_of_node}
+use Rattle.qx_queues.specs.Queues.{IsGone, caller, has_call, has_answer_among, pulse_call, first_field, is_same_thread, as_message, no_other, sender, sender_of, stands, own_field, unblock_call}
+use Rattle.qx_queues.specs.inner.Kept.{Carries, AreListsOfTable, IsOwners, PutIn, TakenOut, answered_calls, call_at, given_at, waiting_lists, entries, entry_of_node, is_line, list_of_line, named, nobodys, owner_in, node_owner, users_call_carried, waiting_of_node}
 use Rattle.qx_queues.specs.Kept.{HasLoad}
 use Rattle.qx_queues.specs.Waiting.{Answered, Load, Nothing, Waiting, Waits, carried, no_call, rank_of}
 use Rattle.qx_queues.specs.inner.Waiting.{thread_of_load, thread_carried, given_in, given_of}
 use Rattle.qx_queues.specs.Nodes.{Disconnect, Message, Owner, Unblock}
 use Rattle.qx_queues.proofs.BesideLemmas.{SameCalls, is_line-more, is_line-numbered, is_line-set, line_numbered, nodes_waiting, same_calls}
-use Rattle.qx_queues.proofs.EntryLemmas.{Reads, differs_from, is_same_thread-self, map-drop, or_true, owned_thread, reads-call, reads-message, some_of, field-entry, field-find, field-part}
+use Rattle.qx_queues.proofs.EntryLemmas.{Reads, any-there, differs_from, is_same_thread-self, map-drop, owned_thread, reads-call, reads-message, some_of, field-entry, field-find, field-part}
 use Rattle.qx_queues.proofs.LineLemmas.{is_this, other-unblock, owner-this, this-message, this-unblock, without-absent, without-map}
 use Rattle.qx_queues.proofs.NodesLemmas.{none_of}
-use Rattle.qx_queues.proofs.TableLemmas.{absent_is, contains-insert, contains-other, contains-self, entries-kept, entry-other, entry-same, inserted, line-kept, none_some, nowhere, removed, some_same, waiting-other}
+use Rattle.qx_queues.proofs.TableLemmas.{absent_is, contains-insert, contains-other, contains-self, entries-kept, entry-other, entry-same, inserted, line-kept, none_some, nowhere, removed, some_same, waiting-other, waiting-same}
 
 -- a place that was written, and the others
 pub slice_get-set : {A : Type 0} (xs : List A) (i j : ℕ) (x y : A) → slice_get (slice_set xs i x) j ≡ Some y → ((j ≡ i) × (y ≡ x)) ⊎ ((j ≢ i) × (slice_get xs j ≡ Some y))
@@ -96,6 +98,7 @@ Kept-room old new lines node_of same_lists values kept = record {
   there = rw values kept.there;
   names = rw values kept.names;
   once = kept.once;
+  unlisted = rw (same_lists, values) kept.unlisted;
   listed = rw (same_lists, values) kept.listed;
 }
 
@@ -140,30 +143,16 @@ module _ {answered : ℕ} (t : Table Waiting) (lines : List Line) (node_of : Own
     | inl same ↦
         let here : Contains (nodes_of t answered) node = rw same.1 at at in
         let now : Carries true (waiting_of_node t node) = rw same.0 at carries in
-        let stands : has_answer_among (answered_calls t answered) thread ≡ true = is_answered-given (given_at t) (nodes_of t answered) here (of_thread (given_at t node).thread (answered-owner (waiting_of_node t node) now)) in
+        let stands : has_answer_among (answered_calls t answered) thread ≡ true = any-there (λ given. is_same_thread given.thread thread) (given_at t) (nodes_of t answered) node here (of_thread (given_at t node).thread (answered-owner (waiting_of_node t node) now)) in
         let clash : true ≡ false = sym stands ∙ unanswered in
         cc
     | inr differs ↦
         let shown : unwrap_or (maps.get (waiting_lists t lines answered) list) [] ≡ map (call_at t) (nodes_of t list) = nodes_waiting t lines answered list differs.0 apart in
         let now : Carries false (waiting_of_node t node) = rw differs.0 at carries in
-        let stands : has_call (unwrap_or (maps.get (waiting_lists t lines answered) list) []) thread ≡ true = rw shown (has_call-waits (call_at t) (nodes_of t list) at (of_thread (caller (call_at t node)) (waits-owner (waiting_of_node t node) now))) in
+        let stands : has_call (unwrap_or (maps.get (waiting_lists t lines answered) list) []) thread ≡ true = rw shown (any-there (λ own. is_same_thread (caller own) thread) (call_at t) (nodes_of t list) node at (of_thread (caller (call_at t node)) (waits-owner (waiting_of_node t node) now))) in
         let clash : true ≡ false = sym stands ∙ waiting list in
         cc
   ]
-    where
-      has_call-waits : (f : ℕ → UsersCall) (nodes : List ℕ) → Contains nodes node → is_same_thread (caller (f node)) thread ≡ true → has_call (map f nodes) thread ≡ true
-      has_call-waits f [] at is = absurd (omega (arith, at.1))
-      has_call-waits f (x ∷ xs) at is = elim (contains_cases x node xs at) [
-        | inl first ↦ rw (sym first, is) refl
-        | inr later ↦ rw (has_call-waits f xs later is) (or_true (is_same_thread (caller (f x)) thread))
-      ]
-
-      is_answered-given : (f : ℕ → UsersAnswer) (nodes : List ℕ) → Contains nodes node → is_same_thread (f node).thread thread ≡ true → has_answer_among (map f nodes) thread ≡ true
-      is_answered-given f [] at is = absurd (omega (arith, at.1))
-      is_answered-given f (x ∷ xs) at is = elim (contains_cases x node xs at) [
-        | inl first ↦ rw (sym first, is) refl
-        | inr later ↦ rw (is_answered-given f xs later is) (or_true (is_same_thread (f x).thread thread))
-      ]
 
 -- and stays so while it stands for the same
 pub same-owners : (old new : Table Waiting) (node_of : Owner → Option ℕ) (node : ℕ) → entry_of_node new node ≡ entry_of_node old node → IsOwners node_of node (node_owner (entry_of_node old node)) → IsOwners node_of node (node_owner (entry_of_node new node))
@@ -325,8 +314,8 @@ module _ {answered : ℕ} (old new : Table Waiting) (lines : List Line) (number 
     nodes = same_waiting;
   })
 
-  changed : IsLineOf rank_of new after → ((line : Line) → IsLineOf rank_of old line → maps.get new.lists line.list ≡ maps.get old.lists line.list → IsLineOf rank_of new line) → ((node : ℕ) → is_some (maps.get new.values node) ≡ is_some (maps.get old.values node)) → ((owner : Owner) (node : ℕ) → node_of owner ≡ Some node → node_owner (entry_of_node new node) ≡ named owner) → ((list node : ℕ) → IsIn old list node → waiting_of_node new node ≡ waiting_of_node old node) → ((node : ℕ) → Contains (nodes_in new after) node → Contains (nodes_in old before) node ⊎ IsOwners node_of node (node_owner (entry_of_node new node))) → AreListsOfTable new (slice_set lines number after) answered node_of
-  changed line others same names same_waiting among = record {
+  changed : IsLineOf rank_of new after → ((line : Line) → IsLineOf rank_of old line → maps.get new.lists line.list ≡ maps.get old.lists line.list → IsLineOf rank_of new line) → ((node : ℕ) → is_some (maps.get new.values node) ≡ is_some (maps.get old.values node)) → ((owner : Owner) (node : ℕ) → node_of owner ≡ Some node → node_owner (entry_of_node new node) ≡ named owner) → ((node : ℕ) → (waiting_of_node old node).load ≡ Nothing → (waiting_of_node new node).load ≡ Nothing) → ((list node : ℕ) → IsIn old list node → waiting_of_node new node ≡ waiting_of_node old node) → ((node : ℕ) → Contains (nodes_in new after) node → Contains (nodes_in old before) node ⊎ IsOwners node_of node (node_owner (entry_of_node new node))) → AreListsOfTable new (slice_set lines number after) answered node_of
+  changed line others same names still same_waiting among = record {
     line = λ other found at. elim (slice_get-set lines number other after found at) [
       | inl here ↦ rw here.1 line
       | inr there ↦ others found (kept.line other found there.1) (elsewhere found.list (not_own other found there.0 there.1))
@@ -337,6 +326,7 @@ module _ {answered : ℕ} (old new : Table Waiting) (lines : List Line) (number 
     there = λ owner node has. same node ∙ kept.there owner node has;
     names = names;
     once = kept.once;
+    unlisted = λ node none. still node (kept.unlisted node (λ list at apart. none list (rw (ap (λ o. unwrap_or o []) (sym (elsewhere list (off_line list apart)))) at at) (same_lines list ∙ apart)));
     listed = λ list node at. elim (eqb_tells list before.list) [
       | inl here ↦
           let in_after : Contains (nodes_in new after) node = rw (own ∙ sym here.1) at in (
@@ -368,8 +358,8 @@ module _ {answered : ℕ} (old new : Table Waiting) (lines : List Line) (number 
   here = entry-same old new node waiting put.values
 
   -- and whose it is agrees with what it stands for
-  placed : (after_of : Owner → Option ℕ) → AreListsOfTable old lines answered after_of → ((one : Owner) → after_of one ≡ Some node → node_owner waiting.queued ≡ named one) → IsOwners after_of node (node_owner waiting.queued) → AreListsOfTable new (slice_set lines number after) answered after_of
-  placed after_of then names owns = changed old new lines number before after after_of then is put.own put.lists put.line
+  placed : (after_of : Owner → Option ℕ) → AreListsOfTable old lines answered after_of → ((one : Owner) → after_of one ≡ Some node → node_owner waiting.queued ≡ named one) → IsOwners after_of node (node_owner waiting.queued) → waiting.load ≡ Nothing → AreListsOfTable new (slice_set lines number after) answered after_of
+  placed after_of then names owns nothing = changed old new lines number before after after_of then is put.own put.lists put.line
       (λ line stands lists. line-kept old new node (inserted old new _ _ put.values) line stands lists (nowhere old free line.list))
       (λ other. elim (eqb_tells other node) [
         | inl same ↦ rw same.1 (contains-self old new node waiting put.values ∙ sym free.there)
@@ -379,6 +369,10 @@ module _ {answered : ℕ} (old new : Table Waiting) (lines : List Line) (number 
         | inl same ↦ rw same.1 (ap node_owner here ∙ names one (rw same.1 at has))
         | inr differs ↦ ap node_owner (entry-other old new node (inserted old new _ _ put.values) other differs.1) ∙ then.names one other has
       ])
+      (λ other was. elim (eqb_tells other node) [
+        | inl same ↦ rw same.1 (ap (λ w. w.load) (waiting-same old new node waiting put.values) ∙ nothing)
+        | inr differs ↦ ap (λ w. w.load) (waiting-other old new node (inserted old new _ _ put.values) other differs.1) ∙ was
+      ])
       others_stay
       (λ other at. elim (put.among other at) [
         | inl earlier ↦ inl earlier
@@ -386,12 +380,12 @@ module _ {answered : ℕ} (old new : Table Waiting) (lines : List Line) (number 
       ])
 
   -- of its owner
-  pub Kept-put : node_owner waiting.queued ≡ owner → named owner ≡ owner → AreListsOfTable new (slice_set lines number after) answered node_of
-  Kept-put names own_name = placed node_of kept (λ one has. names ∙ sym own_name ∙ ap named (kept.once one owner node has own)) (λ again. ap node_of names ∙ own)
+  pub Kept-put : node_owner waiting.queued ≡ owner → named owner ≡ owner → waiting.load ≡ Nothing → AreListsOfTable new (slice_set lines number after) answered node_of
+  Kept-put names own_name nothing = placed node_of kept (λ one has. names ∙ sym own_name ∙ ap named (kept.once one owner node has own)) (λ again. ap node_of names ∙ own) nothing
 
   -- or a pulse that tells of what the owner lost, with its node
-  pub Kept-lost : (after_of : Owner → Option ℕ) → after_of owner ≡ None → ((other : Owner) → (other ≡ owner) ⊎ ((other ≢ owner) × (after_of other ≡ node_of other))) → named owner ≢ owner → named (node_owner waiting.queued) ≢ node_owner waiting.queued → AreListsOfTable new (slice_set lines number after) answered after_of
-  Kept-lost after_of gone others off pulse = placed after_of
+  pub Kept-lost : (after_of : Owner → Option ℕ) → after_of owner ≡ None → ((other : Owner) → (other ≡ owner) ⊎ ((other ≢ owner) × (after_of other ≡ node_of other))) → named owner ≢ owner → named (node_owner waiting.queued) ≢ node_owner waiting.queued → waiting.load ≡ Nothing → AreListsOfTable new (slice_set lines number after) answered after_of
+  Kept-lost after_of gone others off pulse nothing = placed after_of
       (record {
         line = kept.line;
         apart = kept.apart;
@@ -400,10 +394,12 @@ module _ {answered : ℕ} (old new : Table Waiting) (lines : List Line) (number 
         there = λ one x has. kept.there one x (had one x has).1;
         names = λ one x has. kept.names one x (had one x has).1;
         once = λ one other x has also. kept.once one other x (had one x has).1 (had other x also).1;
+        unlisted = kept.unlisted;
         listed = λ list x at. let was = kept.listed list x at in (was.0, still (node_owner (entry_of_node old x)) x was.1);
       })
       (λ one has. let was = had one node has in absurd (was.0 (kept.once owner one node own was.1)))
       (λ again. absurd (pulse again))
+      nothing
     where
       had : (one : Owner) (x : ℕ) → after_of one ≡ Some x → (one ≢ owner) × (node_of one ≡ Some x)
       had one x has = elim (others one) [
@@ -429,6 +425,7 @@ module _ {answered : ℕ} (old new : Table Waiting) (lines : List Line) (number 
       (λ line stands lists. IsLineOf-same rank_of old new line stands (λ list own. rw own lists) (λ node at. rw taken.values refl))
       (λ node. rw taken.values refl)
       (λ owner node has. rw taken.values (kept.names owner node has))
+      (λ node was. rw taken.values was)
       (λ list node at. rw taken.values refl)
       (λ node at. let rest : Contains (change (nodes_in old before)) node = rw taken.nodes at at in inl (fewer node rest))
 
@@ -474,8 +471,8 @@ module _ (old new : Table Waiting) (node : ℕ) (waiting : Waiting) (room : ℕ)
     nodes = λ list x at. waiting-other old new node (inserted old new _ _ values_made) x (was_there x (contained list x at));
   })
 
-  pub Kept-made : {answered : ℕ} (lines : List Line) (node_of after : Owner → Option ℕ) (owner : Owner) → node_of owner ≡ None → after owner ≡ Some node → ((other : Owner) → (other ≡ owner) ⊎ ((other ≢ owner) × (after other ≡ node_of other))) → node_owner waiting.queued ≡ named owner → AreListsOfTable old lines answered node_of → AreListsOfTable new lines answered after
-  Kept-made {answered} lines node_of after owner lacked gets others names kept = record {
+  pub Kept-made : {answered : ℕ} (lines : List Line) (node_of after : Owner → Option ℕ) (owner : Owner) → node_of owner ≡ None → after owner ≡ Some node → ((other : Owner) → (other ≡ owner) ⊎ ((other ≢ owner) × (after other ≡ node_of other))) → node_owner waiting.queued ≡ named owner → waiting.load ≡ Nothing → AreListsOfTable old lines answered node_of → AreListsOfTable new lines answered after
+  Kept-made {answered} lines node_of after owner lacked gets others names nothing kept = record {
     line = λ number line at. line-kept old new node (inserted old new _ _ values_made) line (kept.line number line at) (lists_made line.list) (not_listed line.list);
     apart = kept.apart;
     answers = ap is_some (lists_made answered) ∙ kept.answers;
@@ -498,6 +495,10 @@ module _ (old new : Table Waiting) (node : ℕ) (waiting : Waiting) (room : ℕ)
         | inr was ↦ kept.once one other x had was
       ]
     ];
+    unlisted = λ x none. elim (eqb_tells x node) [
+      | inl same ↦ rw same.1 (ap (λ w. w.load) (waiting-same old new node waiting values_made) ∙ nothing)
+      | inr differs ↦ ap (λ w. w.load) (waiting-other old new node (inserted old new _ _ values_made) x differs.1) ∙ kept.unlisted x (λ list at. none list (rw (ap (λ o. unwrap_or o []) (sym (lists_made list))) at at))
+    ];
     listed = λ list x at.
         let earlier : IsIn old list x = rw (ap (λ o. unwrap_or o []) (lists_made list)) at at in
         let was = kept.listed list x earlier in
@@ -517,7 +518,7 @@ module _ (old new : Table Waiting) (node : ℕ) (waiting : Waiting) (room : ℕ)
         | inr other ↦ other.1 ∙ has
       ]
 
--- a node that is nobody's is given back, and stands in no list
+-- a node that stands in no list is given back
 module _ (old new : Table Waiting) (node room : ℕ) (is : new ≡ record old { values = maps.remove old.values node; room = room }) (free : IsFree old node) where
   values_freed : new.values ≡ maps.remove old.values node
   values_freed = ap (λ t. t.values) is
@@ -534,26 +535,51 @@ module _ (old new : Table Waiting) (node room : ℕ) (is : new ≡ record old { 
     nodes = λ list x at. waiting-other old new node (removed old new node values_freed) x (λ same. nowhere old free list (rw same at at));
   })
 
-  pub Kept-freed : {answered : ℕ} (lines : List Line) (node_of : Owner → Option ℕ) → named (node_owner (entry_of_node old node)) ≢ node_owner (entry_of_node old node) → AreListsOfTable old lines answered node_of → AreListsOfTable new lines answered node_of
-  Kept-freed {answered} lines node_of nobodys kept = record {
-    line = λ number line at. line-kept old new node (removed old new node values_freed) line (kept.line number line at) (lists_freed line.list) (nowhere old free line.list);
-    apart = kept.apart;
-    answers = ap is_some (lists_freed answered) ∙ kept.answers;
-    off_lines = kept.off_lines;
-    there = λ one x has. contains-other old new node (removed old new node values_freed) x (other one x has) (kept.there one x has);
-    names = λ one x has. ap node_owner (entry-other old new node (removed old new node values_freed) x (other one x has)) ∙ kept.names one x has;
-    once = kept.once;
-    listed = λ list x at.
-        let earlier : IsIn old list x = rw (ap (λ o. unwrap_or o []) (lists_freed list)) at at in
-        let was = kept.listed list x earlier in
-        let same = waiting-other old new node (removed old new node values_freed) x (λ same. nowhere old free list (rw same at earlier)) in
-        (rw same was.0, same-owners old new node_of x (ap (λ w. w.queued) same) was.1);
-  }
-    where
-      other : (one : Owner) (x : ℕ) → node_of one ≡ Some x → x ≢ node
-      other one x has same =
-          let names = kept.names one node (rw same at has) in
-          nobodys (ap named names ∙ named-twice one ∙ sym names)
+  module _ {answered : ℕ} (lines : List Line) (node_of : Owner → Option ℕ) (kept : AreListsOfTable old lines answered node_of) where
+    -- owners keep all nodes but that one
+    Kept-but : (after : Owner → Option ℕ) → ((one : Owner) (x : ℕ) → after one ≡ Some x → (node_of one ≡ Some x) × (x ≢ node)) → ((one : Owner) (x : ℕ) → node_of one ≡ Some x → x ≢ node → after one ≡ Some x) → AreListsOfTable new lines answered after
+    Kept-but after had has_still = record {
+      line = λ number line at. line-kept old new node (removed old new node values_freed) line (kept.line number line at) (lists_freed line.list) (nowhere old free line.list);
+      apart = kept.apart;
+      answers = ap is_some (lists_freed answered) ∙ kept.answers;
+      off_lines = kept.off_lines;
+      there = λ one x has. let was = had one x has in contains-other old new node (removed old new node values_freed) x was.1 (kept.there one x was.0);
+      names = λ one x has. let was = had one x has in ap node_owner (entry-other old new node (removed old new node values_freed) x was.1) ∙ kept.names one x was.0;
+      once = λ one other x has also. kept.once one other x (had one x has).0 (had other x also).0;
+      unlisted = λ x none. elim (eqb_tells x node) [
+        | inl same ↦ rw same.1 (ap (λ o. (unwrap_or o nobodys).load) (ap (λ m. maps.get m node) values_freed ∙ get-remove_same old.values node))
+        | inr differs ↦ ap (λ w. w.load) (waiting-other old new node (removed old new node values_freed) x differs.1) ∙ kept.unlisted x (λ list at. none list (rw (ap (λ o. unwrap_or o []) (sym (lists_freed list))) at at))
+      ];
+      listed = λ list x at.
+          let earlier : IsIn old list x = rw (ap (λ o. unwrap_or o []) (lists_freed list)) at at in
+          let was = kept.listed list x earlier in
+          let differs : x ≢ node = λ same. nowhere old free list (rw same at earlier) in
+          let same = waiting-other old new node (removed old new node values_freed) x differs in
+          (rw same was.0, same-owners old new after x (ap (λ w. w.queued) same) (λ own_name. has_still (node_owner (entry_of_node old x)) x (was.1 own_name) differs));
+    }
+
+    -- where it was nobody's
+    pub Kept-freed : named (node_owner (entry_of_node old node)) ≢ node_owner (entry_of_node old node) → AreListsOfTable new lines answered node_of
+    Kept-freed off = Kept-but node_of (λ one x has. (has, other one x has)) (λ one x has differs. has)
+      where
+        other : (one : Owner) (x : ℕ) → node_of one ≡ Some x → x ≢ node
+        other one x has same =
+            let names = kept.names one node (rw same at has) in
+            off (ap named names ∙ named-twice one ∙ sym names)
+
+    -- where it was an owner's, who has none any more
+    pub Kept-given : (after : Owner → Option ℕ) (owner : Owner) → node_of owner ≡ Some node → after owner ≡ None → ((other : Owner) → (other ≡ owner) ⊎ ((other ≢ owner) × (after other ≡ node_of other))) → AreListsOfTable new lines answered after
+    Kept-given after owner own gone others = Kept-but after
+        (λ one x has. elim (others one) [
+          | inl same ↦ absurd (none_some x _ gone (rw same at has))
+          | inr other ↦
+              let was : node_of one ≡ Some x = sym other.1 ∙ has in
+              (was, λ same. other.0 (kept.once owner one node own (rw same at was)))
+        ])
+        (λ one x has differs. elim (others one) [
+          | inl same ↦ absurd (differs (some_same x node (node_of owner) (rw same at has) own))
+          | inr other ↦ other.1 ∙ has
+        ])
 
 -- nobody has a node at first, and there are no lines
 pub Kept-none : (t : Table Waiting) (answered : ℕ) (node_of : Owner → Option ℕ) → t.values ≡ maps.empty → ((list : ℕ) → nodes_of t list ≡ []) → ContainsList t answered → ((owner : Owner) → node_of owner ≡ None) → AreListsOfTable t [] answered node_of
@@ -565,6 +591,7 @@ Kept-none t answered node_of values no_list answers none = record {
   there = λ owner node has. absurd (none_some node _ (none owner) has);
   names = λ owner node has. absurd (none_some node _ (none owner) has);
   once = λ owner other node has also. absurd (none_some node _ (none owner) has);
+  unlisted = λ node none. ap (λ o. (unwrap_or o nobodys).load) (ap (λ m. maps.get m node) values ∙ maps.get-empty nat_cmp node);
   listed = λ list node at. absurd (nothing_in node (rw (no_list list) at at));
 }
   where
@@ -592,10 +619,13 @@ Kept-line {answered} old new lines line node_of none stands was_new elsewhere ke
         ]
       ];
   answers = ap is_some (elsewhere.lists answered not_new) ∙ kept.answers;
-  off_lines = is_line-more lines line answered ∙ rw (kept.off_lines, differs_new) refl;
+  off_lines = is_line-more lines line answered ∙ rw (kept.off_lines, differs_new answered not_new) refl;
   there = rw elsewhere.values kept.there;
   names = rw elsewhere.values kept.names;
   once = kept.once;
+  unlisted = λ node nowhere. rw elsewhere.values (kept.unlisted node (λ list at apart.
+      let here : IsIn new list node = rw (ap (λ o. unwrap_or o []) (sym (elsewhere.lists list (not_listed list node at)))) at at in
+      nowhere list here (is_line-more lines line list ∙ rw (apart, differs_new list (not_listed list node at)) refl)));
   listed = λ list node at. elim (eqb_tells list line.list) [
     | inl own ↦ let here : Contains [] node = rw (own.1, none) at at in absurd (omega (arith, here.1))
     | inr differs ↦
@@ -608,8 +638,11 @@ Kept-line {answered} old new lines line node_of none stands was_new elsewhere ke
     not_new : IsOwn line answered → ⊥
     not_new here = absent_is (maps.get old.lists answered) kept.answers (was_new answered here)
 
-    differs_new : (line.list == answered) ≡ false
-    differs_new = elim (eqb_tells line.list answered) [ inl same ↦ absurd (not_new (sym same.1)) | inr differs ↦ differs.0 ]
+    not_listed : (list node : ℕ) → IsIn old list node → IsOwn line list → ⊥
+    not_listed list node at own = let here : Contains [] node = rw (ap (λ o. unwrap_or o []) (was_new list own)) at at in omega (arith, here.1)
+
+    differs_new : (list : ℕ) → (IsOwn line list → ⊥) → (line.list == list) ≡ false
+    differs_new list apart = elim (eqb_tells line.list list) [ inl same ↦ absurd (apart (sym same.1)) | inr differs ↦ differs.0 ]
 
     fewer : (a b : Bool) → (a || b) ≡ false → a ≡ false
     fewer false b is = refl

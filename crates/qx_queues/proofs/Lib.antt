@@ -14,10 +14,14 @@ pub mod KeptLemmas
 pub mod CallLemmas
 -- Who waits and who was answered, by the nodes; whose message was received.
 pub mod WaitLemmas
+-- The calls of a process that wait, by the nodes of its threads.
+pub mod AbandonLemmas
 -- A list of which some leave, from the first on.
 pub mod WalkLemmas
 -- The columns of nodes, as a thread or a server connection gets its own or gives it back.
 pub mod NodesLemmas
+-- The nodes of a thread are given back.
+pub mod RemoveLemmas
 -- Sets of threads and of server connections.
 pub mod SetLemmas
 -- Which threads and server connections have nodes, as sets, and what calls make of the value.

@@ -1,10 +1,10 @@
 -- The nodes of threads and server connections, as one gets its own or gives it back.
 use Rattle.std.proofs.Common.{◌≡◌, ◌≢◌, ◌⊎◌, inl, inr, ℕ, ◌+◌, ◌≤◌, true, false, List, Option, Some, None, option_map, get_or, slice_set, replicate, length, is_some, refl, sym, ◌∙◌, ap, arith}
 use Rattle.std.proofs.lemmas.Bool.{cases_Bool, cases_eq, cases_lt}
+use Rattle.std.proofs.lemmas.Bool.Decides.{eqb_tells, nat_tests}
 use Rattle.std.proofs.lemmas.List.{get_or-set_same, get_or-set_other, get_or-replicate, length-replicate, length-set}
 use Rattle.std.proofs.lemmas.Grind.{common_steps}
 use Rattle.std.proofs.lemmas.Option.{unwrap_or-slice_get}
-use Rattle.qx_types.specs.Managers.{manager_number}
 use Rattle.qx_types.specs.declared.limits.TheConstants.Limits.{PROCESSES, THREADS}
 use Rattle.qx_types.specs.declared.names.Proc.{Proc}
 use Rattle.qx_types.specs.declared.names.TheConstants.Manager.{COUNT}
@@ -14,7 +14,7 @@ use Rattle.qx_machine.proofs.Places.{row_at-set_other}
 use Rattle.qx_queues.specs.declared.nodes.ProcessNodes.{ProcessNodes}
 use Rattle.qx_queues.specs.declared.nodes.ThreadNodes.{ThreadNodes}
 use Rattle.qx_queues.specs.declared.nodes.UserNodes.{UserNodes}
-use Rattle.qx_queues.specs.Queues.{is_same_thread}
+use Rattle.qx_queues.specs.Queues.{is_same_proc, is_same_thread}
 use Rattle.qx_queues.specs.Nodes.{Disconnect, Message, Owner, Unblock, pulse_line_at, asked_in, disconnect_at, no_nodes, no_process, no_process_nodes, node_of, nodes_of_thread, process_at, servers_with, threads_with, user_with, with_disconnect_at, with_nodes_at, with_process_at}
 use Rattle.qx_queues.proofs.EntryLemmas.{is_same_thread-same, is_same_thread-self, same_names}
 
@@ -43,6 +43,9 @@ default_of n i d = elim (cases_lt i n) [
   | inr beyond ↦ past (replicate n d) i d (omega (arith, length-replicate n d))
 ]
 
+pub row_at-past : {A : Type 0} (rows : List (Option A)) (i : ℕ) → length rows ≤ i → row_at rows i ≡ None
+row_at-past rows i beyond = unwrap_or-slice_get rows i None ∙ past rows i None beyond
+
 pub row_at-none : {A : Type 0} (n i : ℕ) → row_at {A = A} (replicate n None) i ≡ None
 row_at-none n i = unwrap_or-slice_get (replicate n None) i None ∙ default_of n i None
 
@@ -55,6 +58,18 @@ same_proc one other = elim (cases_eq one.user.0 other.user.0) [
   | inl user ↦ elim (cases_eq one.num other.num) [
     | inr apart ↦ inr (λ same. apart (ap (λ p. p.num) same))
     | inl process ↦ inl (same_proc_of _ _ _ _ user process)
+  ]
+]
+
+pub is_same_proc-self : (proc : Proc) → is_same_proc proc proc ≡ true
+is_same_proc-self proc = grind (arith, nat_tests)
+
+pub is_same_proc-same : (one other : Proc) → is_same_proc one other ≡ true → one ≡ other
+is_same_proc-same one other same = elim (eqb_tells one.user.0 other.user.0) [
+  | inr differs ↦ let clash : false ≡ true = rw differs.0 at same in cc
+  | inl user ↦ elim (eqb_tells one.num other.num) [
+    | inr differs ↦ let clash : false ≡ true = rw (user.0, differs.0) at same in cc
+    | inl process ↦ same_proc_of _ _ _ _ user.1 process.1
   ]
 ]
 
@@ -104,20 +119,20 @@ read-with_process read nodes proc other own same_read = elim (same_proc other pr
   ])
 ]
 
-module _ (nodes : List UserNodes) (thread : Thread) (own : ThreadNodes) where
+module _ (nodes : List UserNodes) (thread : Thread) (own : Option ThreadNodes) where
   -- the nodes of another thread
   pub nodes_at-other : (other : Thread) → other ≢ thread → nodes_of_thread (with_nodes_at nodes thread own) other ≡ nodes_of_thread nodes other
   nodes_at-other other differs = read-with_process (λ p. row_at p.threads other.tid) nodes thread.proc other.proc (threads_with (process_at nodes thread.proc) thread.tid own)
-      (λ same. row_at-set_other (process_at nodes thread.proc).threads thread.tid other.tid (Some own) (λ tid. differs (same_names other thread (ap (λ p. p.user.0) same) (ap (λ p. p.num) same) tid)))
+      (λ same. row_at-set_other (process_at nodes thread.proc).threads thread.tid other.tid own (λ tid. differs (same_names other thread (ap (λ p. p.user.0) same) (ap (λ p. p.num) same) tid)))
 
   -- a thread's nodes and a disconnect node are apart
   pub disconnect_at-with_nodes : (proc : Proc) (number : ℕ) → disconnect_at (with_nodes_at nodes thread own) proc number ≡ disconnect_at nodes proc number
   disconnect_at-with_nodes proc number = read-with_process (λ p. row_at p.servers number) nodes thread.proc proc (threads_with (process_at nodes thread.proc) thread.tid own) (λ same. refl)
 
-  -- a thread that had no nodes is asked by nobody
-  pub asked_at-added : nodes_of_thread nodes thread ≡ None → own.asked ≡ None → nodes_of_thread (with_nodes_at nodes thread own) thread ≡ Some own → (other : Thread) → pulse_line_at (with_nodes_at nodes thread own) other ≡ pulse_line_at nodes other
-  asked_at-added fresh none there other = elim (same_or_not other thread) [
-    | inl same ↦ rw same (ap asked_in there ∙ ap (option_map manager_number) none ∙ sym (ap asked_in fresh))
+  -- a pulse stands where it stood
+  pub asked_at-same : nodes_of_thread (with_nodes_at nodes thread own) thread ≡ own → asked_in own ≡ pulse_line_at nodes thread → (other : Thread) → pulse_line_at (with_nodes_at nodes thread own) other ≡ pulse_line_at nodes other
+  asked_at-same there still other = elim (same_or_not other thread) [
+    | inl same ↦ rw same (ap asked_in there ∙ still)
     | inr differs ↦ ap asked_in (nodes_at-other other differs)
   ]
 
@@ -144,9 +159,9 @@ module _ (nodes : List UserNodes) (proc : Proc) (number : ℕ) (node : Option �
     | inr differs ↦ inr (λ same. differs (ap of_proc same) (ap of_number same), disconnect_at-other other at differs)
   ]
 
--- a thread's two nodes, one after the other
-module _ (nodes : List UserNodes) (thread : Thread) (own : ThreadNodes) where
-  -- whose the nodes are while the thread has that of its messages alone
+-- a thread's two nodes come, or go, one after the other
+module _ (nodes : List UserNodes) (thread : Thread) (own : Option ThreadNodes) where
+  -- whose the nodes are once that of its messages did
   abbrev pub half : Owner → Option ℕ
   half (Message other) = node_of (with_nodes_at nodes thread own) (Message other)
   half (Unblock other) = node_of nodes (Unblock other)
@@ -187,6 +202,9 @@ pub node_of-none : (users : ℕ) (owner : Owner) → node_of (no_nodes users) ow
 node_of-none users (Message thread) = ap (option_map (λ own. own.message)) (nodes_at-none users thread)
 node_of-none users (Unblock thread) = ap (option_map (λ own. own.unblock)) (nodes_at-none users thread)
 node_of-none users (Disconnect proc number) = disconnect_at-none users proc number
+
+pub nodes_at-no_user : (nodes : List UserNodes) (thread : Thread) → length nodes ≤ thread.proc.user.0 → nodes_of_thread nodes thread ≡ None
+nodes_at-no_user nodes thread beyond = rw (past nodes thread.proc.user.0 no_process_nodes beyond, default_of (PROCESSES + 1) thread.proc.num no_process) (row_at-none (THREADS + 1) thread.tid)
 
 pub none_of : {A : Type 0} (o : Option A) → is_some o ≡ false → o ≡ None
 none_of None none = refl

@@ -1,5 +1,5 @@
 -- Which threads and server connections have nodes, as sets.
-use Rattle.std.proofs.Common.{◌≡◌, ◌≢◌, inl, inr, ℕ, zero, suc, ◌+◌, ◌-◌, ◌*◌, ◌<◌, ◌≤◌, ◌&&◌, ◌||◌, ◌==◌, nat_le, Bool, true, false, List, [], ◌∷◌, Option, Some, None, get_or, length, is_some, option_map, refl, sym, ◌∙◌, ap, arith}
+use Rattle.std.proofs.Common.{◌≡◌, ◌≢◌, inl, inr, ℕ, zero, suc, ◌+◌, ◌-◌, ◌*◌, ◌<◌, ◌≤◌, ◌&&◌, ◌||◌, ◌==◌, nat_le, nat_lt, not, Bool, true, false, List, [], ◌∷◌, Option, Some, None, get_or, length, is_some, option_map, refl, sym, ◌∙◌, ap, arith}
 use Rattle.std.specs.FinMap as maps
 use Rattle.std.specs.FinSet as set
 use Rattle.std.specs.List.{list_any}
@@ -17,12 +17,12 @@ use Rattle.qx_machine.specs.declared.rows.Queued.{Queued}
 use Rattle.qx_queues.specs.declared.nodes.ProcessNodes.{ProcessNodes}
 use Rattle.qx_queues.specs.declared.nodes.ThreadNodes.{ThreadNodes}
 use Rattle.qx_queues.specs.declared.nodes.UserNodes.{UserNodes}
-use Rattle.qx_queues.specs.Queues.{Queues, UsersAnswer, UsersCall, has_thread_nodes, is_same_thread, server_cmp, thread_cmp, with_process_nodes, with_server_node}
-use Rattle.qx_queues.specs.inner.Queues.{is_thread_of}
+use Rattle.qx_queues.specs.Queues.{Queues, UsersAnswer, UsersCall, has_thread_nodes, is_same_thread, server_cmp, thread_cmp, with_process_nodes, with_server_node, without_nodes_below, without_thread_nodes}
+use Rattle.qx_queues.specs.inner.Queues.{is_thread_below, is_thread_of}
 use Rattle.qx_queues.specs.Nodes.{Asked, Disconnect, Message, Owner, Unblock, asked_in, disconnect_at, if_there, keys_in, no_nodes, no_process, no_process_nodes, node_of, nodes_of_thread, told_by_number, process_at, process_nodes_in, servers_of, threads_of, with_disconnect_at, with_nodes_at}
 use Rattle.qx_queues.proofs.EntryLemmas.{or_false}
-use Rattle.qx_queues.proofs.NodesLemmas.{default_of, disconnect_at-none, disconnect_at-other, disconnect_at-with_nodes, length-with_nodes, none_of, nodes_at-none, nodes_at-other, nodes_at-with_disconnect, same_or_not, started-thread}
-use Rattle.qx_queues.proofs.SetLemmas.{has-thread, insert-there, insert_is, other_key, remove_is, server_exact, server_total, thread_exact, thread_total}
+use Rattle.qx_queues.proofs.NodesLemmas.{default_of, disconnect_at-none, disconnect_at-other, disconnect_at-with_nodes, is_same_proc-self, length-with_nodes, none_of, nodes_at-none, nodes_at-other, nodes_at-with_disconnect, same_or_not, started-thread}
+use Rattle.qx_queues.proofs.SetLemmas.{has-thread, has-thread-removed, insert-there, insert_is, other_key, remove-absent, remove_is, server_exact, server_total, thread_exact, thread_total}
 
 -- what numbered places tell
 module _ {A K : Type 0} (keys : ℕ → A → List K) (P : K → Bool) where
@@ -122,36 +122,43 @@ threads-none users = same_threads _ _ (λ thread. threads-nodes (no_nodes users)
 pub servers-none : (users : ℕ) → servers_of (no_nodes users) ≡ set.empty
 servers-none users = same_servers _ _ (λ proc number. servers-nodes (no_nodes users) proc number ∙ ap is_some (disconnect_at-none users proc number) ∙ sym (set.contains-empty server_cmp (proc, number)))
 
-module _ (nodes : List UserNodes) (thread : Thread) (own : ThreadNodes) where
-  pub threads-with_nodes : nodes_of_thread (with_nodes_at nodes thread own) thread ≡ Some own → threads_of (with_nodes_at nodes thread own) ≡ set.insert (threads_of nodes) thread
-  threads-with_nodes there = insert_is thread_total thread_exact (threads_of nodes) (threads_of (with_nodes_at nodes thread own)) thread
-      (threads-nodes (with_nodes_at nodes thread own) thread ∙ ap is_some there)
-      (λ other differs. threads-nodes (with_nodes_at nodes thread own) other ∙ ap is_some (nodes_at-other nodes thread own other differs) ∙ sym (threads-nodes nodes other))
+module _ (nodes : List UserNodes) (thread : Thread) (own : Option ThreadNodes) where
+  threads_stay : (other : Thread) → other ≢ thread → set.contains (threads_of (with_nodes_at nodes thread own)) other ≡ set.contains (threads_of nodes) other
+  threads_stay other differs = threads-nodes (with_nodes_at nodes thread own) other ∙ ap is_some (nodes_at-other nodes thread own other differs) ∙ sym (threads-nodes nodes other)
+
+  threads_here : nodes_of_thread (with_nodes_at nodes thread own) thread ≡ own → set.contains (threads_of (with_nodes_at nodes thread own)) thread ≡ is_some own
+  threads_here there = threads-nodes (with_nodes_at nodes thread own) thread ∙ ap is_some there
+
+  pub threads-made : is_some own ≡ true → nodes_of_thread (with_nodes_at nodes thread own) thread ≡ own → threads_of (with_nodes_at nodes thread own) ≡ set.insert (threads_of nodes) thread
+  threads-made some there = insert_is thread_total thread_exact (threads_of nodes) _ thread (threads_here there ∙ some) threads_stay
+
+  pub threads-freed : is_some own ≡ false → nodes_of_thread (with_nodes_at nodes thread own) thread ≡ own → threads_of (with_nodes_at nodes thread own) ≡ set.remove (threads_of nodes) thread
+  threads-freed none there = remove_is thread_total thread_exact (threads_of nodes) _ thread (threads_here there ∙ none) threads_stay
 
   pub servers-with_nodes : servers_of (with_nodes_at nodes thread own) ≡ servers_of nodes
   servers-with_nodes = same_servers _ _ (λ proc number. servers-nodes (with_nodes_at nodes thread own) proc number ∙ ap is_some (disconnect_at-with_nodes nodes thread own proc number) ∙ sym (servers-nodes nodes proc number))
 
 -- a thread's pulse stands in another line, or in none
-module _ (nodes : List UserNodes) (thread : Thread) (old own : ThreadNodes) (was : nodes_of_thread nodes thread ≡ Some old) (is : nodes_of_thread (with_nodes_at nodes thread own) thread ≡ Some own) where
-  same_field : (field : ThreadNodes → ℕ) → field own ≡ field old → (other : Thread) → option_map field (nodes_of_thread (with_nodes_at nodes thread own) other) ≡ option_map field (nodes_of_thread nodes other)
+module _ (nodes : List UserNodes) (thread : Thread) (old own : ThreadNodes) (was : nodes_of_thread nodes thread ≡ Some old) (is : nodes_of_thread (with_nodes_at nodes thread (Some own)) thread ≡ Some own) where
+  same_field : (field : ThreadNodes → ℕ) → field own ≡ field old → (other : Thread) → option_map field (nodes_of_thread (with_nodes_at nodes thread (Some own)) other) ≡ option_map field (nodes_of_thread nodes other)
   same_field field same other = elim (same_or_not other thread) [
     | inl here ↦ rw (here, is, was) (ap Some same)
-    | inr differs ↦ ap (option_map field) (nodes_at-other nodes thread own other differs)
+    | inr differs ↦ ap (option_map field) (nodes_at-other nodes thread (Some own) other differs)
   ]
 
-  same_owners : own.message ≡ old.message → own.unblock ≡ old.unblock → (owner : Owner) → node_of (with_nodes_at nodes thread own) owner ≡ node_of nodes owner
+  same_owners : own.message ≡ old.message → own.unblock ≡ old.unblock → (owner : Owner) → node_of (with_nodes_at nodes thread (Some own)) owner ≡ node_of nodes owner
   same_owners message unblock (Message other) = same_field (λ o. o.message) message other
   same_owners message unblock (Unblock other) = same_field (λ o. o.unblock) unblock other
-  same_owners message unblock (Disconnect proc number) = disconnect_at-with_nodes nodes thread own proc number
+  same_owners message unblock (Disconnect proc number) = disconnect_at-with_nodes nodes thread (Some own) proc number
 
-  pub Asked-set : own.message ≡ old.message → own.unblock ≡ old.unblock → Asked nodes (with_nodes_at nodes thread own) thread (option_map manager_number own.asked)
+  pub Asked-set : own.message ≡ old.message → own.unblock ≡ old.unblock → Asked nodes (with_nodes_at nodes thread (Some own)) thread (option_map manager_number own.asked)
   Asked-set message unblock = record {
     nodes = same_owners message unblock;
     here = ap asked_in is;
-    others = λ other differs. ap asked_in (nodes_at-other nodes thread own other differs);
-    threads = threads-with_nodes nodes thread own is ∙ sym (insert-there thread_total thread_exact (threads_of nodes) thread (threads-nodes nodes thread ∙ ap is_some was));
-    servers = servers-with_nodes nodes thread own;
-    users = length-with_nodes nodes thread own;
+    others = λ other differs. ap asked_in (nodes_at-other nodes thread (Some own) other differs);
+    threads = threads-made nodes thread (Some own) refl is ∙ sym (insert-there thread_total thread_exact (threads_of nodes) thread (threads-nodes nodes thread ∙ ap is_some was));
+    servers = servers-with_nodes nodes thread (Some own);
+    users = length-with_nodes nodes thread (Some own);
   }
 
 module _ (nodes : List UserNodes) (proc : Proc) (number : ℕ) (node : Option ℕ) where
@@ -203,6 +210,10 @@ module _ (lines : List (List Queued)) (nodes : List UserNodes) (room : ℕ) (pip
       let there : set.contains (servers_of nodes) (proc, number) ≡ true = servers-nodes nodes proc number ∙ had in
       same_queues refl refl (insert-there server_total server_exact (servers_of nodes) (proc, number) there) refl (sym (rw there refl)) refl refl
 
+-- a thread that has no nodes loses none
+pub thread-lacked : (c : Queues) (thread : Thread) → has_thread_nodes c thread ≡ false → c ≡ without_thread_nodes c thread
+thread-lacked c thread lacked = same_queues refl (remove-absent thread_total thread_exact c.threads thread lacked) refl refl (sym (rw lacked refl)) refl refl
+
 -- a thread is none of those before it
 pub not_earlier : (proc : Proc) (threads : ℕ) → (threads ≡ 0 → ⊥) → is_thread_of proc (threads - 1) (record { proc = proc; tid = threads }) ≡ false
 not_earlier proc threads some =
@@ -249,3 +260,51 @@ module _ (c : Queues) (proc : Proc) where
   pub room-process : (threads : ℕ) → (with_process_nodes c proc threads).room ≡ c.room - 2 * threads
   room-process zero = omega arith
   room-process (suc threads) = let before = room-process threads in omega (arith, before)
+
+-- as the threads of a process below a number lose their nodes
+lost_here : (threads tid : ℕ) → (nat_lt tid threads || (threads == tid)) ≡ nat_lt tid (suc threads)
+lost_here threads tid = grind (arith, nat_tests)
+
+one_more_lost : (proc : Proc) (threads : ℕ) (other : Thread) → (is_thread_below proc threads other || is_same_thread (record { proc = proc; tid = threads }) other) ≡ is_thread_below proc (suc threads) other
+one_more_lost proc threads other = elim (eqb_tells proc.user.0 other.proc.user.0) [
+  | inr apart ↦ rw apart.0 refl
+  | inl user ↦ elim (eqb_tells proc.num other.proc.num) [
+    | inr apart ↦ rw (user.0, apart.0) refl
+    | inl process ↦ rw (user.0, process.0) (lost_here threads other.tid)
+  ]
+]
+
+none_lost : (proc : Proc) (other : Thread) → is_thread_below proc 0 other ≡ false
+none_lost proc other = grind (arith, nat_tests)
+
+and_true : (b : Bool) → (b && true) ≡ b
+and_true true = refl
+and_true false = refl
+
+and_false : (b : Bool) → (b && false) ≡ false
+and_false true = refl
+and_false false = refl
+
+neither : (a b c : Bool) → ((a && not b) && not c) ≡ (a && not (b || c))
+neither false b c = refl
+neither true true c = refl
+neither true false c = refl
+
+module _ (c : Queues) (proc : Proc) where
+  pub has-below : (threads : ℕ) (other : Thread) → has_thread_nodes (without_nodes_below c proc threads) other ≡ (has_thread_nodes c other && not (is_thread_below proc threads other))
+  has-below zero other = rw (none_lost proc other) (sym (and_true (has_thread_nodes c other)))
+  has-below (suc threads) other =
+      has-thread-removed (without_nodes_below c proc threads).threads (record { proc = proc; tid = threads }) other
+      ∙ ap (λ b. b && not (is_same_thread (record { proc = proc; tid = threads }) other)) (has-below threads other)
+      ∙ neither (has_thread_nodes c other) (is_thread_below proc threads other) (is_same_thread (record { proc = proc; tid = threads }) other)
+      ∙ ap (λ b. has_thread_nodes c other && not b) (one_more_lost proc threads other)
+
+  pub gone-below : (threads thread : ℕ) → thread < threads → has_thread_nodes (without_nodes_below c proc threads) (record { proc = proc; tid = thread }) ≡ false
+  gone-below threads thread within =
+      let below : nat_lt thread threads ≡ true = grind (arith, nat_tests, within) in
+      has-below threads (record { proc = proc; tid = thread }) ∙ rw (is_same_proc-self proc, below) (and_false (has_thread_nodes c (record { proc = proc; tid = thread })))
+
+  -- and nothing else is different but the room
+  pub same-below : (threads : ℕ) → record (without_nodes_below c proc threads) { threads = c.threads; room = c.room } ≡ c
+  same-below zero = refl
+  same-below (suc threads) = same-below threads

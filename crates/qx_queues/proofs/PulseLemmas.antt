@@ -118,6 +118,14 @@ module _ (lines : List (List Queued)) (number : ℕ) (asked : Thread → Option 
   pub pulses-replied : (thread : Thread) (call : ℕ) (after : Thread → Option ℕ) → ((other : Thread) → other ≢ thread → after other ≡ asked other) → after thread ≡ None → asked thread ≡ Some number → unblock_call (line_without thread.proc.user.0 (item.Unblock thread.proc.num thread.tid call) (line_at lines number)) thread ≡ None → KnowsPulses (with_line lines number (line_without thread.proc.user.0 (item.Unblock thread.proc.num thread.tid call))) after
   pulses-replied thread call after same now before gone = pulses-goes (line_without thread.proc.user.0 (item.Unblock thread.proc.num thread.tid call)) thread after (λ other differs. call-replied_other (line_at lines number) thread call other differs) same now before gone
 
+-- where no pulse of a thread stands, it is asked nowhere
+pub nowhere-asked : (lines : List (List Queued)) (asked : Thread → Option ℕ) (thread : Thread) → KnowsPulses lines asked → ((number : ℕ) → unblock_call (line_at lines number) thread ≡ None) → asked thread ≡ None
+nowhere-asked lines asked thread was none = of (asked thread) refl
+  where
+    of : (o : Option ℕ) → asked thread ≡ o → asked thread ≡ None
+    of None is = is
+    of (Some number) is = let clash : false ≡ true = ap is_some (sym (none number)) ∙ was thread number ∙ ap (is_line_at number) is ∙ is_at-self number in absurd (cc)
+
 -- a thread whose pulse stands elsewhere, or nowhere
 pub no_field : (lines : List (List Queued)) (number : ℕ) (asked : Thread → Option ℕ) (thread : Thread) → KnowsPulses lines asked → is_line_at number (asked thread) ≡ false → unblock_call (line_at lines number) thread ≡ None
 no_field lines number asked thread was apart = none_of _ (was thread number ∙ apart)

@@ -54,6 +54,9 @@ module _ {K : Type 0} {R : K → K → Ordering} (total : IsTotalOrder R) (exact
   pub remove_is : (s t : set.FinSet R) (k : K) → set.contains t k ≡ false → ((q : K) → q ≢ k → set.contains t q ≡ set.contains s q) → t ≡ set.remove s k
   remove_is s t k gone others = by_key t (set.remove s k) k (gone ∙ sym (contains-remove_same s k)) (λ q differs. others q differs ∙ sym (contains-remove_other s k q differs))
 
+  pub remove-absent : (s : set.FinSet R) (k : K) → set.contains s k ≡ false → s ≡ set.remove s k
+  remove-absent s k absent = remove_is s s k absent (λ q differs. refl)
+
   pub insert-there : (s : set.FinSet R) (k : K) → set.contains s k ≡ true → s ≡ set.insert s k
   insert-there s k there = insert_is s s k there (λ q differs. refl)
 
@@ -116,6 +119,9 @@ has-thread s thread other = set.contains-insert thread_total s thread other ∙ 
 
 pub has-server : (s : set.FinSet server_cmp) (proc : Proc) (number : ℕ) (other : Proc) (at : ℕ) → set.contains (set.insert s (proc, number)) (other, at) ≡ (set.contains s (other, at) || is_same_server proc number other at)
 has-server s proc number other at = set.contains-insert server_total s (proc, number) (other, at) ∙ rw ((eq_by_cmp_equiv server_total).symm (other, at) (proc, number), eq-server proc other number at) (or_swap (is_same_server proc number other at) (set.contains s (other, at)))
+
+pub has-thread-removed : (s : set.FinSet thread_cmp) (thread other : Thread) → set.contains (set.remove s thread) other ≡ (set.contains s other && not (is_same_thread thread other))
+has-thread-removed s thread other = set.contains-remove thread_total s thread other ∙ rw ((eq_by_cmp_equiv thread_total).symm other thread, eq-thread thread other) (and_swap (not (is_same_thread thread other)) (set.contains s other))
 
 pub has-removed : (s : set.FinSet server_cmp) (proc : Proc) (number : ℕ) (other : Proc) (at : ℕ) → set.contains (set.remove s (proc, number)) (other, at) ≡ (set.contains s (other, at) && not (is_same_server proc number other at))
 has-removed s proc number other at = set.contains-remove server_total s (proc, number) (other, at) ∙ rw ((eq_by_cmp_equiv server_total).symm (other, at) (proc, number), eq-server proc other number at) (and_swap (not (is_same_server proc number other at)) (set.contains s (other, at)))

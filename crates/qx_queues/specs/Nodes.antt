@@ -39,11 +39,11 @@ with_process_at nodes proc own = slice_set nodes proc.user.0 (user_with (get_or 
 abbrev pub nodes_of_thread : List UserNodes → Thread → Option ThreadNodes
 nodes_of_thread nodes thread = row_at (process_at nodes thread.proc).threads thread.tid
 
-abbrev pub threads_with : ProcessNodes → ℕ → ThreadNodes → ProcessNodes
-threads_with of_process thread own = record { threads = slice_set of_process.threads thread (Some own); servers = of_process.servers }
+abbrev pub threads_with : ProcessNodes → ℕ → Option ThreadNodes → ProcessNodes
+threads_with of_process thread own = record { threads = slice_set of_process.threads thread own; servers = of_process.servers }
 
--- the nodes with a thread's own
-abbrev pub with_nodes_at : List UserNodes → Thread → ThreadNodes → List UserNodes
+-- the nodes with a thread's own, or with none of the thread
+abbrev pub with_nodes_at : List UserNodes → Thread → Option ThreadNodes → List UserNodes
 with_nodes_at nodes thread own = with_process_at nodes thread.proc (threads_with (process_at nodes thread.proc) thread.tid own)
 
 -- the disconnect node of a process' server connection at the manager of a number

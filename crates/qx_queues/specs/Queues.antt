@@ -1,5 +1,5 @@
 -- What contracts see of the managers' lines, and what its calls make of it.
-use Rattle.std.specs.Prelude.{⊤, ◌≡◌, ℕ, zero, suc, ◌+◌, ◌-◌, ◌==◌, ◌&&◌, if◌then◌else◌, refl, IsTrue, Bool, false, List, [], ◌∷◌, ◌++◌, Option, Some, None, drop, is_some, replicate, slice_get, unwrap_or}
+use Rattle.std.specs.Prelude.{⊤, ◌≡◌, ℕ, zero, suc, ◌+◌, ◌-◌, ◌==◌, ◌&&◌, if◌then◌else◌, refl, IsTrue, Bool, false, List, [], ◌∷◌, ◌++◌, Option, Some, None, drop, is_some, map, replicate, slice_get, unwrap_or}
 use Rattle.std.specs.Coded.{Coded, code_by, coded×, coded_ℕ, coded_list}
 use Rattle.std.specs.FinMap as maps
 use Rattle.std.specs.FinSet as set
@@ -11,7 +11,7 @@ use Rattle.qx_types.specs.contracts.names.Proc as proc_row
 use Rattle.qx_types.specs.contracts.names.Thread as thread_row
 use Rattle.qx_types.specs.contracts.outcome.Answer as answer_row
 use Rattle.qx_types.specs.Managers.{manager_number}
-use Rattle.qx_types.specs.declared.limits.TheConstants.Limits.{PRIORITY}
+use Rattle.qx_types.specs.declared.limits.TheConstants.Limits.{PRIORITY, THREADS}
 use Rattle.qx_types.specs.declared.names.Proc.{Proc}
 use Rattle.qx_types.specs.declared.names.TheConstants.Manager.{COUNT}
 use Rattle.qx_types.specs.declared.names.Thread.{Thread}
@@ -23,6 +23,7 @@ use Rattle.qx_machine.specs.declared.rows.OwnItem.TheVariants as item
 use Rattle.qx_machine.specs.declared.rows.Queued.{Queued}
 use Rattle.qx_machine.specs.declared.rows.ServerName.{ServerName}
 use Rattle.qx_machine.specs.declared.rows.WaitingCall.{WaitingCall}
+use Rattle.qx_machine.specs.Clients.{abandoned}
 use Rattle.qx_machine.specs.Lines.{into, line_at, with_line}
 use Rattle.qx_machine.specs.Machine.{queued_item, rank}
 
@@ -113,6 +114,9 @@ sender_of user (item.Disconnect process server) = record { proc = record { user 
 abbrev pub sender : Queued → Thread
 sender entry = sender_of entry.user.0 entry.item
 
+abbrev pub is_same_proc : Proc → Proc → Bool
+is_same_proc one other = (one.user.0 == other.user.0) && (one.num == other.num)
+
 abbrev pub is_same_thread : Thread → Thread → Bool
 is_same_thread one other = (one.proc.user.0 == other.proc.user.0) && (one.proc.num == other.proc.num) && (one.tid == other.tid)
 
@@ -164,6 +168,18 @@ HasList c list = IsTrue (maps.contains_key c.pipes list)
 abbrev pub with_waiting : Queues → ℕ → List UsersCall → Queues
 with_waiting c list calls = record c { pipes = maps.insert c.pipes list calls }
 
+-- the call of a process waits as one of a process that has ended
+abbrev pub abandoned_by : Proc → UsersCall → UsersCall
+abandoned_by proc own = if own.user == proc.user.0 then record own { call = abandoned proc.num own.call } else own
+
+-- each call that waits, changed
+unfoldable pub each_changed : (UsersCall → UsersCall) → maps.FinMap nat_cmp (List UsersCall) → maps.FinMap nat_cmp (List UsersCall)
+each_changed change pipes = maps.from_entries (map (λ e. (e.0, map change e.1)) (maps.entries pipes))
+
+-- the calls of a process wait as those of a process that has ended
+abbrev pub with_abandoned : Queues → Proc → Queues
+with_abandoned c proc = record c { pipes = each_changed (abandoned_by proc) c.pipes }
+
 -- a list is gone
 abbrev pub without_list : Queues → ℕ → Queues
 without_list c list = record c { pipes = maps.remove c.pipes list }
@@ -179,6 +195,10 @@ caller own = record { proc = record { user = record { 0 = own.user }; num = own.
 -- a call of the thread is among these
 abbrev pub has_call : List UsersCall → Thread → Bool
 has_call all thread = list_any (λ own. is_same_thread (caller own) thread) all
+
+-- a call of the process is among these
+abbrev pub has_call_of : List UsersCall → Proc → Bool
+has_call_of all proc = list_any (λ own. is_same_proc (caller own).proc proc) all
 
 -- a call's answer goes to its thread
 abbrev pub answer_to : UsersCall → Answer → UsersAnswer
@@ -219,6 +239,19 @@ with_thread_nodes c thread = record c { threads = set.insert c.threads thread; r
 abbrev pub with_process_nodes : Queues → Proc → ℕ → Queues
 with_process_nodes c proc zero = c
 with_process_nodes c proc (suc threads) = with_thread_nodes (with_process_nodes c proc threads) (record { proc = proc; tid = suc threads })
+
+-- a thread has no nodes any more, and there is room for those that it had
+abbrev pub without_thread_nodes : Queues → Thread → Queues
+without_thread_nodes c thread = record c { threads = set.remove c.threads thread; room = if has_thread_nodes c thread then c.room + 2 else c.room }
+
+-- the threads of a process below a number have no nodes any more
+abbrev pub without_nodes_below : Queues → Proc → ℕ → Queues
+without_nodes_below c proc zero = c
+without_nodes_below c proc (suc thread) = without_thread_nodes (without_nodes_below c proc thread) (record { proc = proc; tid = thread })
+
+-- no thread of a process has nodes any more
+unfoldable pub without_process_nodes : Queues → Proc → Queues
+without_process_nodes c proc = without_nodes_below c proc (THREADS + 1)
 
 -- a process has a disconnect node at a manager from now on
 abbrev pub with_server_node : Queues → Proc → ℕ → Queues

@@ -30,7 +30,7 @@ abbrev pub rank_of : Waiting → ℕ
 rank_of waiting = rank waiting.queued
 
 abbrev pub no_call : WaitingCall
-no_call = record { process = 0; thread = 0; call = 0; block = 0; wanted = 0; bytes = [] }
+no_call = record { process = 0; thread = 0; call = 0; block = 0; wanted = 0; bytes = []; is_gone = false }
 
 abbrev pub carried : Load → Option WaitingCall
 carried Nothing = None

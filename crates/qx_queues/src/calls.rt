@@ -1,6 +1,6 @@
 //! Calls that wait in pipes.
 
-ghost use Rattle.std.specs.Prelude.{◌≡◌, []};
+ghost use Rattle.std.specs.Prelude.{◌≡◌, [], true};
 ghost use Rattle.qx_machine.specs.Waiting.{is_call, waiting_call};
 ghost use Rattle.qx_queues.specs.Calls.{wanted_by, written_by};
 ghost use Rattle.qx_queues.specs.Queues.{caller};
@@ -29,6 +29,7 @@ pub struct PipeCall {
     block: u16,
     work: Work,
     room: Room,
+    is_gone: bool,
 }
 
 impl Model for PipeCall {
@@ -38,7 +39,7 @@ impl Model for PipeCall {
 
     ghost use Rattle.qx_queues.specs.Calls.{wanted_by, written_by};
 
-    ghost view = { λ c. record { process = c.process; thread = c.thread; call = c.number; block = c.block; wanted = wanted_by c.work; bytes = written_by c.work c.room } };
+    ghost view = { λ c. record { process = c.process; thread = c.thread; call = c.number; block = c.block; wanted = wanted_by c.work; bytes = written_by c.work c.room; is_gone = c.is_gone } };
 }
 
 impl PipeCall {
@@ -67,6 +68,7 @@ impl PipeCall {
             block: opened.number,
             work,
             room,
+            is_gone: false,
         }
     }
 
@@ -122,6 +124,20 @@ impl PipeCall {
             Work::Read(_) => &[],
             Work::Write => self.room.as_slice(),
         }
+    }
+
+    /// Whether its process has ended.
+    pub fn is_gone(&self) -> bool
+        ensures gone { result ≡ self.now.is_gone }
+    {
+        self.is_gone
+    }
+
+    /// Its process has ended.
+    pub(crate) fn abandon(&mut self)
+        ensures gone { self.new ≡ record self.old { is_gone = true } }
+    {
+        self.is_gone = true;
     }
 
     /// The room for its reply, as it waits no more.

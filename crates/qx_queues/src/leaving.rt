@@ -16,12 +16,12 @@ pub enum Leaving {
 }
 
 impl Leaving {
-    /// Whether a call is meant. No call's process has ended while it waits in this profile.
+    /// Whether a call is meant.
     pub(crate) fn means(self, call: &PipeCall) -> bool
         ensures { result ≡ leaves self call.now }
     {
         match self {
-            Leaving::Gone => false,
+            Leaving::Gone => call.is_gone(),
             Leaving::Call {
                 process,
                 thread,

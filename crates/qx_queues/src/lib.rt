@@ -10,8 +10,8 @@
 //! What contracts see is who has nodes, and not which: `Queues.antt`, and of the calls that wait `Waits.antt`,
 //! `Calls.antt` and `Waiting.antt`. How nodes and lines stand in the table is the crate's own (`Kept.antt`,
 //! `Nodes.antt`). In `proofs/`, `KeptLemmas.antt` has the invariant call by call; `LineLemmas.antt`, for the layers
-//! above, what a line tells of a thread; `CallLemmas.antt`, `LeavingLemmas.antt` and `WaitLemmas.antt` the lists in
-//! which calls wait; the others one node, or sets of those that have nodes.
+//! above, what a line tells of a thread; `CallLemmas.antt`, `LeavingLemmas.antt`, `WaitLemmas.antt` and
+//! `AbandonLemmas.antt` the lists in which calls wait; the others one node, or sets of those that have nodes.
 #![tactic(auto)]
 
 pub mod calls;

@@ -1,6 +1,6 @@
 //! The nodes of all threads and of all server connections: made with them, so that a message and a pulse take none.
 
-ghost use Rattle.std.specs.Prelude.{◌≡◌, ◌≢◌, ◌<◌, ◌≤◌, length, is_some, option_map, IfOk, IfSome, IsTrue, Some};
+ghost use Rattle.std.specs.Prelude.{◌≡◌, ◌≢◌, ◌<◌, ◌≤◌, ◌+◌, ℕ, None, length, is_some, option_map, IfOk, IfSome, IsTrue, Some};
 ghost use Rattle.qx_types.specs.Managers.{manager_number};
 ghost use Rattle.qx_types.specs.declared.limits.TheConstants.Limits.{PROCESSES, THREADS};
 ghost use Rattle.qx_machine.specs.Rows.{row_at};
@@ -32,12 +32,12 @@ impl ProcessNodes {
         servers: [None; Manager::COUNT],
     };
 
-    fn set(&mut self, thread: u8, own: ThreadNodes)
+    fn set(&mut self, thread: u8, own: Option<ThreadNodes>)
         requires thread { thread ≤ THREADS }
         ensures set { self.new ≡ threads_with self.old thread own }
-        ensures there { row_at self.new.threads thread ≡ Some own }
+        ensures there { row_at self.new.threads thread ≡ own }
     {
-        self.threads[thread as usize] = Some(own);
+        self.threads[thread as usize] = own;
     }
 
     fn disconnect(&self, manager: Manager) -> Option<usize>
@@ -65,11 +65,11 @@ impl UserNodes {
         processes: [ProcessNodes::NONE; Limits::PROCESSES + 1],
     };
 
-    fn set(&mut self, process: u8, thread: u8, own: ThreadNodes)
+    fn set(&mut self, process: u8, thread: u8, own: Option<ThreadNodes>)
         requires process { process ≤ PROCESSES }
         requires thread { thread ≤ THREADS }
         ensures set { self.new ≡ user_with self.old process (threads_with (process_nodes_in self.old process) thread own) }
-        ensures there { row_at (process_nodes_in self.new process).threads thread ≡ Some own }
+        ensures there { row_at (process_nodes_in self.new process).threads thread ≡ own }
     {
         self.processes[process as usize].set(thread, own);
     }
@@ -123,13 +123,34 @@ impl Nodes {
         *of_process.threads.get(thread.tid as usize)?
     }
 
-    /// A thread gets its nodes.
-    pub fn set(&mut self, thread: Thread, own: ThreadNodes)
+    /// The nodes of a process' threads, by number.
+    pub fn threads(&self, proc: Proc) -> &[Option<ThreadNodes>]
+        ensures own { (number : ℕ) → row_at result.now number ≡ row_at (process_at self.now proc).threads number }
+        ensures few { length result.now ≤ THREADS + 1 }
+    {
+        let Some(of_user) = self.users.get(proc.user.0 as usize) else {
+            return &[];
+        };
+        match of_user.processes.get(proc.num as usize) {
+            Some(of_process) => &of_process.threads,
+            None => &[],
+        }
+    }
+
+    /// Tells which numbers threads of a process have that have nodes.
+    pub fn know(&self, proc: Proc)
+        ensures few { (thread : ℕ) → THREADS < thread → nodes_of_thread self.now (record { proc = proc; tid = thread }) ≡ None }
+    {
+        let _threads = self.threads(proc);
+    }
+
+    /// A thread has these nodes from now on, or none.
+    pub fn set(&mut self, thread: Thread, own: Option<ThreadNodes>)
         requires user { thread.proc.user.0 < length self.old }
         requires process { thread.proc.num ≤ PROCESSES }
         requires thread { thread.tid ≤ THREADS }
         ensures set { self.new ≡ with_nodes_at self.old thread own }
-        ensures there { nodes_of_thread self.new thread ≡ Some own }
+        ensures there { nodes_of_thread self.new thread ≡ own }
     {
         self.users[thread.proc.user.0 as usize].set(thread.proc.num, thread.tid, own);
     }
@@ -142,7 +163,7 @@ impl Nodes {
         let Some(own) = self.at(thread) else {
             unreachable!();
         };
-        self.set(thread, ThreadNodes { asked, ..own });
+        self.set(thread, Some(ThreadNodes { asked, ..own }));
     }
 
     /// The disconnect node of a process' server connection at a manager, until it goes into the line there.

@@ -10,7 +10,7 @@ ghost use Rattle.qx_lines.specs.Line.{IsInLine, IsLineOf};
 ghost use Rattle.qx_machine.specs.Lines.{into};
 ghost use Rattle.qx_machine.specs.Machine as machine;
 ghost use Rattle.qx_machine.specs.declared.rows.OwnItem.TheVariants as item;
-ghost use Rattle.qx_queues.specs.Queues.{HasNoListedCall, HasThreadNodes, IsGone, IsMessageReceived, disconnect_of, pulse_call, queues_line, has_server_node, has_thread_nodes, message_of, no_queues, stands, unblock_call, unblock_of, with_disconnect, with_queues_line, with_process_nodes, with_server_node, with_thread_nodes, without_first_item};
+ghost use Rattle.qx_queues.specs.Queues.{HasNoListedCall, HasThreadNodes, IsGone, IsMessageReceived, disconnect_of, pulse_call, queues_line, has_server_node, has_thread_nodes, message_of, no_queues, stands, unblock_call, unblock_of, with_disconnect, with_queues_line, with_process_nodes, with_server_node, with_thread_nodes, without_first_item, without_process_nodes, without_thread_nodes};
 ghost use Rattle.qx_queues.specs.inner.Kept.{PutIn, TakenOut, entries, entry_of_node, node_owner, waiting_of_node};
 ghost use Rattle.qx_queues.specs.Nodes.{Unblock};
 ghost use Rattle.qx_queues.specs.Waiting.{ComesWithRoom, addressed_by, idle, rank_of};
@@ -243,11 +243,11 @@ impl Queues {
         let asked = None;
         self.nodes.set(
             thread,
-            ThreadNodes {
+            Some(ThreadNodes {
                 message,
                 unblock,
                 asked,
-            },
+            }),
         );
     }
 
@@ -267,6 +267,36 @@ impl Queues {
         }
         self.add_process(proc, threads - 1, prio);
         self.add(Thread { proc, tid: threads }, prio);
+    }
+
+    /// The nodes of a process' threads are given back, none of which stands in a line or carries a call or an answer, and room is
+    /// kept for them.
+    pub fn remove_process(&mut self, proc: Proc)
+        requires idle { (thread number : ℕ) → stands (queues_line self.old number) (record { proc = proc; tid = thread }) ≡ false }
+        requires unasked { (thread number : ℕ) → unblock_call (queues_line self.old number) (record { proc = proc; tid = thread }) ≡ None }
+        requires no_call { (thread : ℕ) → HasNoListedCall self.old (record { proc = proc; tid = thread }) }
+        ensures removed { self.new ≡ without_process_nodes self.old proc }
+        ensures gone { (thread : ℕ) → has_thread_nodes self.new (record { proc = proc; tid = thread }) ≡ false }
+    {
+        for tid in 0..Limits::THREADS + 1 {
+            self.remove(Thread { proc, tid });
+        }
+        self.nodes.know(proc);
+    }
+
+    /// The nodes of a thread, if it has any, are given back, where they stand in no list.
+    fn remove(&mut self, thread: Thread)
+        requires idle { (number : ℕ) → stands (queues_line self.old number) thread ≡ false }
+        requires unasked { (number : ℕ) → unblock_call (queues_line self.old number) thread ≡ None }
+        requires no_call { HasNoListedCall self.old thread }
+        ensures removed { self.new ≡ without_thread_nodes self.old thread }
+    {
+        let Some(own) = self.nodes.at(thread) else {
+            return;
+        };
+        give_back(&mut self.table, own.message);
+        give_back(&mut self.table, own.unblock);
+        self.nodes.set(thread, None);
     }
 
     /// A process has a disconnect node at a manager from now on: the one that it had, or a new one.

@@ -5,8 +5,8 @@ ghost use Rattle.std.specs.Result.{ForOk};
 ghost use Rattle.qx_types.specs.declared.limits.TheConstants.Limits.{PRIORITY, TRANSFER};
 ghost use Rattle.qx_queues.specs.Kept.{HasLoad};
 ghost use Rattle.qx_queues.specs.Queues.{answer_to};
-ghost use Rattle.qx_queues.specs.Waiting.{Answered as Given, ComesWithRoom, Waits, addressed_by, call_carried, carrying, idle, waits_in};
-ghost use Rattle.qx_queues.specs.inner.Waiting.{KeepsRoom, load_of};
+ghost use Rattle.qx_queues.specs.Waiting.{Answered as Given, ComesWithRoom, Waits, addressed_by, call_carried, carried, carrying, idle, waits_in};
+ghost use Rattle.qx_queues.specs.inner.Waiting.{KeepsRoom, load_of, with_gone_call};
 ghost use Rattle.qx_queues.specs.Waits.{handed, users_call};
 
 use crate::calls::PipeCall;
@@ -142,6 +142,22 @@ impl Waiting {
         match &self.slot {
             Slot::Waits(call) if call.number() == number => Some(call.block()),
             _ => None,
+        }
+    }
+
+    /// Whether a call waits with the node.
+    pub fn has_call(&self) -> bool
+        ensures waits { result ≡ is_some (carried self.now.load) }
+    {
+        matches!(&self.slot, Slot::Waits(_))
+    }
+
+    /// The call that waits with the node, if one does, is one of a process that has ended.
+    pub(crate) fn abandon(&mut self)
+        ensures gone { self.new ≡ with_gone_call self.old }
+    {
+        if let Slot::Waits(call) = &mut self.slot {
+            call.abandon();
         }
     }
 

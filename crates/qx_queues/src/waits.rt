@@ -1,19 +1,20 @@
 //! Calls that wait, in lists under numbers, and those that were answered.
 
-ghost use Rattle.std.specs.Prelude.{◌≡◌, ◌<◌, ◌≤◌, ◌++◌, ◌∷◌, [], ℕ, false, None, Some, IfNone, IfOk, IfSome, IsTrue, OnErr, drop, filter, is_some, length, map, option_map, slice_get, take};
+ghost use Rattle.std.specs.Prelude.{◌≡◌, ◌<◌, ◌≤◌, ◌++◌, ◌∷◌, ◌↔◌, [], ℕ, false, None, Some, IfNone, IfOk, IfSome, IsFalse, IsTrue, OnErr, drop, filter, is_some, length, map, option_map, slice_get, take};
 ghost use Rattle.std.specs.FinMap as maps;
 ghost use Rattle.std.specs.List.{list_any};
 ghost use Rattle.std.specs.Option.{option_copied};
 ghost use Rattle.std.specs.Result.{ForOk};
 ghost use Rattle.qx_types.specs.declared.limits.TheConstants.Limits.{TRANSFER};
 ghost use Rattle.qx_types.specs.declared.names.Thread.{Thread as TheThread};
-ghost use Rattle.qx_lists.specs.Table.{ContainsList, IsFree, IsIn, nodes_of, with_nodes, with_value};
+ghost use Rattle.qx_lists.specs.Table.{ContainsList, ContainsNode, IsFree, IsIn, nodes_of, with_nodes, with_value};
 ghost use Rattle.qx_machine.specs.Waiting.{is_written as is_written_by};
 ghost use Rattle.qx_machine.specs.Pipes.{staying};
+ghost use Rattle.qx_machine.specs.Rows.{row_at};
 ghost use Rattle.qx_queues.specs.Kept.{HasLoad};
-ghost use Rattle.qx_queues.specs.inner.Kept.{entry_of_node, waiting_of_node};
+ghost use Rattle.qx_queues.specs.inner.Kept.{Abandoned, entry_of_node, waiting_of_node, waits_with};
 ghost use Rattle.qx_queues.specs.Nodes.{Message, node_of, nodes_of_thread};
-ghost use Rattle.qx_queues.specs.Queues.{HasList, IsMessageReceived, answer_to, caller, has_call, waiting_in_list, with_more_answers, with_waiting, without_list};
+ghost use Rattle.qx_queues.specs.Queues.{HasList, IsMessageReceived, answer_to, caller, has_call, has_call_of, waiting_in_list, with_abandoned, with_more_answers, with_waiting, without_list};
 ghost use Rattle.qx_queues.specs.inner.Waiting.{KeepsRoom, load_of};
 ghost use Rattle.qx_queues.specs.Waiting.{call_carried, carrying};
 ghost use Rattle.qx_queues.specs.Waits.{handed, is_users_call, leaves, users_call};
@@ -21,11 +22,11 @@ ghost use Rattle.qx_queues.specs.inner.Waits.{without_first};
 
 use crate::calls::PipeCall;
 use crate::leaving::Leaving;
-use crate::nodes::Nodes;
+use crate::nodes::{Nodes, ThreadNodes};
 use crate::queues::{Queues, take_slot};
 use crate::waiting::{Answered, Slot, Waiting};
 use qx_lists::Table;
-use qx_types::{Errno, Thread, User};
+use qx_types::{Errno, Proc, Thread, User};
 use std::alloc::AllocError;
 
 impl Queues {
@@ -72,6 +73,20 @@ impl Queues {
     {
         let own = self.nodes.at(thread)?;
         self.table.value(own.message).waits(call)
+    }
+
+    /// Whether a call of a process waits.
+    pub fn has_waiting(&self, proc: Proc) -> bool
+        ensures { IsFalse result ↔ ((list : ℕ) → has_call_of (waiting_in_list self.now list) proc ≡ false) }
+    {
+        any_waits(&self.table, self.nodes.threads(proc))
+    }
+
+    /// The calls of a process that wait are those of a process that has ended from now on.
+    pub fn abandon(&mut self, proc: Proc)
+        ensures { self.new ≡ with_abandoned self.old proc }
+    {
+        abandon_all(&mut self.table, self.nodes.threads(proc));
     }
 
     /// Tells that a thread waits in one list at most.
@@ -177,6 +192,33 @@ fn message_node(nodes: &Nodes, thread: Thread) -> usize
     }
 }
 
+/// Whether a call waits with the message node of one of these threads.
+fn any_waits(table: &Table<Waiting>, threads: &[Option<ThreadNodes>]) -> bool
+    requires there { (number : ℕ) → IfSome (row_at threads.now number) (λ own. ContainsNode table.now own.message) }
+    ensures { result ≡ list_any (waits_with table.now) threads.now }
+{
+    for row in threads {
+        if let Some(own) = row {
+            if table.value(own.message).has_call() {
+                return true;
+            }
+        }
+    }
+    false
+}
+
+/// The calls that wait with the message nodes of these threads are those of a process that has ended from now on.
+fn abandon_all(table: &mut Table<Waiting>, threads: &[Option<ThreadNodes>])
+    requires there { (number : ℕ) → IfSome (row_at threads.now number) (λ own. ContainsNode table.old own.message) }
+    ensures { Abandoned table.old table.new threads.now }
+{
+    for row in threads {
+        if let Some(own) = row {
+            table.value_mut(own.message).abandon();
+        }
+    }
+}
+
 /// Puts a free node last into a list, and it carries something else from now on.
 fn put_slot(table: &mut Table<Waiting>, list: usize, node: usize, slot: Slot)
     requires list { ContainsList table.old list }
@@ -198,15 +240,12 @@ fn is_written(call: &PipeCall, answer: Result<(u64, &[u8]), Errno>) -> bool
     }
 }
 
-/// The first node of a list whose call is meant. Calls of ended processes are not looked for: none waits in this profile.
+/// The first node of a list whose call is meant.
 fn first_leaving(table: &Table<Waiting>, list: usize, which: Leaving) -> Option<usize>
     requires list { ContainsList table.now list }
     requires wait { (node : ℕ) → IsIn table.now list node → HasLoad false (waiting_of_node table.now node).load }
     ensures { result ≡ slice_get (filter (λ node. leaves which (call_carried (waiting_of_node table.now node))) (nodes_of table.now list)) 0 }
 {
-    if let Leaving::Gone = which {
-        return None;
-    }
     table.know();
     let mut next = table.first(list);
     'nodes: while let Some(node) = next {

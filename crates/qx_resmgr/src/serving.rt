@@ -43,6 +43,7 @@ pub fn serve<M: Connect<S, W, T> + Io<S, W, T>, S: State<W, T>, W, T>(
         target,
         opened,
         moment,
+        ..
     } = context;
     let given = match message {
         Message::Open { flags, mode, rest } => {
@@ -51,7 +52,7 @@ pub fn serve<M: Connect<S, W, T> + Io<S, W, T>, S: State<W, T>, W, T>(
                 mode,
                 moment,
             };
-            return M::open(state, waits, new_open(target), &rest, wish);
+            return M::open(state, waits, new_open(context), &rest, wish);
         }
         Message::Mknod { mode, rest } => {
             return M::mknod(state, waits, side_root(target), mode, &rest, moment);
@@ -86,13 +87,17 @@ pub fn serve<M: Connect<S, W, T> + Io<S, W, T>, S: State<W, T>, W, T>(
 }
 
 /// What an open is given.
-fn new_open(target: Target) -> Result<NewOpen, Errno>
-    ensures { result ≡ functions.new_open target }
+fn new_open(context: Context) -> Result<NewOpen, Errno>
+    ensures { result ≡ functions.new_open context }
 {
-    let (Over::New(coid), Some(root)) = (target.over, target.root) else {
+    let (Over::New(coid), Some(root)) = (context.target.over, context.target.root) else {
         return Err(Errno::EINVAL);
     };
-    Ok(NewOpen { coid, root })
+    Ok(NewOpen {
+        coid,
+        client: context.client,
+        root,
+    })
 }
 
 /// What a dup is given.

@@ -1,24 +1,24 @@
 -- What functions come to, by what the store and the pipes tell of them.
-use Rattle.std.proofs.Common.{◌≡◌, ◌∙◌, ◌+◌, ◌-◌, ◌<◌, length, ℕ, Bool, false, List, [], Result, Ok, Err, IfOk, OnErr, MatchResult, refl, sym, ap, ap₂, subst, arith}
+use Rattle.std.proofs.Common.{◌≡◌, ◌∙◌, ◌+◌, ◌-◌, ℕ, Bool, false, List, [], Result, Ok, Err, IfOk, OnErr, MatchResult, refl, sym, ap, subst, arith}
 use Rattle.std.specs.Prelude.{◌||◌, IsTrue}
-use Rattle.std.proofs.lemmas.Bool.{cond-false}
-use Rattle.std.proofs.lemmas.List.{get_or-set_same, set-get_or}
+use Rattle.std.proofs.lemmas.List.{set-get_or}
 use Rattle.qx_types.specs.declared.errno.Errno.{Errno}
 use Rattle.qx_types.specs.declared.names.Manager.TheVariants as managers
 use Rattle.qx_paths.specs.Prefixes.{MountPoint}
 use Rattle.qx_iofunc.specs.Given.{number_replied}
 use Rattle.qx_iofunc.specs.Store.{Store, Stored, with_stored}
 use Rattle.qx_machine.specs.declared.rows.Effect.{Effect}
-use Rattle.qx_machine.specs.declared.rows.Effect.TheVariants.{Closes, Keeps}
+use Rattle.qx_machine.specs.declared.rows.Effect.TheVariants.{Keeps}
 use Rattle.qx_machine.specs.declared.rows.Kind.{Kind}
 use Rattle.qx_machine.specs.declared.rows.Opened.{Opened}
-use Rattle.qx_machine.specs.Defaults.{close, close_dup, close_with_event}
-use Rattle.qx_machine.specs.Events.{disarmed, event_count, no_events}
-use Rattle.qx_machine.specs.Functions.{Deed, reply_alone}
-use Rattle.qx_machine.specs.Inodes.{is_shared, without_use}
+use Rattle.qx_machine.specs.Defaults.{close_dup, close_last, close_ocb}
+use Rattle.qx_machine.specs.Events.{event_count, no_events}
+use Rattle.qx_machine.specs.Inodes.{is_shared}
 use Rattle.qx_machine.specs.Judgements.{◌>>=◌}
-use Rattle.qx_machine.specs.Resources.{Resources}
 use Rattle.qx_machine.specs.Rows.{row_at}
+use Rattle.std.proofs.lemmas.Bool.{cond-false}
+use Rattle.qx_machine.specs.Functions.{Deed, reply_alone}
+use Rattle.qx_machine.specs.Resources.{Resources}
 use Rattle.qx_machine.specs.Wants.{difference_wants_memory, got_events, got_longer, is_done_so}
 use Rattle.qx_pipes.proofs.PipesLemmas.{given-same}
 use Rattle.qx_pipes.specs.Pipes.{Follows, done_of, seen}
@@ -27,7 +27,8 @@ use Rattle.qx_resmgr.specs.declared.functions.Done.{Done}
 use Rattle.qx_resmgr.specs.declared.functions.Done.TheVariants.{Reply}
 use Rattle.qx_resources.specs.Boot.{without_pipes}
 use Rattle.qx_notify.specs.Events.{AllEvents, events_of, with_events}
-use Rattle.qx_resources.specs.State.{Kept, shared, state, told}
+use Rattle.qx_resources.specs.State.{Kept, state, told}
+use Rattle.qx_resources.specs.inner.State.{AreLeft, Came}
 use Rattle.qx_resources.specs.declared.waits.Waits.{Waits}
 use Rattle.qx_shared.specs.Shared.{Shared, pipes_of}
 
@@ -54,19 +55,26 @@ module _ (mounts : List MountPoint) (old new : Stored) (c d : Shared) (e : AllEv
   abbrev DidSo : Result Done Errno → Result (Deed Resources) Errno → Type 0
   DidSo result meant = Did state (kept_with mounts old) (waits_of c e) (kept_with mounts new) (waits_of d e) bytes result meant
 
-  -- the resources and what all share are as the machine left them
-  abbrev AreLeft : Deed Resources → Type 0
-  AreLeft deed = (told (kept_with mounts new) (waits_of d e) ≡ deed.state) × (waits_of d e ≡ shared (kept_with mounts old) (waits_of c e) deed.state deed.answers)
+  left-so : (deed : Deed Resources) → Follows {E = Errno} old c new d before (Ok deed) → new.user ≡ old.user → AreLeft (kept_with mounts old) (waits_of c e) (kept_with mounts new) (waits_of d e) deed
+  left-so deed follows user = record {
+    state = ap (λ user. record (seen before new d) { events = events_of e user }) user ∙ follows.state;
+    shared = λ i. record { shared = follows.shared i; events = (same-events e old.user ∙ ap (λ (r : Resources). with_events e old.user r.events) follows.state) i };
+    user = user;
+  }
 
-  left-so : (deed : Deed Resources) → Follows {E = Errno} old c new d before (Ok deed) → new.user ≡ old.user → AreLeft deed
-  left-so deed follows user = (
-    ap (λ user. record (seen before new d) { events = events_of e user }) user ∙ follows.state,
-    λ i. record { shared = follows.shared i; events = (same-events e old.user ∙ ap (λ (r : Resources). with_events e old.user r.events) follows.state) i },
-  )
+  -- what follows the machine came to what the machine gave
+  came-so : (given : Result (Unit {0}) Errno) (meant : Result (Deed Resources) Errno) → Follows old c new d before meant → given ≡ done_of meant → new.user ≡ old.user → Came (kept_with mounts old) (waits_of c e) (kept_with mounts new) (waits_of d e) given meant
+  came-so (Ok nothing) (Ok deed) follows is user = left-so deed follows user
+  came-so (Err error) (Err meant) follows is user = let same : error ≡ meant = cc in (same, ap without_pipes follows.state, ap (λ s. waits_of s e) follows.shared)
+  came-so (Ok nothing) (Err meant) follows is user = absurd (cc)
+  came-so (Err error) (Ok deed) follows is user = absurd (cc)
+
+  pub came : (given : Result (Unit {0}) Errno) (meant : Resources → Result (Deed Resources) Errno) → ((r : Resources) → Follows old c new d r (meant r)) → ((r : Resources) → given ≡ done_of (meant r)) → new.user ≡ old.user → Came (kept_with mounts old) (waits_of c e) (kept_with mounts new) (waits_of d e) given (meant before)
+  came given meant follows is = came-so given (meant before) (follows before) (is before)
 
   passed_as : (answer : Done) (given : Result (Unit {0}) Errno) (result : Result Done Errno) (meant : Result (Deed Resources) Errno) → Follows old c new d before meant → given ≡ done_of meant → new.user ≡ old.user → IfOk meant (λ deed. reply_with bytes answer ≡ deed.reply)
       → bytes ≡ [] → MatchResult given (λ nothing. result ≡ Ok answer) (λ error. result ≡ Err error) → DidSo result meant
-  passed_as answer (Ok nothing) result (Ok deed) follows is user replies none gives = let left = left-so deed follows user in rw gives (replies, left.0, left.1, user)
+  passed_as answer (Ok nothing) result (Ok deed) follows is user replies none gives = let left = left-so deed follows user in rw gives (replies, left.state, left.shared, user)
   passed_as answer (Err error) result (Err meant) follows is user replies none gives = let same : error ≡ meant = cc in rw gives (same, ap without_pipes follows.state, ap (λ s. waits_of s e) follows.shared, none)
   passed_as answer (Ok nothing) result (Err meant) follows is user replies none gives = absurd (cc)
   passed_as answer (Err error) result (Ok deed) follows is user replies none gives = absurd (cc)
@@ -81,7 +89,7 @@ module _ (mounts : List MountPoint) (old new : Stored) (c d : Shared) (e : AllEv
       → ((r : Resources) (error : Errno) → tell r (Err error) ≡ Err error) → (given : Result A Errno) (result : Result Done Errno) (meant : Resources → Result (Deed Resources) Errno) → ((r : Resources) → Follows old c new d r (meant r)) → ((r : Resources) → tell (seen r new d) given ≡ meant r)
       → new.user ≡ old.user → bytes ≡ [] → MatchResult given (λ value. result ≡ Ok (Reply (status value) (effect value))) (λ error. result ≡ Err error) → DidSo result (meant before)
   told_so tell status effect ok err (Ok value) result meant follows is user none gives =
-      rw gives (subst (λ meant. Follows old c new d before meant → DidSo (Ok (Reply (status value) (effect value))) meant) (sym (ok _ value) ∙ is before) (λ follows. let left = left-so _ follows user in (refl, left.0, left.1, user)) (follows before))
+      rw gives (subst (λ meant. Follows old c new d before meant → DidSo (Ok (Reply (status value) (effect value))) meant) (sym (ok _ value) ∙ is before) (λ follows. let left = left-so _ follows user in (refl, left.state, left.shared, user)) (follows before))
   told_so tell status effect ok err (Err error) result meant follows is user none gives =
       rw gives (subst (λ meant. Follows old c new d before meant → DidSo (Err error) meant) (sym (err _ error) ∙ is before) (λ follows. (refl, ap without_pipes follows.state, ap (λ s. waits_of s e) follows.shared, none)) (follows before))
 
@@ -117,45 +125,17 @@ module _ (mounts : List MountPoint) (old new : Store) (w : Waits) (bytes : List 
       → MatchResult given (λ status. result ≡ Ok (Reply status Keeps)) (λ error. result ≡ Err error) → DidAlone result (meant first)
   replied_alone = told_alone (number_replied bytes) (λ status. status) (λ _ _. refl) (λ _ _. refl)
 
--- ---- the event of a block goes with it
+-- ---- a close of the last connection that has a block
 
-module _ (k l : Kept) (w v : Waits) (own : Kind) (opened : Opened) where
-  -- what all share, without the event of the block
-  abbrev disarmed_waits : Waits
-  disarmed_waits = record v { events = with_events v.events l.user (disarmed opened.number (events_of v.events l.user)) }
+module _ (k l : Kept) (w v : Waits) (own : Kind) (opened : Opened) (last : is_shared (row_at k.inodes.blocks opened.number) ≡ false) where
+  refused-by : (error : Errno) (meant : Result (Deed Resources) Errno) (next : Deed Resources → Result (Deed Resources) Errno) → Came k w l v (Err error) meant → Did state k w l v [] (Err error) (meant >>= next)
+  refused-by error (Ok deed) next came = absurd came
+  refused-by error (Err meant) next came = (came.0, came.1, came.2, refl)
 
-  abbrev without_event : Deed Resources → Result (Deed Resources) Errno
-  without_event deed = Ok (record deed { state = record deed.state { events = disarmed opened.number deed.state.events } })
-
-  disarmed-so : (done : Done) (meant : Result (Deed Resources) Errno) → Did state k w l v [] (Ok done) meant → v.events ≡ w.events → l.user < length v.events.events → Did state k w l disarmed_waits [] (Ok done) (meant >>= without_event)
-  disarmed-so done (Ok deed) did same has =
-      let user : l.user ≡ k.user = did.3 in
-      let events : deed.state.events ≡ events_of v.events l.user = ap (λ (r : Resources). r.events) (sym did.1) in
-      let now : events_of disarmed_waits.events l.user ≡ disarmed opened.number deed.state.events = get_or-set_same v.events.events l.user _ no_events has ∙ ap (disarmed opened.number) (sym events) in (
-        did.0,
-        (λ i. record (did.1 i) { events = now i }),
-        (λ i. record {
-          shared = ap (λ (w : Waits). w.shared) did.2 i;
-          events = (ap (λ now. with_events v.events l.user now) (ap (disarmed opened.number) (sym events)) ∙ ap₂ (λ e user. with_events e user (disarmed opened.number deed.state.events)) same user) i;
-        }),
-        user,
-      )
-  disarmed-so done (Err error) did same has = absurd did
-
-  pub closed-disarmed : (done : Done) → Did state k w l v [] (Ok done) (close own (told k w) opened) → v.events ≡ w.events → l.user < length v.events.events → Did state k w l disarmed_waits [] (Ok done) (close_with_event own (told k w) opened)
-  closed-disarmed done = disarmed-so done (close own (told k w) opened)
-
-  refused-so : (error : Errno) (meant : Result (Deed Resources) Errno) → Did state k w l v [] (Err error) meant → Did state k w l v [] (Err error) (meant >>= without_event)
-  refused-so error (Ok deed) did = absurd did
-  refused-so error (Err meant) did = did
-
-  pub closed-refused : (error : Errno) → Did state k w l v [] (Err error) (close own (told k w) opened) → Did state k w l v [] (Err error) (close_with_event own (told k w) opened)
-  closed-refused error = refused-so error (close own (told k w) opened)
-
--- the close of the last connection that has a block
-pub last-closed : (own : Kind) (r : Resources) (opened : Opened) → is_shared (row_at r.inodes.blocks opened.number) ≡ false → close_dup own r opened ≡ close_with_event own r opened
-last-closed own r opened last =
-    cond-false (is_shared (row_at r.inodes.blocks opened.number)) (Ok (reply_alone 0 [] (Closes opened.coid) (record r { inodes = without_use r.inodes opened.number }))) (close_with_event own r opened) last
+  pub close-refused : (error : Errno) → Came k w l v (Err error) (close_ocb own (told k w) opened.number opened.moment) → Did state k w l v [] (Err error) (close_dup own (told k w) opened)
+  close-refused error came =
+      let closed : close_dup own (told k w) opened ≡ close_last own (told k w) opened = cond-false (is_shared (row_at k.inodes.blocks opened.number)) _ _ last in
+      rw closed (refused-by error (close_ocb own (told k w) opened.number opened.moment) _ came)
 
 -- ---- what a write wants
 

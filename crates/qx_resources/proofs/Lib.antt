@@ -14,5 +14,9 @@ mod WatchCloses
 mod WatchOpens
 -- all else
 mod WatchOthers
+-- a block that is gone, of a client
+mod GoneLemmas
+-- a client that is gone
+mod DisconnectLemmas
 -- all messages, and an unblock: what was watched tells which events are due
 pub mod WatchLemmas

@@ -17,7 +17,6 @@ use Rattle.qx_machine.specs.Files.{base, moved_by, put, total_size}
 use Rattle.qx_machine.specs.Functions.{Deed}
 use Rattle.qx_machine.specs.Inodes.{readers_of, writers_of, is_open, moved_to, reads, writes}
 use Rattle.qx_machine.specs.Judgements.{found, need}
-use Rattle.qx_machine.specs.Notification.{events_settled}
 use Rattle.qx_machine.specs.PipeManager.{cancel_call, deed_of_pipe, read_pipe, write_pipe}
 use Rattle.qx_machine.specs.Pipes.{Pipe, read, write, PipeAfter, cancel}
 use Rattle.qx_machine.specs.RamManager.{read_file, seek_file, write_file, written_at, moved}
@@ -26,17 +25,17 @@ use Rattle.qx_machine.specs.Rows.{row_at, with_row}
 use Rattle.qx_machine.specs.Waiting.{holds, is_call, is_gone, manner_of, offered, waiting_call, wanted}
 use Rattle.qx_machine.proofs.Places.{row_at-set_other}
 use Rattle.qx_attr.proofs.CountLemmas.{count-same}
-use Rattle.qx_resources.proofs.WatchFacts.{IsStill, Stays, all-events, watch-settled}
+use Rattle.qx_resources.proofs.WatchFacts.{IsEnough, IsStill, Stays, all-events, watch-settled}
 use Rattle.qx_machine.proofs.Gives.{Gives, found-row, gives_done, gives_on}
 use Rattle.qx_resources.proofs.WatchQuiet.{IsQuiet, inode_of, quiet-over, pipe-falls, quiet-same, conditions_over}
 use Rattle.qx_resources.specs.Watching.{pipe_conditions, watch, watched_settled, watch_block, watch_place}
 
 -- it is enough to watch the pipe that the block of this number has open
 abbrev pub IsSettledAt : Resources → ℕ → Resources → Type 0
-IsSettledAt r number s = watched_settled (watch_block r (row_at r.inodes.blocks number)) s ≡ events_settled r s
+IsSettledAt r number s = IsEnough r (watch_block r (row_at r.inodes.blocks number)) s
 
-pub at-block : (r s : Resources) (number : ℕ) (block : Ocb) → row_at r.inodes.blocks number ≡ Some block → watched_settled (watch r block.inode) s ≡ events_settled r s → IsSettledAt r number s
-at-block r s number block is settled = ap (λ (row : Option Ocb). watched_settled (watch_block r row) s) is ∙ settled
+pub at-block : (r s : Resources) (number : ℕ) (block : Ocb) → row_at r.inodes.blocks number ≡ Some block → IsEnough r (watch r block.inode) s → IsSettledAt r number s
+at-block r s number block is settled lives = ap (λ (row : Option Ocb). watched_settled lives (watch_block r row) s) is ∙ settled lives
 
 no-events : (events : List Event) → length events ≡ 0 → events ≡ []
 no-events [] none = refl
@@ -48,12 +47,12 @@ unarmed r s events none = ap (λ (e : Events). e.armed) events ∙ no-events r.e
 
 -- ---- nothing changes that is told
 
-pub kept-settled : (r : Resources) (inode : ℕ) → watched_settled (watch r inode) r ≡ events_settled r r
+pub kept-settled : (r : Resources) (inode : ℕ) → IsEnough r (watch r inode) r
 kept-settled r inode = watch-settled r r inode (λ other apart. quiet-same _ _ refl) (all-events (Stays r r) r.events.armed (λ event. refl)) (unarmed r r refl)
 
 -- ---- one pipe changes
 
-pub pipe-settled : (r : Resources) (inode moment : ℕ) (after : PipeAfter WaitingCall) → watched_settled (watch r inode) (deed_of_pipe r inode moment after).state ≡ events_settled r (deed_of_pipe r inode moment after).state
+pub pipe-settled : (r : Resources) (inode moment : ℕ) (after : PipeAfter WaitingCall) → IsEnough r (watch r inode) (deed_of_pipe r inode moment after).state
 pipe-settled r inode moment after =
     let s = (deed_of_pipe r inode moment after).state in
     watch-settled r s inode
@@ -76,10 +75,10 @@ write_pipe-settled r over bytes =
     gives_done _ _ (at-block r _ over.number block (found-row _ _ block is) (pipe-settled r block.inode over.moment
     (write wanted offered is_gone (manner_of (readers_of r.inodes block.inode) block over.caller.is_asked) (waiting_call over 0 bytes) pipe))))))
 
-at-place : (r s : Resources) (place : Option ℕ) (inode : ℕ) → place ≡ Some inode → watched_settled (watch r inode) s ≡ events_settled r s → watched_settled (watch_place r place) s ≡ events_settled r s
-at-place r s place inode is settled = ap (λ (place : Option ℕ). watched_settled (watch_place r place) s) is ∙ settled
+at-place : (r s : Resources) (place : Option ℕ) (inode : ℕ) → place ≡ Some inode → IsEnough r (watch r inode) s → IsEnough r (watch_place r place) s
+at-place r s place inode is settled lives = ap (λ (place : Option ℕ). watched_settled lives (watch_place r place) s) is ∙ settled lives
 
-pub cancel-settled : (r : Resources) (process thread call moment : ℕ) → Gives (λ deed. watched_settled (watch_place r (position (holds (is_call process thread call)) r.pipes)) deed.state ≡ events_settled r deed.state) (cancel_call r process thread call moment)
+pub cancel-settled : (r : Resources) (process thread call moment : ℕ) → Gives (λ (deed : Deed Resources). IsEnough r (watch_place r (position (holds (is_call process thread call)) r.pipes)) deed.state) (cancel_call r process thread call moment)
 cancel-settled r process thread call moment =
     gives_on _ (found (position (holds (is_call process thread call)) r.pipes) WrongState) _ (λ inode at.
     gives_on _ (found (row_at r.pipes inode) WrongState) _ (λ pipe here.

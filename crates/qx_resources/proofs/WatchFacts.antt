@@ -1,5 +1,6 @@
 -- Nothing is due where no condition comes to hold, and who watches one pipe is told all that is due by it.
 use Rattle.std.proofs.Common.{◌≡◌, inl, inr, ℕ, Bool, true, false, not, ◌==◌, length, refl, sym, ap, subst, ◌∙◌, Option, Some, None, ◌≢◌, List, ◌∷◌, []}
+use Rattle.std.proofs.Math.Bool.{and-false}
 use Rattle.std.proofs.lemmas.Bool.{eq-eqb, eqb-true, true≢false, and_cases, cases_eq, cond-false, cond-true, ne_eqb}
 use Rattle.std.specs.List.{AllByRecursion}
 use Rattle.std.specs.Prelude.{◌&&◌, ◌||◌, filter, is_some, if◌then◌else◌}
@@ -16,8 +17,20 @@ use Rattle.qx_machine.specs.Resources.{Resources}
 use Rattle.qx_machine.specs.Rows.{row_at}
 use Rattle.qx_machine.specs.Waiting.{sides_of}
 use Rattle.qx_machine.proofs.EventFacts.{Agree, triggered-alike}
-use Rattle.qx_resources.proofs.WatchQuiet.{IsQuiet, inode_of, quiet-over, quiet-both, and-false, block-over}
+use Rattle.qx_resources.specs.declared.watching.Watched.{Watched}
+use Rattle.qx_resources.proofs.WatchQuiet.{IsQuiet, inode_of, quiet-over, quiet-both, block-over}
 use Rattle.qx_resources.specs.Watching.{pipe_conditions, unwatched, told_of, told_over, watch, watched_settled}
+
+-- ---- of all events
+
+module _ (P Q : Event → Type 0) where
+  pub all-weaker : (events : List Event) → ((event : Event) → P event → Q event) → AllByRecursion P events → AllByRecursion Q events
+  all-weaker [] more h = tt
+  all-weaker (e ∷ es) more h = (more e h.0, all-weaker es more h.1)
+
+pub all-events : (P : Event → Type 0) (events : List Event) → ((event : Event) → P event) → AllByRecursion P events
+all-events P [] h = tt
+all-events P (e ∷ es) h = (h e, all-events P es h)
 
 -- ---- what is due
 
@@ -38,20 +51,13 @@ module _ (before after : ℕ → Conditions) where
   none-given due (e ∷ es) pulses none = rw none.0 (none-given due es pulses none.1)
 
   -- events of which none is due stay as they are
-  pub triggered-still : (events : Events) → AllByRecursion (λ event. is_due before after event ≡ false) events.armed → triggered before after events ≡ events
-  triggered-still events none =
+  pub triggered-still : (lives : ℕ → Bool) (events : Events) → AllByRecursion (λ event. is_due before after event ≡ false) events.armed → triggered lives before after events ≡ events
+  triggered-still lives events none =
+      let gives : Event → Bool = λ event. is_due before after event && lives event.process in
       let armed = all-stay events.armed none in
-      let pulses = none-given (is_due before after) events.armed events.pulses none in
+      let silent = all-weaker (λ event. is_due before after event ≡ false) (λ event. gives event ≡ false) events.armed (λ event due. ap (λ (due : Bool). due && lives event.process) due) none in
+      let pulses = none-given gives events.armed events.pulses silent in
       λ i. record { armed = armed i; pulses = pulses i }
-
-module _ (P Q : Event → Type 0) where
-  pub all-weaker : (events : List Event) → ((event : Event) → P event → Q event) → AllByRecursion P events → AllByRecursion Q events
-  all-weaker [] more h = tt
-  all-weaker (e ∷ es) more h = (more e h.0, all-weaker es more h.1)
-
-pub all-events : (P : Event → Type 0) (events : List Event) → ((event : Event) → P event) → AllByRecursion P events
-all-events P [] h = tt
-all-events P (e ∷ es) h = (h e, all-events P es h)
 
 -- ---- what is told
 
@@ -66,6 +72,10 @@ told-is (Some block) inode these = refl
 
 -- ---- what is settled
 
+-- it is enough to watch this: it tells of each event that is due, whoever lives
+abbrev pub IsEnough : Resources → Option Watched → Resources → Type 0
+IsEnough r watched s = (lives : ℕ → Bool) → watched_settled lives watched s ≡ events_settled lives r s
+
 module _ (r s : Resources) where
   -- nothing comes to hold of any block
   abbrev pub IsStill : Type 0
@@ -74,12 +84,16 @@ module _ (r s : Resources) where
   abbrev Quiet : Event → Type 0
   Quiet event = IsQuiet (block_conditions r event.block) (block_conditions s event.block)
 
-  quiet-settled : AllByRecursion Quiet s.events.armed → s.events ≡ events_settled r s
-  quiet-settled quiet =
-      sym (triggered-still (block_conditions r) (block_conditions s) s.events
+  quiet-settled : AllByRecursion Quiet s.events.armed → IsEnough r None s
+  quiet-settled quiet lives =
+      sym (triggered-still (block_conditions r) (block_conditions s) lives s.events
       (all-weaker Quiet (λ event. is_due (block_conditions r) (block_conditions s) event ≡ false) s.events.armed (not-due (block_conditions r) (block_conditions s)) quiet))
 
-  pub still-settled : IsStill → s.events ≡ events_settled r s
+  -- where nothing is armed, nothing is due
+  pub unarmed-settled : s.events.armed ≡ [] → IsEnough r None s
+  unarmed-settled none = quiet-settled (subst (AllByRecursion Quiet) (sym none) tt)
+
+  pub still-settled : IsStill → IsEnough r None s
   still-settled still = quiet-settled (all-events Quiet s.events.armed (λ event. still event.block))
 
   -- the block of an event has the same pipe open
@@ -131,9 +145,9 @@ module _ (r s : Resources) where
     ]
 
     -- where only the pipe of this inode may come to be ready, it is enough to tell of that
-    pub told-settled : AllByRecursion Stays s.events.armed → watched_settled (Some (record { inode = inode; before = pipe_conditions r inode })) s ≡ events_settled r s
-    told-settled stay =
-        triggered-alike before_told after_told (block_conditions r) (block_conditions s) s.events
+    pub told-settled : AllByRecursion Stays s.events.armed → IsEnough r (Some (record { inode = inode; before = pipe_conditions r inode })) s
+    told-settled stay lives =
+        triggered-alike before_told after_told (block_conditions r) (block_conditions s) lives s.events
         (all-weaker Stays (Agree before_told after_told (block_conditions r) (block_conditions s)) s.events.armed (λ event same. by-place event (inode_of (row_at s.inodes.blocks event.block)) same refl) stay)
 
     -- where no pipe is in this inode, nothing comes to hold of its blocks either
@@ -148,7 +162,7 @@ module _ (r s : Resources) where
         ]
 
     -- so it is enough to watch the pipe of this inode
-    pub watch-settled : AllByRecursion Stays s.events.armed → (length r.events.armed ≡ 0 → s.events.armed ≡ []) → watched_settled (watch r inode) s ≡ events_settled r s
+    pub watch-settled : AllByRecursion Stays s.events.armed → (length r.events.armed ≡ 0 → s.events.armed ≡ []) → IsEnough r (watch r inode) s
     watch-settled stay unarmed = by (not (length r.events.armed == 0) && is_some (row_at r.pipes inode)) refl
       where
         unsome : (row : Option (Pipe WaitingCall)) → is_some row ≡ false → row ≡ None
@@ -159,9 +173,9 @@ module _ (r s : Resources) where
         unnot true is = refl
         unnot false is = absurd (true≢false is)
 
-        by : (test : Bool) → (not (length r.events.armed == 0) && is_some (row_at r.pipes inode)) ≡ test → watched_settled (if test then Some (record { inode = inode; before = pipe_conditions r inode }) else None) s ≡ events_settled r s
+        by : (test : Bool) → (not (length r.events.armed == 0) && is_some (row_at r.pipes inode)) ≡ test → IsEnough r (if test then Some (record { inode = inode; before = pipe_conditions r inode }) else None) s
         by true is = told-settled stay
         by false is = elim (and_cases (not (length r.events.armed == 0)) (is_some (row_at r.pipes inode)) is) [
-          | inl empty ↦ quiet-settled (subst (AllByRecursion Quiet) (sym (unarmed (eqb-true (length r.events.armed) 0 (unnot _ empty)))) tt)
+          | inl empty ↦ unarmed-settled (unarmed (eqb-true (length r.events.armed) 0 (unnot _ empty)))
           | inr unpiped ↦ quiet-settled (all-weaker Stays Quiet s.events.armed (unpiped-quiet (unsome (row_at r.pipes inode) unpiped)) stay)
         ]

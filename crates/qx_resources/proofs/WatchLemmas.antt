@@ -31,14 +31,14 @@ use Rattle.qx_resources.specs.declared.watching.Watched.{Watched}
 use Rattle.qx_resources.specs.Watching.{HasNoStalePipe, watch_block, watch_place, watched_call, watched_over, watched_settled, works_on_pipe}
 use Rattle.qx_resources.proofs.WatchDeeds.{GivesStill, cancel-settled, kept-settled, read_file-settled, read_pipe-settled, seek_file-still, write_file-settled, write_pipe-settled}
 use Rattle.qx_resources.proofs.WatchCloses.{close_dup-settled}
-use Rattle.qx_resources.proofs.WatchFacts.{still-settled}
+use Rattle.qx_resources.proofs.WatchFacts.{IsEnough, still-settled}
 use Rattle.qx_machine.proofs.Gives.{Gives, gives_error, gives_more, gives_on, gives-value}
 use Rattle.qx_resources.proofs.WatchOpens.{directory-still, open-still}
 use Rattle.qx_resources.proofs.WatchOthers.{chmod-still, dup-still, list-still, notify-still, seek_pipe-still, stat_block-still, stat_path-still, unlink-still}
 
 -- it is enough to watch what is watched for a message over this
 abbrev IsSettled : Resources → Meaning → Result Opened Errno → Deed Resources → Type 0
-IsSettled r given opened deed = watched_settled (watched_over r given opened) deed.state ≡ events_settled r deed.state
+IsSettled r given opened deed = IsEnough r (watched_over r given opened) deed.state
 
 unwatched-message : (r : Resources) (message : Message) (opened : Result Opened Errno) → works_on_pipe message ≡ false → watched_over r (Known message) opened ≡ None
 unwatched-message r message (Err error) none = refl
@@ -48,7 +48,7 @@ unwatched-message r message (Ok opened) none = ap (λ (works : Bool). if works t
 still : (r : Resources) (message : Message) (opened : Result Opened Errno) (given : Result (Deed Resources) Errno) → works_on_pipe message ≡ false → GivesStill r given → Gives (IsSettled r (Known message) opened) given
 still r message opened given none h =
     gives_more _ (IsSettled r (Known message) opened) given
-    (λ deed quiet. ap (λ (watched : Option Watched). watched_settled watched deed.state) (unwatched-message r message opened none) ∙ still-settled r deed.state quiet) h
+    (λ deed quiet lives. ap (λ (watched : Option Watched). watched_settled lives watched deed.state) (unwatched-message r message opened none) ∙ still-settled r deed.state quiet lives) h
 
 over_opened : (r : Resources) (given : Meaning) (opened : Result Opened Errno) (next : Opened → Result (Deed Resources) Errno) → ((over : Opened) → Gives (IsSettled r given (Ok over)) (next over)) → Gives (IsSettled r given opened) (opened >>= next)
 over_opened r given (Ok over) next h = h over
@@ -56,7 +56,7 @@ over_opened r given (Err error) next h = gives_error _ error
 
 module _ (r : Resources) (no_stale : HasNoStalePipe r) (context : Context) where
   ram-settled : (message : Message) → Gives (IsSettled r (Known message) context.opened) (manager_deed managers.Ram r context message)
-  ram-settled (msg.Open flags mode rest) = still r (msg.Open flags mode rest) context.opened _ refl (gives_on _ (new_open context.target) _ (λ over is. open-still r no_stale kind.File over rest _))
+  ram-settled (msg.Open flags mode rest) = still r (msg.Open flags mode rest) context.opened _ refl (gives_on _ (new_open context) _ (λ over is. open-still r no_stale kind.File over rest _))
   ram-settled (msg.Stat rest) = still r (msg.Stat rest) context.opened _ refl (gives_on _ (side_root context.target) _ (λ root is. stat_path-still r root rest context.moment))
   ram-settled (msg.Unlink rest) = still r (msg.Unlink rest) context.opened _ refl (gives_on _ (side_root context.target) _ (λ root is. unlink-still kind.File r root rest context.moment))
   ram-settled (msg.Mknod mode rest) = still r (msg.Mknod mode rest) context.opened _ refl (gives_on _ (side_root context.target) _ (λ root is. directory-still r no_stale root mode rest context.moment))
@@ -71,7 +71,7 @@ module _ (r : Resources) (no_stale : HasNoStalePipe r) (context : Context) where
   ram-settled (msg.Chmod mode) = still r (msg.Chmod mode) context.opened _ refl (gives_on _ context.opened _ (λ over is. chmod-still r over mode))
 
   pipe-settled : (message : Message) → Gives (IsSettled r (Known message) context.opened) (manager_deed managers.Pipe r context message)
-  pipe-settled (msg.Open flags mode rest) = still r (msg.Open flags mode rest) context.opened _ refl (gives_on _ (new_open context.target) _ (λ over is. open-still r no_stale kind.Pipe over rest _))
+  pipe-settled (msg.Open flags mode rest) = still r (msg.Open flags mode rest) context.opened _ refl (gives_on _ (new_open context) _ (λ over is. open-still r no_stale kind.Pipe over rest _))
   pipe-settled (msg.Stat rest) = still r (msg.Stat rest) context.opened _ refl (gives_on _ (side_root context.target) _ (λ root is. stat_path-still r root rest context.moment))
   pipe-settled (msg.Unlink rest) = still r (msg.Unlink rest) context.opened _ refl (gives_on _ (side_root context.target) _ (λ root is. unlink-still kind.Pipe r root rest context.moment))
   pipe-settled (msg.Mknod mode rest) = gives_error _ _
@@ -104,33 +104,34 @@ counted-unstale r attrs same are number block is none =
     absurd (has_inode attrs r.inodes.blocks number block are is
     (none_before attribute_of attrs block.inode (λ attr gone. absurd (cc)) (ap (λ (rows : List (Option Attribute)). row_at rows block.inode) same ∙ none)))
 
--- after a message, what was watched tells of each event that is due
-pub watched-settled : (r : Resources) (context : Context) (given : Meaning) (deed : Deed Resources) → HasNoStalePipe r → deed_of r context given ≡ Ok deed → watched_settled (watched_over r given context.opened) deed.state ≡ events_settled r deed.state
-watched-settled r context given deed no_stale is = gives-value (IsSettled r given context.opened) _ deed is (meaning-settled r no_stale context given)
+module _ (lives : ℕ → Bool) (r : Resources) where
+  -- after a message, what was watched tells of each event that is due
+  pub watched-settled : (context : Context) (given : Meaning) (deed : Deed Resources) → HasNoStalePipe r → deed_of r context given ≡ Ok deed → watched_settled lives (watched_over r given context.opened) deed.state ≡ events_settled lives r deed.state
+  watched-settled context given deed no_stale is = gives-value (IsSettled r given context.opened) _ deed is (meaning-settled r no_stale context given) lives
 
--- where nothing changed, nothing is due
-watched-kept : (r : Resources) (watched : Option ℕ) → watched_settled (watch_place r watched) r ≡ r.events
-watched-kept r None = refl
-watched-kept r (Some inode) = kept-settled r inode ∙ settled-unchanged r r refl refl
+  -- so it does after an unblock
+  pub watched-cancelled : (process thread call moment : ℕ) (deed : Deed Resources) → cancel_call r process thread call moment ≡ Ok deed → watched_settled lives (watched_call r process thread call) deed.state ≡ events_settled lives r deed.state
+  watched-cancelled process thread call moment deed is =
+      gives-value (λ (deed : Deed Resources). IsEnough r (watched_call r process thread call) deed.state) _ deed is (cancel-settled r process thread call moment) lives
 
-block-kept : (r : Resources) (row : Option Ocb) → watched_settled (watch_block r row) r ≡ r.events
-block-kept r None = refl
-block-kept r (Some block) = watched-kept r (Some block.inode)
+  -- where nothing changed, nothing is due
+  watched-kept : (watched : Option ℕ) → watched_settled lives (watch_place r watched) r ≡ r.events
+  watched-kept None = refl
+  watched-kept (Some inode) = kept-settled r inode lives ∙ settled-unchanged lives r r refl refl
 
-pub watched-unchanged : (r : Resources) (given : Meaning) (opened : Result Opened Errno) → watched_settled (watched_over r given opened) r ≡ r.events
-watched-unchanged r (Known message) (Ok opened) = by (works_on_pipe message)
-  where
-    by : (works : Bool) → watched_settled (if works then watch_block r (row_at r.inodes.blocks opened.number) else None) r ≡ r.events
-    by true = block-kept r (row_at r.inodes.blocks opened.number)
-    by false = refl
-watched-unchanged r (Known message) (Err error) = refl
-watched-unchanged r Unknown opened = refl
-watched-unchanged r Malformed opened = refl
+  block-kept : (row : Option Ocb) → watched_settled lives (watch_block r row) r ≡ r.events
+  block-kept None = refl
+  block-kept (Some block) = watched-kept (Some block.inode)
 
--- so it is for an unblock
-pub watched-cancelled : (r : Resources) (process thread call moment : ℕ) (deed : Deed Resources) → cancel_call r process thread call moment ≡ Ok deed → watched_settled (watched_call r process thread call) deed.state ≡ events_settled r deed.state
-watched-cancelled r process thread call moment deed is =
-    gives-value (λ (deed : Deed Resources). watched_settled (watched_call r process thread call) deed.state ≡ events_settled r deed.state) _ deed is (cancel-settled r process thread call moment)
+  pub watched-unchanged : (given : Meaning) (opened : Result Opened Errno) → watched_settled lives (watched_over r given opened) r ≡ r.events
+  watched-unchanged (Known message) (Ok opened) = by (works_on_pipe message)
+    where
+      by : (works : Bool) → watched_settled lives (if works then watch_block r (row_at r.inodes.blocks opened.number) else None) r ≡ r.events
+      by true = block-kept (row_at r.inodes.blocks opened.number)
+      by false = refl
+  watched-unchanged (Known message) (Err error) = refl
+  watched-unchanged Unknown opened = refl
+  watched-unchanged Malformed opened = refl
 
-pub watched-same : (r : Resources) (process thread call : ℕ) → watched_settled (watched_call r process thread call) r ≡ r.events
-watched-same r process thread call = watched-kept r (position (holds (is_call process thread call)) r.pipes)
+  pub watched-same : (process thread call : ℕ) → watched_settled lives (watched_call r process thread call) r ≡ r.events
+  watched-same process thread call = watched-kept (position (holds (is_call process thread call)) r.pipes)

@@ -1,5 +1,5 @@
 -- What an open and the making of a directory come to: nothing comes to hold by them.
-use Rattle.std.proofs.Common.{◌≡◌, inl, inr, ℕ, ◌≤◌, Bool, true, false, not, refl, sym, ap, ◌∙◌, arith, Option, Some, None, List, ◌∷◌, [], le_of_eq, count_by, nat_le, ◌⊎◌, Ok, Err}
+use Rattle.std.proofs.Common.{◌≡◌, inl, inr, ℕ, ◌≤◌, Bool, true, false, not, refl, sym, ap, ◌∙◌, arith, Option, Some, None, List, ◌∷◌, [], ◌++◌, le_of_eq, count_by, nat_le, ◌⊎◌, Ok, Err}
 use Rattle.std.proofs.lemmas.Bool.{cases_eq, cond_both}
 use Rattle.std.specs.Prelude.{◌&&◌, is_some, if◌then◌else◌}
 use Rattle.qx_types.specs.declared.errno.Errno.{Errno}
@@ -7,7 +7,6 @@ use Rattle.qx_types.specs.declared.errno.Errno.TheVariants.{EISDIR, ENOSPC, EACC
 use Rattle.qx_types.specs.declared.flags.OFlags.{OFlags}
 use Rattle.qx_types.specs.declared.flags.TheConstants.OFlags.{CREAT, EXCL, TRUNC}
 use Rattle.qx_types.specs.declared.limits.TheConstants.Limits.{BLOCKS, INODES}
-use Rattle.qx_types.specs.declared.names.Coid.{Coid}
 use Rattle.qx_machine.specs.declared.rows.Attribute.{Attribute}
 use Rattle.qx_machine.specs.declared.rows.Kind.{Kind}
 use Rattle.qx_machine.specs.declared.rows.Kind.TheVariants.{Directory, File}
@@ -92,7 +91,7 @@ record IsReady (r s : Resources) : Type 0 where
   pipes : (number : ℕ) (block : Ocb) → row_at r.inodes.blocks number ≡ Some block → (row_at s.pipes block.inode ≡ row_at r.pipes block.inode) ⊎ (row_at r.pipes block.inode ≡ None)
 
 -- a block comes where none was
-put-grows : (r s : Resources) (number : ℕ) (new : Ocb) → IsReady r s → row_at s.inodes.blocks number ≡ None → Grows r (record s { inodes = record s.inodes { blocks = put_row s.inodes.blocks number new } })
+put-grows : (r s : Resources) (number : ℕ) (new : Ocb) → IsReady r s → row_at s.inodes.blocks number ≡ None → Grows r (record s { inodes = record s.inodes { blocks = put_row s.inodes.blocks number new; made = s.inodes.made ++ number ∷ [] } })
 put-grows r s number new ready free = record {
   rows = λ other block is.
       let was : row_at s.inodes.blocks other ≡ Some block = ap (λ (rows : List (Option Ocb)). row_at rows other) ready.blocks ∙ is in
@@ -110,9 +109,9 @@ put-grows r s number new ready free = record {
     none-some : (row : Option Ocb) (block : Ocb) → row ≡ None → row ≡ Some block → ⊥
     none-some row block none some = absurd (cc)
 
-opened-still : (r s : Resources) (coid : Coid) (flags : OFlags) (inode : ℕ) → IsReady r s → GivesStill r (opened coid flags inode s)
-opened-still r s coid flags inode ready =
-    gives_by (λ (block : Numbered). Grows r (record s { inodes = block.inodes })) _ (open_block s.inodes inode flags) _
+opened-still : (r s : Resources) (over : NewOpen) (flags : OFlags) (inode : ℕ) → IsReady r s → GivesStill r (opened over flags inode s)
+opened-still r s over flags inode ready =
+    gives_by (λ (block : Numbered). Grows r (record s { inodes = block.inodes })) _ (open_block s.inodes inode flags over.client) _
     (gives_on _ (block_number s.inodes) _ (λ number is.
     gives_done _ _ (put-grows r s number _ ready (ap (row_at s.inodes.blocks) (sym (within-is BLOCKS (lowest_from 1 s.inodes.blocks) ENFILE number is)) ∙ lowest_from_free 1 s.inodes.blocks))))
     (λ block grows. gives_done _ _ (grows-still r _ grows))
@@ -124,13 +123,13 @@ emptied-ready : (flags : OFlags) (inode moment : ℕ) (r : Resources) → IsRead
 emptied-ready flags inode moment r =
     cond_both (has flags TRUNC && writes flags && is_some (row_at r.files inode)) _ r (IsReady r) (λ is. record { blocks = refl; pipes = λ number block is. inl refl }) (λ is_not. ready-same r)
 
-existing-still : (r : Resources) (coid : Coid) (inode : ℕ) (wish : Wish) → GivesStill r (open_existing r coid inode wish)
-existing-still r coid inode wish =
+existing-still : (r : Resources) (over : NewOpen) (inode : ℕ) (wish : Wish) → GivesStill r (open_existing r over inode wish)
+existing-still r over inode wish =
     gives_on _ (found (row_at r.inodes.attributes inode) ENOENT) _ (λ attribute there.
     gives_on _ (need (not (has wish.flags CREAT && has wish.flags EXCL)) EEXIST) _ (λ shared is_shared.
     gives_on _ (need (not (is_directory attribute.kind && writes wish.flags)) EISDIR) _ (λ fitting is_fitting.
     gives_on _ (need (allows attribute r.user wish.flags) EACCES) _ (λ allowed is_allowed.
-    opened-still r (emptied wish.flags inode wish.moment r) coid wish.flags inode (emptied-ready wish.flags inode wish.moment r)))))
+    opened-still r (emptied wish.flags inode wish.moment r) over wish.flags inode (emptied-ready wish.flags inode wish.moment r)))))
 
 module _ (r : Resources) (no_stale : HasNoStalePipe r) where
   -- an empty pipe comes where no block has one open
@@ -150,21 +149,21 @@ module _ (r : Resources) (no_stale : HasNoStalePipe r) where
       gives_by (IsMade r.inodes) _ (new_inode r.inodes (new_attribute kind mode r.user moment)) _ (inode-gives r.inodes _) (λ made is.
       gives_done _ _ (empty-ready kind made.number _ is.free is.blocks refl))
 
-  missing-still : (own : Kind) (coid : Coid) (at : Spot) (wish : Wish) → GivesStill r (open_missing own r coid at wish)
-  missing-still own coid at wish =
+  missing-still : (own : Kind) (over : NewOpen) (at : Spot) (wish : Wish) → GivesStill r (open_missing own r over at wish)
+  missing-still own over at wish =
       gives_on _ (need (has wish.flags CREAT) ENOENT) _ (λ making is_making.
       gives_on _ (writable r.inodes r.user at.parent) _ (λ parent is_parent.
       gives_on _ (block_number r.inodes) _ (λ free is_free.
       gives_by _ _ (made_at r at parent own wish.mode wish.moment) _ (made-ready at parent own wish.mode wish.moment) (λ made ready.
-      opened-still r made.after coid wish.flags made.inode ready))))
+      opened-still r made.after over wish.flags made.inode ready))))
 
-  spot-still : (own : Kind) (coid : Coid) (at : Spot) (there : Option ℕ) (wish : Wish) → GivesStill r (open_spot own r coid at there wish)
-  spot-still own coid at (Some inode) wish = existing-still r coid inode wish
-  spot-still own coid at None wish = missing-still own coid at wish
+  spot-still : (own : Kind) (over : NewOpen) (at : Spot) (there : Option ℕ) (wish : Wish) → GivesStill r (open_spot own r over at there wish)
+  spot-still own over at (Some inode) wish = existing-still r over inode wish
+  spot-still own over at None wish = missing-still own over at wish
 
   pub open-still : (own : Kind) (over : NewOpen) (rest : List (List ℕ)) (wish : Wish) → GivesStill r (open_path own r over rest wish)
-  open-still own over [] wish = existing-still r over.coid over.root wish
-  open-still own over (name ∷ rest) wish = gives_on _ (spot r.inodes r.names r.user over.root (name ∷ rest) ENOENT) _ (λ at is. spot-still own over.coid at at.inode wish)
+  open-still own over [] wish = existing-still r over over.root wish
+  open-still own over (name ∷ rest) wish = gives_on _ (spot r.inodes r.names r.user over.root (name ∷ rest) ENOENT) _ (λ at is. spot-still own over at at.inode wish)
 
   pub directory-still : (root mode : ℕ) (rest : List (List ℕ)) (moment : ℕ) → GivesStill r (make_directory r root mode rest moment)
   directory-still root mode rest moment =

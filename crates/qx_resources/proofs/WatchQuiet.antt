@@ -1,5 +1,6 @@
 -- What of two pairs of conditions comes to hold, and of pipes where blocks come.
 use Rattle.std.proofs.Common.{◌≡◌, inl, inr, ℕ, ◌≤◌, Bool, true, false, not, ◌==◌, length, refl, sym, ap, subst, ◌∙◌, arith, Option, Some, None}
+use Rattle.std.proofs.Math.Bool.{and-false, and-not_self}
 use Rattle.std.proofs.lemmas.Bool.{false≢true, eq-eqb, eqb-true, true≢false, cases_Bool}
 use Rattle.std.specs.Prelude.{nat_lt, ◌&&◌, ◌||◌}
 use Rattle.qx_types.specs.declared.limits.TheConstants.Limits.{PIPE}
@@ -22,16 +23,8 @@ pub record IsQuiet (before after : Conditions) : Type 0 where
   pub input : (after.input && not before.input) ≡ false
   pub output : (after.output && not before.output) ≡ false
 
-no-both : (b : Bool) → (b && not b) ≡ false
-no-both true = refl
-no-both false = refl
-
-pub and-false : (b : Bool) → (b && false) ≡ false
-and-false true = refl
-and-false false = refl
-
 pub quiet-same : (before after : Conditions) → before ≡ after → IsQuiet before after
-quiet-same before after same = subst (IsQuiet before) same (record { input = no-both before.input; output = no-both before.output })
+quiet-same before after same = subst (IsQuiet before) same (record { input = and-not_self before.input; output = and-not_self before.output })
 
 -- nothing can come to hold where both conditions did
 pub quiet-both : (before after : Conditions) → before ≡ unwatched → IsQuiet before after

@@ -1,4 +1,5 @@
 pub mod Boot
+pub mod Disconnects
 pub mod Lends
 pub mod Mounts
 pub mod Ranges

@@ -31,10 +31,10 @@ told_of (Some block) inode these = if block.inode == inode then these else unwat
 abbrev pub told_over : Resources → ℕ → Conditions → ℕ → Conditions
 told_over r inode these number = told_of (row_at r.inodes.blocks number) inode these
 
--- a user's events once those that are due by what was watched have given their pulses
-abbrev pub watched_settled : Option Watched → Resources → Events
-watched_settled None after = after.events
-watched_settled (Some watched) after = triggered (told_over after watched.inode watched.before) (told_over after watched.inode (pipe_conditions after watched.inode)) after.events
+-- a user's events once those that are due by what was watched have given their pulses to the processes that live
+abbrev pub watched_settled : (ℕ → Bool) → Option Watched → Resources → Events
+watched_settled lives None after = after.events
+watched_settled lives (Some watched) after = triggered lives (told_over after watched.inode watched.before) (told_over after watched.inode (pipe_conditions after watched.inode)) after.events
 
 -- the pipe of an inode is watched if it is one, and if anything is armed
 abbrev pub watch : Resources → ℕ → Option Watched

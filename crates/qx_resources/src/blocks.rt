@@ -1,19 +1,13 @@
 //! What both managers do alike with what is open, and with what a path leads to.
 
-ghost use Rattle.std.specs.Prelude.{◌≡◌, ◌<◌, ℕ, false, [], IfNone, IfOk, IfSome, IsTrue, Ok, OnErr, length};
+ghost use Rattle.std.specs.Prelude.{◌≡◌, ℕ, [], IfOk, IsTrue, OnErr};
 ghost use Rattle.qx_iofunc.specs.Given as given;
-ghost use Rattle.qx_machine.specs.Defaults.{close_dup as machine_close};
-ghost use Rattle.qx_machine.specs.Events.{disarmed};
 ghost use Rattle.qx_machine.specs.Functions.{function_deed};
-ghost use Rattle.qx_machine.specs.Inodes.{is_shared};
 ghost use Rattle.qx_machine.specs.Managers.{ram_connect, ram_io};
 ghost use Rattle.qx_machine.specs.Resources as machine;
-ghost use Rattle.qx_machine.specs.Rows.{row_at};
 ghost use Rattle.qx_machine.specs.Wants.{got_events, is_done_so};
-ghost use Rattle.qx_machine.specs.declared.rows.Effect.TheVariants.{Closes, Opens};
-ghost use Rattle.qx_machine.specs.declared.rows.Kind.{Kind};
+ghost use Rattle.qx_machine.specs.declared.rows.Effect.TheVariants.{Opens};
 ghost use Rattle.qx_resmgr.specs.Deeds.{Did, IsReplied};
-ghost use Rattle.qx_notify.specs.Events.{events_of, with_events};
 ghost use Rattle.qx_resources.specs.State as kept;
 ghost use Rattle.qx_resources.specs.State.{HasUser};
 ghost use Rattle.qx_resources.specs.inner.State.{IsCallerReceived};
@@ -35,41 +29,6 @@ pub fn opened(coid: Coid, block: u16) -> Done
     Done::Reply {
         status: coid.0 as u64,
         effect: Effect::Opens { coid, block },
-    }
-}
-
-/// What a close came to: the event of the block that is gone goes, and so does the connection (C Library Reference: `close`;
-/// `iofunc_notify_remove`).
-pub fn closed(state: &Resources, waits: &mut Waits, opened: Opened) -> Done
-    requires user { state.now.user < length waits.old.events.events }
-    ensures done { result ≡ Done.Reply 0 (Closes opened.coid) }
-    ensures events { waits.new ≡ record waits.old { events = with_events waits.old.events state.now.user (disarmed opened.number (events_of waits.old.events state.now.user)) } }
-{
-    waits.events.disarm(state.store.user(), opened.number);
-    detached(opened.coid)
-}
-
-/// That a connection goes.
-fn detached(coid: Coid) -> Done
-    ensures { result ≡ Done.Reply 0 (Closes coid) }
-{
-    Done::Reply {
-        status: 0,
-        effect: Effect::Closes(coid),
-    }
-}
-
-/// A close of a connection that shares its block with others: the block has one less, and stays; none where no other has it
-/// (Writing a Resource Manager: `iofunc_close_dup`).
-pub fn close_dup(state: &mut Resources, opened: Opened) -> Option<Done>
-    ensures shared { IfSome result (λ done. (own : Kind) (waits : AllWaits) → Did kept.state state.old waits state.new waits [] (Ok done) (machine_close own (kept.told state.old waits) opened)) }
-    ensures replied { IfSome result (λ done. IsReplied (Ok done)) }
-    ensures last { IfNone result ((is_shared (row_at state.old.inodes.blocks opened.number) ≡ false) × (state.new ≡ state.old)) }
-{
-    if state.store.close_dup(opened.number) {
-        Some(detached(opened.coid))
-    } else {
-        None
     }
 }
 

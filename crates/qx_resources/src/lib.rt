@@ -3,19 +3,23 @@
 //! - `resources.rt`: what is kept for one user, mounts and a store; boot, mounting, what a message is served with, which
 //!   manager does what, and an unblock
 //! - `ram.rt`, `pipe.rt`: the RAM manager and the pipe manager, each as its functions
-//! - `blocks.rt`: what both do alike: status, listing and mode, and what an open and a close come to
+//! - `blocks.rt`: what both do alike: status, listing, mode, notification, a dup, and what an open comes to
+//! - `closing.rt`: how open control blocks go: at a close, and with a client that is gone
 //! - `waits.rt`: what all users share, in which calls and events wait
+//! - `conditions.rt`: which conditions hold of what is open, and the pulses that come of what changed of those of all blocks
 //! - `watching.rt`: which pipe is watched while a message or an unblock pulse is done, and the pulses that come of it
 //! - `state.rt`: the same resources, as the managers' tables see them with the user's pipes and events
 //! - `all.rt`: what is kept for all users; a row that is lent
 //!
 //! `State.antt` says how these and the user's pipes and events are the machine's resources (`told`), what all users share
 //! once a function is done (`shared`), and how the two stand together (`HasUser`); `Watching.antt`, which events are due by
-//! what was done to one pipe.
+//! what was done to one pipe; `Disconnects.antt`, what becomes of the resources as a client is gone.
 #![tactic(auto)]
 
 pub mod all;
 mod blocks;
+mod closing;
+mod conditions;
 mod pipe;
 mod ram;
 pub mod resources;

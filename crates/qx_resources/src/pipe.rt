@@ -2,15 +2,15 @@ ghost use Rattle.qx_machine.specs.Managers.{pipe_connect, pipe_io};
 ghost use Rattle.qx_machine.specs.Wants.{difference_wants_memory};
 ghost use Rattle.qx_types.specs.declared.names.Manager.TheVariants as manager;
 
-use crate::blocks;
 use crate::resources::Resources;
 use crate::state::Told;
 use crate::waits::Waits;
+use crate::{blocks, closing};
 use qx_attr::Reply;
 use qx_machine::{NewDup, NewOpen, Opened, PulseWish, Wish};
 use qx_process::Room;
 use qx_resmgr::{Connect, Done, Io, no_function};
-use qx_types::{Errno, NotifyAction, Whence};
+use qx_types::{Errno, Manager, NotifyAction, Whence};
 use qx_wire::Rest;
 use std::alloc::AllocError;
 
@@ -31,7 +31,7 @@ impl Connect<Resources, Waits, Told> for Pipe {
             Ok(over) => over,
             Err(error) => return Ok(Err(error)),
         };
-        let opened = qx_pipes::open(&mut waits.shared, &mut state.store, over.root, rest, wish)?;
+        let opened = qx_pipes::open(&mut waits.shared, &mut state.store, over, rest, wish)?;
         Ok(opened.map(|block| blocks::opened(over.coid, block)))
     }
 
@@ -110,14 +110,7 @@ impl Io<Resources, Waits, Told> for Pipe {
         waits: &mut Waits,
         opened: Result<Opened, Errno>,
     ) -> Result<Done, Errno> {
-        let opened = opened?;
-        match blocks::close_dup(state, opened) {
-            Some(done) => Ok(done),
-            None => {
-                qx_pipes::close(&mut waits.shared, &mut state.store, opened)?;
-                Ok(blocks::closed(state, waits, opened))
-            }
-        }
+        closing::close(state, waits, Manager::Pipe, opened)
     }
 
     fn dup(

@@ -2,15 +2,15 @@ ghost use Rattle.qx_machine.specs.Managers.{ram_connect, ram_io};
 ghost use Rattle.qx_machine.specs.Wants.{difference_wants_memory};
 ghost use Rattle.qx_types.specs.declared.names.Manager.TheVariants as manager;
 
-use crate::blocks;
 use crate::resources::Resources;
 use crate::state::Told;
 use crate::waits::Waits;
+use crate::{blocks, closing};
 use qx_attr::Reply;
 use qx_machine::{Kind, NewDup, NewOpen, Opened, PulseWish, Wish};
 use qx_process::Room;
 use qx_resmgr::{Connect, Done, Io};
-use qx_types::{Errno, NotifyAction, Whence};
+use qx_types::{Errno, Manager, NotifyAction, Whence};
 use qx_wire::Rest;
 use std::alloc::AllocError;
 
@@ -35,7 +35,7 @@ impl Connect<Resources, Waits, Told> for Ram {
             Ok(lookup) => lookup,
             Err(error) => return Ok(Err(error)),
         };
-        let opening = state.store.open(Kind::File, lookup, wish)?;
+        let opening = state.store.open(Kind::File, over.client, lookup, wish)?;
         Ok(Ok(blocks::opened(over.coid, opening.number)))
     }
 
@@ -118,14 +118,7 @@ impl Io<Resources, Waits, Told> for Ram {
         waits: &mut Waits,
         opened: Result<Opened, Errno>,
     ) -> Result<Done, Errno> {
-        let opened = opened?;
-        match blocks::close_dup(state, opened) {
-            Some(done) => Ok(done),
-            None => {
-                state.store.close(Kind::File, opened.number)?;
-                Ok(blocks::closed(state, waits, opened))
-            }
-        }
+        closing::close(state, waits, Manager::Ram, opened)
     }
 
     fn dup(

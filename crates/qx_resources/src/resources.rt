@@ -199,6 +199,7 @@ pub fn context_of(
 {
     Context {
         target,
+        client: process.client(caller.process, target.manager),
         opened: opened_by(process, caller, target, moment, dup_of(meaning)),
         moment,
     }

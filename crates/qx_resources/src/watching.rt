@@ -3,25 +3,22 @@
 ghost use Rattle.std.specs.Prelude.{◌≡◌, ◌&&◌, ◌==◌, ℕ, Some, IsSome, length, not};
 ghost use Rattle.qx_machine.specs.Notification.{conditions_of};
 ghost use Rattle.qx_machine.specs.Rows.{row_at};
+ghost use Rattle.qx_machine.specs.Settling.{is_living};
 ghost use Rattle.qx_machine.specs.Waiting.{sides_of};
 ghost use Rattle.qx_machine.specs.declared.rows.Ocb as machine;
 ghost use Rattle.qx_notify.specs.Events.{with_events};
 ghost use Rattle.qx_resources.specs.State.{HasUser, told};
 ghost use Rattle.qx_resources.specs.Watching.{pipe_conditions, told_over, watch, watched_call, watched_over, watched_settled};
 
+use crate::conditions::BOTH;
 use crate::resources::Resources;
 use crate::waits::Waits;
 use qx_attr::Inodes;
 use qx_machine::{Conditions, Opened};
 use qx_notify::{Change, Changes};
-use qx_types::{Errno, Limits, Thread};
+use qx_procs::Processes;
+use qx_types::{Errno, Thread};
 use qx_wire::{Meaning, Message};
-
-/// Both conditions hold of a file and of a directory, always.
-pub(crate) const BOTH: Conditions = Conditions {
-    input: true,
-    output: true,
-};
 
 /// A pipe that is watched: its inode, and which conditions held of it before it is worked on.
 #[derive(Clone, Copy, Debug, PartialEq, Eq)]
@@ -84,34 +81,18 @@ impl Resources {
         })
     }
 
-    /// Which conditions hold of what is open under an inode (C Library Reference: `ionotify`): of a pipe input where bytes
-    /// stand or nobody has it open for writing, and output where bytes have room or nobody has it open for reading.
-    pub(crate) fn conditions(&self, waits: &Waits, inode: u32) -> Conditions
-        ensures { result ≡ pipe_conditions (told self.now waits.now) inode }
-    {
-        let user = self.store.user();
-        if !waits.shared.has_pipe(user, inode) {
-            return BOTH;
-        }
-        let sides = self.store.inodes().sides(inode);
-        let len = waits.shared.pipe_len(user, inode);
-        Conditions {
-            input: len != 0 || !sides.for_writing,
-            output: len < Limits::PIPE || !sides.for_reading,
-        }
-    }
-
     /// Events that are due by what was done to a watched pipe give their pulses (C Library Reference:
     /// `iofunc_notify_trigger`). Where nothing is watched none is due.
-    pub fn trigger(&self, waits: &mut Waits, watched: Option<Watched>)
+    pub fn trigger(&self, waits: &mut Waits, processes: &Processes, watched: Option<Watched>)
         requires fits { HasUser self.now waits.old }
-        ensures triggered { waits.new ≡ record waits.old { events = with_events waits.old.events self.now.user (watched_settled watched (told self.now waits.old)) } }
+        ensures triggered { waits.new ≡ record waits.old { events = with_events waits.old.events self.now.user (watched_settled (is_living processes.now) watched (told self.now waits.old)) } }
     {
         let Some(watched) = watched else {
             return;
         };
         let after = self.conditions(waits, watched.inode);
         let changes = PipeChanges {
+            processes,
             inodes: self.store.inodes(),
             inode: watched.inode,
             change: Change {
@@ -126,6 +107,7 @@ impl Resources {
 /// What changed of the conditions of one pipe.
 #[derive(Clone, Copy)]
 struct PipeChanges<'a> {
+    processes: &'a Processes,
     inodes: &'a Inodes,
     inode: u32,
     change: Change,
@@ -133,11 +115,14 @@ struct PipeChanges<'a> {
 
 impl<'a> Changes for PipeChanges<'a> {
     ghost use Rattle.qx_machine.specs.Rows.{row_at};
+    ghost use Rattle.qx_machine.specs.Settling.{is_living};
     ghost use Rattle.qx_resources.specs.Watching.{told_of};
 
     ghost before = { λ c number. told_of (row_at c.inodes.now.inodes.blocks number) c.inode c.change.before };
 
     ghost after = { λ c number. told_of (row_at c.inodes.now.inodes.blocks number) c.inode c.change.after };
+
+    ghost lives = { λ c process. is_living c.processes.now process };
 
     fn of(&self, block: u16) -> Change {
         match self.inodes.block(block) {
@@ -147,5 +132,9 @@ impl<'a> Changes for PipeChanges<'a> {
                 after: BOTH,
             },
         }
+    }
+
+    fn lives(&self, process: u8) -> bool {
+        self.processes.living(process).is_some()
     }
 }

@@ -5,11 +5,11 @@ use Rattle.qx_types.specs.Configuration.{Configuration, IsConfiguration}
 use Rattle.qx_types.specs.declared.names.Thread.{Thread}
 use Rattle.qx_types.specs.declared.request.Request.{Request}
 use Rattle.qx_types.specs.declared.step.Step.{Step}
-use Rattle.qx_types.specs.declared.step.Step.TheVariants.{Spawn, Call, TakeReply, TakePulse, SetPrio, Interrupt, Mount, Receive, Perform}
+use Rattle.qx_types.specs.declared.step.Step.TheVariants.{Spawn, Exit, Call, TakeReply, TakePulse, SetPrio, Interrupt, Mount, Receive, Perform}
 use Rattle.qx_script.specs.declared.command.Command.TheVariants.{Take}
 use Rattle.qx_calls.specs.Calls.{call_in_line, call_said}
 use Rattle.qx_calls.specs.Forms.{line_text, words_for, words_said}
-use Rattle.qx_script.specs.Lines.{CanSay, call_step, command_of, interrupt_line, mount_line, perform_line, prio_line, line_of_receive, pulse_line, reply_line, spawn_line, step_in_line, step_said}
+use Rattle.qx_script.specs.Lines.{CanSay, call_step, command_of, exit_line, interrupt_line, mount_line, perform_line, prio_line, line_of_receive, pulse_line, reply_line, spawn_line, step_in_line, step_said}
 use Rattle.qx_script.specs.Script.{Reading, after_line, after_words, is_skipped, with_command}
 use Rattle.qx_script.specs.StepText.{step_text}
 use Rattle.qx_words.specs.Kinds.{is_word}
@@ -28,6 +28,7 @@ again : (config : Configuration) (step : Step) → IsConfiguration config.users 
     → step_in_line config.users (step_said step).name (words_for (step_said step).form config (step_said step).values) ≡ Some step
 unfolding step_in_line
 again config (Spawn user threads prio) valid can = line_again spawn_line config (user, (threads, (prio.0, tt))) valid can
+again config (Exit process) valid can = line_again exit_line config (process, tt) valid can
 again config (Call thread request) valid can =
     reads_call config.users thread request (words_for (call_said thread request).form config (call_said thread request).values)
     ∙ ap (option_map call_step) (call_again config thread request valid can)

@@ -5,7 +5,7 @@ use Rattle.std.specs.List.{list_all}
 use Rattle.std.specs.Str.{bytes_eq}
 use Rattle.qx_types.specs.declared.step.Step.{Step}
 use Rattle.qx_script.specs.declared.command.Command.{Command}
-use Rattle.qx_script.specs.declared.command.Command.TheVariants.{Take, Serve, Do, Show, Trace}
+use Rattle.qx_script.specs.declared.command.Command.TheVariants.{Take, Serve, Do, Show, Erased, Trace}
 use Rattle.qx_calls.specs.inner.Calls.{CanSayCall}
 use Rattle.qx_calls.specs.Calls.{call_in_line}
 use Rattle.qx_calls.proofs.ReadCalls.{call_within}
@@ -25,6 +25,7 @@ CanSayCommand users (Take step) = CanSay users step
 CanSayCommand users (Serve moment) = IsMoment moment
 CanSayCommand users (Do moment thread request) = IsMoment moment × CanSayCall users (thread, request)
 CanSayCommand users (Show user) = Unit {0}
+CanSayCommand users (Erased user) = Unit {0}
 CanSayCommand users Trace = Unit {0}
 
 steps_make : (users : List (List ℕ)) → Makes users (CanSay users) step_lines

@@ -5,9 +5,9 @@ use Rattle.qx_types.specs.Optional.{◌>>=◌}
 use Rattle.qx_types.specs.declared.names.Thread.{Thread}
 use Rattle.qx_types.specs.declared.request.Request.{Request}
 use Rattle.qx_types.specs.declared.step.Step.{Step}
-use Rattle.qx_types.specs.declared.step.Step.TheVariants.{Spawn, Call, TakeReply, TakePulse, SetPrio, Interrupt, Mount, Receive, Perform}
+use Rattle.qx_types.specs.declared.step.Step.TheVariants.{Spawn, Exit, Call, TakeReply, TakePulse, SetPrio, Interrupt, Mount, Receive, Perform}
 use Rattle.qx_script.specs.declared.command.Command.{Command}
-use Rattle.qx_script.specs.declared.command.Command.TheVariants.{Take, Serve, Do, Show, Trace}
+use Rattle.qx_script.specs.declared.command.Command.TheVariants.{Take, Serve, Do, Show, Erased, Trace}
 use Rattle.qx_calls.specs.Calls.{call_in_line, call_said}
 use Rattle.qx_calls.specs.Forms.{◌then◌, end, Line, Saying, CanBeSaid, by, read_one_of}
 use Rattle.qx_words.specs.Kinds.{AName, AUser, AProcess, AThread, AByte, AMoment, APath, AManager}
@@ -25,6 +25,9 @@ workers_line = record { name = codes "workers"; form = AByte then end; made = λ
 
 abbrev pub spawn_line : Line Step
 spawn_line = record { name = codes "spawn"; form = AUser then AByte then AByte then end; made = λ user threads prio. Spawn user threads (record { 0 = prio }) }
+
+abbrev pub exit_line : Line Step
+exit_line = record { name = codes "exit"; form = AProcess then end; made = λ process. Exit process }
 
 abbrev pub reply_line : Line Step
 reply_line = record { name = codes "reply"; form = AThread then end; made = λ thread. TakeReply thread }
@@ -48,11 +51,12 @@ abbrev pub perform_line : Line Step
 perform_line = record { name = codes "perform"; form = AByte then AMoment then end; made = λ worker moment. Perform (record { 0 = worker }) moment }
 
 abbrev pub step_lines : List (Line Step)
-step_lines = spawn_line ∷ reply_line ∷ pulse_line ∷ prio_line ∷ interrupt_line ∷ mount_line ∷ line_of_receive ∷ perform_line ∷ []
+step_lines = spawn_line ∷ exit_line ∷ reply_line ∷ pulse_line ∷ prio_line ∷ interrupt_line ∷ mount_line ∷ line_of_receive ∷ perform_line ∷ []
 
 -- the line that takes the step
 abbrev pub step_said : Step → Saying
 step_said (Spawn user threads prio) = by spawn_line (user, (threads, (prio.0, tt)))
+step_said (Exit process) = by exit_line (process, tt)
 step_said (Call thread request) = call_said thread request
 step_said (TakeReply thread) = by reply_line (thread, tt)
 step_said (TakePulse process) = by pulse_line (process, tt)
@@ -73,11 +77,14 @@ serve_line = record { name = codes "serve"; form = AMoment then end; made = λ m
 abbrev pub show_line : Line Command
 show_line = record { name = codes "show"; form = AUser then end; made = λ user. Show user }
 
+abbrev pub erased_line : Line Command
+erased_line = record { name = codes "erased"; form = AUser then end; made = λ user. Erased user }
+
 abbrev pub trace_line : Line Command
 trace_line = record { name = codes "trace"; form = end; made = Trace }
 
 abbrev pub command_lines : List (Line Command)
-command_lines = serve_line ∷ show_line ∷ trace_line ∷ []
+command_lines = serve_line ∷ show_line ∷ erased_line ∷ trace_line ∷ []
 
 -- the step that makes a call
 abbrev pub call_step : Thread × Request → Step

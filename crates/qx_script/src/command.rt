@@ -11,6 +11,8 @@ pub enum Command {
     Do(u64, Thread, Request),
     /// Prints what a user was shown so far.
     Show(User),
+    /// Runs anew the steps so far that were taken by or for a user, and prints what the user is shown there.
+    Erased(User),
     /// Prints all steps so far, each with its outcome.
     Trace,
 }

@@ -1,11 +1,12 @@
 ghost use Rattle.std.specs.Prelude.{◌≡◌, ℕ, IfOk, IfSome, List, map, option_map, true};
 ghost use Rattle.qx_types.specs.Configuration.{is_user_name};
-ghost use Rattle.qx_calls.specs.Forms.{read_form};
-ghost use Rattle.qx_script.specs.Lines.{command_of, do_of, interrupt_line, mount_line, perform_line, prio_line, line_of_receive, pulse_line, reply_line, serve_line, show_line, spawn_line, step_in_line, trace_line, user_line, workers_line};
+ghost use Rattle.qx_calls.specs.Forms.{◌then◌, end, read_form, read_words};
+ghost use Rattle.qx_script.specs.Lines.{command_of, do_of, erased_line, exit_line, interrupt_line, mount_line, perform_line, prio_line, line_of_receive, pulse_line, reply_line, serve_line, show_line, spawn_line, step_in_line, trace_line, user_line, workers_line};
+ghost use Rattle.qx_words.specs.Kinds.{AProcess, AThread};
 
 use crate::command::Command;
 use qx_calls::lines::call;
-use qx_types::{Bytes, NoMemory, Prio, Step, Worker};
+use qx_types::{Bytes, NoMemory, Prio, Proc, Step, Thread, Worker};
 use qx_words::Users;
 use qx_words::words::{byte, manager, moment, name, process, thread};
 use std::alloc::Global;
@@ -31,6 +32,26 @@ pub fn workers(words: &[&[u8]]) -> Option<u8>
     byte(*word)
 }
 
+/// `PROCESS`
+fn process_alone(users: &Users, words: &[&[u8]]) -> Option<Proc>
+    ensures found { result ≡ read_words (AProcess then end) (λ process. process) users.now (map (λ word. word.now) words.now) }
+{
+    let [word] = words else {
+        return None;
+    };
+    process(users, *word)
+}
+
+/// `THREAD`
+fn thread_alone(users: &Users, words: &[&[u8]]) -> Option<Thread>
+    ensures found { result ≡ read_words (AThread then end) (λ thread. thread) users.now (map (λ word. word.now) words.now) }
+{
+    let [word] = words else {
+        return None;
+    };
+    thread(users, *word)
+}
+
 /// `spawn USER THREADS PRIORITY`
 fn spawn(users: &Users, words: &[&[u8]]) -> Option<Step>
     ensures step { result ≡ read_form spawn_line users.now (map (λ word. word.now) words.now) }
@@ -48,14 +69,19 @@ fn spawn(users: &Users, words: &[&[u8]]) -> Option<Step>
     })
 }
 
+/// `exit PROCESS`
+fn exit(users: &Users, words: &[&[u8]]) -> Option<Step>
+    ensures step { result ≡ read_form exit_line users.now (map (λ word. word.now) words.now) }
+{
+    let proc = process_alone(users, words)?;
+    Some(Step::Exit { proc })
+}
+
 /// `reply THREAD`
 fn reply(users: &Users, words: &[&[u8]]) -> Option<Step>
     ensures step { result ≡ read_form reply_line users.now (map (λ word. word.now) words.now) }
 {
-    let [word] = words else {
-        return None;
-    };
-    let thread = thread(users, *word)?;
+    let thread = thread_alone(users, words)?;
     Some(Step::TakeReply { thread })
 }
 
@@ -63,10 +89,7 @@ fn reply(users: &Users, words: &[&[u8]]) -> Option<Step>
 fn pulse(users: &Users, words: &[&[u8]]) -> Option<Step>
     ensures step { result ≡ read_form pulse_line users.now (map (λ word. word.now) words.now) }
 {
-    let [word] = words else {
-        return None;
-    };
-    let proc = process(users, *word)?;
+    let proc = process_alone(users, words)?;
     Some(Step::TakePulse { proc })
 }
 
@@ -86,10 +109,7 @@ fn prio(users: &Users, words: &[&[u8]]) -> Option<Step>
 fn interrupt(users: &Users, words: &[&[u8]]) -> Option<Step>
     ensures step { result ≡ read_form interrupt_line users.now (map (λ word. word.now) words.now) }
 {
-    let [word] = words else {
-        return None;
-    };
-    let thread = thread(users, *word)?;
+    let thread = thread_alone(users, words)?;
     Some(Step::Interrupt { thread })
 }
 
@@ -150,6 +170,8 @@ fn step(
 {
     if name == b"spawn".as_slice() {
         Ok(spawn(users, words))
+    } else if name == b"exit".as_slice() {
+        Ok(exit(users, words))
     } else if name == b"reply".as_slice() {
         Ok(reply(users, words))
     } else if name == b"pulse".as_slice() {
@@ -211,6 +233,17 @@ fn show(users: &Users, words: &[&[u8]]) -> Option<Command>
     Some(Command::Show(user))
 }
 
+/// `erased USER`
+fn erased(users: &Users, words: &[&[u8]]) -> Option<Command>
+    ensures command { result ≡ read_form erased_line users.now (map (λ word. word.now) words.now) }
+{
+    let [word] = words else {
+        return None;
+    };
+    let user = users.find(*word)?;
+    Some(Command::Erased(user))
+}
+
 /// `trace`, whoever the users are.
 fn trace(users: &Users, words: &[&[u8]]) -> Option<Command>
     ensures command { result ≡ read_form trace_line users.now (map (λ word. word.now) words.now) }
@@ -237,6 +270,8 @@ pub fn command(
         Ok(serve(words))
     } else if name == b"show".as_slice() {
         Ok(show(users, words))
+    } else if name == b"erased".as_slice() {
+        Ok(erased(users, words))
     } else if name == b"trace".as_slice() {
         Ok(trace(users, words))
     } else {

@@ -26,6 +26,7 @@ pub fn push_step(
             threads,
             prio,
         } => push_spawn(text, config, *user, *threads, *prio),
+        Step::Exit { proc } => push_exit(text, config, *proc),
         Step::Call { thread, request } => push_call_step(alloc, text, config, *thread, request),
         Step::TakeReply { thread } => push_reply(text, config, *thread),
         Step::TakePulse { proc } => push_pulse(text, config, *proc),
@@ -55,6 +56,14 @@ fn push_spawn(
     push_user(text, config, user)?;
     push_next_number(text, threads as u64)?;
     push_next_number(text, prio.0 as u64)
+}
+
+#[tactic(auto, unfolding(crate::specs::StepText::step_text))]
+fn push_exit(text: &mut Vec<u8>, config: &Config, process: Proc) -> Result<(), NoMemory>
+    ensures ok { OnOk result (text.new.items ≡ text.old.items ++ step_text config.now (Step.Exit process)) }
+{
+    text.extend_from_slice(b"exit ")?;
+    push_process(text, config, process)
 }
 
 #[tactic(auto, unfolding(crate::specs::StepText::step_text, qx_calls::specs::Calls::call_text))]

@@ -14,7 +14,7 @@ use qx_play::play::play;
 use qx_script::{Script, parse};
 use std::alloc::Global;
 
-/// Reads a script, runs it, writes what its `show` lines print and flushes the writer. A script that is longer than the
+/// Reads a script, runs it, writes what its lines print and flushes the writer. A script that is longer than the
 /// limit is not run.
 pub fn run<R: Source, W: Sink>(
     alloc: Global,

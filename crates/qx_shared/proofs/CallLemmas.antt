@@ -5,14 +5,16 @@ use Rattle.std.specs.List.{list_any}
 use Rattle.std.proofs.lemmas.Bool.{cases_Bool}
 use Rattle.std.proofs.lemmas.Bool.Decides.{eqb_tells}
 use Rattle.std.proofs.lemmas.List.Folds.{list_any-append}
+use Rattle.qx_types.specs.declared.names.Proc.{Proc}
 use Rattle.qx_types.specs.declared.names.Thread.{Thread}
 use Rattle.qx_machine.specs.declared.rows.WaitingCall.{WaitingCall}
-use Rattle.qx_machine.specs.Waiting.{Pipes, holds, is_call}
+use Rattle.qx_machine.specs.Settling.{has_waiting}
+use Rattle.qx_machine.specs.Waiting.{Pipes, holds, is_call, is_of_process}
 use Rattle.qx_machine.specs.Pipes.{Pipe}
 use Rattle.qx_machine.specs.Rows.{row_at}
 use Rattle.qx_queues.proofs.TableLemmas.{none_some}
 use Rattle.qx_queues.specs.Queues as queues
-use Rattle.qx_queues.specs.Queues.{Queues, UsersCall, caller, has_call, is_same_thread, waiting_in_list}
+use Rattle.qx_queues.specs.Queues.{Queues, UsersCall, caller, has_call, has_call_of, is_same_proc, is_same_thread, waiting_in_list}
 use Rattle.qx_queues.specs.Waits.{is_users_call, users_call}
 use Rattle.qx_shared.specs.inner.Own.{AreAllPipes, AreUsers, calls_of, shown_pipe, shown_shared}
 use Rattle.qx_shared.specs.inner.Row.{Place, Rows, list_of_place, list_on, place, row_of}
@@ -69,56 +71,118 @@ absent_in c list is = of (maps.get c.pipes list) is
     of None is = refl
     of (Some all) is = absurd (cc)
 
-module _ (c : Queues) (all : List Rows) (are : AreAllPipes c all) (thread : Thread) where
-  -- a call of a user is of the thread
-  abbrev is_users : ℕ → WaitingCall → Bool
-  is_users user call = is_same_thread (caller (users_call user call)) thread
+-- by whose pipe a call waits that passes a test
+module _ (c : Queues) (all : List Rows) (are : AreAllPipes c all) (which : UsersCall → Bool) where
+  abbrev of_user : ℕ → WaitingCall → Bool
+  of_user user call = which (users_call user call)
 
-  -- by whose pipe it is
-  in_list : (p : Place) (list : ℕ) (row : PipeRow) → row_of all p.user p.inode ≡ Some row → list_on p.side row ≡ list → has_call (waiting_in_list c list) thread ≡ list_any (is_users p.user) (waiting_on p.side (shown_pipe c row))
+  in_list : (p : Place) (list : ℕ) (row : PipeRow) → row_of all p.user p.inode ≡ Some row → list_on p.side row ≡ list → list_any which (waiting_in_list c list) ≡ list_any (of_user p.user) (waiting_on p.side (shown_pipe c row))
   in_list p list row is of =
-      ap (λ calls. has_call calls thread) (are.users p list (ap (option_map (list_on p.side)) is ∙ ap Some of))
-      ∙ list_any-mapped (users_call p.user) (λ own. is_same_thread (caller own) thread) (calls_of c list)
-      ∙ ap (list_any (is_users p.user)) (ap (calls_of c) (sym of) ∙ sym (waiting_on-in c p.side row))
+      ap (list_any which) (are.users p list (ap (option_map (list_on p.side)) is ∙ ap Some of))
+      ∙ list_any-mapped (users_call p.user) which (calls_of c list)
+      ∙ ap (list_any (of_user p.user)) (ap (calls_of c) (sym of) ∙ sym (waiting_on-in c p.side row))
 
-  in_pipes : (user : ℕ) → has_call (shared.waiting_in (shown_shared c all) user) thread ≡ list_any (is_users user) (waiting_calls (pipes_of (shown_shared c all) user))
-  in_pipes user = list_any-mapped (users_call user) (λ own. is_same_thread (caller own) thread) (waiting_calls (pipes_of (shown_shared c all) user))
+  pub in_pipes : (user : ℕ) → list_any which (shared.waiting_in (shown_shared c all) user) ≡ list_any (of_user user) (waiting_calls (pipes_of (shown_shared c all) user))
+  in_pipes user = list_any-mapped (users_call user) which (waiting_calls (pipes_of (shown_shared c all) user))
 
-  lists-none : ((user : ℕ) → has_call (shared.waiting_in (shown_shared c all) user) thread ≡ false) → (list : ℕ) → has_call (waiting_in_list c list) thread ≡ false
+  pub lists-none : ((user : ℕ) → list_any which (shared.waiting_in (shown_shared c all) user) ≡ false) → (list : ℕ) → list_any which (waiting_in_list c list) ≡ false
   lists-none none list = elim (cases_Bool (is_some (maps.get c.pipes list))) [
     | inr absent ↦ rw (absent_in c list absent) refl
     | inl there ↦
         let own = are.owned list there in
         let row = mapped-there (list_on own.0.side) (row_of all own.0.user own.0.inode) list own.1 in
         in_list own.0 list row.0 row.1 row.2
-        ∙ none-at (is_users own.0.user) (pipes_of (shown_shared c all) own.0.user) (sym (in_pipes own.0.user) ∙ none own.0.user) own.0.inode own.0.side (shown_pipe c row.0) (row_of-told c all own.0.user own.0.inode ∙ ap (option_map (shown_pipe c)) row.1)
+        ∙ none-at (of_user own.0.user) (pipes_of (shown_shared c all) own.0.user) (sym (in_pipes own.0.user) ∙ none own.0.user) own.0.inode own.0.side (shown_pipe c row.0) (row_of-told c all own.0.user own.0.inode ∙ ap (option_map (shown_pipe c)) row.1)
   ]
 
+  -- and the other way
+  pub pipes-none : ((list : ℕ) → list_any which (waiting_in_list c list) ≡ false) → (user : ℕ) → list_any which (shared.waiting_in (shown_shared c all) user) ≡ false
+  pipes-none none user = in_pipes user ∙ none-waits (of_user user) (pipes_of (shown_shared c all) user) (λ inode side pipe is.
+      let row = mapped-there (shown_pipe c) (row_of all user inode) pipe (sym (row_of-told c all user inode) ∙ is) in
+      ap (λ p. list_any (of_user user) (waiting_on side p)) (sym row.2)
+      ∙ sym (in_list (place user inode side) (list_on side row.0) row.0 row.1 refl)
+      ∙ none (list_on side row.0))
+
+module _ (c : Queues) (all : List Rows) (are : AreAllPipes c all) (thread : Thread) where
+  abbrev is_threads : UsersCall → Bool
+  is_threads own = is_same_thread (caller own) thread
+
   pub received : IsReceived (shown_shared c all) thread → queues.IsMessageReceived c thread
-  received is = record { own = is.own; idle = is.idle; no_call = record { waiting = lists-none is.no_call.waiting; answered = is.no_call.answered } }
+  received is = record { own = is.own; idle = is.idle; no_call = record { waiting = lists-none c all are is_threads is.no_call.waiting; answered = is.no_call.answered } }
 
   pub no_call : HasNoCall (shown_shared c all) thread → queues.HasNoListedCall c thread
-  no_call is = record { waiting = lists-none is.waiting; answered = is.answered }
+  no_call is = record { waiting = lists-none c all are is_threads is.waiting; answered = is.answered }
 
   -- and the other way
   pub no_call-told : queues.HasNoListedCall c thread → HasNoCall (shown_shared c all) thread
-  no_call-told is = record { waiting = λ user. in_pipes user ∙ none-waits (is_users user) (pipes_of (shown_shared c all) user) (none user); answered = is.answered }
-    where
-      none : (user inode : ℕ) (side : Side) (pipe : Pipe WaitingCall) → row_at (pipes_of (shown_shared c all) user) inode ≡ Some pipe → list_any (is_users user) (waiting_on side pipe) ≡ false
-      none user inode side pipe is_there =
-          let row = mapped-there (shown_pipe c) (row_of all user inode) pipe (sym (row_of-told c all user inode) ∙ is_there) in
-          ap (λ p. list_any (is_users user) (waiting_on side p)) (sym row.2)
-          ∙ sym (in_list (place user inode side) (list_on side row.0) row.0 row.1 refl)
-          ∙ is.waiting (list_on side row.0)
+  no_call-told is = record { waiting = pipes-none c all are is_threads is.waiting; answered = is.answered }
 
 pub no_call-taken : (c : Queues) (all : List Rows) (are : AreAllPipes c all) {A : Type 0} (thread_in : A → Thread) (o : Option A) → IfSome o (λ taken. queues.HasNoListedCall c (thread_in taken)) → IfSome o (λ taken. HasNoCall (shown_shared c all) (thread_in taken))
 no_call-taken c all are thread_in None is = tt
 no_call-taken c all are thread_in (Some taken) is = no_call-told c all are (thread_in taken) is
 
--- ---- in which pipe a call waits
+-- ---- whether a call of a process waits
 
 same_number : (n : ℕ) → (n == n) ≡ true
 same_number n = elim (eqb_tells n n) [ inl same ↦ same.0 | inr differs ↦ absurd (differs.1 refl) ]
+
+holds-any : (which : WaitingCall → Bool) (pipes : Pipes) → list_any (holds which) pipes ≡ list_any which (waiting_calls pipes)
+holds-any which [] = refl
+holds-any which (None ∷ pipes) = holds-any which pipes
+holds-any which (Some pipe ∷ pipes) =
+    ap₂ (λ a b. a || b) (sym (list_any-append which pipe.readers pipe.writers)) (holds-any which pipes)
+    ∙ sym (list_any-append which (pipe.readers ++ pipe.writers) (waiting_calls pipes))
+
+any-none : {A : Type 0} (xs : List A) → list_any (λ x. false) xs ≡ false
+any-none [] = refl
+any-none (x ∷ xs) = any-none xs
+
+module _ (c : Queues) (all : List Rows) (are : AreAllPipes c all) (proc : Proc) where
+  abbrev is_procs : UsersCall → Bool
+  is_procs own = is_same_proc (caller own).proc proc
+
+  abbrev waits : Bool
+  waits = has_waiting (pipes_of (shown_shared c all) proc.user.0) proc.num
+
+  of_user-any : (user : ℕ) → list_any is_procs (shared.waiting_in (shown_shared c all) user) ≡ ((user == proc.user.0) && list_any (is_of_process proc.num) (waiting_calls (pipes_of (shown_shared c all) user)))
+  of_user-any user = in_pipes c all are is_procs user ∙ of (user == proc.user.0)
+    where
+      of : (b : Bool) → list_any (λ call. b && is_of_process proc.num call) (waiting_calls (pipes_of (shown_shared c all) user)) ≡ (b && list_any (is_of_process proc.num) (waiting_calls (pipes_of (shown_shared c all) user)))
+      of true = refl
+      of false = any-none (waiting_calls (pipes_of (shown_shared c all) user))
+
+  process-none : waits ≡ false → (list : ℕ) → has_call_of (waiting_in_list c list) proc ≡ false
+  process-none none = lists-none c all are is_procs (λ user. of_user-any user ∙ elim (eqb_tells user proc.user.0) [
+    | inr differs ↦ rw differs.0 refl
+    | inl same ↦ rw same.0 (ap (λ u. list_any (is_of_process proc.num) (waiting_calls (pipes_of (shown_shared c all) u))) same.1 ∙ sym (holds-any (is_of_process proc.num) (pipes_of (shown_shared c all) proc.user.0)) ∙ none)
+  ])
+
+  process-waits : ((list : ℕ) → has_call_of (waiting_in_list c list) proc ≡ false) → waits ≡ false
+  process-waits none =
+      holds-any (is_of_process proc.num) (pipes_of (shown_shared c all) proc.user.0)
+      ∙ sym (of_user-any proc.user.0 ∙ ap (λ b. b && list_any (is_of_process proc.num) (waiting_calls (pipes_of (shown_shared c all) proc.user.0))) (same_number proc.user.0))
+      ∙ pipes-none c all are is_procs none proc.user.0
+
+  pub waits-is : (b : Bool) → (b ≡ false → (list : ℕ) → has_call_of (waiting_in_list c list) proc ≡ false) → (((list : ℕ) → has_call_of (waiting_in_list c list) proc ≡ false) → b ≡ false) → b ≡ waits
+  waits-is false none all_none = sym (process-waits (none refl))
+  waits-is true none all_none = elim (cases_Bool waits) [
+    | inl is ↦ sym is
+    | inr not ↦ let clash : true ≡ false = all_none (process-none not) in absurd (cc)
+  ]
+
+  -- and each thread of it has no call then
+  pub threads-none : waits ≡ false → c.answered ≡ [] → (thread : ℕ) → queues.HasNoListedCall c (record { proc = proc; tid = thread })
+  threads-none none unanswered thread = record { waiting = λ list. of_process (waiting_in_list c list) (process-none none list); answered = rw unanswered refl }
+    where
+      one : (process thread more calls : Bool) → (process || more) ≡ false → (more ≡ false → calls ≡ false) → ((process && thread) || calls) ≡ false
+      one false thread more calls none rest = rest none
+      one true thread more calls none rest = absurd (cc)
+
+      of_process : (calls : List UsersCall) → has_call_of calls proc ≡ false → has_call calls (record { proc = proc; tid = thread }) ≡ false
+      of_process [] none = refl
+      of_process (own ∷ calls) none = one (is_procs own) (own.call.thread == thread) (has_call_of calls proc) _ none (of_process calls)
+
+-- ---- in which pipe a call waits
 
 or_true : (a b : Bool) → (a || b) ≡ true → (a ≡ true) ⊎ (b ≡ true)
 or_true true b is = inl refl

@@ -1,4 +1,4 @@
--- The first threads of a process get nodes.
+-- The first threads of a process get nodes, and its threads lose them.
 pub mod PresenceLemmas
 -- Numbered rows that are told in another way.
 pub mod RowLemmas
@@ -12,3 +12,5 @@ pub mod ChangeLemmas
 pub mod CallLemmas
 -- A pipe comes and goes, with its lists.
 pub mod PlaceLemmas
+-- The calls of a process wait as those of a process that has ended.
+pub mod AbandonLemmas

@@ -4,7 +4,7 @@ use Rattle.std.specs.FinMap as maps
 use Rattle.std.specs.Ordering.{nat_cmp}
 use Rattle.std.proofs.lemmas.List.{get_or-map, get_or-set_same, length-map, length-replicate, length-set, set-get_or}
 use Rattle.std.proofs.lemmas.Option.{get_or_from_slice_get, same_Some}
-use Rattle.qx_types.specs.declared.limits.TheConstants.Limits.{INODES}
+use Rattle.qx_types.specs.declared.limits.TheConstants.Limits.{INODES, THREADS}
 use Rattle.qx_types.specs.declared.names.Proc.{Proc}
 use Rattle.qx_machine.specs.declared.rows.WaitingCall.{WaitingCall}
 use Rattle.qx_machine.specs.Waiting.{Pipes, no_pipes}
@@ -14,17 +14,18 @@ use Rattle.qx_machine.proofs.Places.{row_at-set_other, set-row_at}
 use Rattle.qx_process.proofs.RowLemmas.{row_at-get_or}
 use Rattle.qx_queues.specs.Queues as queues
 use Rattle.qx_queues.specs.Queues.{Queues, no_queues}
+use Rattle.qx_queues.proofs.PresenceLemmas.{same-below}
 use Rattle.qx_queues.proofs.TableLemmas.{absent_is, none_some}
 use Rattle.qx_shared.specs.inner.Own.{AreAllPipes, shown_pipe, pipes_in, shown_shared}
 use Rattle.qx_shared.specs.inner.Row.{HasRow, Place, Rows, list_of_place, list_on, row_of, with_row_of}
 use Rattle.qx_shared.specs.Row.{PipeRow}
-use Rattle.qx_shared.specs.Shared.{HasPipe, nothing_shared, pipe_at, pipes_of, with_shared_process, with_shared_thread}
+use Rattle.qx_shared.specs.Shared.{HasPipe, nothing_shared, pipe_at, pipes_of, with_shared_process, with_shared_thread, without_shared_process, without_shared_thread, without_threads_below}
 use Rattle.qx_shared.proofs.RowLemmas.{row_at-mapped, rows-agree}
 
 -- ---- places
 
 -- all places are read alike, but the one that was written
-read-all : {A B : Type 0} (f g : A → B) (xs : List A) → ((j : ℕ) (z : A) → slice_get xs j ≡ Some z → f z ≡ g z) → map f xs ≡ map g xs
+pub read-all : {A B : Type 0} (f g : A → B) (xs : List A) → ((j : ℕ) (z : A) → slice_get xs j ≡ Some z → f z ≡ g z) → map f xs ≡ map g xs
 read-all f g [] same = refl
 read-all f g (w ∷ ws) same = ap₂ (λ a b. a ∷ b) (same zero w refl) (read-all f g ws (λ j v at. same (suc j) v at))
 
@@ -136,6 +137,24 @@ process-users c proc (suc threads) = process-users c proc threads
 pub process-told : (c : Queues) (all : List Rows) (proc : Proc) (threads : ℕ) → shown_shared (queues.with_process_nodes c proc threads) all ≡ with_shared_process (shown_shared c all) proc threads
 process-told c all proc zero = refl
 process-told c all proc (suc threads) = ap (λ s. with_shared_thread s (record { proc = proc; tid = suc threads })) (process-told c all proc threads)
+
+-- the threads of a process lose their nodes
+below-told : (c : Queues) (all : List Rows) (proc : Proc) (threads : ℕ) → shown_shared (queues.without_nodes_below c proc threads) all ≡ without_threads_below (shown_shared c all) proc threads
+below-told c all proc zero = refl
+below-told c all proc (suc threads) = ap (λ s. without_shared_thread s (record { proc = proc; tid = threads })) (below-told c all proc threads)
+
+pub removed-told : (c : Queues) (all : List Rows) (proc : Proc) → shown_shared (queues.without_process_nodes c proc) all ≡ without_shared_process (shown_shared c all) proc
+unfolding queues.without_process_nodes without_shared_process
+removed-told c all proc = below-told c all proc (THREADS + 1)
+
+-- and their lists stay
+pub removed-pipes : (c : Queues) (proc : Proc) → (queues.without_process_nodes c proc).pipes ≡ c.pipes
+unfolding queues.without_process_nodes
+removed-pipes c proc = ap (λ q. q.pipes) (same-below c proc (THREADS + 1))
+
+pub removed-users : (c : Queues) (proc : Proc) → (queues.without_process_nodes c proc).users ≡ c.users
+unfolding queues.without_process_nodes
+removed-users c proc = ap (λ q. q.users) (same-below c proc (THREADS + 1))
 
 pub all-same : (c d : Queues) (all : List Rows) → d.pipes ≡ c.pipes → d.users ≡ c.users → AreAllPipes c all → AreAllPipes d all
 all-same c d all same users are = record {

@@ -1,11 +1,12 @@
 -- What contracts see of what all users share, and what its calls make of it.
-use Rattle.std.specs.Prelude.{◌≡◌, ℕ, zero, suc, unwrap_or, IsSome, ◌+◌, ◌-◌, if◌then◌else◌, refl, IsTrue, Bool, false, List, [], ◌∷◌, ◌++◌, drop, take, length, Option, Some, None, Result, Ok, Err, get_or, map, replicate, slice_get, slice_set}
+use Rattle.std.specs.Prelude.{◌≡◌, ℕ, zero, suc, unwrap_or, IsSome, ◌+◌, ◌-◌, if◌then◌else◌, refl, IsTrue, Bool, false, List, [], ◌∷◌, ◌++◌, drop, take, length, Option, Some, None, Result, Ok, Err, get_or, map, option_map, replicate, slice_get, slice_set}
 use Rattle.std.specs.Coded.{Coded, code_by, coded×, coded_ℕ, coded_list, coded_option}
 use Rattle.std.specs.FinSet as set
 use Rattle.std.specs.List.{flat_map, list_any}
 use Rattle.qx_types.specs.contracts.names.Proc as proc_row
 use Rattle.qx_types.specs.contracts.names.Thread as thread_row
 use Rattle.qx_types.specs.Managers.{manager_number}
+use Rattle.qx_types.specs.declared.limits.TheConstants.Limits.{THREADS}
 use Rattle.qx_types.specs.declared.names.Proc.{Proc}
 use Rattle.qx_types.specs.declared.names.TheConstants.Manager.{COUNT}
 use Rattle.qx_types.specs.declared.names.Thread.{Thread}
@@ -16,6 +17,7 @@ use Rattle.qx_machine.specs.contracts.rows.WaitingCall as call_row
 use Rattle.qx_machine.specs.declared.rows.Queued.{Queued}
 use Rattle.qx_machine.specs.declared.rows.ServerName.{ServerName}
 use Rattle.qx_machine.specs.declared.rows.WaitingCall.{WaitingCall}
+use Rattle.qx_machine.specs.Clients.{with_abandoned}
 use Rattle.qx_machine.specs.Functions.{Deed}
 use Rattle.qx_machine.specs.Lines.{into, line_at, with_line}
 use Rattle.qx_machine.specs.Machine.{rank}
@@ -95,6 +97,19 @@ abbrev pub with_shared_process : Shared → Proc → ℕ → Shared
 with_shared_process c proc zero = c
 with_shared_process c proc (suc threads) = with_shared_thread (with_shared_process c proc threads) (record { proc = proc; tid = suc threads })
 
+-- a thread has no nodes any more, and there is room for those that it had
+abbrev pub without_shared_thread : Shared → Thread → Shared
+without_shared_thread c thread = record c { threads = set.remove c.threads thread; room = if has_thread c thread then c.room + 2 else c.room }
+
+-- the threads of a process below a number have no nodes any more
+abbrev pub without_threads_below : Shared → Proc → ℕ → Shared
+without_threads_below c proc zero = c
+without_threads_below c proc (suc thread) = without_shared_thread (without_threads_below c proc thread) (record { proc = proc; tid = thread })
+
+-- no thread of a process has nodes any more
+unfoldable pub without_shared_process : Shared → Proc → Shared
+without_shared_process c proc = without_threads_below c proc (THREADS + 1)
+
 -- a process has a disconnect node at a manager from now on
 abbrev pub with_shared_server : Shared → Proc → ℕ → Shared
 with_shared_server c proc number = record c { servers = set.insert c.servers (proc, number); room = if has_disconnect_node c proc number then c.room else c.room - 1 }
@@ -112,6 +127,10 @@ without_first_shared c number = record (with_shared_line c number (drop 1)) { ro
 -- a user's pipes
 abbrev pub pipes_of : Shared → ℕ → Pipes
 pipes_of c user = get_or c.pipes user no_pipes
+
+-- the calls of a process wait as those of a process that has ended
+abbrev pub with_abandoned_calls : Shared → Proc → Shared
+with_abandoned_calls c proc = record c { pipes = slice_set c.pipes proc.user.0 (map (option_map (with_abandoned proc.num)) (pipes_of c proc.user.0)) }
 
 -- who waits in a pipe, and in all of a user's
 abbrev pub calls_at : Option (Pipe WaitingCall) → List WaitingCall

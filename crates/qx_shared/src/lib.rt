@@ -2,7 +2,8 @@
 //! wait.
 //!
 //! - `shared.rt`: `Shared`, the lines with their nodes, and the pipes of all users; the calls on lines, handed on
-//! - `pipes.rt`: the calls on one pipe, each of which leaves all others
+//! - `pipes.rt`: the calls on one pipe, each of which leaves all others; whether a process has calls that wait, and that it
+//!   has ended
 //! - `row.rt`, `side.rt`: a pipe, its bytes and the numbers of its two lists; its two sides
 //!
 //! What contracts see is `Shared.antt`: lines, and pipes as the machine has them, with `with_pipe_after` and `with_row_at`

@@ -1,4 +1,5 @@
-//! The pipes of all users, one at a time: each call makes of one pipe what it says, and leaves all others.
+//! The pipes of all users, one at a time but where a process ends: each call makes of one pipe what it says, and leaves all
+//! others.
 
 ghost use Rattle.std.specs.Prelude.{◌≡◌, ◌<◌, ◌≤◌, ◌+◌, ◌++◌, ◌∷◌, [], None, Some, IfNone, IsTrue, OnErr, OnOk, false, ℕ, drop, is_some, length, map, slice_get, take};
 ghost use Rattle.std.specs.List.{flat_map};
@@ -7,9 +8,10 @@ ghost use Rattle.std.specs.Result.{ForOk};
 ghost use Rattle.qx_machine.specs.Waiting.{holds, is_call, is_written};
 ghost use Rattle.qx_machine.specs.Pipes.{nobody_answered, pipe_of, removed};
 ghost use Rattle.qx_machine.specs.Rows.{row_at};
+ghost use Rattle.qx_machine.specs.Settling as settling;
 ghost use Rattle.qx_queues.specs.Waits.{handed, leaves};
 ghost use Rattle.qx_shared.specs.inner.Row.{HasRow, list_of_place, place, row_of};
-ghost use Rattle.qx_shared.specs.Shared.{HasPipe, IsCallReceived, dismissed_on, passed_to, pipe_at, pipes_of, taken_from, waiting_on, went_in, with_pipe_after, with_answer_to, with_row_at, with_waiting_on};
+ghost use Rattle.qx_shared.specs.Shared.{HasPipe, IsCallReceived, dismissed_on, passed_to, pipe_at, pipes_of, taken_from, waiting_on, went_in, with_abandoned_calls, with_pipe_after, with_answer_to, with_row_at, with_waiting_on};
 ghost use Rattle.qx_types.specs.declared.limits.TheConstants.Limits.{INODES, PIPE, TRANSFER};
 
 use crate::row::{PipeRow, UserPipes};
@@ -17,7 +19,7 @@ use crate::shared::Shared;
 use crate::side::Side;
 use circular_buffer::HeapCircularBuffer;
 use qx_queues::{Leaving, PipeCall};
-use qx_types::{Errno, Limits, Thread, User};
+use qx_types::{Errno, Limits, Proc, Thread, User};
 use std::alloc::AllocError;
 
 impl Shared {
@@ -112,6 +114,20 @@ impl Shared {
         ensures places { length (pipes_of self.now thread.proc.user.0) ≡ INODES + 1 }
     {
         self.queues.waits(thread, call)
+    }
+
+    /// Whether a call of a process waits in a pipe.
+    pub fn has_waiting(&self, proc: Proc) -> bool
+        ensures waits { result ≡ settling.has_waiting (pipes_of self.now proc.user.0) proc.num }
+    {
+        self.queues.has_waiting(proc)
+    }
+
+    /// The calls of a process that wait are those of a process that has ended from now on.
+    pub fn abandon(&mut self, proc: Proc)
+        ensures abandoned { self.new ≡ with_abandoned_calls self.old proc }
+    {
+        self.queues.abandon(proc);
     }
 
     /// A call whose message was received waits, last on a side of a pipe, until it is answered (Writing a Resource Manager: a

@@ -1,15 +1,16 @@
 //! The managers' lines, the nodes of all users' threads and server connections, and the pipes of all users, in which calls
 //! wait.
 
-ghost use Rattle.std.specs.Prelude.{◌≡◌, ℕ, ◌+◌, ◌-◌, ◌*◌, ◌<◌, ◌≤◌, true, false, option_map, length, drop, slice_get, max, IfOk, IsOk, OnOk, OnErr, is_ok, IfSome, IsSome, IsTrue, MatchResult, None, Some, Ok};
+ghost use Rattle.std.specs.Prelude.{◌≡◌, ℕ, ◌+◌, ◌-◌, ◌*◌, ◌<◌, ◌≤◌, [], true, false, option_map, length, drop, slice_get, max, IfOk, IsOk, OnOk, OnErr, is_ok, IfSome, IsSome, IsTrue, MatchResult, None, Some, Ok};
 ghost use Rattle.qx_types.specs.Managers.{manager_number};
 ghost use Rattle.qx_types.specs.declared.limits.TheConstants.Limits.{PRIORITY, PROCESSES, THREADS, TRANSFER};
 ghost use Rattle.qx_machine.specs.Lines.{into};
 ghost use Rattle.qx_machine.specs.Machine as machine;
+ghost use Rattle.qx_machine.specs.Settling as settling;
 ghost use Rattle.qx_machine.specs.declared.rows.OwnItem.TheVariants as item;
 ghost use Rattle.qx_queues.specs.Queues.{IsGone, message_of, stands, unblock_call, unblock_of};
 ghost use Rattle.qx_queues.specs.Waiting.{ComesWithRoom, addressed_by};
-ghost use Rattle.qx_shared.specs.Shared.{HasNoCall, HasThread, has_disconnect_node, has_thread, nothing_shared, shared_line, with_shared_disconnect, with_shared_process, with_shared_server, with_shared_line, without_first_shared};
+ghost use Rattle.qx_shared.specs.Shared.{HasNoCall, HasThread, has_disconnect_node, has_thread, nothing_shared, pipes_of, shared_line, with_shared_disconnect, with_shared_process, with_shared_server, with_shared_line, without_first_shared, without_shared_process};
 
 use crate::row::UserPipes;
 use qx_machine::{Queued, ServerName};
@@ -153,6 +154,19 @@ impl Shared {
         ensures added { self.new ≡ with_shared_process self.old proc threads }
     {
         self.queues.add_process(proc, threads, prio);
+    }
+
+    /// The nodes of a process' threads are given back, none of which stands in a line or carries a call or an answer, and room is
+    /// kept for them.
+    pub fn remove_process(&mut self, proc: Proc)
+        requires idle { (thread number : ℕ) → stands (shared_line self.old number) (record { proc = proc; tid = thread }) ≡ false }
+        requires unasked { (thread number : ℕ) → unblock_call (shared_line self.old number) (record { proc = proc; tid = thread }) ≡ None }
+        requires no_call { settling.has_waiting (pipes_of self.old proc.user.0) proc.num ≡ false }
+        requires no_answer { self.old.answered ≡ [] }
+        ensures removed { self.new ≡ without_shared_process self.old proc }
+        ensures gone { (thread : ℕ) → has_thread self.new (record { proc = proc; tid = thread }) ≡ false }
+    {
+        self.queues.remove_process(proc);
     }
 
     /// A process has a disconnect node at a manager from now on: the one that it had, or a new one.

@@ -1,8 +1,9 @@
 -- A client's step, by what the channel makes of it.
-use Rattle.std.proofs.Common.{◌≡◌, inl, inr, ℕ, List, [], Option, Some, None, Result, Ok, Err, slice_set, refl, ap}
+use Rattle.std.proofs.Common.{◌≡◌, inl, inr, ℕ, List, [], Option, Some, None, Result, Ok, Err, slice_set, refl, sym, ap, ◌∙◌}
 use Rattle.std.specs.Prelude.{IfOk, IsErr, IsTrue, option_map}
 use Rattle.std.proofs.lemmas.Bool.{cases_Bool}
 use Rattle.qx_types.specs.Configuration.{Configuration}
+use Rattle.qx_types.specs.declared.errno.Errno.TheVariants.{EINTR}
 use Rattle.qx_types.specs.declared.names.Prio.{Prio}
 use Rattle.qx_types.specs.declared.names.Thread.{Thread}
 use Rattle.qx_types.specs.declared.names.User.{User}
@@ -10,116 +11,154 @@ use Rattle.qx_types.specs.declared.outcome.Answer.{Answer}
 use Rattle.qx_types.specs.declared.outcome.Outcome.{Outcome}
 use Rattle.qx_types.specs.declared.outcome.Outcome.TheVariants.{Done, Sent, WrongState}
 use Rattle.qx_types.specs.declared.request.Request.{Request}
+use Rattle.qx_types.specs.declared.step.Step.{Step}
 use Rattle.qx_types.specs.declared.step.Step.TheVariants.{Spawn, Call, TakeReply, SetPrio, Interrupt}
+use Rattle.qx_paths.specs.Prefixes.{MountPoint}
 use Rattle.qx_machine.specs.declared.rows.Addressed.{Addressed}
 use Rattle.qx_machine.specs.declared.rows.Held.{Held}
 use Rattle.qx_machine.specs.declared.rows.Over.{Over}
 use Rattle.qx_machine.specs.declared.rows.Over.TheVariants.{Existing, New, Side}
+use Rattle.qx_machine.specs.declared.rows.OwnItem.{OwnItem}
 use Rattle.qx_machine.specs.declared.rows.Sent.{Sent as Message}
 use Rattle.qx_machine.specs.declared.rows.State.{State}
 use Rattle.qx_machine.specs.declared.rows.State.TheVariants as state
 use Rattle.qx_machine.specs.declared.rows.ThreadRow.{ThreadRow}
 use Rattle.qx_machine.specs.Clients.{answer_in, is_prio, outcome_of, spawn_number, target_by}
 use Rattle.qx_machine.specs.Laws.{is_refusal}
-use Rattle.qx_machine.specs.Machine.{World, step}
+use Rattle.qx_machine.specs.Machine.{World, own_held, step}
 use Rattle.qx_machine.specs.Parts.{thread_of}
 use Rattle.qx_machine.specs.Resources.{Resources}
-use Rattle.qx_machine.specs.Processes.{Process}
-use Rattle.qx_machine.specs.Rows.{row_at}
-use Rattle.qx_machine.specs.Users.{client}
+use Rattle.qx_machine.specs.Processes.{Process, asked_thread, new_process, ranked_thread, ready_thread, with_queued, with_thread}
+use Rattle.qx_machine.specs.Rows.{row_at, with_row}
+use Rattle.qx_machine.specs.Users.{client, settle_part}
+use Rattle.qx_machine.proofs.Living.{message-keeps}
 use Rattle.qx_process.proofs.RowLemmas.{set-row, with_row-none}
+use Rattle.qx_resources.specs.State.{told, Kept}
 use Rattle.qx_procs.specs.Calls.{after_or, spawn_outcome, spawned, with_prio}
 use Rattle.qx_chan.specs.Calls.{answer_of, queued_in}
-use Rattle.qx_chan.specs.Channel.{Channel, IsExisting, after_asking, after_ranking, after_send, after_spawn, after_taking, after_withdrawing}
+use Rattle.qx_chan.specs.Channel.{Channel, IsExisting, after_asking, after_ranking, after_send, after_spawn, after_taking, after_withdrawing, failed, lists}
 use Rattle.qx_chan.specs.Users.{prio_outcome_in, spawn_number_in, thread_row, IsThreadReady}
 use Rattle.qx_requests.specs.Targets.{HasRest}
-use Rattle.qx_steps.specs.inner.Parts.{parts_of, told_world, SameUsers}
+use Rattle.qx_steps.specs.inner.Parts.{parts_of, told_all, told_world, world_of, AreResourcesOf, IsSound}
 use Rattle.qx_steps.specs.inner.Steps.{sent_to}
 use Rattle.qx_steps.specs.Steps.{target_in}
 use Rattle.qx_chan.proofs.RowReads.{option_cases}
-use Rattle.qx_steps.proofs.SettledLemmas.{settled-processes, settled-same}
-use Rattle.qx_steps.proofs.PartsLemmas.{part-none, part-there, parts-set_processes, result_cases, row_at-parts}
+use Rattle.qx_steps.proofs.LeftLemmas.{AreLeft, left-kept, left-put, left-thread, queued-keeps, starts}
+use Rattle.qx_steps.proofs.OwnerLemmas.{Owner, nobody, others_kept, owner, sound-step}
+use Rattle.qx_steps.proofs.SettledLemmas.{settled-processes}
+use Rattle.qx_steps.proofs.StillLemmas.{still-asking, still-ranking, still-send, still-spawn, still-taking, still-withdrawing, world-told}
+use Rattle.qx_steps.proofs.PartsLemmas.{result_cases, row_at-parts}
 
 -- what a thread is told that takes its answer, if it has one
 abbrev pub taken_outcome : Option Answer → Outcome
 taken_outcome None = WrongState
 taken_outcome (Some answer) = outcome_of answer
 
--- a thread that is there, among the processes and the rows of its user
-record There (c : Channel) (rs : List (Option Resources)) (thread : Thread) (row : ThreadRow) : Type 0 where
-  ps : List (Option Process)
-  r : Resources
-  user : row_at c.users thread.proc.user.0 ≡ Some ps
-  resources : row_at rs thread.proc.user.0 ≡ Some r
-  part : row_at (parts_of c.users rs) thread.proc.user.0 ≡ Some (record { processes = ps; resources = r })
-  its : thread_of thread.tid (row_at ps thread.proc.num) ≡ Some row
+-- a thread's row among a user's processes
+row_in : (c : Channel) (thread : Thread) (ps : List (Option Process)) (row : ThreadRow) → row_at c.users thread.proc.user.0 ≡ Some ps → thread_row c.users thread ≡ Some row → thread_of thread.tid (row_at ps thread.proc.num) ≡ Some row
+row_in c thread ps row user is = rw user at is
 
-module _ (config : Configuration) (c : Channel) (rs : List (Option Resources)) (hands : List (Option Held)) (same : SameUsers c.users rs) where
+module _ (config : Configuration) (c : Channel) (ks : List (Option Kept)) (hands : List (Option Held)) (sound : IsSound config c ks hands) where
   abbrev w : World
-  w = told_world config c rs hands
+  w = world_of config c ks hands
 
-  -- a user's row with other processes
-  changed : (user : ℕ) (ps after : List (Option Process)) (there : (r : Resources) × ((row_at rs user ≡ Some r) × (row_at w.parts user ≡ Some (record { processes = ps; resources = r }))))
-      → parts_of (slice_set c.users user (Some after)) rs ≡ slice_set w.parts user (Some (record { processes = after; resources = there.0 }))
-  changed user ps after there = parts-set_processes c.users rs user after there.0 there.1.0
+  abbrev rs : List (Option Resources)
+  rs = told_all c ks
 
-  there_by : (thread : Thread) (row : ThreadRow) → thread_row c.users thread ≡ Some row → There c rs thread row
-  there_by thread row is = elim (option_cases (row_at c.users thread.proc.user.0)) [
-    | inl none ↦ let clash : None ≡ Some row = rw none at is in absurd (cc)
-    | inr ps ↦
-        let there = part-there c.users rs thread.proc.user.0 ps.0 same ps.1 in
-        record { ps = ps.0; r = there.0; user = ps.1; resources = there.1.0; part = there.1.1; its = rw ps.1 at is }
-  ]
+  -- who is there, and a change of the processes
+  abbrev TheOwner : ℕ → List (Option Process) → Type 0
+  TheOwner = Owner config c ks hands sound
+
+  abbrev the_owner : (user : ℕ) (ps : List (Option Process)) → row_at c.users user ≡ Some ps → TheOwner user ps
+  the_owner = owner config c ks hands sound
+
+  abbrev none_there : (user : ℕ) → row_at c.users user ≡ None → row_at w.parts user ≡ None
+  none_there = nobody config c ks hands sound
+
+  abbrev changed : (user : ℕ) (ps : List (Option Process)) (o : TheOwner user ps) (after : List (Option Process)) → parts_of (slice_set c.users user (Some after)) rs ≡ slice_set w.parts user (Some (record { processes = after; resources = told o.k (lists c) }))
+  changed = others_kept config c ks hands sound
+
+  -- the end of a step, by the user's processes then
+  module _ (user : ℕ) (ps : List (Option Process)) (o : TheOwner user ps) where
+    abbrev held : List OwnItem
+    held = own_held user hands
+
+    abbrev r : Resources
+    r = told o.k (lists c)
+
+    -- nothing is to be freed, and nothing is due
+    ended_with : (after : List (Option Process)) → AreLeft held r.pipes 0 after → settle_part (record { processes = ps; resources = r }) held (record { processes = after; resources = r }) ≡ record { processes = after; resources = r }
+    ended_with after left = settled-processes ps after r held left
+
+    ended_same : settle_part (record { processes = ps; resources = r }) held (record { processes = ps; resources = r }) ≡ record { processes = ps; resources = r }
+    ended_same = ended_with ps o.left
+
+    put_back : slice_set w.parts user (Some (record { processes = ps; resources = r })) ≡ w.parts
+    put_back = set-row w.parts user (record { processes = ps; resources = r }) o.part
+
+  -- the channel alone tells the world after a step that leaves pipes and events
+  by_channel : (e : Step) (d : Channel) (outcome : Outcome) → lists d ≡ lists c → step w e ≡ record { world = told_world config d rs hands; outcome = outcome } → step w e ≡ record { world = world_of config d ks hands; outcome = outcome }
+  by_channel e d outcome waits is = is ∙ sym (ap (λ world. record { world = world; outcome = outcome }) (world-told config c d ks hands waits))
 
   -- ---- spawn
 
   pub spawn-step : (user : User) (threads : ℕ) (prio : Prio) → step w (Spawn user threads prio)
-      ≡ record { world = told_world config (after_spawn c user.0 threads prio.0) rs hands; outcome = spawn_outcome (spawn_number_in threads prio.0 (row_at c.users user.0)) }
+      ≡ record { world = world_of config (after_spawn c user.0 threads prio.0) ks hands; outcome = spawn_outcome (spawn_number_in threads prio.0 (row_at c.users user.0)) }
   unfolding step client
   spawn-step user threads prio = elim (option_cases (row_at c.users user.0)) [
-    | inl none ↦ rw (part-none c.users rs user.0 none, with_row-none c.users user.0 (λ processes. spawned processes threads prio.0 (spawn_number processes threads prio.0)) none, none) refl
+    | inl none ↦ rw (none_there user.0 none, with_row-none c.users user.0 (λ processes. spawned processes threads prio.0 (spawn_number processes threads prio.0)) none, none) refl
     | inr ps ↦
-        let there = part-there c.users rs user.0 ps.0 same ps.1 in
+        let o = the_owner user.0 ps.0 ps.1 in
         elim (result_cases (spawn_number ps.0 threads prio.0)) [
-          | inl number ↦ rw (there.1.1, ps.1, number.1, settled-processes _ _ there.0 _, parts-set_processes c.users rs user.0 (spawned ps.0 threads prio.0 (Ok number.0)) there.0 there.1.0) refl
-          | inr refused ↦ rw (there.1.1, ps.1, refused.1, settled-processes _ _ there.0 _, parts-set_processes c.users rs user.0 ps.0 there.0 there.1.0) refl
+          | inl number ↦
+              let after = spawned ps.0 threads prio.0 (Ok number.0) in
+              let left = left-put (held user.0 ps.0 o) (r user.0 ps.0 o).pipes ps.0 number.0 (new_process threads prio.0) o.left (starts threads prio.0) in
+              rw (o.part, ps.1, number.1, ended_with user.0 ps.0 o after left, changed user.0 ps.0 o after) refl
+          | inr refused ↦ rw (o.part, ps.1, refused.1, ended_same user.0 ps.0 o, changed user.0 ps.0 o ps.0) refl
         ]
   ]
 
   -- ---- take_reply and set_prio
 
-  pub take_reply-step : (thread : Thread) → step w (TakeReply thread)
-      ≡ record { world = told_world config (after_taking c thread) rs hands; outcome = taken_outcome (answer_of (thread_row c.users thread)) }
+  reply_taken : (thread : Thread) → step w (TakeReply thread) ≡ record { world = told_world config (after_taking c thread) rs hands; outcome = taken_outcome (answer_of (thread_row c.users thread)) }
   unfolding step client
-  take_reply-step thread = elim (option_cases (row_at c.users thread.proc.user.0)) [
-    | inl none ↦ rw (part-none c.users rs thread.proc.user.0 none, none) refl
+  reply_taken thread = elim (option_cases (row_at c.users thread.proc.user.0)) [
+    | inl none ↦ rw (none_there thread.proc.user.0 none, none) refl
     | inr ps ↦
-        let there = part-there c.users rs thread.proc.user.0 ps.0 same ps.1 in
+        let o = the_owner thread.proc.user.0 ps.0 ps.1 in
         elim (option_cases (thread_of thread.tid (row_at ps.0 thread.proc.num))) [
-          | inl none ↦ rw (there.1.1, ps.1, none, settled-processes _ _ there.0 _, set-row w.parts thread.proc.user.0 (record { processes = ps.0; resources = there.0 }) there.1.1) refl
+          | inl none ↦ rw (o.part, ps.1, none, ended_same thread.proc.user.0 ps.0 o, put_back thread.proc.user.0 ps.0 o) refl
           | inr row ↦ elim (option_cases (answer_in row.0.state)) [
-            | inl none ↦ rw (there.1.1, ps.1, row.1, none, settled-processes _ _ there.0 _, set-row w.parts thread.proc.user.0 (record { processes = ps.0; resources = there.0 }) there.1.1) refl
+            | inl none ↦ rw (o.part, ps.1, row.1, none, ended_same thread.proc.user.0 ps.0 o, put_back thread.proc.user.0 ps.0 o) refl
             | inr given ↦
-                rw (there.1.1, ps.1, row.1, given.1, ps.1, settled-processes _ _ there.0 _, parts-set_processes c.users rs thread.proc.user.0 _ there.0 there.1.0) refl
+                let after = with_row ps.0 thread.proc.num (with_thread thread.tid ready_thread) in
+                let left = left-thread (held thread.proc.user.0 ps.0 o) (r thread.proc.user.0 ps.0 o).pipes ps.0 thread.proc.num thread.tid ready_thread o.left in
+                rw (o.part, ps.1, row.1, given.1, ps.1, ended_with thread.proc.user.0 ps.0 o after left, changed thread.proc.user.0 ps.0 o after) refl
           ]
         ]
   ]
 
+  pub take_reply-step : (thread : Thread) → step w (TakeReply thread)
+      ≡ record { world = world_of config (after_taking c thread) ks hands; outcome = taken_outcome (answer_of (thread_row c.users thread)) }
+  take_reply-step thread = by_channel (TakeReply thread) (after_taking c thread) (taken_outcome (answer_of (thread_row c.users thread))) (still-taking c ks sound.users thread).waits (reply_taken thread)
+
   pub set_prio-step : (thread : Thread) (prio : Prio) → step w (SetPrio thread prio)
-      ≡ record { world = told_world config (after_ranking c thread prio.0) rs hands; outcome = prio_outcome_in thread.proc.num thread.tid prio.0 (row_at c.users thread.proc.user.0) }
+      ≡ record { world = world_of config (after_ranking c thread prio.0) ks hands; outcome = prio_outcome_in thread.proc.num thread.tid prio.0 (row_at c.users thread.proc.user.0) }
   unfolding step client
   set_prio-step thread prio = elim (option_cases (row_at c.users thread.proc.user.0)) [
-    | inl none ↦ rw (part-none c.users rs thread.proc.user.0 none, with_row-none c.users thread.proc.user.0 (λ processes. after_or processes (with_prio processes thread.proc.num thread.tid prio.0)) none, none) refl
+    | inl none ↦ rw (none_there thread.proc.user.0 none, with_row-none c.users thread.proc.user.0 (λ processes. after_or processes (with_prio processes thread.proc.num thread.tid prio.0)) none, none) refl
     | inr ps ↦
-        let there = part-there c.users rs thread.proc.user.0 ps.0 same ps.1 in
+        let o = the_owner thread.proc.user.0 ps.0 ps.1 in
         elim (option_cases (row_at ps.0 thread.proc.num)) [
-          | inl none ↦ rw (there.1.1, ps.1, none, settled-processes _ _ there.0 _, parts-set_processes c.users rs thread.proc.user.0 ps.0 there.0 there.1.0) refl
+          | inl none ↦ rw (o.part, ps.1, none, ended_same thread.proc.user.0 ps.0 o, changed thread.proc.user.0 ps.0 o ps.0) refl
           | inr x ↦ elim (option_cases (row_at x.0.threads thread.tid)) [
-            | inl none ↦ rw (there.1.1, ps.1, x.1, none, settled-processes _ _ there.0 _, parts-set_processes c.users rs thread.proc.user.0 ps.0 there.0 there.1.0) refl
+            | inl none ↦ rw (o.part, ps.1, x.1, none, ended_same thread.proc.user.0 ps.0 o, changed thread.proc.user.0 ps.0 o ps.0) refl
             | inr row ↦ elim (cases_Bool (is_prio prio.0)) [
               | inl valid ↦
-                  rw (there.1.1, ps.1, x.1, row.1, valid, settled-processes _ _ there.0 _, parts-set_processes c.users rs thread.proc.user.0 _ there.0 there.1.0) refl
-              | inr wrong ↦ rw (there.1.1, ps.1, x.1, row.1, wrong, settled-processes _ _ there.0 _, parts-set_processes c.users rs thread.proc.user.0 ps.0 there.0 there.1.0) refl
+                  let after = with_row ps.0 thread.proc.num (with_thread thread.tid (ranked_thread prio.0)) in
+                  let left = left-thread (held thread.proc.user.0 ps.0 o) (r thread.proc.user.0 ps.0 o).pipes ps.0 thread.proc.num thread.tid (ranked_thread prio.0) o.left in
+                  rw (o.part, ps.1, x.1, row.1, valid, rw (x.1, row.1) at (ended_with thread.proc.user.0 ps.0 o after left), rw (x.1, row.1) at (changed thread.proc.user.0 ps.0 o after)) refl
+              | inr wrong ↦ rw (o.part, ps.1, x.1, row.1, wrong, ended_same thread.proc.user.0 ps.0 o, changed thread.proc.user.0 ps.0 o ps.0) refl
             ]
           ]
         ]
@@ -127,31 +166,50 @@ module _ (config : Configuration) (c : Channel) (rs : List (Option Resources)) (
 
   -- ---- call
 
-  pub judged : (thread : Thread) (request : Request) (ps : List (Option Process)) (r : Resources) (given : Result Addressed Outcome) → row_at c.users thread.proc.user.0 ≡ Some ps → row_at rs thread.proc.user.0 ≡ Some r
-      → given ≡ target_by config thread.proc.user.0 r.mounts ps thread request → given ≡ target_in w thread request
-  judged thread request ps r given user resources by = rw (row_at-parts c.users rs thread.proc.user.0, user, resources) by
+  pub judged : (thread : Thread) (request : Request) (ps : List (Option Process)) (its : Resources) (given : Result Addressed Outcome) → row_at c.users thread.proc.user.0 ≡ Some ps → row_at rs thread.proc.user.0 ≡ Some its
+      → given ≡ target_by config thread.proc.user.0 its.mounts ps thread request → given ≡ target_in w thread request
+  judged thread request ps its given user resources by = rw (row_at-parts c.users rs thread.proc.user.0, user, resources) by
 
   pub judged-nobody : (thread : Thread) (request : Request) → row_at c.users thread.proc.user.0 ≡ None → Err WrongState ≡ target_in w thread request
-  judged-nobody thread request none = rw (part-none c.users rs thread.proc.user.0 none) refl
+  judged-nobody thread request none = rw (none_there thread.proc.user.0 none) refl
 
   pub call-refused : (thread : Thread) (request : Request) (outcome : Outcome) → target_in w thread request ≡ Err outcome → step w (Call thread request) ≡ record { world = w; outcome = outcome }
   unfolding step client
-  call-refused thread request outcome is = elim (option_cases (row_at w.parts thread.proc.user.0)) [
-    | inl none ↦ let its : Err WrongState ≡ Err outcome = rw none at is in rw none (ap (λ o. record { world = w; outcome = o }) (cc))
-    | inr part ↦
-        let its : target_by config thread.proc.user.0 part.0.resources.mounts part.0.processes thread request ≡ Err outcome = rw part.1 at is in
-        rw (part.1, its, settled-same part.0 part.0 _ refl refl, set-row w.parts thread.proc.user.0 part.0 part.1) refl
+  call-refused thread request outcome is = elim (option_cases (row_at c.users thread.proc.user.0)) [
+    | inl none ↦
+        let nobody = none_there thread.proc.user.0 none in
+        let its : Err WrongState ≡ Err outcome = rw nobody at is in
+        rw nobody (ap (λ o. record { world = w; outcome = o }) (cc))
+    | inr ps ↦
+        let o = the_owner thread.proc.user.0 ps.0 ps.1 in
+        let its : target_by config thread.proc.user.0 o.k.mounts ps.0 thread request ≡ Err outcome = rw o.part at is in
+        rw (o.part, its, ended_same thread.proc.user.0 ps.0 o, put_back thread.proc.user.0 ps.0 o) refl
+  ]
+
+  -- who calls has a row
+  caller : (user : ℕ) (mounts : List MountPoint) (ps : List (Option Process)) (thread : Thread) (request : Request) (addressed : Addressed) → target_by config user mounts ps thread request ≡ Ok addressed
+      → (row : ThreadRow) × (thread_of thread.tid (row_at ps thread.proc.num) ≡ Some row)
+  caller user mounts ps thread request addressed is = elim (option_cases (row_at ps thread.proc.num)) [
+    | inl none ↦ let clash : Err WrongState ≡ Ok addressed = rw none at is in absurd (cc)
+    | inr process ↦ elim (option_cases (row_at process.0.threads thread.tid)) [
+      | inl none ↦ let clash : Err WrongState ≡ Ok addressed = rw (process.1, none) at is in absurd (cc)
+      | inr row ↦ (row.0, rw process.1 row.1)
+    ]
   ]
 
   pub call-sent : (thread : Thread) (request : Request) (addressed : Addressed) → target_in w thread request ≡ Ok addressed
-      → step w (Call thread request) ≡ record { world = told_world config (after_send c thread (sent_to addressed request)) rs hands; outcome = Sent }
+      → step w (Call thread request) ≡ record { world = world_of config (after_send c thread (sent_to addressed request)) ks hands; outcome = Sent }
   unfolding step client
   call-sent thread request addressed is = elim (option_cases (row_at c.users thread.proc.user.0)) [
-    | inl none ↦ let clash : Err WrongState ≡ Ok addressed = rw (part-none c.users rs thread.proc.user.0 none) at is in absurd (cc)
+    | inl none ↦ let clash : Err WrongState ≡ Ok addressed = rw (none_there thread.proc.user.0 none) at is in absurd (cc)
     | inr ps ↦
-        let there = part-there c.users rs thread.proc.user.0 ps.0 same ps.1 in
-        let its : target_by config thread.proc.user.0 there.0.mounts ps.0 thread request ≡ Ok addressed = rw there.1.1 at is in
-        rw (there.1.1, its, ps.1, settled-processes _ _ there.0 _, parts-set_processes c.users rs thread.proc.user.0 _ there.0 there.1.0) refl
+        let o = the_owner thread.proc.user.0 ps.0 ps.1 in
+        let its : target_by config thread.proc.user.0 o.k.mounts ps.0 thread request ≡ Ok addressed = rw o.part at is in
+        let row = caller thread.proc.user.0 o.k.mounts ps.0 thread request addressed its in
+        let sent = sent_to addressed request in
+        let after = with_row ps.0 thread.proc.num (with_queued thread.tid sent) in
+        let left = left-kept (held thread.proc.user.0 ps.0 o) (r thread.proc.user.0 ps.0 o).pipes ps.0 thread.proc.num thread.tid row.0 (with_queued thread.tid sent) o.left row.1 (queued-keeps thread.tid sent) in
+        rw (o.part, its, ps.1, ended_with thread.proc.user.0 ps.0 o after left, changed thread.proc.user.0 ps.0 o after) refl
   ]
 
   -- ---- interrupt
@@ -159,56 +217,110 @@ module _ (config : Configuration) (c : Channel) (rs : List (Option Resources)) (
   pub interrupt-nobody : (thread : Thread) → thread_row c.users thread ≡ None → step w (Interrupt thread) ≡ record { world = w; outcome = WrongState }
   unfolding step client
   interrupt-nobody thread none = elim (option_cases (row_at c.users thread.proc.user.0)) [
-    | inl nobody ↦ rw (part-none c.users rs thread.proc.user.0 nobody) refl
+    | inl nobody ↦ rw (none_there thread.proc.user.0 nobody) refl
     | inr ps ↦
-        let there = part-there c.users rs thread.proc.user.0 ps.0 same ps.1 in
+        let o = the_owner thread.proc.user.0 ps.0 ps.1 in
         let its : thread_of thread.tid (row_at ps.0 thread.proc.num) ≡ None = rw ps.1 at none in
-        rw (there.1.1, its, settled-processes _ _ there.0 _, set-row w.parts thread.proc.user.0 (record { processes = ps.0; resources = there.0 }) there.1.1) refl
+        rw (o.part, its, ended_same thread.proc.user.0 ps.0 o, put_back thread.proc.user.0 ps.0 o) refl
   ]
 
-  module _ (thread : Thread) (row : ThreadRow) (it : There c rs thread row) where
+  module _ (thread : Thread) (row : ThreadRow) (ps : List (Option Process)) (o : TheOwner thread.proc.user.0 ps) (its : thread_of thread.tid (row_at ps thread.proc.num) ≡ Some row) where
     -- a thread that waits for nothing is not asked
     unasked-ready : row.state ≡ state.Ready → step w (Interrupt thread) ≡ record { world = told_world config (after_asking c thread) rs hands; outcome = Done }
     unfolding step client
-    unasked-ready is = rw (it.part, it.user, it.its, is, settled-processes _ _ it.r _, set-row w.parts thread.proc.user.0 (record { processes = it.ps; resources = it.r }) it.part) refl
+    unasked-ready is = rw (o.part, o.users, its, is, ended_same thread.proc.user.0 ps o, put_back thread.proc.user.0 ps o) refl
 
     unasked-answered : (answer : Answer) → row.state ≡ state.Answered answer → step w (Interrupt thread) ≡ record { world = told_world config (after_asking c thread) rs hands; outcome = Done }
     unfolding step client
-    unasked-answered answer is = rw (it.part, it.user, it.its, is, settled-processes _ _ it.r _, set-row w.parts thread.proc.user.0 (record { processes = it.ps; resources = it.r }) it.part) refl
+    unasked-answered answer is = rw (o.part, o.users, its, is, ended_same thread.proc.user.0 ps o, put_back thread.proc.user.0 ps o) refl
 
-  module _ (thread : Thread) (row : ThreadRow) (sent : Message) (it : There c rs thread row) where
-    dismisses : row.state ≡ state.Queued sent → step w (Interrupt thread) ≡ record { world = told_world config (after_withdrawing c thread) rs hands; outcome = Done }
-    unfolding step client
-    dismisses is = rw (it.part, it.user, it.its, is, it.user, settled-processes _ _ it.r _, parts-set_processes c.users rs thread.proc.user.0 _ it.r it.resources) refl
+    module _ (sent : Message) where
+      -- the thread is answered EINTR, or asked
+      abbrev failing : Process → Process
+      failing = failed thread.tid EINTR sent.target.over
 
-    asks : row.state ≡ state.Taken sent → step w (Interrupt thread) ≡ record { world = told_world config (after_asking c thread) rs hands; outcome = Done }
-    unfolding step client
-    asks is = elim (cases_Bool sent.is_asked) [
-      | inl asked ↦ rw (it.part, it.user, it.its, is, asked, settled-processes _ _ it.r _, set-row w.parts thread.proc.user.0 (record { processes = it.ps; resources = it.r }) it.part) refl
-      | inr unasked ↦ rw (it.part, it.user, it.its, is, unasked, it.user, settled-processes _ _ it.r _, parts-set_processes c.users rs thread.proc.user.0 _ it.r it.resources) refl
-    ]
+      failed_left : AreLeft (held thread.proc.user.0 ps o) (r thread.proc.user.0 ps o).pipes 0 (with_row ps thread.proc.num failing)
+      failed_left =
+          left-kept (held thread.proc.user.0 ps o) (r thread.proc.user.0 ps o).pipes ps thread.proc.num thread.tid row failing o.left its (message-keeps thread.tid sent.target.over (Err EINTR))
 
-    asks_waiting : row.state ≡ state.Waiting sent → step w (Interrupt thread) ≡ record { world = told_world config (after_asking c thread) rs hands; outcome = Done }
-    unfolding step client
-    asks_waiting is = elim (cases_Bool sent.is_asked) [
-      | inl asked ↦ rw (it.part, it.user, it.its, is, asked, settled-processes _ _ it.r _, set-row w.parts thread.proc.user.0 (record { processes = it.ps; resources = it.r }) it.part) refl
-      | inr unasked ↦ rw (it.part, it.user, it.its, is, unasked, it.user, settled-processes _ _ it.r _, parts-set_processes c.users rs thread.proc.user.0 _ it.r it.resources) refl
-    ]
+      asked_left : AreLeft (held thread.proc.user.0 ps o) (r thread.proc.user.0 ps o).pipes 0 (with_row ps thread.proc.num (with_thread thread.tid asked_thread))
+      asked_left = left-thread (held thread.proc.user.0 ps o) (r thread.proc.user.0 ps o).pipes ps thread.proc.num thread.tid asked_thread o.left
+
+      dismisses : row.state ≡ state.Queued sent → step w (Interrupt thread) ≡ record { world = told_world config (after_withdrawing c thread) rs hands; outcome = Done }
+      unfolding step client
+      dismisses is =
+          rw (o.part, o.users, its, is, o.users, ended_with thread.proc.user.0 ps o (with_row ps thread.proc.num failing) failed_left, changed thread.proc.user.0 ps o (with_row ps thread.proc.num failing)) refl
+
+      asks : row.state ≡ state.Taken sent → step w (Interrupt thread) ≡ record { world = told_world config (after_asking c thread) rs hands; outcome = Done }
+      unfolding step client
+      asks is = elim (cases_Bool sent.is_asked) [
+        | inl asked ↦ rw (o.part, o.users, its, is, asked, ended_same thread.proc.user.0 ps o, put_back thread.proc.user.0 ps o) refl
+        | inr unasked ↦
+            rw (o.part, o.users, its, is, unasked, o.users, ended_with thread.proc.user.0 ps o (with_row ps thread.proc.num (with_thread thread.tid asked_thread)) asked_left, changed thread.proc.user.0 ps o (with_row ps thread.proc.num (with_thread thread.tid asked_thread))) refl
+      ]
+
+      asks_waiting : row.state ≡ state.Waiting sent → step w (Interrupt thread) ≡ record { world = told_world config (after_asking c thread) rs hands; outcome = Done }
+      unfolding step client
+      asks_waiting is = elim (cases_Bool sent.is_asked) [
+        | inl asked ↦ rw (o.part, o.users, its, is, asked, ended_same thread.proc.user.0 ps o, put_back thread.proc.user.0 ps o) refl
+        | inr unasked ↦
+            rw (o.part, o.users, its, is, unasked, o.users, ended_with thread.proc.user.0 ps o (with_row ps thread.proc.num (with_thread thread.tid asked_thread)) asked_left, changed thread.proc.user.0 ps o (with_row ps thread.proc.num (with_thread thread.tid asked_thread))) refl
+      ]
+
+  -- a thread that is there, among the processes and the rows of its user
+  record There (thread : Thread) (row : ThreadRow) : Type 0 where
+    ps : List (Option Process)
+    o : TheOwner thread.proc.user.0 ps
+    its : thread_of thread.tid (row_at ps thread.proc.num) ≡ Some row
+
+  there_by : (thread : Thread) (row : ThreadRow) → thread_row c.users thread ≡ Some row → There thread row
+  there_by thread row is = elim (option_cases (row_at c.users thread.proc.user.0)) [
+    | inl none ↦ let clash : None ≡ Some row = rw none at is in absurd (cc)
+    | inr ps ↦ record { ps = ps.0; o = the_owner thread.proc.user.0 ps.0 ps.1; its = row_in c thread ps.0 row ps.1 is }
+  ]
 
   pub interrupt-queued : (thread : Thread) (row : ThreadRow) (sent : Message) → thread_row c.users thread ≡ Some row → row.state ≡ state.Queued sent
-      → step w (Interrupt thread) ≡ record { world = told_world config (after_withdrawing c thread) rs hands; outcome = Done }
-  interrupt-queued thread row sent there is = dismisses thread row sent (there_by thread row there) is
+      → step w (Interrupt thread) ≡ record { world = world_of config (after_withdrawing c thread) ks hands; outcome = Done }
+  interrupt-queued thread row sent there is =
+      let it = there_by thread row there in
+      by_channel (Interrupt thread) (after_withdrawing c thread) Done (still-withdrawing c ks sound.users thread).waits (dismisses thread row it.ps it.o it.its sent is)
 
   pub interrupt-unqueued : (thread : Thread) (row : ThreadRow) → thread_row c.users thread ≡ Some row → queued_in row.state ≡ None
-      → step w (Interrupt thread) ≡ record { world = told_world config (after_asking c thread) rs hands; outcome = Done }
-  interrupt-unqueued thread row there unqueued = by_state row.state refl unqueued
+      → step w (Interrupt thread) ≡ record { world = world_of config (after_asking c thread) ks hands; outcome = Done }
+  interrupt-unqueued thread row there unqueued = by_channel (Interrupt thread) (after_asking c thread) Done (still-asking c ks sound.users thread).waits (by_state row.state refl unqueued)
     where
+      it : There thread row
+      it = there_by thread row there
+
       by_state : (given : State) → row.state ≡ given → queued_in given ≡ None → step w (Interrupt thread) ≡ record { world = told_world config (after_asking c thread) rs hands; outcome = Done }
-      by_state state.Ready same is = unasked-ready thread row (there_by thread row there) same
+      by_state state.Ready same is = unasked-ready thread row it.ps it.o it.its same
       by_state (state.Queued sent) same is = absurd (cc)
-      by_state (state.Taken sent) same is = asks thread row sent (there_by thread row there) same
-      by_state (state.Waiting sent) same is = asks_waiting thread row sent (there_by thread row there) same
-      by_state (state.Answered answer) same is = unasked-answered thread row (there_by thread row there) answer same
+      by_state (state.Taken sent) same is = asks thread row it.ps it.o it.its sent same
+      by_state (state.Waiting sent) same is = asks_waiting thread row it.ps it.o it.its sent same
+      by_state (state.Answered answer) same is = unasked-answered thread row it.ps it.o it.its answer same
+
+  -- ---- what is sound still
+
+  after_sound : (e : Step) (d : Channel) (outcome : Outcome) → AreResourcesOf d ks → step w e ≡ record { world = world_of config d ks hands; outcome = outcome } → IsSound config d ks hands
+  after_sound e d outcome users is = sound-step config c ks hands sound d ks hands e users (sym (ap (λ after. after.world) is))
+
+  pub spawn-sound : (user : User) (threads : ℕ) (prio : Prio) → IsSound config (after_spawn c user.0 threads prio.0) ks hands
+  spawn-sound user threads prio = after_sound _ _ _ (still-spawn c ks sound.users user.0 threads prio.0) (spawn-step user threads prio)
+
+  pub take_reply-sound : (thread : Thread) → IsSound config (after_taking c thread) ks hands
+  take_reply-sound thread = after_sound _ _ _ (still-taking c ks sound.users thread).of (take_reply-step thread)
+
+  pub set_prio-sound : (thread : Thread) (prio : Prio) → IsSound config (after_ranking c thread prio.0) ks hands
+  set_prio-sound thread prio = after_sound _ _ _ (still-ranking c ks sound.users thread prio.0) (set_prio-step thread prio)
+
+  pub call-sound : (thread : Thread) (request : Request) (addressed : Addressed) → target_in w thread request ≡ Ok addressed → IsSound config (after_send c thread (sent_to addressed request)) ks hands
+  call-sound thread request addressed is = after_sound _ _ _ (still-send c ks sound.users thread (sent_to addressed request)) (call-sent thread request addressed is)
+
+  pub withdrawn-sound : (thread : Thread) (row : ThreadRow) (sent : Message) → thread_row c.users thread ≡ Some row → row.state ≡ state.Queued sent → IsSound config (after_withdrawing c thread) ks hands
+  withdrawn-sound thread row sent there is = after_sound _ _ _ (still-withdrawing c ks sound.users thread).of (interrupt-queued thread row sent there is)
+
+  pub asked-sound : (thread : Thread) (row : ThreadRow) → thread_row c.users thread ≡ Some row → queued_in row.state ≡ None → IsSound config (after_asking c thread) ks hands
+  asked-sound thread row there unqueued = after_sound _ _ _ (still-asking c ks sound.users thread).of (interrupt-unqueued thread row there unqueued)
 
 -- a spawn that is refused
 pub spawn-refused : (number : Result ℕ Outcome) → IsTrue (is_refusal (spawn_outcome number)) → IsErr number

@@ -1,7 +1,8 @@
 -- A step that mounts: how it is judged, and what it comes to.
-use Rattle.std.proofs.Common.{◌≡◌, inl, inr, ℕ, zero, suc, List, [], ◌∷◌, true, false, Option, Some, None, Result, Ok, Err, refl, sym, ap, ◌∙◌}
+use Rattle.std.proofs.Common.{◌≡◌, ◌⊎◌, inl, inr, ℕ, zero, suc, List, [], ◌∷◌, true, false, Option, Some, None, Result, Ok, Err, refl, sym, ap, subst, ◌∙◌}
 use Rattle.std.specs.Prelude.{IfOk, option_map, slice_set}
-use Rattle.std.proofs.lemmas.Bool.{false≢true}
+use Rattle.std.proofs.lemmas.Bool.{cases_eq, false≢true}
+use Rattle.std.proofs.lemmas.Option.{same_Some}
 use Rattle.qx_types.specs.Configuration.{Configuration, name_bytes}
 use Rattle.qx_types.specs.declared.errno.Errno.{Errno}
 use Rattle.qx_types.specs.declared.names.Manager.{Manager}
@@ -14,24 +15,28 @@ use Rattle.qx_machine.specs.declared.rows.Held.{Held}
 use Rattle.qx_machine.specs.Calls.{is_ready}
 use Rattle.qx_machine.specs.Clients.{mount_by, or_unchanged}
 use Rattle.qx_machine.specs.Judgements.{or_refused}
+use Rattle.qx_machine.specs.Laws.{IsSettled}
 use Rattle.qx_machine.specs.Machine.{World, client_end, own_held, step}
 use Rattle.qx_machine.specs.Mounting.{new_mount, with_mount}
 use Rattle.qx_machine.specs.Parts.{Part, thread_of}
 use Rattle.qx_machine.specs.Resources.{Resources}
 use Rattle.qx_machine.specs.Processes.{Process}
 use Rattle.qx_machine.specs.Rows.{row_at, with_row}
-use Rattle.qx_machine.specs.Users.{client}
-use Rattle.qx_machine.proofs.Places.{set-row_at}
+use Rattle.qx_machine.specs.Users.{client, settle_part}
+use Rattle.qx_machine.proofs.Places.{row_at-set_other, set-row_at}
+use Rattle.qx_machine.proofs.Settled.{same_settled, settled-left}
+use Rattle.qx_process.proofs.RowLemmas.{with_row-none}
 use Rattle.qx_resources.specs.Mounts as mounts
 use Rattle.qx_resources.specs.Mounts.{with_new_mount}
 use Rattle.qx_resources.specs.State.{told, Kept}
 use Rattle.qx_chan.specs.Channel.{Channel, lists}
-use Rattle.qx_steps.specs.inner.Parts.{part_of, parts_of, told_all, world_of}
+use Rattle.qx_steps.specs.inner.Parts.{part_of, parts_of, told_all, world_of, AreResourcesOf, IsSound}
 use Rattle.qx_steps.specs.inner.Reads.{is_thread_ready}
 use Rattle.qx_steps.specs.Reads.{process_of_part, row_among_parts}
 use Rattle.qx_steps.specs.inner.Steps.{after_mount, mount_from, mount_in, CanMount, IsMountable}
-use Rattle.qx_chan.proofs.RowReads.{option_cases}
-use Rattle.qx_steps.proofs.SettledLemmas.{settled-mount, settled-same}
+use Rattle.qx_chan.proofs.RowReads.{option_cases, row_at-with_same}
+use Rattle.qx_steps.proofs.LeftLemmas.{AreLeft}
+use Rattle.qx_steps.proofs.SettledLemmas.{settled-mount}
 use Rattle.qx_steps.proofs.PartsLemmas.{mapped-put, row_at-parts, told-none, told-there}
 
 -- ---- how it is judged
@@ -70,28 +75,65 @@ still_ok (Err errno) P Q step p = tt
 -- ---- what it comes to
 
 -- a user whose rows stay
-refused_by : (w : World) (user : ℕ) (part : Part) (outcome : Outcome) → row_at w.parts user ≡ Some part → client_end w user part (or_unchanged part (Err outcome)) ≡ record { world = w; outcome = outcome }
-refused_by w user part outcome row =
+refused_by : (w : World) (user : ℕ) (part : Part) (outcome : Outcome) → IsSettled w → row_at w.parts user ≡ Some part → client_end w user part (or_unchanged part (Err outcome)) ≡ record { world = w; outcome = outcome }
+refused_by w user part outcome settled row =
     ap (λ parts. record { world = record w { parts = parts }; outcome = outcome })
-    (ap (λ settled. slice_set w.parts user (Some settled)) (settled-same part part (own_held user w.hands) refl refl) ∙ (ap (slice_set w.parts user) (sym row) ∙ set-row_at w.parts user))
+    (ap (λ after. slice_set w.parts user (Some after)) (settled user part row) ∙ (ap (slice_set w.parts user) (sym row) ∙ set-row_at w.parts user))
 
-pub mount-refused : (w : World) (thread : Thread) (path : List ℕ) (manager : Manager) (outcome : Outcome) → mount_in w thread path manager ≡ Err outcome → step w (Mount thread path manager) ≡ record { world = w; outcome = outcome }
+pub mount-refused : (w : World) (thread : Thread) (path : List ℕ) (manager : Manager) (outcome : Outcome) → IsSettled w → mount_in w thread path manager ≡ Err outcome → step w (Mount thread path manager) ≡ record { world = w; outcome = outcome }
 unfolding step client
-mount-refused w thread path manager outcome is = elim (option_cases (row_at w.parts thread.proc.user.0)) [
+mount-refused w thread path manager outcome settled is = elim (option_cases (row_at w.parts thread.proc.user.0)) [
   | inl none ↦ let same : Err WrongState ≡ Err outcome = rw none at is in rw none (ap (λ o. record { world = w; outcome = o }) (cc))
   | inr part ↦
       let its : mount_by w.config thread.proc.user.0 part.0 thread path manager ≡ Err outcome = rw part.1 at is in
-      rw (part.1, its) (refused_by w thread.proc.user.0 part.0 outcome part.1)
+      rw (part.1, its) (refused_by w thread.proc.user.0 part.0 outcome settled part.1)
 ]
 
-pub mount-done : (w : World) (thread : Thread) (path : List ℕ) (manager : Manager) (mount : MountPoint) → mount_in w thread path manager ≡ Ok mount → step w (Mount thread path manager) ≡ record { world = after_mount w thread.proc.user.0 mount; outcome = Done }
+-- no process of the user is to be freed
+left_of : (w : World) (user : ℕ) (part : Part) → IsSettled w → row_at w.parts user ≡ Some part → AreLeft (own_held user w.hands) part.resources.pipes 0 part.processes
+left_of w user part settled row = settled-left part (own_held user w.hands) (settled user part row)
+
+pub mount-done : (w : World) (thread : Thread) (path : List ℕ) (manager : Manager) (mount : MountPoint) → IsSettled w → mount_in w thread path manager ≡ Ok mount → step w (Mount thread path manager) ≡ record { world = after_mount w thread.proc.user.0 mount; outcome = Done }
 unfolding step client
-mount-done w thread path manager mount is = elim (option_cases (row_at w.parts thread.proc.user.0)) [
+mount-done w thread path manager mount settled is = elim (option_cases (row_at w.parts thread.proc.user.0)) [
   | inl none ↦ let clash : Err WrongState ≡ Ok mount = rw none at is in absurd (cc)
   | inr part ↦
       let its : mount_by w.config thread.proc.user.0 part.0 thread path manager ≡ Ok mount = rw part.1 at is in
-      rw (part.1, its, settled-mount mount part.0 _) refl
+      let left = left_of w thread.proc.user.0 part.0 settled part.1 in
+      rw (part.1, its, settled-mount mount part.0 (own_held thread.proc.user.0 w.hands) left) refl
 ]
+
+-- ---- nothing is left to be settled then
+
+module _ (w : World) (user : ℕ) (mount : MountPoint) where
+  abbrev mounts_one : Part → Part
+  mounts_one part = record part { resources = with_mount mount part.resources }
+
+  -- a user's rows then are those before, or have one more mount
+  after_cases : (other : ℕ) (part : Part) → row_at (after_mount w user mount).parts other ≡ Some part → (row_at w.parts other ≡ Some part) ⊎ ((before : Part) × ((row_at w.parts user ≡ Some before) × ((other ≡ user) × (mounts_one before ≡ part))))
+  after_cases other part there = elim (cases_eq other user) [
+    | inl same ↦ elim (option_cases (row_at w.parts user)) [
+      | inl none ↦ inl (sym (ap (λ parts. row_at parts other) (with_row-none w.parts user mounts_one none)) ∙ there)
+      | inr before ↦
+          let put : Some (mounts_one before.0) ≡ Some part = sym (row_at-with_same w.parts user mounts_one ∙ ap (option_map mounts_one) before.1) ∙ (ap (row_at (after_mount w user mount).parts) (sym same) ∙ there) in
+          inr (before.0, (before.1, (same, same_Some _ _ put)))
+    ]
+    | inr differs ↦ inl (sym (row_at-set_other w.parts user other (option_map mounts_one (row_at w.parts user)) differs) ∙ there)
+  ]
+
+  mount_settled : IsSettled w → IsSettled (after_mount w user mount)
+  mount_settled settled other part there = elim (after_cases other part there) [
+    | inl was ↦ settled other part was
+    | inr its ↦
+        let after = same_settled (mounts_one its.0) (own_held user w.hands) (left_of w user its.0 settled its.1.0) in
+        subst (λ number. settle_part part (own_held number w.hands) part ≡ part) (sym its.1.1.0) (subst (λ part. settle_part part (own_held user w.hands) part ≡ part) its.1.1.1 after)
+  ]
+
+pub sound-mount : (config : Configuration) (c : Channel) (ks ls : List (Option Kept)) (hands : List (Option Held)) (user : ℕ) (mount : MountPoint) → IsSound config c ks hands → AreResourcesOf c ls → world_of config c ls hands ≡ after_mount (world_of config c ks hands) user mount → IsSound config c ls hands
+sound-mount config c ks ls hands user mount sound users is = record {
+  users = users;
+  settled = subst IsSettled (sym is) (mount_settled (world_of config c ks hands) user mount sound.settled);
+}
 
 -- ---- a manager is attached for a user
 

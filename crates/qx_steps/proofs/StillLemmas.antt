@@ -13,18 +13,19 @@ use Rattle.qx_machine.specs.declared.rows.OwnItem.TheVariants as item
 use Rattle.qx_machine.specs.declared.rows.Pulse.{Pulse}
 use Rattle.qx_machine.specs.declared.rows.Queued.{Queued}
 use Rattle.qx_machine.specs.declared.rows.Sent.{Sent}
-use Rattle.qx_machine.specs.declared.rows.ServerName.{ServerName}
 use Rattle.qx_machine.specs.Clients.{spawn_number}
 use Rattle.qx_machine.specs.Events.{first_pulse}
-use Rattle.qx_machine.specs.Processes.{Process, asked_thread, ready_thread, taken_thread, with_queued, with_thread, without_server}
+use Rattle.qx_machine.specs.Processes.{Process, asked_thread, ended, living, ready_thread, taken_thread, with_queued, with_thread}
 use Rattle.qx_machine.specs.Rows.{with_row}
+use Rattle.qx_machine.specs.Settling.{processes_left}
 use Rattle.qx_procs.specs.Calls.{after_or, spawned, with_prio}
 use Rattle.qx_resources.specs.State.{told, Kept}
 use Rattle.qx_chan.specs.Calls.{answer_of, queued_call, unasked_call}
-use Rattle.qx_chan.specs.Channel.{Channel, after_asking, after_pulse, after_ranking, after_receive, after_send, after_spawn, after_taking, after_withdrawing, asked, channel_events, channel_line, failed, lists, readied, with_first_taken, with_pulse_taken, withdrawn}
+use Rattle.qx_chan.specs.Channel.{Channel, after_asking, after_exit, after_pulse, after_ranking, after_receive, after_send, after_spawn, after_taking, after_withdrawing, asked, channel_events, channel_line, channel_pipes, ended_in, failed, lists, readied, with_first_taken, with_pulse_taken, withdrawn}
 use Rattle.qx_chan.specs.declared.call.Call.{Call}
-use Rattle.qx_chan.specs.Users.{process_of, thread_row, with_process_of}
+use Rattle.qx_chan.specs.Users.{process_of, thread_row}
 use Rattle.qx_steps.specs.inner.Parts.{told_all, told_world, world_of, AreResourcesOf, SameUsers}
+use Rattle.qx_steps.specs.inner.Performing.{with_left}
 use Rattle.qx_steps.proofs.PartsLemmas.{same-with_processes}
 
 -- a channel with the same pipes and events tells the same resources
@@ -70,9 +71,17 @@ module _ (c : Channel) (ks : List (Option Kept)) (of : AreResourcesOf c ks) wher
   pub still-receive : (manager : Manager) → AreResourcesOf (after_receive c manager) ks
   still-receive manager = of-users c (after_receive c manager) ks of (taken (slice_get (channel_line c manager) 0))
 
-  -- a server connection of a process is freed
-  pub still-freeing : (proc : Proc) (server : ServerName) → AreResourcesOf (record c { users = with_process_of c.users proc (without_server server) }) ks
-  still-freeing proc server = of-users c (record c { users = with_process_of c.users proc (without_server server) }) ks of (one proc.user.0 (λ processes. with_row processes proc.num (without_server server)))
+  -- a process ends
+  ended_by : (proc : Proc) (process : Option Process) → AreResourcesOf (ended_in c proc process) ks
+  ended_by proc None = of
+  ended_by proc (Some process) = of-users c (ended_in c proc (Some process)) ks of (one proc.user.0 (λ processes. with_row processes proc.num ended))
+
+  pub still-exit : (proc : Proc) → AreResourcesOf (after_exit c proc) ks
+  still-exit proc = ended_by proc (living (process_of c.users proc))
+
+  -- processes that have ended are freed
+  pub still-left : (held : List OwnItem) (user room : ℕ) → AreResourcesOf (record (with_left c held user) { room = room }) ks
+  still-left held user room = of-users c (record (with_left c held user) { room = room }) ks of (one user (processes_left held (channel_pipes c user) 0))
 
   -- where a thread has a call, or an answer, its process changes
 
@@ -105,4 +114,4 @@ module _ (c : Channel) (ks : List (Option Kept)) (of : AreResourcesOf c ks) wher
   pulsed_by proc (Some process) (Some first) = of-users c (with_pulse_taken c proc (Some process) (Some first)) ks of of.same
 
   pub still-pulse : (proc : Proc) → AreResourcesOf (after_pulse c proc) ks
-  still-pulse proc = pulsed_by proc (process_of c.users proc) (first_pulse proc.num (channel_events c proc.user.0))
+  still-pulse proc = pulsed_by proc (living (process_of c.users proc)) (first_pulse proc.num (channel_events c proc.user.0))

@@ -1,10 +1,10 @@
 -- A worker's step, by what the channel makes of it and what is done for the user.
 use Rattle.std.proofs.Common.{◌≡◌, inl, inr, ℕ, zero, suc, List, [], ◌∷◌, true, false, Option, Some, None, slice_set, is_some, refl, sym, ap, ◌∙◌}
-use Rattle.std.specs.Prelude.{slice_get}
+use Rattle.std.specs.Prelude.{option_map, slice_get}
 use Rattle.qx_types.specs.Configuration.{Configuration}
 use Rattle.qx_types.specs.Managers.{manager_number}
 use Rattle.qx_types.specs.declared.names.Manager.{Manager}
-use Rattle.qx_types.specs.declared.names.Proc.{Proc}
+use Rattle.qx_types.specs.declared.names.User.{User}
 use Rattle.qx_types.specs.declared.names.Worker.{Worker}
 use Rattle.qx_types.specs.declared.outcome.Outcome.TheVariants.{WrongState, Took, Idle, Busy, Handled, Nothing}
 use Rattle.qx_types.specs.declared.step.Step.TheVariants.{Receive, Perform}
@@ -12,26 +12,33 @@ use Rattle.qx_machine.specs.declared.rows.Held.{Held}
 use Rattle.qx_machine.specs.declared.rows.OwnItem.{OwnItem}
 use Rattle.qx_machine.specs.declared.rows.OwnItem.TheVariants as item
 use Rattle.qx_machine.specs.declared.rows.Queued.{Queued}
-use Rattle.qx_machine.specs.declared.rows.ServerName.{ServerName}
+use Rattle.qx_machine.specs.declared.rows.Sent.{Sent}
 use Rattle.qx_machine.specs.Lines.{line_at}
-use Rattle.qx_machine.specs.Machine.{World, is_worker, named_thread, performed_part, received_part, shown_item, step, with_empty_hand, with_taken}
+use Rattle.qx_machine.specs.Machine.{World, is_worker, named_thread, own_held, performed_part, received_part, shown_item, step, with_empty_hand, with_taken}
 use Rattle.qx_machine.specs.Resources.{Resources}
-use Rattle.qx_machine.specs.Processes.{taken_thread, with_thread, without_server}
+use Rattle.qx_machine.specs.Parts.{thread_of}
+use Rattle.qx_machine.specs.Processes.{Process, taken_thread, with_thread}
 use Rattle.qx_machine.specs.Rows.{row_at, with_row}
-use Rattle.qx_machine.specs.Users.{serve, settle_part, take}
+use Rattle.qx_machine.specs.Users.{settle_part, take}
 use Rattle.qx_machine.specs.Wants.{item_wants_memory, wants_memory}
 use Rattle.qx_machine.proofs.Workers.{after_item, after_taking, item_taken}
 use Rattle.qx_process.proofs.RowLemmas.{set-row, with_row-none}
 use Rattle.qx_chan.specs.Calls.{taken_of}
-use Rattle.qx_chan.specs.Channel.{Channel, after_receive, channel_line}
-use Rattle.qx_chan.specs.Users.{with_process_of}
-use Rattle.qx_steps.specs.inner.Parts.{told_world, SameUsers}
-use Rattle.qx_steps.specs.Held.{held_work, work_of_sent}
-use Rattle.qx_steps.specs.Reads.{row_among_parts as thread_of_parts}
-use Rattle.qx_steps.specs.inner.Steps.{after_disconnect, after_message, after_pulse}
+use Rattle.qx_resources.specs.State.{told, Kept}
+use Rattle.qx_chan.specs.Channel.{Channel, after_receive, channel_line, lists}
+use Rattle.qx_chan.specs.Serving.{IsReadOf}
+use Rattle.qx_chan.specs.Users.{process_of}
+use Rattle.qx_steps.specs.declared.work.Work.TheVariants as work
+use Rattle.qx_steps.specs.inner.Held.{taken_by, taken_item}
+use Rattle.qx_steps.specs.inner.Parts.{parts_of, told_all, told_world, world_of, AreResourcesOf, IsSound}
+use Rattle.qx_steps.specs.Held.{bytes_or, held_work, received_bytes, work_of, IsReadFor}
+use Rattle.qx_steps.specs.Reads.{process_among_parts}
 use Rattle.qx_chan.proofs.RowReads.{option_cases}
-use Rattle.qx_steps.proofs.SettledLemmas.{settled-processes, settled-same}
-use Rattle.qx_steps.proofs.PartsLemmas.{part-none, part-there, parts-set_processes}
+use Rattle.qx_steps.proofs.LeftLemmas.{AreLeft, held-grows, left-held, left-thread}
+use Rattle.qx_steps.proofs.OwnerLemmas.{Owner, nobody, others_kept, owner, sound-step}
+use Rattle.qx_steps.proofs.PartsLemmas.{process-told}
+use Rattle.qx_steps.proofs.SettledLemmas.{settled-processes}
+use Rattle.qx_steps.proofs.StillLemmas.{still-receive}
 
 -- ---- lines
 
@@ -81,39 +88,38 @@ pub ruleset receive_steps = (receive-no_worker, receive-busy)
 
 pub ruleset perform_steps = (perform-no_worker, perform-nothing, perform-handled, perform-wants)
 
--- ---- a message that a worker holds, or a pulse
-
-pub message-performed : (w : World) (worker : ℕ) (held : Held) (process thread moment : ℕ) → held.item ≡ item.Message process thread
-    → performed_part (with_empty_hand w worker) held moment (row_at w.parts held.user.0) ≡ with_empty_hand (after_message w (named_thread held.user.0 process thread) moment) worker
-unfolding serve settle_part
-message-performed w worker held process thread moment is = elim (option_cases (row_at w.parts held.user.0)) [
-  | inl none ↦ rw none refl
-  | inr part ↦ rw (part.1, is) refl
-]
-
-pub pulse-performed : (w : World) (worker : ℕ) (held : Held) (process thread call moment : ℕ) → held.item ≡ item.Unblock process thread call
-    → performed_part (with_empty_hand w worker) held moment (row_at w.parts held.user.0) ≡ with_empty_hand (after_pulse w (named_thread held.user.0 process thread) call moment) worker
-unfolding serve settle_part
-pulse-performed w worker held process thread call moment is = elim (option_cases (row_at w.parts held.user.0)) [
-  | inl none ↦ rw none refl
-  | inr part ↦ rw (part.1, is) refl
-]
-
-pub disconnect-performed : (w : World) (worker : ℕ) (held : Held) (process : ℕ) (server : ServerName) (moment : ℕ) → held.item ≡ item.Disconnect process server
-    → performed_part (with_empty_hand w worker) held moment (row_at w.parts held.user.0) ≡ with_empty_hand (after_disconnect w (record { user = held.user; num = process }) server) worker
-unfolding serve settle_part
-disconnect-performed w worker held process server moment is = elim (option_cases (row_at w.parts held.user.0)) [
-  | inl none ↦ rw none refl
-  | inr part ↦ rw (part.1, is) refl
-]
+-- ---- a message that a worker holds
 
 pub held-message : (w : World) (worker : ℕ) (held : Held) (process thread : ℕ) → is_worker w.config worker ≡ true → row_at w.hands worker ≡ Some held → held.item ≡ item.Message process thread
-    → held_work w worker ≡ work_of_sent (taken_of (thread_of_parts w.parts (named_thread held.user.0 process thread)))
+    → held_work w worker ≡ option_map (λ bytes. work.Message bytes) (received_bytes thread (process_among_parts w.parts (named_thread held.user.0 process thread).proc))
 held-message w worker held process thread valid hand is = rw (valid, hand, is) refl
 
-module _ (config : Configuration) (c : Channel) (rs : List (Option Resources)) (hands : List (Option Held)) (same : SameUsers c.users rs) where
+-- one that was read before is the one that was received
+read_by : (read : Option (List ℕ)) (thread : ℕ) (process : Option Process) → IsReadFor read (option_map (λ bytes. work.Message bytes) (received_bytes thread process)) → IsReadOf read (taken_of (thread_of thread process))
+read_by None thread process is = tt
+read_by (Some bytes) thread None is = tt
+read_by (Some bytes) thread (Some process) is = by (taken_of (row_at process.threads thread)) is
+  where
+    by : (sent : Option Sent) → IsReadFor (Some bytes) (option_map (λ bytes. work.Message bytes) (bytes_or sent (row_at process.held thread))) → IsReadOf (Some bytes) sent
+    by None is = tt
+    by (Some sent) is = let same : work.Message sent.bytes ≡ work.Message bytes = is in cc
+
+read_item : (config : Configuration) (c : Channel) (ks : List (Option Kept)) (of : AreResourcesOf c ks) (read : Option (List ℕ)) (user : User) (own : OwnItem) → IsReadFor read (work_of (parts_of c.users (told_all c ks)) user.0 own) → IsReadOf read (taken_by c.users user.0 own)
+read_item config c ks of read user (item.Message process thread) is =
+    read_by read thread (process_of c.users (named_thread user.0 process thread).proc) (rw (process-told c ks (named_thread user.0 process thread).proc of) at is)
+read_item config c ks of None user _ is = tt
+read_item config c ks of (Some bytes) user _ is = tt
+
+pub held-read : (config : Configuration) (c : Channel) (ks : List (Option Kept)) (hands : List (Option Held)) (of : AreResourcesOf c ks) (read : Option (List ℕ)) (worker : ℕ) (held : Held)
+    → is_worker config worker ≡ true → row_at hands worker ≡ Some held → IsReadFor read (held_work (world_of config c ks hands) worker) → IsReadOf read (taken_item c.users held)
+held-read config c ks hands of read worker held valid hand is = read_item config c ks of read held.user held.item (rw (valid, hand) at is)
+
+module _ (config : Configuration) (c : Channel) (ks : List (Option Kept)) (hands : List (Option Held)) (sound : IsSound config c ks hands) where
   abbrev w : World
-  w = told_world config c rs hands
+  w = world_of config c ks hands
+
+  abbrev rs : List (Option Resources)
+  rs = told_all c ks
 
   -- ---- receive
 
@@ -124,23 +130,44 @@ module _ (config : Configuration) (c : Channel) (rs : List (Option Resources)) (
       let line : channel_line c manager ≡ [] = none_first (channel_line c manager) none in
       rw (valid, none_of (row_at hands worker.0) hand, line, set-empty c.lines (manager_number manager) line) refl
 
-  received : (worker : ℕ) (user : ℕ) (own : OwnItem) (prio : ℕ) (rest : List Queued) (manager : Manager) → channel_line c manager ≡ record { user = record { 0 = user }; item = own; prio = record { 0 = prio } } ∷ rest
+  module _ (worker user : ℕ) (own : OwnItem) (ps : List (Option Process)) (o : Owner config c ks hands sound user ps) (free : row_at hands worker ≡ None) where
+    -- what workers hold of the user, with the item that is taken
+    abbrev more : List OwnItem
+    more = own_held user (slice_set hands worker (Some (record { user = record { 0 = user }; item = own })))
+
+    abbrev r : Resources
+    r = told o.k (lists c)
+
+    left-then : AreLeft more r.pipes 0 ps
+    left-then = left-held (own_held user hands) more r.pipes (λ number. held-grows user worker (record { user = record { 0 = user }; item = own }) hands number free) 0 ps o.left
+
+    kept-then : settle_part (record { processes = ps; resources = r }) more (record { processes = ps; resources = r }) ≡ record { processes = ps; resources = r }
+    kept-then = settled-processes ps ps r more left-then
+
+    taken-then : (process thread : ℕ) → settle_part (record { processes = ps; resources = r }) more (record { processes = with_row ps process (with_thread thread taken_thread); resources = r }) ≡ record { processes = with_row ps process (with_thread thread taken_thread); resources = r }
+    taken-then process thread = settled-processes ps (with_row ps process (with_thread thread taken_thread)) r more (left-thread more r.pipes ps process thread taken_thread left-then)
+
+  received : (worker : ℕ) (user : ℕ) (own : OwnItem) (prio : ℕ) (rest : List Queued) (manager : Manager) → row_at hands worker ≡ None → channel_line c manager ≡ record { user = record { 0 = user }; item = own; prio = record { 0 = prio } } ∷ rest
       → received_part (with_taken w worker manager (record { user = record { 0 = user }; item = own })) (record { user = record { 0 = user }; item = own }) (row_at w.parts user)
       ≡ told_world config (after_receive c manager) rs (slice_set hands worker (Some (record { user = record { 0 = user }; item = own })))
   unfolding take
-  received worker user (item.Message process thread) prio rest manager is = elim (option_cases (row_at c.users user)) [
-    | inl none ↦ rw (is, part-none c.users rs user none, with_row-none c.users user (λ processes. with_row processes process (with_thread thread taken_thread)) none) refl
+  received worker user (item.Message process thread) prio rest manager free is = elim (option_cases (row_at c.users user)) [
+    | inl none ↦ rw (is, nobody config c ks hands sound user none, with_row-none c.users user (λ processes. with_row processes process (with_thread thread taken_thread)) none) refl
     | inr ps ↦
-        let there = part-there c.users rs user ps.0 same ps.1 in
-        rw (is, there.1.1, ps.1, settled-processes _ _ there.0 _, parts-set_processes c.users rs user _ there.0 there.1.0) refl
+        let o = owner config c ks hands sound user ps.0 ps.1 in
+        rw (is, o.part, ps.1, taken-then worker user (item.Message process thread) ps.0 o free process thread, others_kept config c ks hands sound user ps.0 o (with_row ps.0 process (with_thread thread taken_thread))) refl
   ]
-  received worker user (item.Unblock process thread call) prio rest manager is = elim (option_cases (row_at w.parts user)) [
-    | inl none ↦ rw (is, none) refl
-    | inr part ↦ rw (is, part.1, settled-same part.0 part.0 _ refl refl, set-row w.parts user part.0 part.1) refl
+  received worker user (item.Unblock process thread call) prio rest manager free is = elim (option_cases (row_at c.users user)) [
+    | inl none ↦ rw (is, nobody config c ks hands sound user none) refl
+    | inr ps ↦
+        let o = owner config c ks hands sound user ps.0 ps.1 in
+        rw (is, o.part, kept-then worker user (item.Unblock process thread call) ps.0 o free, set-row w.parts user (record { processes = ps.0; resources = told o.k (lists c) }) o.part) refl
   ]
-  received worker user (item.Disconnect process server) prio rest manager is = elim (option_cases (row_at w.parts user)) [
-    | inl none ↦ rw (is, none) refl
-    | inr part ↦ rw (is, part.1, settled-same part.0 part.0 _ refl refl, set-row w.parts user part.0 part.1) refl
+  received worker user (item.Disconnect process server) prio rest manager free is = elim (option_cases (row_at c.users user)) [
+    | inl none ↦ rw (is, nobody config c ks hands sound user none) refl
+    | inr ps ↦
+        let o = owner config c ks hands sound user ps.0 ps.1 in
+        rw (is, o.part, kept-then worker user (item.Disconnect process server) ps.0 o free, set-row w.parts user (record { processes = ps.0; resources = told o.k (lists c) }) o.part) refl
   ]
 
   took : (worker : Worker) (manager : Manager) (line : List Queued) (first : Queued) → is_worker config worker.0 ≡ true → row_at hands worker.0 ≡ None → channel_line c manager ≡ line → slice_get line 0 ≡ Some first
@@ -151,22 +178,20 @@ module _ (config : Configuration) (c : Channel) (rs : List (Option Resources)) (
       let its : other ≡ first = cc in
       rw (← its)
       (ap (λ item. after_item w item (after_taking w worker.0 manager)) (item_taken w worker.0 manager other rest valid free of)
-      ∙ ap (λ world. record { world = world; outcome = Took (shown_item other.user.0 other.item) }) (received worker.0 other.user.0 other.item other.prio.0 rest manager of))
+      ∙ ap (λ world. record { world = world; outcome = Took (shown_item other.user.0 other.item) }) (received worker.0 other.user.0 other.item other.prio.0 rest manager free of))
 
   pub receive-took : (worker : Worker) (manager : Manager) (first : Queued) → is_worker config worker.0 ≡ true → is_some (row_at hands worker.0) ≡ false → slice_get (channel_line c manager) 0 ≡ Some first
       → step w (Receive worker manager) ≡ record { world = told_world config (after_receive c manager) rs (slice_set hands worker.0 (Some (record { user = first.user; item = first.item }))); outcome = Took (shown_item first.user.0 first.item) }
   receive-took worker manager first valid hand is = took worker manager (channel_line c manager) first valid (none_of (row_at hands worker.0) hand) refl is
 
-  -- ---- a disconnect pulse
+  -- ---- what is sound still
 
-  pub freed : (proc : Proc) (server : ServerName) → told_world config (record c { users = with_process_of c.users proc (without_server server) }) rs hands ≡ after_disconnect w proc server
-  freed proc server = elim (option_cases (row_at c.users proc.user.0)) [
-    | inl none ↦ rw (part-none c.users rs proc.user.0 none, with_row-none c.users proc.user.0 (λ processes. with_row processes proc.num (without_server server)) none) refl
-    | inr ps ↦
-        let there = part-there c.users rs proc.user.0 ps.0 same ps.1 in
-        elim (option_cases (row_at ps.0 proc.num)) [
-          | inl none ↦
-              rw (there.1.1, ps.1, with_row-none ps.0 proc.num (without_server server) none, none, settled-processes _ _ there.0 _, parts-set_processes c.users rs proc.user.0 ps.0 there.0 there.1.0) refl
-          | inr process ↦ rw (there.1.1, ps.1, process.1, settled-processes _ _ there.0 _, parts-set_processes c.users rs proc.user.0 _ there.0 there.1.0) refl
-        ]
-  ]
+  pub idle-sound : (worker : Worker) (manager : Manager) → is_worker config worker.0 ≡ true → is_some (row_at hands worker.0) ≡ false → slice_get (channel_line c manager) 0 ≡ None → IsSound config (after_receive c manager) ks hands
+  idle-sound worker manager valid hand none =
+      sound-step config c ks hands sound (after_receive c manager) ks hands (Receive worker manager) (still-receive c ks sound.users manager) (sym (ap (λ after. after.world) (receive-idle worker manager valid hand none)))
+
+  pub took-sound : (worker : Worker) (manager : Manager) (first : Queued) → is_worker config worker.0 ≡ true → is_some (row_at hands worker.0) ≡ false → slice_get (channel_line c manager) 0 ≡ Some first
+      → IsSound config (after_receive c manager) ks (slice_set hands worker.0 (Some (record { user = first.user; item = first.item })))
+  took-sound worker manager first valid hand is =
+      sound-step config c ks hands sound (after_receive c manager) ks (slice_set hands worker.0 (Some (record { user = first.user; item = first.item }))) (Receive worker manager) (still-receive c ks sound.users manager)
+      (sym (ap (λ after. after.world) (receive-took worker manager first valid hand is)))

@@ -1,26 +1,32 @@
 -- What a worker holds, as the work that it has to do.
-use Rattle.std.specs.Prelude.{◌≡◌, ◌≢◌, ⊤, ℕ, List, Option, Some, None, if◌then◌else◌}
+use Rattle.std.specs.Prelude.{◌≡◌, ◌≢◌, ⊤, ℕ, List, Option, Some, None, if◌then◌else◌, option_map}
 use Rattle.qx_machine.specs.declared.rows.Held.{Held}
 use Rattle.qx_machine.specs.declared.rows.OwnItem.{OwnItem}
 use Rattle.qx_machine.specs.declared.rows.OwnItem.TheVariants as item
 use Rattle.qx_machine.specs.declared.rows.Sent.{Sent}
 use Rattle.qx_machine.specs.Machine.{World, is_worker, named_thread}
 use Rattle.qx_machine.specs.Parts.{Part}
+use Rattle.qx_machine.specs.Processes.{Process}
 use Rattle.qx_machine.specs.Rows.{row_at}
 use Rattle.qx_chan.specs.Calls.{taken_of}
 use Rattle.qx_steps.specs.declared.work.Work.{Work}
 use Rattle.qx_steps.specs.declared.work.Work.TheVariants as work
 use Rattle.qx_steps.specs.declared.work.WorkRef.{WorkRef}
 use Rattle.qx_steps.specs.declared.work.WorkRef.TheVariants as lent
-use Rattle.qx_steps.specs.Reads.{row_among_parts}
+use Rattle.qx_steps.specs.Reads.{process_among_parts}
 
-abbrev pub work_of_sent : Option Sent → Option Work
-work_of_sent None = None
-work_of_sent (Some sent) = Some (work.Message sent.bytes)
+abbrev pub bytes_or : Option Sent → Option (List ℕ) → Option (List ℕ)
+bytes_or None kept = kept
+bytes_or (Some sent) kept = Some sent.bytes
+
+-- the bytes of a thread's message that was received and is not served; a process that has ended keeps them
+abbrev pub received_bytes : ℕ → Option Process → Option (List ℕ)
+received_bytes thread None = None
+received_bytes thread (Some process) = bytes_or (taken_of (row_at process.threads thread)) (row_at process.held thread)
 
 -- the work of an item of a user: the bytes of a received message, or a pulse
 abbrev pub work_of : List (Option Part) → ℕ → OwnItem → Option Work
-work_of parts user (item.Message process thread) = work_of_sent (taken_of (row_among_parts parts (named_thread user process thread)))
+work_of parts user (item.Message process thread) = option_map (λ bytes. work.Message bytes) (received_bytes thread (process_among_parts parts (named_thread user process thread).proc))
 work_of parts user _ = Some work.Pulse
 
 abbrev pub work_in_hand : World → Option Held → Option Work

@@ -1,4 +1,4 @@
--- A call, a mount and a perform in parts: how a call and a mount are judged, and the world once a message or a pulse is done.
+-- How a call is judged, and what memory it wants.
 use Rattle.std.specs.Prelude.{◌≤◌, Option, Some, None, Result, Err, IfSome, IsTrue, length}
 use Rattle.qx_bytes.specs.declared.message.TheConstants.MessageBytes.{INLINE}
 use Rattle.qx_types.specs.Configuration.{Configuration}

@@ -1,4 +1,5 @@
 pub mod Held
 pub mod Parts
+pub mod Performing
 pub mod Reads
 pub mod Steps

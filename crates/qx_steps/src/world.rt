@@ -3,34 +3,32 @@
 ghost use Rattle.std.specs.Prelude.{◌≡◌, ℕ, ◌∷◌, ◌↔◌, ◌≢◌, [], None, Some, Err, IfOk, IfSome, IsOk, IsTrue, IsFalse, OnOk, OnErr, IsErrOf, length, is_some, option_map, replicate, slice_set, unwrap_or};
 ghost use Rattle.std.specs.Option.{option_copied};
 ghost use Rattle.qx_machine.specs.Clients as clients;
-ghost use Rattle.qx_machine.specs.Laws.{is_refusal};
+ghost use Rattle.qx_machine.specs.Laws.{IsSettled, is_refusal};
 ghost use Rattle.qx_machine.specs.Machine as machine;
 ghost use Rattle.qx_machine.specs.Calls.{can_send, content_of};
 ghost use Rattle.qx_machine.specs.Rows.{row_at};
-ghost use Rattle.qx_machine.specs.Wants.{item_wants_memory, thread_wants_memory, wants_memory};
+ghost use Rattle.qx_machine.specs.Wants.{wants_memory};
 ghost use Rattle.qx_process.specs.Reads.{is_thread_blocked, CanCall, CanGo};
 ghost use Rattle.qx_chan.specs.Users.{IsThreadReady};
-ghost use Rattle.qx_chan.specs.Calls.{taken_of};
-ghost use Rattle.qx_chan.specs.Serving.{IsReadOf};
 ghost use Rattle.qx_procs.specs.Calls.{CanAttachAt};
 ghost use Rattle.qx_requests.specs.Targets.{HasRest};
-ghost use Rattle.qx_steps.specs.Held.{bytes_of_work, held_work, work_now, IsReadFor, IsStale};
-ghost use Rattle.qx_steps.specs.inner.Held.{taken_item};
+ghost use Rattle.qx_steps.specs.Held.{bytes_of_work, held_work, received_bytes, work_now, IsReadFor, IsStale};
 ghost use Rattle.qx_steps.specs.Reads.{is_thread_answered, process_among_parts, row_among_parts};
 ghost use Rattle.qx_steps.specs.inner.Reads.{is_thread_ready};
-ghost use Rattle.qx_steps.specs.inner.Steps.{after_disconnect, after_message, after_mount, after_pulse, mount_in, CanMount};
+ghost use Rattle.qx_steps.specs.inner.Steps.{after_mount, mount_in, CanMount};
 ghost use Rattle.qx_steps.specs.Steps.{target_in, HasMemory};
 
+use crate::performing::{free_ended, named_thread, perform};
 use crate::work::{PerformFault, Work, WorkRef};
 use qx_attr::Reply;
 use qx_chan::Channel;
-use qx_machine::{Addressed, Held, OwnItem, Queued, Sent, ServerName, State};
+use qx_machine::{Addressed, Held, OwnItem, Queued, Sent, State};
 use qx_process::places;
 use qx_requests::{encoded, target_by};
 use qx_resources::{AllResources, NewMount};
 use qx_types::{
-    Answer, Bytes, Config, Item, Manager, NoMemory, Outcome, Prio, Proc, Request, Step, Thread,
-    User, Worker,
+    Answer, Bytes, Config, Item, Manager, MessageBytes, NoMemory, Outcome, Prio, Proc, Request,
+    Step, Thread, User, Worker,
 };
 use qx_wire::Parsed;
 use std::alloc::{AllocError, Global};
@@ -65,7 +63,7 @@ impl Model for World {
     ghost use Rattle.std.specs.Coded.{codes};
     ghost use Rattle.qx_names.specs.Paths.{names_code};
     ghost use Rattle.qx_machine.specs.Machine as machine;
-    ghost use Rattle.qx_steps.specs.inner.Parts.{world_of, AreResourcesOf};
+    ghost use Rattle.qx_steps.specs.inner.Parts.{world_of, IsSound};
 
     ghost Value = { machine.World };
 
@@ -73,7 +71,7 @@ impl Model for World {
 
     ghost view = { λ w. world_of w.config w.channel w.resources w.hands.items };
 
-    ghost invariant = { λ w. AreResourcesOf w.channel w.resources };
+    ghost invariant = { λ w. IsSound w.config w.channel w.resources w.hands.items };
 }
 
 impl World {
@@ -105,6 +103,21 @@ impl World {
         ensures err { OnErr result (self.new ≡ self.old) }
     {
         self.channel.spawn(user, threads, prio)
+    }
+
+    /// A process ends (C Library Reference: `_exit`; System Architecture: a client that dies): its threads and connections go,
+    /// with the answers that were not taken, its untaken pulses, and what it has in lines. Each manager that it used gets a
+    /// disconnect pulse, with which the open control blocks of the process go that are there still. A message that a worker
+    /// holds is lent until the worker comes back with it, and is done with then; a call that waits in a pipe leaves that as
+    /// its pipe is worked on. The number is free once nothing of this is left. `WrongState` where the process is not there or
+    /// has ended.
+    pub fn exit(&mut self, proc: Proc) -> Outcome
+        ensures outcome { result ≡ (machine.step self.old (Step.Exit proc)).outcome }
+        ensures world { self.new ≡ (machine.step self.old (Step.Exit proc)).world }
+    {
+        let outcome = self.channel.exit(self.alloc, proc);
+        free_ended(&mut self.channel, self.hands.as_slice(), proc.user);
+        outcome
     }
 
     /// A thread takes its answer and is ready (C Library Reference: what `MsgSend` returns). `WrongState` where the thread
@@ -237,14 +250,15 @@ impl World {
     ) -> Result<NewMount<'a>, Outcome>
         ensures can { IfOk result (λ mount. CanMount (row_at self.now.parts thread.proc.user.0) mount) }
         ensures mount { result ≡ mount_in self.now thread path.now manager }
+        ensures settled { IsSettled self.now }
     {
-        if !self.is_ready(thread) {
-            return Err(Outcome::WrongState);
-        }
         let user = thread.proc.user;
         let Some(resources) = self.resources.user(user) else {
             return Err(Outcome::WrongState);
         };
+        if !self.is_ready(thread) {
+            return Err(Outcome::WrongState);
+        }
         resources
             .new_mount(self.config.name_bytes(user), path.as_slice(), manager)
             .map_err(Outcome::Refused)
@@ -309,9 +323,10 @@ impl World {
 
     /// A worker does what it holds (C Library Reference: `MsgReply`, `MsgError`), at a moment that becomes the times of
     /// what it changes; the user's events that are due by that give their pulses. With a disconnect pulse goes the server
-    /// connection that it was made for (Writing a Resource Manager: `_PULSE_CODE_DISCONNECT`). `WrongState` where there is
-    /// no such worker, `Nothing` where it holds nothing. Only an open, a mkdir, a write that makes a file longer and a
-    /// notification that leaves more events may want memory; one that is answered an error wants none.
+    /// connection that it was made for, and what is open over that still (Writing a Resource Manager:
+    /// `_PULSE_CODE_DISCONNECT`). A message whose process has ended does nothing. `WrongState` where there is no such worker,
+    /// `Nothing` where it holds nothing. Only an open, a mkdir, a write that makes a file longer and a notification that
+    /// leaves more events may want memory; one that is answered an error wants none.
     pub fn perform_held(&mut self, worker: Worker, moment: u64) -> Result<Outcome, NoMemory>
         ensures outcome { IfOk result (λ outcome. outcome ≡ (machine.step self.old (Step.Perform worker moment)).outcome) }
         ensures world { OnOk result (self.new ≡ (machine.step self.old (Step.Perform worker moment)).world) }
@@ -361,77 +376,17 @@ impl World {
         let Some(held) = self.hand(worker) else {
             return Ok(Outcome::Nothing);
         };
-        self.serve(worker, held, read, moment)?;
-        Ok(Outcome::Handled)
-    }
-
-    /// Does an item that a worker holds at a moment, and empties the hand.
-    fn serve(
-        &mut self,
-        worker: Worker,
-        held: Held,
-        read: Option<&Parsed>,
-        moment: u64,
-    ) -> Result<(), NoMemory>
-        requires read { IsReadOf (option_copied read) (taken_item self.old.parts held.user.0 held.item) }
-        ensures ok { OnOk result (self.new ≡ machine.performed_part (machine.with_empty_hand self.old worker.0) held moment (row_at self.old.parts held.user.0)) }
-        ensures err { OnErr result (self.new ≡ self.old) }
-        ensures sure { IsFalse (item_wants_memory (row_at self.old.parts held.user.0) held.item moment) → IsOk result }
-    {
-        match held.item {
-            OwnItem::Message { process, thread } => {
-                self.answer(named_thread(held.user, process, thread), read, moment)?;
-            }
-            OwnItem::Unblock {
-                process,
-                thread,
-                call,
-            } => self.cancel(named_thread(held.user, process, thread), call, moment),
-            OwnItem::Disconnect { process, server } => {
-                let proc = Proc {
-                    user: held.user,
-                    num: process,
-                };
-                self.disconnect(proc, server);
-            }
-        }
+        perform(
+            &mut self.channel,
+            &mut self.resources,
+            held,
+            read,
+            moment,
+            &mut self.reply,
+        )?;
         places::free(&mut self.hands, worker.0 as usize);
-        Ok(())
-    }
-
-    /// Does what the message of a thread, which was received, asks for at a moment, and answers it, or its call waits.
-    fn answer(
-        &mut self,
-        thread: Thread,
-        read: Option<&Parsed>,
-        moment: u64,
-    ) -> Result<(), AllocError>
-        requires read { IsReadOf (option_copied read) (taken_of (row_among_parts self.old.parts thread)) }
-        ensures ok { OnOk result (self.new ≡ after_message self.old thread moment) }
-        ensures err { OnErr result (self.new ≡ self.old) }
-        ensures sure { IsFalse (thread_wants_memory (row_at self.old.parts thread.proc.user.0) thread.proc.num thread.tid moment) → IsOk result }
-    {
-        let Some(resources) = self.resources.user_mut(thread.proc.user) else {
-            return Ok(());
-        };
-        self.channel
-            .serve(resources, thread, read, moment, &mut self.reply)
-    }
-
-    /// Does what a pulse asks for at a moment, which is to unblock a thread from a call, if that waits in a pipe.
-    fn cancel(&mut self, thread: Thread, call: u64, moment: u64)
-        ensures { self.new ≡ after_pulse self.old thread call moment }
-    {
-        if let Some(resources) = self.resources.user_mut(thread.proc.user) {
-            self.channel.cancel(resources, thread, call, moment);
-        }
-    }
-
-    /// A server connection of a process goes, as the disconnect pulse that was made for it is done.
-    fn disconnect(&mut self, proc: Proc, server: ServerName)
-        ensures { self.new ≡ after_disconnect self.old proc server }
-    {
-        self.channel.free_server(proc, server);
+        free_ended(&mut self.channel, self.hands.as_slice(), held.user);
+        Ok(Outcome::Handled)
     }
 
     /// Whether something is held that the work is not.
@@ -456,12 +411,21 @@ impl World {
         let OwnItem::Message { process, thread } = held.item else {
             return Some(WorkRef::Pulse);
         };
-        let row = self
-            .channel
-            .thread(named_thread(held.user, process, thread))?;
+        let bytes = self.received(named_thread(held.user, process, thread))?;
+        Some(WorkRef::Message(bytes))
+    }
+
+    /// The bytes of a thread's message that was received and is not served, though its process may have ended.
+    fn received(&self, thread: Thread) -> Option<&MessageBytes>
+        ensures { option_copied result ≡ received_bytes thread.tid (process_among_parts self.now.parts thread.proc) }
+    {
+        let process = self.channel.process(thread.proc)?;
+        let Some(row) = process.thread(thread.tid) else {
+            return process.held(thread.tid);
+        };
         match &row.state {
-            State::Taken(sent) => Some(WorkRef::Message(&sent.bytes)),
-            _ => None,
+            State::Taken(sent) => Some(&sent.bytes),
+            _ => process.held(thread.tid),
         }
     }
 
@@ -583,16 +547,6 @@ fn outcome_of(answer: Answer) -> Outcome
     match answer {
         Answer::Reply(status, bytes) => Outcome::Reply(status, bytes),
         Answer::Failed(error) => Outcome::Failed(error),
-    }
-}
-
-/// A thread of a user.
-fn named_thread(user: User, process: u8, thread: u8) -> Thread
-    ensures { result ≡ machine.named_thread user.0 process thread }
-{
-    Thread {
-        proc: Proc { user, num: process },
-        tid: thread,
     }
 }
 

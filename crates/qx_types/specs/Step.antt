@@ -3,11 +3,12 @@ use Rattle.std.specs.Prelude.{ℕ, Bool, Option, Some, None, is_some}
 use Rattle.qx_types.specs.declared.names.Actor.{Actor}
 use Rattle.qx_types.specs.declared.names.Actor.TheVariants.{OfUser, OfProc, OfThread}
 use Rattle.qx_types.specs.declared.step.Step.{Step}
-use Rattle.qx_types.specs.declared.step.Step.TheVariants.{Spawn, Call, TakeReply, TakePulse, SetPrio, Interrupt, Mount, Receive, Perform}
+use Rattle.qx_types.specs.declared.step.Step.TheVariants.{Spawn, Exit, Call, TakeReply, TakePulse, SetPrio, Interrupt, Mount, Receive, Perform}
 
 -- who takes a client's step; a worker takes the others
 abbrev pub actor_of : Step → Option Actor
 actor_of (Spawn user threads prio) = Some (OfUser user)
+actor_of (Exit proc) = Some (OfProc proc)
 actor_of (Call thread request) = Some (OfThread thread)
 actor_of (TakeReply thread) = Some (OfThread thread)
 actor_of (TakePulse proc) = Some (OfProc proc)

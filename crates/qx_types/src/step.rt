@@ -15,6 +15,10 @@ pub enum Step {
         threads: u8,
         prio: Prio,
     },
+    /// Ends a process (C Library Reference: `_exit`).
+    Exit {
+        proc: Proc,
+    },
     /// Sends a request as a message and blocks the thread (C Library Reference: `MsgSend`).
     Call {
         thread: Thread,
@@ -65,7 +69,7 @@ impl Step {
     {
         match self {
             Step::Spawn { user, .. } => Some(Actor::OfUser(*user)),
-            Step::TakePulse { proc } => Some(Actor::OfProc(*proc)),
+            Step::Exit { proc } | Step::TakePulse { proc } => Some(Actor::OfProc(*proc)),
             Step::Call { thread, .. }
             | Step::TakeReply { thread }
             | Step::SetPrio { thread, .. }
@@ -98,6 +102,7 @@ impl Clone for Step {
                 threads: *threads,
                 prio: *prio,
             },
+            Step::Exit { proc } => Step::Exit { proc: *proc },
             Step::Call { thread, request } => Step::Call {
                 thread: *thread,
                 request: request.clone()?,

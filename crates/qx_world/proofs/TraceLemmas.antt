@@ -35,8 +35,8 @@ performed_part-config w held moment (Some part) = refl
 
 server_step-config : (w : World) (e : Step) → (server_step w e).world.config ≡ w.config
 server_step-config w e = server_leaves w e (λ v. v.config ≡ w.config) refl
-    (λ worker manager taken. received_part-config (with_taken w worker manager taken) taken (row_at w.parts taken.user.0))
-    (λ worker moment held. performed_part-config (with_empty_hand w worker) held moment (row_at w.parts held.user.0))
+    (λ worker manager taken is. received_part-config (with_taken w worker manager taken) taken (row_at w.parts taken.user.0))
+    (λ worker moment held is. performed_part-config (with_empty_hand w worker) held moment (row_at w.parts held.user.0))
 
 step_of-config : (w : World) (e : Step) (by : Option Actor) → (step_of w e by).world.config ≡ w.config
 step_of-config w e None = server_step-config w e

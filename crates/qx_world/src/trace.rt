@@ -99,7 +99,9 @@ impl Traced {
         &self.entries
     }
 
-    /// Makes room for more steps: each of the next ones is stored for sure, as far as it wants no memory itself.
+    /// Makes room for more steps: each of the next ones is stored for sure, as far as it wants no memory itself. None is
+    /// wanted by an exit, by the taking of an answer or a pulse, by another priority, an interrupt or a receive, nor by the
+    /// performing of a pulse, a disconnect pulse among them, or of a message that makes nothing new.
     pub fn reserve(&mut self, count: usize) -> Result<(), NoMemory>
         ensures config { self.new.config ≡ self.old.config }
         ensures steps { self.new.steps ≡ self.old.steps }
@@ -253,6 +255,7 @@ fn take(world: &mut World, step: &Step) -> Result<Outcome, NoMemory>
             threads,
             prio,
         } => Ok(world.spawn(*user, *threads, *prio)?),
+        Step::Exit { proc } => Ok(world.exit(*proc)),
         Step::Call { thread, request } => world.call(*thread, request),
         Step::TakeReply { thread } => Ok(world.take_reply(*thread)),
         Step::TakePulse { proc } => Ok(world.take_pulse(*proc)),

@@ -1,10 +1,10 @@
 //! Runs each script that a line of the file `rows` names, and prints what the script writes and how it ends.
 //!
 //! The file `stdout` has what is wanted, script after script in the order of `rows`: a line with `==` and the script's
-//! name, the lines of its `show` and `trace`, a line with the exit status, and the report where there is one. The texts
+//! name, the lines of its `show`, `erased` and `trace`, a line with the exit status, and the report where there is one. The texts
 //! were worked out from the rules of `docs/MACHINE.md`, line by line, and not taken from the program. Behind them a line
-//! tells how many users there are in all scripts together: for each of them, what a `show` prints behind all lines of the
-//! script is what the user receives in the trace of the user's steps alone. The program fails at a name whose script can't
+//! tells how many users there are in all scripts together: for each of them, what an `erased` prints behind all lines of the
+//! script is what a `show` prints there. The program fails at a name whose script can't
 //! be read, and where there are other scripts in its folder than those that `rows` names.
 #![tactic(auto)]
 

@@ -17,9 +17,9 @@ use anyhow::bail;
 use std::{env, fs};
 
 /// The scripts that are played with no words.
-const SCRIPTS: [&str; 16] = [
-    "append", "beside", "closed", "do_fstat", "late", "line", "lookup", "make", "parts", "read",
-    "settle", "spawn", "stat", "trigger", "waiting", "whole",
+const SCRIPTS: [&str; 17] = [
+    "append", "beside", "closed", "do_fstat", "end", "late", "line", "lookup", "make", "parts",
+    "read", "settle", "spawn", "stat", "trigger", "waiting", "whole",
 ];
 
 /// The calls that are made with no words, and the counts.

@@ -60,7 +60,7 @@ fn play_line(world: &mut World, line: &Command) -> Result<u64, NoMemory> {
             Ok(0)
         }
         Command::Do(moment, thread, request) => call(world, *moment, *thread, request),
-        Command::Show(_) | Command::Trace => Ok(0),
+        Command::Show(_) | Command::Erased(_) | Command::Trace => Ok(0),
     }
 }
 
@@ -79,6 +79,7 @@ fn take(world: &mut World, step: &Step) -> Result<Outcome, NoMemory> {
             threads,
             prio,
         } => Ok(world.spawn(*user, *threads, *prio)?),
+        Step::Exit { proc } => Ok(world.exit(*proc)),
         Step::Call { thread, request } => world.call(*thread, request),
         Step::TakeReply { thread } => Ok(world.take_reply(*thread)),
         Step::TakePulse { proc } => Ok(world.take_pulse(*proc)),

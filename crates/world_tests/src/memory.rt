@@ -38,7 +38,10 @@ const KINDS: &str = "\
     receive 1 ram\n\
     perform 1 9\n\
     pulse ann.1\n\
-    mount ann.1.1 /ann/m/n pipe\n";
+    mount ann.1.1 /ann/m/n pipe\n\
+    exit bob.1\n\
+    receive 1 ram\n\
+    perform 1 9\n";
 
 /// An open that makes a file, a write that makes it longer, a directory that is made, a mount of RAM, an open that makes a
 /// pipe, and a notification that arms an event.

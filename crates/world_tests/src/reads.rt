@@ -97,6 +97,24 @@ fn performs_what_is_held(rt: HostRuntime) -> Result<(), NoMemory> {
     perform_what_is_held(&rt, rt.alloc(), &mut traced)
 }
 
+/// A worker receives an open, whose process ends then.
+const LEFT: &str = "\
+    spawn ann 1 10\n\
+    open ann.1.1 /ann r 000\n\
+    receive 1 ram\n\
+    exit ann.1\n";
+
+#[test]
+fn performs_what_an_ended_process_left(rt: HostRuntime) -> Result<(), NoMemory> {
+    let mut traced = ran(&rt, rt.alloc(), LEFT)?;
+    let Some(held) = held(traced.world())? else {
+        panic!(rt; "no message is held");
+    };
+    assert!(rt; is_performed(&mut traced, &held));
+    assert!(rt; !traced.world().answered(first_thread(User(1))));
+    Ok(())
+}
+
 /// Bob's process is started and opens the root.
 fn call_alone(rt: &impl Abort, alloc: Global, world: &mut World) -> Result<(), NoMemory> {
     let bob = first_thread(User(2));
@@ -163,11 +181,20 @@ fn mount_alone(rt: &impl Abort, alloc: Global, world: &mut World) -> Result<(), 
     Ok(())
 }
 
+/// Bob's process ends, once.
+fn exit_alone(rt: &impl Abort, world: &mut World) {
+    let bob = first_thread(User(2)).proc;
+    assert!(rt; matches!(&world.exit(bob), Outcome::Done));
+    assert!(rt; matches!(&world.exit(bob), Outcome::WrongState));
+}
+
 /// Each step of a world alone.
 fn run_alone(rt: &impl Abort, alloc: Global, world: &mut World) -> Result<(), NoMemory> {
     call_alone(rt, alloc, world)?;
     serve_alone(rt, world)?;
-    mount_alone(rt, alloc, world)
+    mount_alone(rt, alloc, world)?;
+    exit_alone(rt, world);
+    Ok(())
 }
 
 #[test]

@@ -202,9 +202,54 @@ const TRIGGERS_SERVED: &str = "\
     pulse ann.1\n\
     pulse ann.1\n";
 
+/// Lines after which ann's first process has a call that waits in a pipe, one that waits and is asked to unblock, an answer
+/// that it has not taken, and a message in a line; a call of her second process waits in the pipe too.
+const CALLING: &str = "\
+    spawn ann 4 10\n\
+    spawn ann 1 10\n\
+    mount ann.1.1 /ann/p pipe\n\
+    open ann.1.1 /ann/p/f rwc 600\nreceive 1 pipe\nperform 1 1\nreply ann.1.1\n\
+    open ann.2.1 /ann/p/f r 000\nreceive 1 pipe\nperform 1 1\nreply ann.2.1\n\
+    read ann.1.1 3 4\nreceive 1 pipe\nperform 1 2\n\
+    read ann.1.2 3 4\nreceive 1 pipe\nperform 1 2\n\
+    read ann.2.1 3 4\nreceive 1 pipe\nperform 1 2\n\
+    interrupt ann.1.2\n\
+    open ann.1.3 /ann r 000\nreceive 1 ram\nperform 1 3\n\
+    fstat ann.1.4 3\n";
+
+/// The first process ends, and its disconnect pulses are received and performed: nobody writes to the pipe any more, so the
+/// second process gets its answer. Nothing else stood in the pipe manager's line.
+const EXIT: &str = "\
+    exit ann.1\n\
+    receive 1 ram\nperform 1 5\n\
+    receive 1 pipe\nperform 1 6\n\
+    reply ann.2.1\n\
+    receive 1 pipe\n";
+
+/// A process ends while one worker holds its message and the other the pulse that asks to unblock that; its disconnect
+/// pulse comes once both are done.
+const EXIT_WHILE_ASKED: &str = "\
+    receive 1 pipe\n\
+    interrupt ann.1.1\n\
+    receive 2 pipe\n\
+    exit ann.1\n\
+    perform 1 5\n\
+    perform 2 6\n\
+    receive 1 pipe\nperform 1 7\n";
+
+/// A process ends while a worker holds its message, and is there until that is done, after its disconnect pulse: it can't end
+/// again before, nor afterwards.
+const EXIT_WHILE_HELD: &str = "\
+    receive 1 pipe\n\
+    exit ann.1\n\
+    receive 2 pipe\nperform 2 5\n\
+    exit ann.1\n\
+    perform 1 6\n\
+    exit ann.1\n";
+
 /// Lines that come before, calls that are sent then, lines whose steps are taken with all memory taken, and how many of all
 /// these steps come to a failure.
-const CASES: [(&str, &str, &str, u64); 10] = [
+const CASES: [(&str, &str, &str, u64); 13] = [
     (CALLED, "", SURE, 0),
     (CALLED, "", INTERRUPTS, 0),
     (CALLED, "", RECEIVED_INTERRUPTS, 0),
@@ -215,6 +260,9 @@ const CASES: [(&str, &str, &str, u64); 10] = [
     (PIPE, CLOSES, CLOSES_SERVED, 2),
     (PIPE, DUPS, DUPS_SERVED, 1),
     (EVENTS, TRIGGERS, TRIGGERS_SERVED, 1),
+    (CALLING, "", EXIT, 1),
+    (PIPE, "read ann.1.1 3 4\n", EXIT_WHILE_ASKED, 0),
+    (PIPE, "read ann.1.1 3 4\n", EXIT_WHILE_HELD, 2),
 ];
 
 /// The calls wait, with room for the steps that serve them.

@@ -141,9 +141,15 @@ fn next_receive(dice: &mut Dice, plain: &Plain) -> Step {
     }
 }
 
-fn next_perform(dice: &mut Dice, plain: &Plain) -> Step {
+/// In place of a worker with what is to be last, most often another goes on.
+pub fn next_perform(dice: &mut Dice, plain: &Plain) -> Step {
+    let found = holding_worker(dice, plain);
+    let worker = match plain.hand(found) {
+        Some(post) if is_last(plain, post) && !dice.one_in(12) => empty_worker(dice, plain),
+        _ => found,
+    };
     Step::Perform {
-        worker: holding_worker(dice, plain),
+        worker,
         moment: u64::from(dice.below(200)),
     }
 }
@@ -182,7 +188,7 @@ fn next_user(dice: &mut Dice) -> User {
     }
     match dice.below(8) {
         0 => User(2),
-        1 | 2 => User(3),
+        1..=3 => User(3),
         _ => User(1),
     }
 }
@@ -207,7 +213,7 @@ fn next_prio(dice: &mut Dice) -> Prio {
 
 /// A thread, which need not be there: of the first process most often, and of the second user's nearly always, so that
 /// its connections run out.
-fn next_thread(dice: &mut Dice) -> Thread {
+pub fn next_thread(dice: &mut Dice) -> Thread {
     let user = next_user(dice);
     let num = match dice.below(32) {
         0 => 17 * dice.below(2),
@@ -253,7 +259,7 @@ fn answered_thread(dice: &mut Dice, plain: &Plain) -> Thread {
 }
 
 /// One of the first threads that wait in a pipe, if there are so many.
-fn waiting_thread(dice: &mut Dice, plain: &Plain) -> Option<Thread> {
+pub fn waiting_thread(dice: &mut Dice, plain: &Plain) -> Option<Thread> {
     let place = usize::from(dice.below(8));
     plain
         .threads()
@@ -293,7 +299,7 @@ fn has_held_pulse(plain: &Plain, thread: Thread) -> bool {
 }
 
 /// A worker that holds nothing, where a few tries find one.
-fn empty_worker(dice: &mut Dice, plain: &Plain) -> Worker {
+pub fn empty_worker(dice: &mut Dice, plain: &Plain) -> Worker {
     for _ in 0..dice.below(32) {
         let worker = any_worker(dice);
         if plain.hand(worker).is_none() {
@@ -316,19 +322,38 @@ fn holding_worker(dice: &mut Dice, plain: &Plain) -> Worker {
     any_worker(dice)
 }
 
-/// Whether it is to be late: a pulse, or a message that was asked to unblock its thread.
+/// Whether it is to be late: a pulse, or a message that was asked to unblock its thread. A pulse of a process that has ended
+/// is so only where it is to be last.
 fn is_late(plain: &Plain, post: Post) -> bool {
     match post {
         Post::Message(thread) => match plain.row(thread) {
             Some(row) => matches!(&row.state, State::Taken(sent) if sent.is_asked),
             None => true,
         },
-        Post::Unblock(..) | Post::Disconnect(_) => true,
+        Post::Unblock(..) | Post::Disconnect(_) => {
+            !plain.has_ended(post.proc()) || is_last(plain, post)
+        }
+    }
+}
+
+/// Whether it is to be last: a pulse with which blocks of an ended process go while they count, its calls wait or its
+/// events are armed; or one that finds no call of such a process.
+fn is_last(plain: &Plain, post: Post) -> bool {
+    match post {
+        Post::Message(_) => false,
+        Post::Unblock(thread, call) => {
+            plain.has_ended(thread.proc) && !plain.is_in_pipe(thread, call)
+        }
+        Post::Disconnect(name) => {
+            plain.has_blocks(name)
+                && plain.has_ended(name.proc)
+                && (plain.is_full(name.proc.user) || plain.gone_calls() > 0 || plain.unheard() > 0)
+        }
     }
 }
 
 /// One of the four workers, and now and then one who is not there.
-fn any_worker(dice: &mut Dice) -> Worker {
+pub fn any_worker(dice: &mut Dice) -> Worker {
     if dice.one_in(32) {
         Worker(5 * dice.below(2))
     } else {

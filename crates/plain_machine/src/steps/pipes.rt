@@ -123,9 +123,9 @@ fn pipe_path(
     };
     let mut path = Vec::from_slice(alloc, mount.as_slice())?;
     match dice.below(16) {
-        0 | 1 => {}
-        2 => path.extend_from_slice(b"/a/b")?,
-        3..=5 => path.extend_from_slice(b"/a")?,
+        0..=2 => {}
+        3 => path.extend_from_slice(b"/a/b")?,
+        4..=6 => path.extend_from_slice(b"/a")?,
         _ => path.extend_from_slice(&[b'/', b'a'.saturating_add(proc.num)])?,
     }
     Ok(Bytes::from_vec(path))

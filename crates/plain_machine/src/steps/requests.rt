@@ -19,19 +19,22 @@ pub fn next_request(
     plain: &Plain,
     proc: Proc,
 ) -> Result<Request, AllocError> {
-    if plain.is_full(proc.user) && !dice.one_in(4) {
+    if plain.is_full(proc.user) && dice.one_in(4) {
         let coid = open_connection(dice, plain, proc);
         return Ok(Request::Close { coid });
     }
     if dice.one_in(12) || proc.user == User(2) && dice.one_in(4) {
         return open_top(alloc, proc.user);
     }
+    if proc.user == User(3) && dice.one_in(6) {
+        return next_filling(alloc, dice, plain, proc);
+    }
     if dice.one_in(4)
         && let Some(request) = next_arming(dice, plain, proc)
     {
         return Ok(request);
     }
-    if dice.one_in(8) {
+    if dice.one_in(6) {
         return Ok(next_notifying(dice, plain, proc));
     }
     if dice.one_in(10)
@@ -55,13 +58,13 @@ pub fn next_request(
             coid: next_connection(dice),
             bytes: next_raw(alloc, dice)?,
         }),
-        3..=7 => next_looking(alloc, dice, proc.user),
-        8 => Ok(next_small(dice)),
-        9..=13 => {
+        3..=11 => next_looking(alloc, dice, proc.user),
+        12 => Ok(next_small(dice)),
+        13..=16 => {
             let coid = open_connection(dice, plain, proc);
             next_using(alloc, dice, coid)
         }
-        14..=20 => next_filling(alloc, dice, plain, proc),
+        17..=22 => next_filling(alloc, dice, plain, proc),
         _ => next_open(alloc, dice, proc.user),
     }
 }
@@ -133,11 +136,11 @@ fn open_top(alloc: Global, user: User) -> Result<Request, AllocError> {
 
 /// A request that looks at a path.
 fn next_looking(alloc: Global, dice: &mut Dice, user: User) -> Result<Request, AllocError> {
-    match dice.below(4) {
+    match dice.below(6) {
         0 | 1 => Ok(Request::StatPath {
             path: next_path(alloc, dice, user)?,
         }),
-        2 => Ok(Request::Unlink {
+        2 | 3 => Ok(Request::Unlink {
             path: if dice.one_in(2) {
                 next_path(alloc, dice, user)?
             } else {
@@ -180,9 +183,13 @@ pub fn next_using(alloc: Global, dice: &mut Dice, coid: Coid) -> Result<Request,
             coid,
             after: Bytes::from_vec(next_after(alloc, dice)?),
         }),
-        10 | 11 => Ok(Request::Chmod {
+        10 => Ok(Request::Chmod {
             coid,
             mode: next_mode(dice),
+        }),
+        11 => Ok(Request::Chmod {
+            coid,
+            mode: next_directory_mode(dice),
         }),
         12 => Ok(Request::Fstat { coid }),
         _ => Ok(next_notify(dice, coid)),

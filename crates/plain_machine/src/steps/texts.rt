@@ -24,8 +24,8 @@ pub fn next_name(alloc: Global, dice: &mut Dice) -> Result<Vec<u8>, AllocError> 
 /// A name behind which names are to be listed: one that a path may have, one behind all of these, or any other.
 pub fn next_after(alloc: Global, dice: &mut Dice) -> Result<Vec<u8>, AllocError> {
     match dice.below(8) {
-        0 => filled(alloc, b'z', 1),
-        1..=4 => filled(alloc, b'a' + dice.below(14), 1),
+        0 | 1 => filled(alloc, b'z', 1),
+        2..=4 => filled(alloc, b'a' + dice.below(14), 1),
         _ => next_name(alloc, dice),
     }
 }

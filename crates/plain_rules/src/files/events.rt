@@ -3,7 +3,7 @@
 use crate::events::{Event, INPUT, OUTPUT};
 use crate::files::fault::Fault;
 use crate::files::rows::{Content, Files};
-use qx_types::{Errno, OFlags, User};
+use qx_types::{Errno, OFlags, Proc, User};
 use std::alloc::AllocError;
 
 impl Files {
@@ -13,11 +13,12 @@ impl Files {
         self.events.notify(action, event, holding)
     }
 
-    /// At the end of a step, the due events give their pulses.
-    pub fn settle_events(&mut self) -> Result<(), AllocError> {
+    /// At the end of a step, the due events give their pulses, but for those of processes that have ended.
+    pub fn settle_events(&mut self, ended: &[Proc]) -> Result<(), AllocError> {
         for (event, before) in self.events.take_armed() {
             if let Ok(after) = self.conditions(event.proc.user, event.block) {
-                self.events.settle(event, before, after)?;
+                let is_heard = !ended.contains(&event.proc);
+                self.events.settle(event, before, after, is_heard)?;
             }
         }
         Ok(())

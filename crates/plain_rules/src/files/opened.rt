@@ -1,4 +1,4 @@
-//! What is asked of open blocks: read and write of files, seek, list, chmod, fstat, dup and close.
+//! What is asked of open blocks: read and write of files, seek, list, chmod, fstat, dup and close; and how a block goes.
 
 use crate::files::fault::Fault;
 use crate::files::rows::{Block, Content, Files, Inode};
@@ -177,22 +177,28 @@ impl Files {
         }
     }
 
-    /// One connection less has a block. Where it was the last one the block goes, and what it had armed, and those are
-    /// answered who waited in a pipe.
+    /// One connection less has a block. Where it was the last one the block goes.
     pub fn close(&mut self, user: User, block: u16, moment: u64) -> Result<Answers, AllocError> {
         let alloc = self.alloc;
-        let Some(row) = self.block_mut(user, block) else {
-            return Ok(Vec::new(alloc));
-        };
-        if row.uses > 1 {
-            row.uses = row.uses.saturating_sub(1);
-            return Ok(Vec::new(alloc));
+        match self.block_mut(user, block) {
+            Some(row) if row.uses > 1 => {
+                row.uses = row.uses.saturating_sub(1);
+                Ok(Vec::new(alloc))
+            }
+            _ => self.free(user, block, moment),
         }
+    }
+
+    /// A block goes, however many connections have it, and what it had armed, and those are answered who waited in a pipe.
+    pub fn free(&mut self, user: User, number: u16, moment: u64) -> Result<Answers, AllocError> {
+        let Some(row) = self.block(user, number) else {
+            return Ok(Vec::new(self.alloc));
+        };
         let inode = row.inode;
         self.blocks
-            .retain(|row| row.user != user || row.number != block);
-        let answers = self.release(user, inode, block, moment)?;
-        self.events.disarm(user, block);
+            .retain(|row| row.user != user || row.number != number);
+        let answers = self.release(user, inode, number, moment)?;
+        self.events.disarm(user, number);
         self.let_go(user, inode);
         Ok(answers)
     }

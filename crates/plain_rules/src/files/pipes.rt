@@ -2,8 +2,8 @@
 
 use crate::files::fault::Fault;
 use crate::files::rows::{Block, Content, Files, Inode};
-use crate::pipes::{Answers, Caller, Given};
-use qx_types::{Errno, OFlags, Thread, User};
+use crate::pipes::{Answers, Caller, Given, Who};
+use qx_types::{Errno, OFlags, Proc, Thread, User};
 use std::alloc::AllocError;
 
 /// How a block has a pipe open, whether no other has it open for any side of these, and how many bytes stand.
@@ -77,7 +77,7 @@ impl Files {
         Ok(Vec::new(self.alloc))
     }
 
-    /// The call of a thread is interrupted, if it waits in a pipe.
+    /// The call of a thread is interrupted, if it waits in a pipe. No other pipe is looked at.
     pub fn unblock(
         &mut self,
         thread: Thread,
@@ -85,15 +85,57 @@ impl Files {
         moment: u64,
     ) -> Result<Answers, AllocError> {
         for inode in self.inodes.iter_mut() {
-            if let Content::Pipe(pipe) = &mut inode.content {
+            if let Content::Pipe(pipe) = &mut inode.content
+                && pipe.count(Who::Call(thread, call)) > 0
+            {
                 let given = pipe.unblock(thread, call)?;
-                let answers = inode.settled(given, moment);
-                if !answers.is_empty() {
-                    return Ok(answers);
-                }
+                return Ok(inode.settled(given, moment));
             }
         }
         Ok(Vec::new(self.alloc))
+    }
+
+    /// How many of those who wait in all pipes are some of these.
+    pub fn waiting(&self, who: Who) -> usize {
+        let mut waiting: usize = 0;
+        for inode in self.inodes.iter() {
+            if let Content::Pipe(pipe) = &inode.content {
+                waiting = waiting.saturating_add(pipe.count(who));
+            }
+        }
+        waiting
+    }
+
+    /// A process of a user without whose calls the write of another one would go into a pipe.
+    pub fn blocking_process(&self, user: User) -> Option<Proc> {
+        self.inodes
+            .iter()
+            .filter_map(|inode| match &inode.content {
+                Content::Pipe(pipe) if inode.user == user => pipe.blocking_process(),
+                _ => None,
+            })
+            .next()
+    }
+
+    /// Whether calls of ended processes wait in the pipe that a block has open.
+    pub fn has_gone(&self, user: User, block: u16) -> bool {
+        match self.opened(user, block) {
+            Ok((_, inode)) => match &inode.content {
+                Content::Pipe(pipe) => pipe.count(Who::Gone) > 0,
+                Content::File(_) | Content::Directory => false,
+            },
+            Err(_) => false,
+        }
+    }
+
+    /// A process has ended: its calls stay in the pipes until these are cleaned, and its pulses go.
+    pub fn abandon(&mut self, proc: Proc) {
+        for inode in self.inodes.iter_mut() {
+            if let Content::Pipe(pipe) = &mut inode.content {
+                pipe.abandon(proc);
+            }
+        }
+        self.events.drop_pulses(proc);
     }
 
     /// Of a block that has a pipe open: its flags, how many bytes stand, and whether no other block is for a side of its own.

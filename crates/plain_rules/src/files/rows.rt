@@ -2,7 +2,7 @@
 
 use crate::events::Events;
 use crate::pipes::Pipe;
-use qx_types::{Bytes, Errno, Manager, OFlags, User};
+use qx_types::{Bytes, Errno, Manager, OFlags, Proc, User};
 use std::alloc::{AllocError, Global};
 
 /// Where a message to a path leads: the user, the manager and the inode of the mount's root, and the rest of the path;
@@ -14,6 +14,14 @@ pub struct Place<'a> {
     pub root: u16,
     pub path: &'a [u8],
     pub moment: u64,
+}
+
+/// A server connection of a process at a manager, by its number among those.
+#[derive(Clone, Copy, PartialEq, Eq)]
+pub struct ServerName {
+    pub proc: Proc,
+    pub manager: Manager,
+    pub number: u8,
 }
 
 /// What an inode is, with the bytes of a file.
@@ -45,11 +53,12 @@ pub struct Name {
     pub inode: u16,
 }
 
-/// An open block, and how many connections have it.
+/// An open block, by which server connection it was opened, and how many connections have it.
 #[derive(Clone, Copy)]
 pub struct Block {
     pub user: User,
     pub number: u16,
+    pub server: ServerName,
     pub inode: u16,
     pub flags: OFlags,
     pub offset: u64,
@@ -63,7 +72,7 @@ impl Block {
     }
 }
 
-/// All files, directories and pipes, paths to them, open blocks, and what was armed on these.
+/// All files, directories and pipes, paths to them, open blocks in order of opening, and what was armed on these.
 #[derive(Drop)]
 pub struct Files {
     pub alloc: Global,
@@ -114,14 +123,15 @@ impl Files {
     /// Makes an open block at the beginning, for one connection.
     pub fn add_block(
         &mut self,
-        user: User,
+        server: ServerName,
         number: u16,
         inode: u16,
         flags: OFlags,
     ) -> Result<(), AllocError> {
         self.blocks.push(Block {
-            user,
+            user: server.proc.user,
             number,
+            server,
             inode,
             flags,
             offset: 0,
@@ -144,6 +154,22 @@ impl Files {
             Some(number) => Ok(number),
             None => Err(Errno::ENFILE),
         }
+    }
+
+    /// The blocks of a server connection, in order of opening.
+    pub fn blocks_of(&self, server: ServerName) -> Result<Vec<u16>, AllocError> {
+        let mut numbers = Vec::new(self.alloc);
+        for block in self.blocks.iter() {
+            if block.server == server {
+                numbers.push(block.number)?;
+            }
+        }
+        Ok(numbers)
+    }
+
+    /// Whether a server connection has blocks.
+    pub fn has_blocks(&self, server: ServerName) -> bool {
+        self.blocks.iter().any(|block| block.server == server)
     }
 
     /// How many blocks a user has.

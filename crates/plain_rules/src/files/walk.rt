@@ -1,7 +1,7 @@
 //! What is asked of paths: open, stat, unlink and mkdir.
 
 use crate::files::fault::Fault;
-use crate::files::rows::{Content, Files, Name, Place, has};
+use crate::files::rows::{Content, Files, Name, Place, ServerName, has};
 use crate::pipes::Pipe;
 use qx_types::{Bytes, Errno, Manager, OFlags, User};
 use std::alloc::AllocError;
@@ -21,19 +21,31 @@ struct End {
 }
 
 impl Files {
-    /// Opens what a path leads to, or makes a file or a pipe. Answers the number of the block.
-    pub fn open(&mut self, place: &Place<'_>, flags: OFlags, mode: u16) -> Result<u16, Fault> {
+    /// Opens what a path leads to, or makes a file or a pipe, by a server connection. Answers the number of the block.
+    pub fn open(
+        &mut self,
+        place: &Place<'_>,
+        server: ServerName,
+        flags: OFlags,
+        mode: u16,
+    ) -> Result<u16, Fault> {
         if place.path.is_empty() {
-            return self.open_inode(place, place.root, flags);
+            return self.open_inode(place, server, place.root, flags);
         }
         let end = self.walk(place)?;
         match end.inode {
-            Some(inode) => self.open_inode(place, inode, flags),
-            None => self.open_new(place, end.parent, flags, mode),
+            Some(inode) => self.open_inode(place, server, inode, flags),
+            None => self.open_new(place, server, end.parent, flags, mode),
         }
     }
 
-    fn open_inode(&mut self, place: &Place<'_>, number: u16, flags: OFlags) -> Result<u16, Fault> {
+    fn open_inode(
+        &mut self,
+        place: &Place<'_>,
+        server: ServerName,
+        number: u16,
+        flags: OFlags,
+    ) -> Result<u16, Fault> {
         let user = place.user;
         self.judge_open(user, number, flags)?;
         let block = self.free_block(user)?;
@@ -43,7 +55,7 @@ impl Files {
         {
             inode.empty(place.moment);
         }
-        self.add_block(user, block, number, flags)?;
+        self.add_block(server, block, number, flags)?;
         Ok(block)
     }
 
@@ -71,6 +83,7 @@ impl Files {
     fn open_new(
         &mut self,
         place: &Place<'_>,
+        server: ServerName,
         parent: u16,
         flags: OFlags,
         mode: u16,
@@ -87,7 +100,7 @@ impl Files {
         };
         self.add_inode(place.user, number, content, mode, place.moment)?;
         self.add_name(place, parent, number)?;
-        self.add_block(place.user, block, number, flags)?;
+        self.add_block(server, block, number, flags)?;
         Ok(block)
     }
 

@@ -14,11 +14,14 @@ use Rattle.qx_machine.specs.declared.rows.State.TheVariants.{Queued, Taken, Wait
 use Rattle.qx_machine.specs.declared.rows.Target.{Target}
 use Rattle.qx_machine.specs.declared.rows.ThreadRow.{ThreadRow}
 use Rattle.qx_machine.specs.Lines.{line_at}
-use Rattle.qx_machine.specs.Processes.{Process, lost_servers}
+use Rattle.qx_machine.specs.Parts.{thread_of}
+use Rattle.qx_machine.specs.Processes.{Process, has_ended, lost_servers}
+use Rattle.qx_machine.specs.Rows.{row_at}
 use Rattle.qx_queues.specs.Queues.{UsersAnswer, UsersCall, caller, stands, unblock_call}
 use Rattle.qx_resources.specs.declared.waits.Waits.{Waits}
 use Rattle.qx_shared.specs.Shared.{Shared, has_disconnect_node, has_thread, waiting_in, with_shared_disconnect, with_shared_server}
 use Rattle.qx_chan.specs.Nodes.{attaches, served_at}
+use Rattle.qx_procs.specs.Calls.{has_ended_in}
 use Rattle.qx_chan.specs.Users.{Users, process_of, thread_row}
 
 -- the message of a thread in this state stands in the line of that number
@@ -49,25 +52,37 @@ abbrev pub waits_for : ℕ → Option ThreadRow → Bool
 waits_for call None = false
 waits_for call (Some row) = is_waiting_for call row.calls row.state
 
--- the thread whose call it is waits for the answer to it
+-- a call of a thread of this process may wait: the thread waits for the answer to it, or if the call's process has ended, this one has
+abbrev pub may_wait : Bool → ℕ → ℕ → Option Process → Bool
+may_wait true tid call process = has_ended_in process
+may_wait false tid call process = waits_for call (thread_of tid process)
+
 abbrev pub IsWaiting : Users → UsersCall → Type 0
-IsWaiting processes own = waits_for own.call.call (thread_row processes (caller own)) ≡ true
+IsWaiting processes own = may_wait own.call.is_gone own.call.thread own.call.call (process_of processes (caller own).proc) ≡ true
 
 -- and the thread to which it goes for an answer
 abbrev pub IsAwaited : Users → UsersAnswer → Type 0
 IsAwaited processes given = waits_for given.call (thread_row processes given.thread) ≡ true
 
+-- a process has nodes for a thread of that number: for one that it has, and once it has ended for one that it had
+abbrev pub has_nodes : ℕ → Option Process → Bool
+has_nodes tid None = false
+has_nodes tid (Some process) = if has_ended process then is_some (row_at process.held tid) else is_some (row_at process.threads tid)
+
+abbrev pub nodes_for : Users → Thread → Bool
+nodes_for processes thread = has_nodes thread.tid (process_of processes thread.proc)
+
 -- a process has a disconnect node at a manager exactly while it has a server connection in use there
 abbrev pub HasServerNodes : Users → Shared → Proc → Type 0
 HasServerNodes processes queues proc = (manager : Manager) → has_disconnect_node queues proc (manager_number manager) ≡ served_at manager (process_of processes proc)
 
--- a thread has nodes exactly if it is there, its message stands in a line exactly if its row says so, an unblock pulse only while its
--- call is asked for, and its call in a pipe only while it waits for the answer; no answer is on its way; and a process has a
--- disconnect node at a manager exactly while it has a server connection in use there
+-- a thread has nodes exactly from its start until its process is freed, its message stands in a line exactly if its row says so, an unblock
+-- pulse only while its call is asked for, and its call in a pipe only while it waits for the answer, or after its process has ended; no
+-- answer is on its way; and a process has a disconnect node at a manager exactly while it has a server connection in use there
 pub record StandTogether (processes : Users) (queues : Shared) : Type 0 where
   pub users : length queues.pipes ≡ length processes
   pub managers : length queues.lines ≡ COUNT
-  pub threads : (thread : Thread) → has_thread queues thread ≡ is_some (thread_row processes thread)
+  pub threads : (thread : Thread) → has_thread queues thread ≡ nodes_for processes thread
   pub lines : (thread : Thread) (number : ℕ) → stands (line_at queues.lines number) thread ≡ stands_at number (thread_row processes thread)
   pub pulses : (thread : Thread) (number call : ℕ) → unblock_call (line_at queues.lines number) thread ≡ Some call → asked_call number call (thread_row processes thread) ≡ true
   pub servers : (proc : Proc) → HasServerNodes processes queues proc

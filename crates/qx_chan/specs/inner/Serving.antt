@@ -1,5 +1,5 @@
 -- What only the proofs need of Serving.
-use Rattle.std.specs.Prelude.{◌≡◌, ℕ, List, Some, Result, Ok, Err, slice_set}
+use Rattle.std.specs.Prelude.{◌≡◌, ℕ, Bool, List, Some, Result, Ok, Err, slice_set}
 use Rattle.qx_types.specs.declared.errno.Errno.{Errno}
 use Rattle.qx_types.specs.declared.names.Thread.{Thread}
 use Rattle.qx_wire.specs.Reading.{meaning}
@@ -33,16 +33,16 @@ abbrev pub deed_in : Kept → Waits → Process → TakenMessage → List ℕ �
 deed_in resources waits process message bytes =
     deed_of (told resources waits) (context_of process (caller_of_call message.thread message.call) message.call.target message.moment (meaning bytes)) (meaning bytes)
 
--- what a deed to a user's resources leaves, once the events that are due by it have given their pulses: its answers are on their way, and of
--- the room for events nothing is said
-pub record Leaves (k : Kept) (w : Waits) (l : Kept) (v : Waits) (deed : Deed Resources) : Type 0 where
-  pub told_is : told l v ≡ record deed.state { events = events_settled (told k w) deed.state }
+-- what a deed to a user's resources leaves, once the events that are due by it have given their pulses to the processes that live: its answers
+-- are on their way, and of the room for events nothing is said
+pub record Leaves (lives : ℕ → Bool) (k : Kept) (w : Waits) (l : Kept) (v : Waits) (deed : Deed Resources) : Type 0 where
+  pub told_is : told l v ≡ record deed.state { events = events_settled lives (told k w) deed.state }
   pub shared : v.shared ≡ with_pipes w.shared k.user deed.state.pipes deed.answers
-  pub events : v.events.events ≡ slice_set w.events.events k.user (events_settled (told k w) deed.state)
+  pub events : v.events.events ≡ slice_set w.events.events k.user (events_settled lives (told k w) deed.state)
   pub user : l.user ≡ k.user
 
 -- that a message came to that: it is replied as it is to be, and leaves that, or it is that error, and nothing is different
-abbrev pub Comes : Kept → Waits → Kept → Waits → List ℕ → Result Done Errno → Result (Deed Resources) Errno → Type 0
-Comes k w l v bytes (Ok done) (Ok deed) = (reply_with bytes done ≡ deed.reply) × Leaves k w l v deed
-Comes k w l v bytes (Err error) (Err meant) = (error ≡ meant) × (l ≡ k) × (v ≡ w)
-Comes k w l v bytes _ _ = ⊥
+abbrev pub Comes : (ℕ → Bool) → Kept → Waits → Kept → Waits → List ℕ → Result Done Errno → Result (Deed Resources) Errno → Type 0
+Comes lives k w l v bytes (Ok done) (Ok deed) = (reply_with bytes done ≡ deed.reply) × Leaves lives k w l v deed
+Comes lives k w l v bytes (Err error) (Err meant) = (error ≡ meant) × (l ≡ k) × (v ≡ w)
+Comes lives k w l v bytes _ _ = ⊥

@@ -1,5 +1,5 @@
 -- What only the proofs need of Kept.
-use Rattle.std.specs.Prelude.{◌≡◌, ◌≢◌, ◌⊎◌, ℕ, ◌==◌, ◌&&◌, not, Bool, false, Contains, List, Option, None, Some, is_some, map, option_map, slice_get, unwrap_or}
+use Rattle.std.specs.Prelude.{◌≡◌, ◌≢◌, ◌⊎◌, ℕ, ◌==◌, ◌&&◌, not, Bool, true, false, Contains, List, Option, None, Some, is_some, map, option_map, slice_get, unwrap_or}
 use Rattle.std.specs.FinMap as maps
 use Rattle.std.specs.List.{list_any}
 use Rattle.std.specs.Ordering.{nat_cmp}
@@ -14,8 +14,9 @@ use Rattle.qx_machine.specs.declared.rows.Queued.{Queued}
 use Rattle.qx_machine.specs.Lines.{into, line_at}
 use Rattle.qx_machine.specs.Machine.{queued_item, rank}
 use Rattle.qx_queues.specs.Queues.{UsersAnswer, UsersCall, sender, unblock_call}
-use Rattle.qx_queues.specs.Waiting.{Waiting, call_carried, idle, rank_of}
-use Rattle.qx_queues.specs.inner.Waiting.{thread_carried, given_of}
+use Rattle.qx_queues.specs.declared.nodes.ThreadNodes.{ThreadNodes}
+use Rattle.qx_queues.specs.Waiting.{Nothing, Waiting, call_carried, carried, idle, rank_of}
+use Rattle.qx_queues.specs.inner.Waiting.{thread_carried, given_of, with_gone_call}
 use Rattle.qx_queues.specs.Nodes.{Disconnect, Message, Owner, Unblock}
 use Rattle.qx_queues.specs.Kept.{HasLoad}
 
@@ -91,7 +92,7 @@ pub record Carries (is_answered : Bool) (waiting : Waiting) : Type 0 where
 
 -- the lines and the answered nodes are lists of the table, each its own; an owner's node is in the table, is no other's, and stands for an
 -- item of that owner; and in the lists stand nodes of messages and of unblock pulses, each its owner's, and of disconnect pulses: all of them
--- in those of the lines, and those of messages that carry calls or answers in others
+-- in those of the lines, and those of messages that carry calls or answers, as no other node does, in others
 pub record AreListsOfTable (table : Table Waiting) (lines : List Line) (answered : ℕ) (node_of : Owner → Option ℕ) : Type 0 where
   pub line : (number : ℕ) (line : Line) → slice_get lines number ≡ Some line → IsLineOf rank_of table line
   pub apart : (one other list : ℕ) → list_of_line lines one ≡ Some list → list_of_line lines other ≡ Some list → one ≡ other
@@ -100,6 +101,7 @@ pub record AreListsOfTable (table : Table Waiting) (lines : List Line) (answered
   pub there : (owner : Owner) (node : ℕ) → node_of owner ≡ Some node → ContainsNode table node
   pub names : (owner : Owner) (node : ℕ) → node_of owner ≡ Some node → node_owner (entry_of_node table node) ≡ named owner
   pub once : (owner other : Owner) (node : ℕ) → node_of owner ≡ Some node → node_of other ≡ Some node → other ≡ owner
+  pub unlisted : (node : ℕ) → ((list : ℕ) → IsIn table list node → is_line lines list ≡ false → ⊥) → (waiting_of_node table node).load ≡ Nothing
   pub listed : (list node : ℕ) → IsIn table list node → (is_line lines list ≡ false → Carries (list == answered) (waiting_of_node table node)) × IsOwners node_of node (node_owner (entry_of_node table node))
 
 -- the line of that number is the one of these
@@ -129,6 +131,30 @@ pub record TakenOut (old new : Table Waiting) (before after : Line) (change : Li
   pub room : new.room ≡ old.room
   pub lists : (list : ℕ) → (IsOwn before list → ⊥) → maps.get new.lists list ≡ maps.get old.lists list
   pub own : after.list ≡ before.list
+
+-- the node is that of the messages of a thread with these nodes
+abbrev pub is_message_node : ℕ → Option ThreadNodes → Bool
+is_message_node node None = false
+is_message_node node (Some own) = own.message == node
+
+-- the node is that of the messages of one of these threads
+abbrev pub is_message_of : List (Option ThreadNodes) → ℕ → Bool
+is_message_of threads node = list_any (is_message_node node) threads
+
+abbrev pub gone_if : Bool → Waiting → Waiting
+gone_if true waiting = with_gone_call waiting
+gone_if false waiting = waiting
+
+-- the calls that wait with the message nodes of these threads are those of a process that has ended, and nothing else is different
+pub record Abandoned (old new : Table Waiting) (threads : List (Option ThreadNodes)) : Type 0 where
+  pub values : (node : ℕ) → maps.get new.values node ≡ option_map (gone_if (is_message_of threads node)) (maps.get old.values node)
+  pub lists : new.lists ≡ old.lists
+  pub room : new.room ≡ old.room
+
+-- a call waits with the message node of a thread with these nodes
+abbrev pub waits_with : Table Waiting → Option ThreadNodes → Bool
+waits_with table None = false
+waits_with table (Some own) = is_some (carried (waiting_of_node table own.message).load)
 
 -- a list has other nodes, or is gone, and nothing else is different but what nodes carry that stand in no other list
 pub record Moved (old new : Table Waiting) (list : ℕ) (nodes : Option (List ℕ)) : Type 0 where

@@ -1,5 +1,5 @@
 -- What only the proofs need of Waiting.
-use Rattle.std.specs.Prelude.{⊤, ℕ, []}
+use Rattle.std.specs.Prelude.{⊤, ℕ, true, []}
 use Rattle.qx_types.specs.declared.names.Thread.{Thread}
 use Rattle.qx_types.specs.declared.outcome.Answer.TheVariants.{Reply}
 use Rattle.qx_queues.specs.Queues.{UsersAnswer, caller}
@@ -38,3 +38,12 @@ abbrev pub load_of : Slot → Load
 load_of slot.Empty = Nothing
 load_of (slot.Waits call) = Waits call
 load_of (slot.Answered taken) = Answered (addressed_by taken)
+
+-- the call that waits is one of a process that has ended
+abbrev pub gone_load : Load → Load
+gone_load Nothing = Nothing
+gone_load (Waits call) = Waits (record call { is_gone = true })
+gone_load (Answered given) = Answered given
+
+abbrev pub with_gone_call : Waiting → Waiting
+with_gone_call waiting = record waiting { load = gone_load waiting.load }

@@ -1,14 +1,17 @@
 -- What only the proofs need of Held.
-use Rattle.std.specs.Prelude.{ℕ, List, Option, None}
+use Rattle.std.specs.Prelude.{ℕ, Option, None}
+use Rattle.qx_machine.specs.declared.rows.Held.{Held}
 use Rattle.qx_machine.specs.declared.rows.OwnItem.{OwnItem}
 use Rattle.qx_machine.specs.declared.rows.OwnItem.TheVariants as item
 use Rattle.qx_machine.specs.declared.rows.Sent.{Sent}
 use Rattle.qx_machine.specs.Machine.{named_thread}
-use Rattle.qx_machine.specs.Parts.{Part}
 use Rattle.qx_chan.specs.Calls.{taken_of}
-use Rattle.qx_steps.specs.Reads.{row_among_parts}
+use Rattle.qx_chan.specs.Users.{Users, thread_row}
 
--- the message of an item that was received and is not served
-abbrev pub taken_item : List (Option Part) → ℕ → OwnItem → Option Sent
-taken_item parts user (item.Message process thread) = taken_of (row_among_parts parts (named_thread user process thread))
-taken_item parts user _ = None
+abbrev pub taken_by : Users → ℕ → OwnItem → Option Sent
+taken_by users user (item.Message process thread) = taken_of (thread_row users (named_thread user process thread))
+taken_by users user _ = None
+
+-- the message that is held, which was received and is not served
+abbrev pub taken_item : Users → Held → Option Sent
+taken_item users held = taken_by users held.user.0 held.item

@@ -2,6 +2,7 @@
 use Rattle.std.specs.Prelude.{◌≡◌, ℕ, List, [], ◌∷◌, Option, Some, None, is_some, map, option_map}
 use Rattle.qx_types.specs.Configuration.{Configuration}
 use Rattle.qx_machine.specs.declared.rows.Held.{Held}
+use Rattle.qx_machine.specs.Laws.{IsSettled}
 use Rattle.qx_machine.specs.Machine.{World}
 use Rattle.qx_machine.specs.Parts.{Part}
 use Rattle.qx_machine.specs.Resources.{Resources}
@@ -39,3 +40,8 @@ SameUsers users resources = (user : ℕ) → is_some (row_at users user) ≡ is_
 pub record AreResourcesOf (channel : Channel) (resources : List (Option Kept)) : Type 0 where
   pub same : SameUsers channel.users resources
   pub own : (user : ℕ) (kept : Kept) → row_at resources user ≡ Some kept → kept.user ≡ user
+
+-- channel and resources are of the same users, and make a world in which nothing is left to be settled
+pub record IsSound (config : Configuration) (channel : Channel) (resources : List (Option Kept)) (hands : List (Option Held)) : Type 0 where
+  pub users : AreResourcesOf channel resources
+  pub settled : IsSettled (world_of config channel resources hands)

@@ -2,7 +2,6 @@
 use Rattle.std.specs.Prelude.{◌≡◌, ℕ, false, List, Option, Some, None, Result, Ok, Err}
 use Rattle.qx_types.specs.Configuration.{Configuration}
 use Rattle.qx_types.specs.declared.names.Manager.{Manager}
-use Rattle.qx_types.specs.declared.names.Proc.{Proc}
 use Rattle.qx_types.specs.declared.names.Thread.{Thread}
 use Rattle.qx_types.specs.declared.outcome.Outcome.{Outcome}
 use Rattle.qx_types.specs.declared.outcome.Outcome.TheVariants.{WrongState}
@@ -11,15 +10,13 @@ use Rattle.qx_paths.specs.Mounts.{mount_fault}
 use Rattle.qx_paths.specs.Prefixes.{MountPoint}
 use Rattle.qx_machine.specs.declared.rows.Addressed.{Addressed}
 use Rattle.qx_machine.specs.declared.rows.Sent.{Sent}
-use Rattle.qx_machine.specs.declared.rows.ServerName.{ServerName}
 use Rattle.qx_machine.specs.Calls.{bytes_of, content_of}
 use Rattle.qx_machine.specs.Clients.{mount_by}
 use Rattle.qx_machine.specs.Inodes.{inode_number}
-use Rattle.qx_machine.specs.Machine.{World, serve_end}
+use Rattle.qx_machine.specs.Machine.{World}
 use Rattle.qx_machine.specs.Mounting.{with_mount}
 use Rattle.qx_machine.specs.Parts.{Part}
 use Rattle.qx_machine.specs.Resources.{Resources}
-use Rattle.qx_machine.specs.Performing.{Served, or_kept, serve_disconnect, serve_message, serve_pulse}
 use Rattle.qx_machine.specs.Rows.{row_at, with_row}
 
 -- the message of a call that goes there
@@ -46,23 +43,3 @@ CanMount (Some part) mount = IsMountable part.resources mount
 -- the world with one more mount of a user
 abbrev pub after_mount : World → ℕ → MountPoint → World
 after_mount w user mount = record w { parts = with_row w.parts user (λ part. record part { resources = with_mount mount part.resources }) }
-
-abbrev pub with_served : World → ℕ → (Part → Served) → Option Part → World
-with_served w user served None = w
-with_served w user served (Some part) = serve_end w user part (served part)
-
--- the world once that is done for a user
-abbrev pub world_after_serving : World → ℕ → (Part → Served) → World
-world_after_serving w user served = with_served w user served (row_at w.parts user)
-
--- once the message of a thread, which was received, is done at a moment
-abbrev pub after_message : World → Thread → ℕ → World
-after_message w thread moment = world_after_serving w thread.proc.user.0 (λ part. or_kept part (serve_message part thread.proc.num thread.tid moment))
-
--- once a pulse is done, which asks to unblock a thread from a call
-abbrev pub after_pulse : World → Thread → ℕ → ℕ → World
-after_pulse w thread call moment = world_after_serving w thread.proc.user.0 (λ part. or_kept part (serve_pulse part thread.proc.num thread.tid call moment))
-
--- once a disconnect pulse is done, which was made for a server connection of a process
-abbrev pub after_disconnect : World → Proc → ServerName → World
-after_disconnect w proc server = world_after_serving w proc.user.0 (λ part. or_kept part (serve_disconnect part proc.num server))

@@ -1,4 +1,6 @@
 use Rattle.std.proofs.Common.{◌≡◌, refl, subst, ◌∙◌}
+use Rattle.qx_machine.specs.Settling.{is_living}
+use Rattle.qx_chan.specs.Users.{lives_in}
 use Rattle.std.specs.Prelude.{IsTrue, Result}
 use Rattle.qx_types.specs.declared.errno.Errno.{Errno}
 use Rattle.qx_wire.specs.declared.message.Meaning.{Meaning}
@@ -8,21 +10,24 @@ use Rattle.qx_machine.specs.Resources.{Resources}
 use Rattle.qx_machine.specs.Wants.{bytes_want_memory}
 use Rattle.qx_resmgr.specs.Deeds.{Did}
 use Rattle.qx_resources.specs.State.{state, told}
-use Rattle.qx_chan.specs.inner.Serving.{deed_in}
-use Rattle.qx_chan.proofs.MessageLemmas.{caller-received, deed-served, handed_back, meaning-served, room-there}
+use Rattle.qx_chan.specs.inner.Serving.{deed_in, Comes}
+use Rattle.qx_chan.proofs.MessageLemmas.{caller-received, deed-served, handed_back, meaning-served, room-there, lives-handed}
 use Rattle.qx_chan.proofs.SettledLemmas.{comes, fits-did}
 use Rattle.qx_chan.proofs.serving.perform.Goals as goal
 
-pub returns-in-Ok-clause-did : goal.returns-in-Ok-clause-did
-returns-in-Ok-clause-did c = λ process bytes sends.
+pub returns-in-Some-processes-clause-did : goal.returns-in-Some-processes-clause-did
+returns-in-Some-processes-clause-did c = λ process bytes sends.
     let k = c.args.resources.now in
     let w = c.args.waits.now in
+    let lives = lives_in c.args.users.now c.args.message.thread.proc.user.0 in
+    let same : is_living c.in-Some-processes.processes.now ≡ lives = lives-handed c.args.users.now c.hand_over-bytes.new.self c.args.message.thread c.in-Some-processes.processes.now c.hand_over-bytes.ensures.served c.in-Some-processes.ensures.row in
     let is : deed_of (told k w) c.context_of-context.result c.meaning_of-meaning.result ≡ deed_in k w process c.args.message bytes = rw (c.context_of-context.ensures.context, c.caller.ensures)
     (deed-served c.args.resources.now c.args.waits.now c.args.users.now c.hand_over-bytes.new.self c.args.message.thread c.args.message.call c.args.message.moment process c.in-Some.process.now bytes c.hand_over-bytes.result.0 c.meaning_of-meaning.result sends
     c.hand_over-bytes.ensures.served c.in-Some.ensures.row c.hand_over-bytes.ensures.bytes c.meaning_of-meaning.ensures.meaning)
     in
-    comes k c.perform.new.self w c.perform.new.all c.trigger.new.waits c.context_of-context.result c.meaning_of-meaning.result c.watch_message-watched.result c.perform.new.reply c.in-Ok.given (deed_in k w process c.args.message bytes)
-    c.requires.fits c.watch_message-watched.ensures.there is c.watch_message-watched.ensures.watched c.trigger.ensures.triggered (subst (Did state k w c.perform.new.self c.perform.new.all c.perform.new.reply c.in-Ok.given) is c.in-Ok.ensures.did)
+    subst (λ lives. Comes lives k w c.perform.new.self c.trigger.new.waits c.perform.new.reply c.in-Ok.given (deed_in k w process c.args.message bytes)) same
+    (comes (is_living c.in-Some-processes.processes.now) k c.perform.new.self w c.perform.new.all c.trigger.new.waits c.context_of-context.result c.meaning_of-meaning.result c.watch_message-watched.result c.perform.new.reply c.in-Ok.given (deed_in k w process c.args.message bytes)
+    c.requires.fits c.watch_message-watched.ensures.there is c.watch_message-watched.ensures.watched c.trigger.ensures.triggered (subst (Did state k w c.perform.new.self c.perform.new.all c.perform.new.reply c.in-Ok.given) is c.in-Ok.ensures.did))
 
 pub perform-requires-clause-received : goal.perform-requires-clause-received
 perform-requires-clause-received c =
@@ -50,5 +55,5 @@ returns-in-Some-room-clause-wanted c = λ process bytes sends.
     c.hand_over-bytes.ensures.served c.in-Some.ensures.row c.hand_over-bytes.ensures.bytes c.meaning_of-meaning.ensures.meaning)
     (rw (c.context_of-context.ensures.context, c.caller.ensures) at c.in-Err.ensures.wanted))
 
-pub returns-in-Ok-clause-room : goal.returns-in-Ok-clause-room
-returns-in-Ok-clause-room c = room-there _ _ c.in-Ok.given refl c.in-Ok.ensures.room
+pub returns-in-Some-processes-clause-room : goal.returns-in-Some-processes-clause-room
+returns-in-Some-processes-clause-room c = room-there _ _ c.in-Ok.given refl c.in-Ok.ensures.room

@@ -4,15 +4,14 @@ use Rattle.qx_machine.specs.Resources.{Resources}
 use Rattle.qx_pipes.proofs.PipesLemmas.{found-told, missing-told, no_bytes, row-free}
 use Rattle.qx_pipes.proofs.paths.open_found.Goals as goal
 use Rattle.qx_pipes.specs.Pipes.{seen}
-use Rattle.qx_types.specs.declared.names.Coid.{Coid}
 
 pub returns-in_default : goal.returns-in_default
 returns-in_default c =
     let store = c.args.store.now.stored in
     let shared = c.args.shared.now in
     let opened = rw c.in_default.is at c.in_ok-open.ensures.opened in
-    let told = λ (r : Resources) (coid : Coid). found-told store c.open.new.self.stored shared _ r c.requires.user c.in_ok-open.ensures.user coid c.args.wish c.in_ok-open.field-0 c.in_default.field-0 (opened (seen r store shared) coid) refl in
-    rw c.in_default.is (record { user = c.in_ok-open.ensures.user; opened = λ r coid. sym (told r coid).told; left = λ r coid. (told r coid).follow; err = tt })
+    let told = λ (r : Resources). found-told store c.open.new.self.stored shared _ r c.requires.user c.in_ok-open.ensures.user c.args.over c.args.wish c.in_ok-open.field-0 c.in_default.field-0 (opened (seen r store shared) c.args.over.coid c.args.over.root) refl in
+    rw c.in_default.is (record { user = c.in_ok-open.ensures.user; opened = λ r. sym (told r).told; left = λ r. (told r).follow; err = tt })
 
 pub returns-in-Ok : goal.returns-in-Ok
 returns-in-Ok c =
@@ -22,8 +21,8 @@ returns-in-Ok c =
     let opened = rw c.in-Missing.is at c.in-Ok.ensures.opened in
     let may : may_make store.inodes store.user c.in-Missing.at.parent c.args.wish.flags ≡ Ok new = rw c.in-Missing.is at c.requires.allowed.judged in
     let made = rw c.user-user.ensures at (c.empty.ensures ∙ c.in_ok-is_made.ensures.stands.others (Some no_bytes)) in
-    let told = λ (r : Resources) (coid : Coid). missing-told store c.open-2.new.self.stored shared _ r c.requires.user c.in-Ok.ensures.user coid c.args.wish c.in-Ok.opening c.in-Missing.at.parent _ new may (opened (seen r store shared) coid) made in
-    rw c.in-Missing.is (record { user = c.in-Ok.ensures.user; opened = λ r coid. sym (told r coid).told; left = λ r coid. (told r coid).follow; err = tt })
+    let told = λ (r : Resources). missing-told store c.open-2.new.self.stored shared _ r c.requires.user c.in-Ok.ensures.user c.args.over c.args.wish c.in-Ok.opening c.in-Missing.at.parent _ new may (opened (seen r store shared) c.args.over.coid c.args.over.root) made in
+    rw c.in-Missing.is (record { user = c.in-Ok.ensures.user; opened = λ r. sym (told r).told; left = λ r. (told r).follow; err = tt })
 
 pub returns-then-is_made-clause-err : goal.returns-then-is_made-clause-err
 returns-then-is_made-clause-err c =

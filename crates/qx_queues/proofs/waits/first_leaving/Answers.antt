@@ -1,4 +1,4 @@
-use Rattle.std.proofs.Common.{◌≡◌, ℕ, ◌+◌, false, Some, slice_get, unwrap_or, add-one, arith, sym, ap, ◌∙◌}
+use Rattle.std.proofs.Common.{◌≡◌, ◌+◌, Some, slice_get, unwrap_or, add-one, arith, sym, ap, ◌∙◌}
 use Rattle.qx_lists.specs.Table.{nodes_of}
 use Rattle.qx_lists.proofs.WalkLemmas.{contains-index, next_after-index, nodes_from-smaller, past_the_end}
 use Rattle.qx_queues.specs.inner.Kept.{nobodys, waiting_of_node}
@@ -39,12 +39,7 @@ nodes-smaller c =
     let here : slice_get nodes c.nodes.invariant.index ≡ Some c.in-Some.node = c.nodes.invariant.next ∙ c.in-Some.is in
     rw c.in-Some.is (nodes_from-smaller nodes c.nodes.invariant.index _ c.next-next.result apart here (sym (c.next-next.ensures ∙ next_after-index nodes _ _ apart here)))
 
-pub returns-in-Gone : goal.returns-in-Gone
-returns-in-Gone c =
-    let nobody : (node : ℕ) → leaves c.args.which (call_carried (waiting_of_node c.args.table.now node)) ≡ false = λ node. ap (λ which. leaves which (call_carried (waiting_of_node c.args.table.now node))) c.in-Gone.is in
-    ap (λ nodes. slice_get nodes 0) (sym (none-leaves (λ node. leaves c.args.which (call_carried (waiting_of_node c.args.table.now node))) _ (λ k within. nobody _)))
-
 pub returns : goal.returns
 returns c =
-    let whole = past_the_end (nodes_of c.args.table.now c.args.list) c.nodes.invariant.index (c.nodes.invariant.next ∙ c.in_default-next.is) in
+    let whole = past_the_end (nodes_of c.args.table.now c.args.list) c.nodes.invariant.index (c.nodes.invariant.next ∙ c.in_default.is) in
     ap (λ nodes. slice_get nodes 0) (sym (none-leaves (λ node. leaves c.args.which (call_carried (waiting_of_node c.args.table.now node))) _ (λ k within. c.nodes.invariant.stayed k (omega (arith, whole)))))

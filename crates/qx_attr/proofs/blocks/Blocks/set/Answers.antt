@@ -13,10 +13,10 @@ pub returns-in_default : goal.returns-in_default
 returns-in_default c =
     let none : row_at c.self.inside.keys.items c.args.number ≡ None = cc in
     let same = nothing-changed (rows_of c.self.inside.values c.self.inside.keys.items) c.args.number (λ _. c.args.block) (nothing-there c.self.inside.values c.self.inside.keys.items c.args.number none) in
-    rw (← c.self.view_is) (record { row = λ i. record { rows = sym same i; room = c.self.inside.room } })
+    rw (← c.self.view_is) (record { row = λ i. record { rows = sym same i; made = c.self.inside.made.items; room = c.self.inside.room } })
 
 pub returns : goal.returns
 returns c =
     let is : row_at c.self.inside.keys.items c.args.number ≡ Some c.in-Some.key = cc in
     let written = rows-with c.self.inside.values c.self.inside.keys.items c.args.number c.in-Some.key c.args.block c.self.invariant.keyed is in
-    rw (← c.self.view_is) (record { row = λ i. record { rows = written i; room = c.self.inside.room } })
+    rw (← c.self.view_is) (record { row = λ i. record { rows = written i; made = c.self.inside.made.items; room = c.self.inside.room } })

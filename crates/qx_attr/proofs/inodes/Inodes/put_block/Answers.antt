@@ -1,7 +1,8 @@
-use Rattle.std.proofs.Common.{◌≡◌, ◌-◌, None, Some, ap, arith, refl, ◌∙◌}
+use Rattle.std.proofs.Common.{◌≡◌, ◌-◌, ◌++◌, ◌∷◌, [], None, Some, ap, arith, refl, sym, ◌∙◌}
 use Rattle.std.proofs.Math.ListN.{length-set}
+use Rattle.qx_machine.proofs.Places.{lowest_from_free}
 use Rattle.qx_types.specs.declared.limits.TheConstants.Limits.{BLOCKS}
-use Rattle.qx_machine.specs.Rows.{put_row, row_at}
+use Rattle.qx_machine.specs.Rows.{lowest_from, put_row, row_at}
 use Rattle.qx_attr.specs.Counts.{Reserved}
 use Rattle.qx_attr.specs.inner.Counts.{counted}
 use Rattle.qx_attr.proofs.CountLemmas.{counted_open, few_rows, same_attributes}
@@ -12,7 +13,8 @@ invariant_of-self c =
     let attrs = c.self.inside.attrs.items in
     let rows = c.self.inside.blocks.rows in
     let there : row_at attrs c.args.block.inode ≡ Some c.in-Some.attr = cc in
-    let free : row_at rows c.args.number ≡ None = ap (λ (all : Reserved). row_at all.inodes.blocks c.args.number) c.self.view_is ∙ c.requires.free in
+    let is : c.args.number ≡ lowest_from 1 rows = c.requires.lowest ∙ ap (λ (all : Reserved). lowest_from 1 all.inodes.blocks) (sym c.self.view_is) in
+    let free : row_at rows c.args.number ≡ None = ap (row_at rows) is ∙ lowest_from_free 1 rows in
     let long = length-set attrs c.args.block.inode (Some (counted c.args.block.flags c.in-Some.attr)) in
     rw (c.put.ensures.row, c.counted.ensures) (record {
       counted = counted_open attrs rows c.args.number c.args.block c.in-Some.attr there c.self.invariant.counted free;
@@ -27,4 +29,4 @@ returns c =
     let attrs = c.self.inside.attrs.items in
     let there : row_at attrs c.args.block.inode ≡ Some c.in-Some.attr = cc in
     let same = same_attributes attrs c.args.block.inode c.in-Some.attr (counted c.args.block.flags c.in-Some.attr) there refl in
-    rw (c.put.ensures.row, c.counted.ensures, ← c.self.view_is) (λ i. record { inodes = record { attributes = same i; blocks = put_row c.self.inside.blocks.rows c.args.number c.args.block }; room = c.self.inside.blocks.room - 1 })
+    rw (c.put.ensures.row, c.counted.ensures, ← c.self.view_is) (λ i. record { inodes = record { attributes = same i; blocks = put_row c.self.inside.blocks.rows c.args.number c.args.block; made = c.self.inside.blocks.made ++ c.args.number ∷ [] }; room = c.self.inside.blocks.room - 1 })

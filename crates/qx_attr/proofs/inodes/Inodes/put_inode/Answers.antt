@@ -23,4 +23,4 @@ invariant_of-self c =
 pub returns : goal.returns
 returns c =
     let put = rows_put attribute_of c.self.inside.attrs.items c.args.number (unopened c.args.attribute) c.args.attribute refl in
-    rw (c.put_reserved.ensures.row, c.new.ensures, c.give_up_room.ensures.room, ← c.self.view_is) (λ i. record { inodes = record { attributes = put i; blocks = c.self.inside.blocks.rows }; room = c.self.inside.blocks.room - 1 })
+    rw (c.put_reserved.ensures.row, c.new.ensures, c.give_up_room.ensures.room, ← c.self.view_is) (λ i. record { inodes = record { attributes = put i; blocks = c.self.inside.blocks.rows; made = c.self.inside.blocks.made }; room = c.self.inside.blocks.room - 1 })

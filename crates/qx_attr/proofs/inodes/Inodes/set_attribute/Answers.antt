@@ -25,4 +25,4 @@ pub returns : goal.returns
 returns c =
     let now : Attr = record c.in-Some.attr { attribute = c.args.attribute } in
     let set = map-set attribute_of c.self.inside.attrs.items c.args.inode (Some now) in
-    rw (← c.self.view_is) (record { set = λ i. record { inodes = record { attributes = set i; blocks = c.self.inside.blocks.rows }; room = c.self.inside.blocks.room } })
+    rw (← c.self.view_is) (record { set = λ i. record { inodes = record { attributes = set i; blocks = c.self.inside.blocks.rows; made = c.self.inside.blocks.made }; room = c.self.inside.blocks.room } })

@@ -22,4 +22,4 @@ invariant_of-self c =
 pub returns : goal.returns
 returns c =
     let set = map-set attribute_of c.self.inside.attrs.items c.args.inode None in
-    rw (c.free.ensures.freed, ← c.self.view_is) (λ i. record { inodes = record { attributes = set i; blocks = c.self.inside.blocks.rows }; room = c.self.inside.blocks.room })
+    rw (c.free.ensures.freed, ← c.self.view_is) (λ i. record { inodes = record { attributes = set i; blocks = c.self.inside.blocks.rows; made = c.self.inside.blocks.made }; room = c.self.inside.blocks.room })

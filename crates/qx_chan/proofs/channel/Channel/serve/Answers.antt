@@ -75,12 +75,12 @@ returns-clause-room c =
     let its = received c.self.inside.users c.args.thread c.in-Some.call taken in
     rw (← c.self.view_is) (ap (λ (q : Shared). q.room) c.give_answers.ensures.queues ∙ ap (λ (q : Shared). q.room) c.answer.ensures.queues
     ∙ room-answered c.perform.new.waits.shared c.perform.new.users c.answer.new.users c.args.thread c.in-Some.call c.in_ok-given.given
-    ∙ did-fields (λ q. q.room) (λ q user pipes answers. refl) c.args.resources.now c.perform.new.resources c.self.inside.waits c.perform.new.waits c.perform.new.reply c.in_ok-given.given _ (c.in_ok-given.ensures.did its.process its.sent.bytes (sends c.self.inside.users c.args.thread c.in-Some.call its)))
+    ∙ did-fields (λ q. q.room) (λ q user pipes answers. refl) _ c.args.resources.now c.perform.new.resources c.self.inside.waits c.perform.new.waits c.perform.new.reply c.in_ok-given.given _ (c.in_ok-given.ensures.did its.process its.sent.bytes (sends c.self.inside.users c.args.thread c.in-Some.call its)))
 
 pub answer-requires-clause-nodes : goal.answer-requires-clause-nodes
 answer-requires-clause-nodes c manager =
     let taken : Some c.in-Some.call ≡ taken_call (thread_row c.self.inside.users c.args.thread) = rw (← c.self.view_is) at c.in-Some.ensures.call in
     let its = received c.self.inside.users c.args.thread c.in-Some.call taken in
     let same = did-fields (λ q. has_disconnect_node q c.args.thread.proc (manager_number manager)) (λ q user pipes answers. refl)
-    c.args.resources.now c.perform.new.resources c.self.inside.waits c.perform.new.waits c.perform.new.reply c.in_ok-given.given _ (c.in_ok-given.ensures.did its.process its.sent.bytes (sends c.self.inside.users c.args.thread c.in-Some.call its)) in
+    _ c.args.resources.now c.perform.new.resources c.self.inside.waits c.perform.new.waits c.perform.new.reply c.in_ok-given.given _ (c.in_ok-given.ensures.did its.process its.sent.bytes (sends c.self.inside.users c.args.thread c.in-Some.call its)) in
     rw (c.in_ok-given.ensures.served, same) ((Kept-served c.self.inside.users c.self.inside.waits c.args.thread c.in-Some.call taken c.self.invariant.shared).servers c.args.thread.proc manager)

@@ -7,11 +7,11 @@ use Rattle.qx_iofunc.specs.Store.{Store, with_stored}
 use Rattle.qx_iofunc.proofs.store.Store.found.Goals as goal
 
 pub returns-in_err-may_open-clause-opens : goal.returns-in_err-may_open-clause-opens
-returns-in_err-may_open-clause-opens c = λ r coid own mode moment.
+returns-in_err-may_open-clause-opens c = λ r over own mode moment.
     let view = ap (λ (inside : Inside). inside.tables) c.self-inside.view_is ∙ c.self.view_is in
     let error = err_from_is_err_and c.from_residual.result c.from_residual.ensures.1 in
     let may = subst (λ (store : Store). Err c.in_err-may_open.field-0.0 ≡ may_open store.stored.inodes store.stored.user c.args.inode c.args.flags) view c.in_err-may_open.ensures.may in
-    rw (error.1, error.2) (existing_judged (with_stored r c.args.self.now.stored) coid c.args.inode (record { flags = c.args.flags; mode = mode; moment = moment }) (Err c.in_err-may_open.field-0.0) (sym may))
+    rw (error.1, error.2) (existing_judged (with_stored r c.args.self.now.stored) over c.args.inode (record { flags = c.args.flags; mode = mode; moment = moment }) (Err c.in_err-may_open.field-0.0) (sym may))
 
 pub returns-clause-allowed : goal.returns-clause-allowed
 returns-clause-allowed c =
@@ -20,5 +20,5 @@ returns-clause-allowed c =
     record {
       free = tt;
       judged = tt;
-      opens = λ r coid own mode moment. existing_allowed (with_stored r c.args.self.now.stored) coid c.args.inode (record { flags = c.args.flags; mode = mode; moment = moment }) done (sym may);
+      opens = λ r over own mode moment. existing_allowed (with_stored r c.args.self.now.stored) over c.args.inode (record { flags = c.args.flags; mode = mode; moment = moment }) done (sym may);
     }

@@ -21,5 +21,5 @@ returns-in_ok-new-in-None-clause-allowed c =
     record {
       free = subst (λ (store : Store). HasFreeName store.stored.names (Missing at new)) view (c.in_ok-at.ensures.parent, sym free ∙ c.in-None.is);
       judged = sym judged;
-      opens = λ r coid own mode moment. missing_allowed r stored coid (spot_of stored.names at) own (record { flags = c.args.flags; mode = mode; moment = moment }) new (sym judged);
+      opens = λ r over own mode moment. missing_allowed r stored over (spot_of stored.names at) own (record { flags = c.args.flags; mode = mode; moment = moment }) new (sym judged);
     }

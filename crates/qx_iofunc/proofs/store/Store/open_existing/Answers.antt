@@ -8,6 +8,7 @@ use Rattle.qx_iofunc.specs.declared.store.Store.TheInside.{Inside}
 use Rattle.qx_iofunc.specs.Store.{Store, Stored, with_stored}
 use Rattle.qx_iofunc.specs.inner.Store.{with_truncated}
 use Rattle.qx_iofunc.specs.Given as given
+use Rattle.qx_machine.specs.declared.rows.NewOpen.{NewOpen}
 use Rattle.qx_machine.specs.Defaults.{open_existing}
 use Rattle.qx_machine.specs.Inodes.{block_number, open_block}
 use Rattle.qx_machine.specs.Rows.{row_at}
@@ -53,17 +54,18 @@ invariant_of-self-2 c =
     let inside = c.self-inside-2.inside.0.0 in
     let before = subst (λ (store : Store). StoreFits store.stored) c.self.view_is c.self.invariant in
     let fits = subst StoreFits (sym (emptied (goal.at.invariant_of-self-2 c).Joined-contains)) (emptied_fits c.args.wish.flags c.args.inode c.args.wish.moment c.args.self.now.stored before) in
-    opened_fits inside.inodes.inodes c.opened.new.inodes.inodes c.args.inode c.opened.result c.args.wish.flags c.opened.ensures.opened inside.names inside.files (rw (← c.self-inside-2.view_is) at fits)
+    opened_fits inside.inodes.inodes c.opened.new.inodes.inodes c.args.inode c.opened.result c.args.wish.flags c.args.client c.opened.ensures.opened inside.names inside.files (rw (← c.self-inside-2.view_is) at fits)
 
 pub returns-clause-opened : goal.returns-clause-opened
-returns-clause-opened c = λ r coid own.
+returns-clause-opened c = λ r coid root own.
+    let over : NewOpen = record { coid = coid; client = c.args.client; root = root } in
     let wish = c.args.wish in
     let inode = c.args.inode in
     let stored = c.args.self.now.stored in
     let number = c.opened.result in
     let now = c.opened.new.inodes.inodes in
     let after = ap (λ (inside : Inside). inside.tables.stored) c.self-inside-2.view_is ∙ emptied (goal.at.returns-clause-opened c).Joined-contains in
-    let opened = subst (λ (stored : Stored). with_number now (Ok number) ≡ open_block stored.inodes inode wish.flags) after c.opened.ensures.opened in
+    let opened = subst (λ (stored : Stored). with_number now (Ok number) ≡ open_block stored.inodes inode wish.flags c.args.client) after c.opened.ensures.opened in
     let may = all_allowed stored inode wish c.requires.allowed in
-    subst (λ (after : Stored). open_existing (with_stored r stored) coid inode wish ≡ Ok (given.open_given coid own (record { number = number; inode = inode; is_new = false }) (with_stored r (record after { inodes = now })))) (sym after)
-    (existing_done stored now number inode own wish may opened r coid)
+    subst (λ (after : Stored). open_existing (with_stored r stored) over inode wish ≡ Ok (given.open_given coid own (record { number = number; inode = inode; is_new = false }) (with_stored r (record after { inodes = now })))) (sym after)
+    (existing_done stored now number inode over wish may opened r own)

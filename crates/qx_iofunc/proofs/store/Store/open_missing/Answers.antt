@@ -8,6 +8,7 @@ use Rattle.qx_iofunc.specs.Given as given
 use Rattle.qx_iofunc.specs.Makes.{may_make}
 use Rattle.qx_iofunc.specs.Store.{Store, Stored, with_stored}
 use Rattle.qx_iofunc.specs.inner.Store.{with_made}
+use Rattle.qx_machine.specs.declared.rows.NewOpen.{NewOpen}
 use Rattle.qx_machine.specs.Defaults.{open_missing}
 use Rattle.qx_machine.specs.Inodes.{open_block}
 use Rattle.qx_machine.specs.Rows.{row_at}
@@ -63,7 +64,7 @@ invariant_of-self-2 c =
     let wish = c.args.wish in
     let before = (goal.at.invariant_of-self-2 c).In_ok-reserve in
     let made_fit = made_fits (stored before) (spot_of (stored before).names c.args.at) new.inode new.parent c.args.own wish.mode wish.moment (makes before).number_is (makes before).parent_is (fits before) in
-    opened_fits inside.inodes.inodes c.opened.new.inodes.inodes new.inode c.opened.result wish.flags c.opened.ensures.opened inside.names inside.files (subst StoreFits (sym after) made_fit)
+    opened_fits inside.inodes.inodes c.opened.new.inodes.inodes new.inode c.opened.result wish.flags c.args.client c.opened.ensures.opened inside.names inside.files (subst StoreFits (sym after) made_fit)
 
 pub returns-clause-opened : goal.returns-clause-opened
 returns-clause-opened c =
@@ -74,7 +75,8 @@ returns-clause-opened c =
     let wish = c.args.wish in
     let number = c.opened.result in
     let now = c.opened.new.inodes.inodes in
-    let opened = subst (λ (stored : Stored). with_number now (Ok number) ≡ open_block stored.inodes new.inode wish.flags) after c.opened.ensures.opened in
-    rw (← c.self.view_is, ← c.self-inside.view_is) (λ r coid.
-    subst (λ (after : Stored). open_missing c.args.own (with_stored r (stored before)) coid at wish ≡ Ok (given.open_given coid c.args.own (record { number = number; inode = new.inode; is_new = true }) (with_stored r (record after { inodes = now })))) (sym after)
-    (missing_done r (stored before) coid at c.args.own wish new now number (judged before) opened))
+    let opened = subst (λ (stored : Stored). with_number now (Ok number) ≡ open_block stored.inodes new.inode wish.flags c.args.client) after c.opened.ensures.opened in
+    rw (← c.self.view_is, ← c.self-inside.view_is) (λ r coid root.
+    let over : NewOpen = record { coid = coid; client = c.args.client; root = root } in
+    subst (λ (after : Stored). open_missing c.args.own (with_stored r (stored before)) over at wish ≡ Ok (given.open_given coid c.args.own (record { number = number; inode = new.inode; is_new = true }) (with_stored r (record after { inodes = now })))) (sym after)
+    (missing_done r (stored before) over at c.args.own wish new now number (judged before) opened))

@@ -11,4 +11,4 @@ returns-clause-served c = by_row c.copied.result (c.copied.ensures ∙ c.row.ens
     by_row : (side : Option Manager) → side ≡ row_at c.self.inside.sides c.args.thread → IfSome side (λ manager. is_served manager c.args.self.now ≡ true)
     by_row None is = tt
     by_row (Some manager) is =
-        rw (← c.self.view_is) (side_served (record { threads = c.self.inside.threads.items; connections = c.self.inside.connections.items; sides = c.self.inside.sides; servers = c.self.inside.servers.items }) c.args.thread manager c.self.invariant.0 c.self.invariant.1 (sym is))
+        rw (← c.self.view_is) (side_served (record { threads = c.self.inside.threads.items; connections = c.self.inside.connections.items; sides = c.self.inside.sides; servers = c.self.inside.servers.items; held = c.self.inside.held.items }) c.args.thread manager c.self.invariant.0 c.self.invariant.1 (sym is))

@@ -1,11 +1,11 @@
-use Rattle.std.proofs.Common.{◌≡◌, ℕ, Some, [], arith, refl}
+use Rattle.std.proofs.Common.{◌≡◌, ℕ, Some, [], ap, arith, refl, unwrap_or}
 use Rattle.std.specs.FinMap as maps
 use Rattle.qx_lists.proofs.MapLemmas.{get-insert_other, get-insert_same}
 use Rattle.qx_lists.specs.Table.{Table}
 use Rattle.qx_queues.specs.inner.Kept.{Moved}
 use Rattle.qx_queues.specs.Waiting.{Waiting}
 use Rattle.qx_queues.proofs.BesideLemmas.{waiting-absent}
-use Rattle.qx_queues.proofs.CallLemmas.{Kept-moved, list-new, pulses-moved, value-moved}
+use Rattle.qx_queues.proofs.CallLemmas.{Kept-moved, list-new, nothing-changed, pulses-moved, value-moved}
 use Rattle.qx_queues.proofs.queues.Queues.add_list.Goals as goal
 
 -- a new list, with nobody in it
@@ -27,7 +27,7 @@ invariant_of-self-2 c =
     let apart = list-new c.self.inside.table _ _ c.self.invariant.1 c.in_ok-list.list c.in_ok-list.ensures.was_new in
     let moved = added c.self.inside.table _ c.in_ok-list.list c.in_ok-list.ensures.made in (
       c.self.invariant.0,
-      Kept-moved c.self.inside.table _ _ _ _ _ c.self.invariant.1 moved apart.0 (λ same. refl) (λ node at. absurd (omega (arith, at.1))),
+      Kept-moved c.self.inside.table _ _ _ _ _ c.self.invariant.1 moved apart.0 (λ same. refl) (λ node absent. nothing-changed c.self.inside.table c.add_list.new.self c.in_ok-list.list (ap (λ t. t.values) c.in_ok-list.ensures.made) (ap (λ o. unwrap_or o []) c.in_ok-list.ensures.was_new) node) (λ node at. absurd (omega (arith, at.1))),
       pulses-moved c.self.inside.table _ _ _ _ _ c.self.invariant.1 moved apart.0 _ c.self.invariant.2,
     )
 

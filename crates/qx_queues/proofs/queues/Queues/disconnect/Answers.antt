@@ -36,7 +36,7 @@ invariant_of-self c =
     let nobodys = nobodys-disconnect c.new-waiting.result.queued _ _ (ap (λ entry. entry.item) placed) in
     let lost : named (Disconnect c.args.proc (manager_number c.args.server.manager)) ≢ Disconnect c.args.proc (manager_number c.args.server.manager) = λ same. cc in (
       length-set c.self.inside.lines.items c.number.result c.put_in.new.line ∙ c.self.invariant.0,
-      rw c.set_disconnect.ensures.set (Kept-lost c.self.inside.table _ _ c.number.result _ _ _ (Disconnect c.args.proc (manager_number c.args.server.manager)) _ _ c.self.invariant.1 is had free c.put_in.ensures.put _ gone (node_of-with_disconnect c.self.inside.nodes c.args.proc (manager_number c.args.server.manager) None) lost nobodys),
+      rw c.set_disconnect.ensures.set (Kept-lost c.self.inside.table _ _ c.number.result _ _ _ (Disconnect c.args.proc (manager_number c.args.server.manager)) _ _ c.self.invariant.1 is had free c.put_in.ensures.put _ gone (node_of-with_disconnect c.self.inside.nodes c.args.proc (manager_number c.args.server.manager) None) lost nobodys (ap (λ w. w.load) c.new-waiting.ensures.entry)),
       KnowsPulses-same _ _ _ _ shown (λ thread. rw c.set_disconnect.ensures.set (ap asked_in (nodes_at-with_disconnect c.self.inside.nodes c.args.proc (manager_number c.args.server.manager) None thread))) (pulses-disconnected _ c.number.result _ within c.self.invariant.2 rank c.args.proc c.args.server),
     )
 

@@ -1,4 +1,4 @@
-use Rattle.std.proofs.Common.{◌≡◌, ◌∙◌, ℕ, None, Some, [], arith, ap, is_some, refl}
+use Rattle.std.proofs.Common.{◌≡◌, ◌∙◌, ℕ, None, Some, [], arith, ap, is_some, refl, unwrap_or}
 use Rattle.std.specs.FinMap as maps
 use Rattle.qx_lists.proofs.MapLemmas.{get-insert_same, get-remove_other, get-remove_same}
 use Rattle.qx_lists.specs.Table.{Table}
@@ -6,7 +6,7 @@ use Rattle.qx_queues.specs.inner.Kept.{Moved}
 use Rattle.qx_queues.specs.Queues.{waiting_in_list, without_list}
 use Rattle.qx_queues.specs.Waiting.{Waiting}
 use Rattle.qx_queues.proofs.BesideLemmas.{list_shown, pipes_apart, waiting-empty}
-use Rattle.qx_queues.proofs.CallLemmas.{Kept-moved, pulses-moved, value-gone}
+use Rattle.qx_queues.proofs.CallLemmas.{Kept-moved, nothing-changed, pulses-moved, value-gone}
 use Rattle.qx_queues.proofs.LeavingLemmas.{none-stays, remove-inserted}
 use Rattle.qx_queues.proofs.queues.Queues.free_list.Goals as goal
 
@@ -30,9 +30,11 @@ pub invariant_of-self : goal.invariant_of-self
 invariant_of-self c =
     let there = ap (λ q. is_some (maps.get q.pipes c.args.list)) (c.self.view_is ∙ c.take_out.ensures) ∙ ap is_some (get-insert_same c.args.self.now.pipes c.args.list _) in
     let off = pipes_apart c.self.inside.lines.items c.self.inside.answered c.args.list (list_shown c.self.inside.table _ _ _ there).0 in
+    let all : maps.get c.take_out.new.self.pipes c.args.list ≡ Some [] = ap (λ q. maps.get q.pipes c.args.list) c.take_out.ensures ∙ get-insert_same c.args.self.now.pipes c.args.list _ ∙ ap Some (none-stays (waiting_in_list c.args.self.now c.args.list)) in
+    let empty = waiting-empty c.self.inside.table c.self.inside.lines.items c.self.inside.answered c.args.list (ap (λ q. maps.get q.pipes c.args.list) c.self.view_is ∙ all) in
     let moved = freed c.self.inside.table _ c.args.list c.free_list.ensures in (
       c.self.invariant.0,
-      Kept-moved c.self.inside.table _ _ _ _ _ c.self.invariant.1 moved off.0 (λ same. absurd (off.1 same)) (λ node at. absurd (omega (arith, at.1))),
+      Kept-moved c.self.inside.table _ _ _ _ _ c.self.invariant.1 moved off.0 (λ same. absurd (off.1 same)) (λ node absent. nothing-changed c.self.inside.table c.free_list.new.self c.args.list (ap (λ t. t.values) c.free_list.ensures) (ap (λ o. unwrap_or o []) empty) node) (λ node at. absurd (omega (arith, at.1))),
       pulses-moved c.self.inside.table _ _ _ _ _ c.self.invariant.1 moved off.0 _ c.self.invariant.2,
     )
 

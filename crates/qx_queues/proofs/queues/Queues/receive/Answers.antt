@@ -101,7 +101,7 @@ invariant_of-self-in-Disconnect c =
     let nobodys = nobodys-disconnect (entry_of_node c.take_out.new.table c.in_ok-node.node) _ _ (ap (λ entry. entry.item) c.in_ok-node.ensures.entry ∙ c.in-Disconnect.is) in
     let shown = shown-kept c.take_out.new.table c.give_back.new.table _ (entries-freed c.take_out.new.table _ c.in_ok-node.node _ c.give_back.ensures.freed c.in_ok-node.ensures.free) ∙ shown-first c.self.inside.table _ _ c.number.result _ _ _ c.self.invariant.1 is c.take_out.ensures.out in (
       length-set c.self.inside.lines.items c.number.result c.take_out.new.line ∙ c.self.invariant.0,
-      Kept-freed c.take_out.new.table _ c.in_ok-node.node _ c.give_back.ensures.freed c.in_ok-node.ensures.free _ _ nobodys (Kept-first c.self.inside.table _ _ c.number.result _ _ _ c.self.invariant.1 is c.take_out.ensures.out),
+      Kept-freed c.take_out.new.table _ c.in_ok-node.node _ c.give_back.ensures.freed c.in_ok-node.ensures.free _ _ (Kept-first c.self.inside.table _ _ c.number.result _ _ _ c.self.invariant.1 is c.take_out.ensures.out) nobodys,
       rw shown (pulses-received _ c.number.result _ within c.self.invariant.2 (λ other at. ap (λ entry. pulse_call entry.item) (same_Some other c.in_ok-node.first (sym at ∙ first)) ∙ ap pulse_call c.in-Disconnect.is)),
     )
 

@@ -34,7 +34,7 @@ invariant_of-self c =
     let within : c.number.result < length (map (entries c.self.inside.table) c.self.inside.lines.items) = omega (arith, length-map c.self.inside.lines.items (entries c.self.inside.table), c.self.invariant.0, c.number.ensures.few) in
     let shown : map (entries c.put_in.new.table) (slice_set c.self.inside.lines.items c.number.result c.put_in.new.line) ≡ with_line (map (entries c.self.inside.table) c.self.inside.lines.items) c.number.result (λ line. into rank line (message_of c.args.thread c.args.prio.0)) = rw (← placed) (shown-put c.self.inside.table _ _ c.number.result _ _ _ (Message c.args.thread) _ _ c.self.invariant.1 is has free c.put_in.ensures.put) in (
       length-set c.self.inside.lines.items c.number.result c.put_in.new.line ∙ c.self.invariant.0,
-      Kept-put c.self.inside.table _ _ c.number.result _ _ _ (Message c.args.thread) _ _ c.self.invariant.1 is has free c.put_in.ensures.put (rw (c.new-waiting.ensures.entry, c.queued_message.ensures.message) refl) refl,
+      Kept-put c.self.inside.table _ _ c.number.result _ _ _ (Message c.args.thread) _ _ c.self.invariant.1 is has free c.put_in.ensures.put (rw (c.new-waiting.ensures.entry, c.queued_message.ensures.message) refl) refl (ap (λ w. w.load) c.new-waiting.ensures.entry),
       rw shown (pulses-sent _ c.number.result _ within c.self.invariant.2 rank c.args.thread c.args.prio.0),
     )
 

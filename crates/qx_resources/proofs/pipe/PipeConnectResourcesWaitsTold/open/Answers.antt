@@ -9,7 +9,7 @@ use Rattle.qx_resources.proofs.pipe.PipeConnectResourcesWaitsTold.open.Goals as 
 pub returns-in_err-opened-clause-wanted : goal.returns-in_err-opened-clause-wanted
 returns-in_err-opened-clause-wanted c =
     let failed : c.from_residual.result ≡ Err c.in_err-opened.field-0.0 = search rules in
-    rw (failed, c.in-Ok.is, ← c.state.view_is) (c.in_err-opened.ensures.wanted (told (the_view c.state.inside) c.args.waits.now) c.in-Ok.over.coid)
+    rw (failed, c.in-Ok.is, ← c.state.view_is) (c.in_err-opened.ensures.wanted (told (the_view c.state.inside) c.args.waits.now))
 
 pub returns-clause-did : goal.returns-clause-did
 returns-clause-did c =
@@ -17,4 +17,4 @@ returns-clause-did c =
     let does = c.in_ok-opened.ensures in
     rw (c.in-Ok.is, ← c.state.view_is)
     (told_so c.state.inside.mounts c.state.inside.store.stored c.open.new.store.stored c.args.waits.now.shared c.open.new.shared c.args.waits.now.events [] (open_of_block coid) (λ _. coid.0) (λ number. Opens coid number) (λ _ _. refl) (λ _ _. refl) c.in_ok-opened.opened c.map.result _
-    (λ r. does.left r coid) (λ r. does.opened r coid) does.user refl (search rules))
+    does.left does.opened does.user refl (search rules))

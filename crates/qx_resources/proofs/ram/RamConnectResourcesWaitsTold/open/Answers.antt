@@ -15,15 +15,16 @@ returns-in-Err-lookup-clause-did c =
     let over = c.in-Ok.over in
     rw (c.in-Ok.is)
     (subst (λ k. Did state k waits k waits [] (Err c.in-Err-lookup.error) (open_path File (told k waits) over c.args.rest.now c.args.wish)) c.state.view_is
-    (refused c.state.inside.mounts c.state.inside.store c.state.inside.store waits [] c.in-Err-lookup.error _ (λ r. sym (c.in-Err-lookup.ensures.opens r over.coid File c.args.wish.mode c.args.wish.moment)) refl refl))
+    (refused c.state.inside.mounts c.state.inside.store c.state.inside.store waits [] c.in-Err-lookup.error _ (λ r. sym (c.in-Err-lookup.ensures.opens r over.coid over.client File c.args.wish.mode c.args.wish.moment)) refl refl))
 
 pub returns-in_err-opening-clause-wanted : goal.returns-in_err-opening-clause-wanted
 returns-in_err-opening-clause-wanted c =
     let r = told (the_view c.state.inside) c.args._waits.now in
     let failed : c.from_residual.result ≡ Err c.in_err-opening.field-0.0 = search rules in
     let lookup = c.in-Ok-lookup.ensures in
+    let over = c.in-Ok.over in
     rw (failed, c.in-Ok.is, ← c.state.view_is)
-    (subst IsOk (sym (lookup.opens r c.in-Ok.over.coid File c.args.wish.mode c.args.wish.moment)) (lookup.allowed.opens r c.in-Ok.over.coid File c.args.wish.mode c.args.wish.moment))
+    (subst IsOk (sym (lookup.opens r over.coid over.client File c.args.wish.mode c.args.wish.moment)) (lookup.allowed.opens r over File c.args.wish.mode c.args.wish.moment))
 
 pub returns-clause-did : goal.returns-clause-did
 returns-clause-did c =
@@ -32,4 +33,4 @@ returns-clause-did c =
     rw (c.in-Ok.is)
     (subst (λ k. Did state k waits (the_view record { mounts = c.state.inside.mounts; store = c.open.new.self }) waits [] (Ok c.opened.result) (open_path File (told k waits) over c.args.rest.now c.args.wish)) c.state.view_is
     (answered c.state.inside.mounts c.state.inside.store c.open.new.self waits [] over.coid.0 (Opens over.coid c.in_ok-opening.opening.number) c.opened.result _ c.opened.ensures
-    (λ r. sym (c.in-Ok-lookup.ensures.opens r over.coid File c.args.wish.mode c.args.wish.moment ∙ c.in_ok-opening.ensures.opened r over.coid)) c.in_ok-opening.ensures.user))
+    (λ r. sym (c.in-Ok-lookup.ensures.opens r over.coid over.client File c.args.wish.mode c.args.wish.moment ∙ c.in_ok-opening.ensures.opened r over.coid over.root)) c.in_ok-opening.ensures.user))

@@ -1,22 +1,21 @@
 use Rattle.std.proofs.Common.{sym}
 use Rattle.qx_resources.specs.State.{told}
 use Rattle.qx_chan.specs.Channel.{lists}
-use Rattle.qx_steps.specs.inner.Parts.{told_all}
 use Rattle.qx_steps.proofs.ClientLemmas.{judged, judged-nobody, judged-ready}
-use Rattle.qx_steps.proofs.PartsLemmas.{process-told, same-told, thread_row-told, told-there}
+use Rattle.qx_steps.proofs.PartsLemmas.{process-told, thread_row-told, told-there}
 use Rattle.qx_steps.proofs.world.World.judge.Goals as goal
 
 pub returns-in_default-clause-target : goal.returns-in_default-clause-target
-returns-in_default-clause-target c = rw (← c.self.view_is) (judged-nobody c.self.inside.config c.self.inside.channel (told_all c.self.inside.channel c.self.inside.resources) c.self.inside.hands.items (same-told c.self.inside.channel c.self.inside.resources c.self.invariant) c.args.thread c.args.request.now (sym c.in_default.ensures.row))
+returns-in_default-clause-target c = rw (← c.self.view_is) (judged-nobody c.self.inside.config c.self.inside.channel c.self.inside.resources c.self.inside.hands.items c.self.invariant c.args.thread c.args.request.now (sym c.in_default.ensures.row))
 
 pub returns-clause-ready : goal.returns-clause-ready
-returns-clause-ready c = rw (← c.self.view_is, thread_row-told c.self.inside.channel c.self.inside.resources c.args.thread c.self.invariant, ← c.in-Some.ensures.row) (judged-ready c.target_by.result _ c.target_by.ensures.ready)
+returns-clause-ready c = rw (← c.self.view_is, thread_row-told c.self.inside.channel c.self.inside.resources c.args.thread c.self.invariant.users, ← c.in-Some.ensures.row) (judged-ready c.target_by.result _ c.target_by.ensures.ready)
 
 pub returns-clause-countable : goal.returns-clause-countable
-returns-clause-countable c = rw (← c.self.view_is, thread_row-told c.self.inside.channel c.self.inside.resources c.args.thread c.self.invariant, ← c.in-Some.ensures.row) c.target_by.ensures.countable
+returns-clause-countable c = rw (← c.self.view_is, thread_row-told c.self.inside.channel c.self.inside.resources c.args.thread c.self.invariant.users, ← c.in-Some.ensures.row) c.target_by.ensures.countable
 
 pub returns-clause-place : goal.returns-clause-place
-returns-clause-place c = rw (← c.self.view_is, process-told c.self.inside.channel c.self.inside.resources c.args.thread.proc c.self.invariant, ← c.in-Some.ensures.row) c.target_by.ensures.place
+returns-clause-place c = rw (← c.self.view_is, process-told c.self.inside.channel c.self.inside.resources c.args.thread.proc c.self.invariant.users, ← c.in-Some.ensures.row) c.target_by.ensures.place
 
 pub returns-clause-target : goal.returns-clause-target
-returns-clause-target c = rw (← c.self.view_is) (judged c.self.inside.config c.self.inside.channel (told_all c.self.inside.channel c.self.inside.resources) c.self.inside.hands.items (same-told c.self.inside.channel c.self.inside.resources c.self.invariant) c.args.thread c.args.request.now c.in-Some.processes.now (told c.in-Some-user.resources.now (lists c.self.inside.channel)) c.target_by.result (sym c.in-Some.ensures.row) (told-there c.self.inside.channel c.self.inside.resources c.args.thread.proc.user.0 c.in-Some-user.resources.now (sym c.in-Some-user.ensures.row)) (rw c.mounts.ensures.mounts at c.target_by.ensures.target))
+returns-clause-target c = rw (← c.self.view_is) (judged c.self.inside.config c.self.inside.channel c.self.inside.resources c.self.inside.hands.items c.self.invariant c.args.thread c.args.request.now c.in-Some.processes.now (told c.in-Some-user.resources.now (lists c.self.inside.channel)) c.target_by.result (sym c.in-Some.ensures.row) (told-there c.self.inside.channel c.self.inside.resources c.args.thread.proc.user.0 c.in-Some-user.resources.now (sym c.in-Some-user.ensures.row)) (rw c.mounts.ensures.mounts at c.target_by.ensures.target))

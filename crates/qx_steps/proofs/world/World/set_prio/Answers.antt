@@ -1,14 +1,11 @@
-use Rattle.qx_steps.specs.inner.Parts.{told_all}
-use Rattle.qx_steps.proofs.ClientLemmas.{set_prio-step}
-use Rattle.qx_steps.proofs.PartsLemmas.{same-told}
-use Rattle.qx_steps.proofs.StillLemmas.{still-ranking}
+use Rattle.qx_steps.proofs.ClientLemmas.{set_prio-sound, set_prio-step}
 use Rattle.qx_steps.proofs.world.World.set_prio.Goals as goal
 
 pub invariant_of-self : goal.invariant_of-self
-invariant_of-self c = rw c.set_prio.ensures.ranked (still-ranking c.self.inside.channel c.self.inside.resources c.self.invariant c.args.thread c.args.prio.0)
+invariant_of-self c = rw c.set_prio.ensures.ranked (set_prio-sound c.self.inside.config c.self.inside.channel c.self.inside.resources c.self.inside.hands.items c.self.invariant c.args.thread c.args.prio)
 
 pub returns-clause-outcome : goal.returns-clause-outcome
-returns-clause-outcome c = rw (← c.self.view_is, set_prio-step c.self.inside.config c.self.inside.channel (told_all c.self.inside.channel c.self.inside.resources) c.self.inside.hands.items (same-told c.self.inside.channel c.self.inside.resources c.self.invariant) c.args.thread c.args.prio) c.set_prio.ensures.outcome
+returns-clause-outcome c = rw (← c.self.view_is, set_prio-step c.self.inside.config c.self.inside.channel c.self.inside.resources c.self.inside.hands.items c.self.invariant c.args.thread c.args.prio) c.set_prio.ensures.outcome
 
 pub returns-clause-world : goal.returns-clause-world
-returns-clause-world c = rw (← c.self.view_is, set_prio-step c.self.inside.config c.self.inside.channel (told_all c.self.inside.channel c.self.inside.resources) c.self.inside.hands.items (same-told c.self.inside.channel c.self.inside.resources c.self.invariant) c.args.thread c.args.prio, c.set_prio.ensures.ranked)
+returns-clause-world c = rw (← c.self.view_is, set_prio-step c.self.inside.config c.self.inside.channel c.self.inside.resources c.self.inside.hands.items c.self.invariant c.args.thread c.args.prio, c.set_prio.ensures.ranked)

@@ -1,9 +1,8 @@
-use Rattle.qx_steps.proofs.PulseLemmas.{take_pulse-step}
-use Rattle.qx_steps.proofs.StillLemmas.{still-pulse}
+use Rattle.qx_steps.proofs.PulseLemmas.{pulse-sound, take_pulse-step}
 use Rattle.qx_steps.proofs.world.World.take_pulse.Goals as goal
 
 pub invariant_of-self : goal.invariant_of-self
-invariant_of-self c = rw c.take_pulse.ensures.taken (still-pulse c.self.inside.channel c.self.inside.resources c.self.invariant c.args.proc)
+invariant_of-self c = rw c.take_pulse.ensures.taken (pulse-sound c.self.inside.config c.self.inside.channel c.self.inside.resources c.self.inside.hands.items c.self.invariant c.args.proc)
 
 pub returns-clause-outcome : goal.returns-clause-outcome
 returns-clause-outcome c = rw (← c.self.view_is, take_pulse-step c.self.inside.config c.self.inside.channel c.self.inside.resources c.self.inside.hands.items c.self.invariant c.args.proc) c.take_pulse.ensures.outcome

@@ -1,0 +1,133 @@
+//! Processes that have ended: what goes in the exit itself, what is kept of them, and until when.
+
+use crate::Plain;
+use plain_rules::files::ServerName;
+use plain_rules::pipes::Who;
+use qx_types::{Coid, Manager, Outcome, Proc, Thread, User};
+use std::alloc::AllocError;
+
+impl Plain {
+    /// Ends a process. Its threads go, with their messages, pulses and answers, and what it has attached; blocks and calls
+    /// in pipes stay, and what workers hold.
+    pub fn exit(&mut self, proc: Proc) -> Result<Outcome, AllocError> {
+        if !self.processes.contains(&proc) {
+            return Ok(Outcome::WrongState);
+        }
+        self.processes.retain(|other| *other != proc);
+        self.ended.push(proc)?;
+        self.threads.retain(|row| row.thread.proc != proc);
+        self.connections.retain(|row| row.proc != proc);
+        self.ram.retain(|queued| !queued.post.is_of_thread(proc));
+        self.pipe.retain(|queued| !queued.post.is_of_thread(proc));
+        self.files.abandon(proc);
+        self.settle_server(proc, Manager::Ram)?;
+        self.settle_server(proc, Manager::Pipe)?;
+        Ok(Outcome::Done)
+    }
+
+    /// Ended processes go of which nothing is left.
+    pub fn free_ended(&mut self) -> Result<(), AllocError> {
+        for proc in std::mem::replace(&mut self.ended, Vec::new(self.alloc)) {
+            if self.is_kept(proc) {
+                self.ended.push(proc)?;
+            }
+        }
+        Ok(())
+    }
+
+    /// Whether an ended process has a server connection, an item in a worker's hand, or a call in a pipe.
+    fn is_kept(&self, proc: Proc) -> bool {
+        self.servers.iter().any(|server| server.name.proc == proc)
+            || self.hands.iter().any(|hand| hand.post.proc() == proc)
+            || self.files.waiting(Who::OfProcess(proc)) > 0
+    }
+
+    /// The processes that have ended, and of which something is left.
+    pub fn ended(&self) -> &[Proc] {
+        self.ended.as_slice()
+    }
+
+    /// Whether a process has ended, and something of it is left.
+    pub fn has_ended(&self, proc: Proc) -> bool {
+        self.ended.contains(&proc)
+    }
+
+    /// Whether a process was started and has not ended.
+    pub fn is_living(&self, proc: Proc) -> bool {
+        self.processes.contains(&proc)
+    }
+
+    /// A process of a user without whose calls the write of another one would go into a pipe.
+    pub fn blocking_process(&self, user: User) -> Option<Proc> {
+        self.files.blocking_process(user)
+    }
+
+    /// How many calls of ended processes wait in pipes.
+    pub fn gone_calls(&self) -> usize {
+        self.files.waiting(Who::Gone)
+    }
+
+    /// Whether calls of ended processes wait in the pipe that a connection of a process has open.
+    pub fn has_gone(&self, proc: Proc, coid: Coid) -> bool {
+        match self.connection(proc, coid).and_then(|row| row.block) {
+            Some(block) => self.files.has_gone(proc.user, block),
+            None => false,
+        }
+    }
+
+    /// Whether that call of a thread waits in a pipe.
+    pub fn is_in_pipe(&self, thread: Thread, call: u64) -> bool {
+        self.files.waiting(Who::Call(thread, call)) > 0
+    }
+
+    /// Whether blocks are open by a server connection.
+    pub fn has_blocks(&self, name: ServerName) -> bool {
+        self.files.has_blocks(name)
+    }
+
+    /// Whether a process has an event armed.
+    pub fn has_armed(&self, proc: Proc) -> bool {
+        self.files.events.armed_by(proc) > 0
+    }
+
+    /// Whether a process has pulses that it has not taken.
+    pub fn has_pulse(&self, proc: Proc) -> bool {
+        self.files.events.has_pulse(proc)
+    }
+
+    /// Whether a process has a server connection that is leaving.
+    pub fn has_left(&self, proc: Proc) -> bool {
+        self.servers
+            .iter()
+            .any(|server| server.name.proc == proc && server.is_leaving)
+    }
+
+    /// How many events are armed of processes that have ended.
+    pub fn unheard(&self) -> usize {
+        let mut unheard: usize = 0;
+        for proc in self.ended.iter() {
+            unheard = unheard.saturating_add(self.files.events.armed_by(*proc));
+        }
+        unheard
+    }
+
+    /// Whether an ended process of a user has an event armed.
+    pub fn has_late_event(&self, user: User) -> bool {
+        self.ended
+            .iter()
+            .any(|proc| proc.user == user && self.has_armed(*proc))
+    }
+
+    /// Whether a block of a user is one of an ended process.
+    pub fn has_late_block(&self, user: User) -> bool {
+        self.files.blocks.iter().any(|block| block.user == user
+            && self.has_ended(block.server.proc))
+    }
+
+    /// Whether a server connection of a user at a manager is one of an ended process.
+    pub fn has_late_server(&self, user: User, manager: Manager) -> bool {
+        self.servers.iter().any(|server| server.name.proc.user == user
+            && server.name.manager == manager
+            && self.has_ended(server.name.proc))
+    }
+}

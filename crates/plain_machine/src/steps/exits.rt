@@ -1,0 +1,42 @@
+//! Pseudo-random exits.
+
+use crate::Plain;
+use crate::steps::choice::{any_worker, next_thread, waiting_thread};
+use crate::steps::dice::Dice;
+use crate::steps::events::{FULL, pulsed_process};
+use qx_types::{Proc, Step, User};
+
+/// The first processes of a user are to last, so that much comes to be open.
+const LASTING: u8 = 6;
+
+/// An exit where the user can have no further block, and of the first user's now and then where it can have no further
+/// event, so that those of an ended process count: as often of a process of which a worker holds something, which waits in
+/// a pipe or which has a pulse as of any, and seldom of one that is to last.
+pub fn next_exit(dice: &mut Dice, plain: &Plain) -> Option<Step> {
+    let proc = next_process(dice, plain);
+    let is_full = plain.is_full(proc.user)
+        || proc.user == User(1) && plain.event_count(proc.user) >= FULL && dice.one_in(16);
+    if is_full && (!is_lasting(proc) || dice.one_in(64)) {
+        Some(Step::Exit { proc })
+    } else {
+        None
+    }
+}
+
+/// Whether a process is to last: of the second user all, so that connections run out.
+fn is_lasting(proc: Proc) -> bool {
+    proc.user == User(2) || proc.num <= LASTING
+}
+
+fn next_process(dice: &mut Dice, plain: &Plain) -> Proc {
+    let found = match dice.below(8) {
+        0 | 1 => plain.hand(any_worker(dice)).map(|post| post.proc()),
+        2 => waiting_thread(dice, plain).map(|thread| thread.proc),
+        3 => pulsed_process(dice, plain),
+        _ => None,
+    };
+    match found {
+        Some(proc) => proc,
+        None => next_thread(dice).proc,
+    }
+}

@@ -1,0 +1,132 @@
+//! What a worker performs, for the user whose item it is, and how processes that have ended are freed.
+
+ghost use Rattle.std.specs.Prelude.{◌≡◌, IsFalse, IsOk, OnErr, OnOk};
+ghost use Rattle.std.specs.List.{list_any};
+ghost use Rattle.std.specs.Option.{option_copied};
+ghost use Rattle.qx_machine.specs.Machine as machine;
+ghost use Rattle.qx_machine.specs.Machine.{own_held};
+ghost use Rattle.qx_machine.specs.Rows.{row_at};
+ghost use Rattle.qx_machine.specs.Settling.{is_held, process_of_item};
+ghost use Rattle.qx_machine.specs.Wants.{item_wants_memory};
+ghost use Rattle.qx_chan.specs.Serving.{IsReadOf};
+ghost use Rattle.qx_steps.specs.inner.Held.{taken_item};
+ghost use Rattle.qx_steps.specs.inner.Parts.{parts_of, told_all, AreResourcesOf};
+ghost use Rattle.qx_steps.specs.inner.Performing.{holds_of, with_left, with_one_left, PerformsFor};
+
+use qx_attr::Reply;
+use qx_chan::Channel;
+use qx_machine::{Held, OwnItem};
+use qx_resources::AllResources;
+use qx_types::{Proc, Thread, User};
+use qx_wire::Parsed;
+use std::alloc::AllocError;
+
+/// Does an item of a user that a worker holds, at a moment; nothing, where the user is not there. If it is a message, that may
+/// have been read before.
+pub(crate) fn perform(
+    channel: &mut Channel,
+    resources: &mut AllResources,
+    held: Held,
+    read: Option<&Parsed>,
+    moment: u64,
+    reply: &mut Reply,
+) -> Result<(), AllocError>
+    requires users { AreResourcesOf channel.old resources.old }
+    requires read { IsReadOf (option_copied read) (taken_item channel.old.users held) }
+    ensures ok { OnOk result (PerformsFor channel.old channel.new resources.old resources.new held moment (row_at resources.old held.user.0)) }
+    ensures err { OnErr result ((channel.new ≡ channel.old) × (resources.new ≡ resources.old)) }
+    ensures sure { IsFalse (item_wants_memory (row_at (parts_of channel.old.users (told_all channel.old resources.old)) held.user.0) held.item moment) → IsOk result }
+{
+    let Some(resources) = resources.user_mut(held.user) else {
+        return Ok(());
+    };
+    match held.item {
+        OwnItem::Message { process, thread } => {
+            let thread = named_thread(held.user, process, thread);
+            channel.serve(resources, thread, read, moment, reply)?;
+        }
+        OwnItem::Unblock {
+            process,
+            thread,
+            call,
+        } => {
+            let thread = named_thread(held.user, process, thread);
+            channel.cancel(resources, thread, call, moment);
+        }
+        OwnItem::Disconnect { process, server } => {
+            let proc = named_process(held.user, process);
+            channel.disconnect(resources, proc, server, moment);
+        }
+    }
+    Ok(())
+}
+
+/// Frees those processes of a user that have ended and of which nothing is left: no server connection, no item in a worker's
+/// hand and no call that waits.
+pub(crate) fn free_ended(channel: &mut Channel, hands: &[Option<Held>], user: User)
+    ensures { channel.new ≡ record (with_left channel.old (own_held user.0 hands.now) user.0) { room = channel.new.room } }
+{
+    let Some(processes) = channel.processes(user) else {
+        return;
+    };
+    if !processes.has_ended() {
+        return;
+    }
+    for number in 0..processes.places() {
+        free_one(channel, hands, named_process(user, number));
+    }
+}
+
+/// Frees a process, if it has ended and nothing of it is left.
+fn free_one(channel: &mut Channel, hands: &[Option<Held>], proc: Proc)
+    ensures { channel.new ≡ record (with_one_left channel.old (own_held proc.user.0 hands.now) proc) { room = channel.new.room } }
+{
+    if channel.has_ended(proc) && !is_held_of(hands, proc) {
+        channel.free_ended(proc);
+    }
+}
+
+/// Whether a worker holds an item of a process.
+fn is_held_of(hands: &[Option<Held>], proc: Proc) -> bool
+    ensures { result ≡ list_any (holds_of proc.user.0 proc.num) hands.now }
+{
+    hands.iter().any(|hand| is_of(hand, proc))
+}
+
+/// Whether what is in a hand is an item of a process.
+fn is_of(hand: &Option<Held>, proc: Proc) -> bool
+    ensures { result ≡ holds_of proc.user.0 proc.num hand.now }
+{
+    match hand {
+        Some(held) => held.user == proc.user && process_of(held.item) == proc.num,
+        None => false,
+    }
+}
+
+/// Whose item it is.
+fn process_of(item: OwnItem) -> u8
+    ensures { result ≡ process_of_item item }
+{
+    match item {
+        OwnItem::Message { process, .. }
+        | OwnItem::Unblock { process, .. }
+        | OwnItem::Disconnect { process, .. } => process,
+    }
+}
+
+/// A process of a user.
+fn named_process(user: User, process: u8) -> Proc
+    ensures { result ≡ record { user = user; num = process } }
+{
+    Proc { user, num: process }
+}
+
+/// A thread of a user.
+pub(crate) fn named_thread(user: User, process: u8, thread: u8) -> Thread
+    ensures { result ≡ machine.named_thread user.0 process thread }
+{
+    Thread {
+        proc: Proc { user, num: process },
+        tid: thread,
+    }
+}
