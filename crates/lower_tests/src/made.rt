@@ -1,7 +1,7 @@
 //! What takes memory: each thing made as it should be, wherever memory is had.
 
 use qx_lists::Table;
-use qx_paths::{MountFault, Mounts, read_path};
+use qx_paths::{Mount, Mounts, read_path};
 use qx_procs::Processes;
 use qx_types::{Answer, Bytes, Config, Manager, MessageBytes, NoMemory, Outcome, Prio, User};
 use qx_wire::{Message, Rest, encode, in_ranges};
@@ -132,14 +132,20 @@ fn joined(alloc: Global) -> Result<bool, NoMemory> {
 }
 
 fn mounted(alloc: Global) -> Result<bool, NoMemory> {
-    let mut mounts = Mounts::boot(alloc, b"ann", 1)?;
-    let Ok(path) = read_path(b"/ann/one/two") else {
+    let (Some(config), Ok(path)) = (config(alloc)?, read_path(b"/bob/one/two")) else {
         return Ok(false);
     };
-    match mounts.add(alloc, &path, Manager::Pipe, 2) {
-        Ok(()) => Ok(mounts.len() == 2 && mounts.get(1).is_some()),
-        Err(MountFault::Refused(_)) => Ok(false),
-        Err(MountFault::NoMemory) => Err(NoMemory),
+    if config.user_count() < 2 {
+        return Ok(false);
+    }
+    let mut mounts = Mounts::boot(alloc, &config, 1)?;
+    let mount = Mount::new(alloc, &path, Manager::Pipe, 2)?;
+    if mounts.add(User(2), &path, mount).is_err() {
+        return Ok(false);
+    }
+    match mounts.resolve(&config, User(2), &path) {
+        Ok(place) => Ok(place.number == 1 && place.root == 2),
+        Err(_) => Ok(false),
     }
 }
 

@@ -21,7 +21,7 @@ use Rattle.qx_shared.specs.Shared.{users_given}
 use Rattle.qx_resources.specs.Disconnects.{disconnected}
 use Rattle.qx_resources.specs.State as state
 use Rattle.qx_resources.specs.State.{told}
-use Rattle.qx_resources.specs.declared.waits.Waits.{Waits as AllWaits}
+use Rattle.qx_resources.specs.declared.tables.Tables.{Tables as AllTables}
 use Rattle.qx_chan.specs.inner.Answers.{given_lines}
 use Rattle.qx_chan.specs.inner.Kept.{AllStandTogether, Answering}
 use Rattle.qx_chan.specs.Serving.{Serves, settled}
@@ -32,7 +32,7 @@ use Rattle.qx_chan.proofs.GivenLemmas.{lines-machine, resources-machine, users-m
 use Rattle.qx_chan.proofs.RowReads.{row_at-with_same, with_row-twice}
 use Rattle.qx_chan.proofs.ServeLemmas.{Answering-left, Serves-given, Serves-nothing, Waits, given_all, shown, waits-before}
 
-module _ (users : Users) (w : AllWaits) (k : state.Kept) (proc : Proc) (of : k.user ≡ proc.user.0) (server : ServerName) (moment : ℕ) where
+module _ (users : Users) (w : AllTables) (k : state.Kept) (proc : Proc) (of : k.user ≡ proc.user.0) (server : ServerName) (moment : ℕ) where
   abbrev client : Client
   client = record { process = proc.num; server = server }
 
@@ -50,10 +50,10 @@ module _ (users : Users) (w : AllWaits) (k : state.Kept) (proc : Proc) (of : k.u
   served_from part row = or_kept part (found row WrongState >>= (λ process. Ok (answering (with_process proc.num (without_server server) part) deed)))
 
   -- nothing, where the process is not there
-  pub Serves-gone : process_of users proc ≡ None → Serves (shown users w.shared w.events.events) (shown users w.shared w.events.events) k k (λ part. settled part (or_kept part (serve_disconnect part (record { process = proc.num; server = server }) moment)))
+  pub Serves-gone : process_of users proc ≡ None → Serves (shown users w.shared w.mounts w.events.events) (shown users w.shared w.mounts w.events.events) k k (λ part. settled part (or_kept part (serve_disconnect part (record { process = proc.num; server = server }) moment)))
   Serves-gone none = Serves-nothing users w k served (λ processes there. ap (served_from (part_of processes)) (sym (ap (process_of_user proc.num) (sym (ap (row_at users) of) ∙ there)) ∙ none))
 
-  module _ (kept : AllStandTogether users w) (l : state.Kept) (v : AllWaits) (processes : List (Option Process)) (there : row_at users proc.user.0 ≡ Some processes) (process : Process) (here : row_at processes proc.num ≡ Some process)
+  module _ (kept : AllStandTogether users w) (l : state.Kept) (v : AllTables) (processes : List (Option Process)) (there : row_at users proc.user.0 ≡ Some processes) (process : Process) (here : row_at processes proc.num ≡ Some process)
       (user : l.user ≡ k.user) (told_is : told l v ≡ (disconnected (is_living processes) (told k w) (record { process = proc.num; server = server }) moment).state)
       (shared : v ≡ state.shared k w (disconnected (is_living processes) (told k w) (record { process = proc.num; server = server }) moment).state (disconnected (is_living processes) (told k w) (record { process = proc.num; server = server }) moment).answers) where
     abbrev rows : List (Option Process)
@@ -66,13 +66,13 @@ module _ (users : Users) (w : AllWaits) (k : state.Kept) (proc : Proc) (of : k.u
     freed = with_process_of users proc (without_server server)
 
     left : Leaves (is_living processes) k w l v deed
-    left = record { told_is = told_is; shared = ap (λ (v : AllWaits). v.shared) shared; events = ap (λ (v : AllWaits). v.events.events) shared; user = user }
+    left = record { told_is = told_is; shared = ap (λ (v : AllTables). v.shared) shared; events = ap (λ (v : AllTables). v.events.events) shared; mounts = ap (λ (v : AllTables). v.mounts) shared; user = user }
 
     pub Answering-gone : Answering (with_process_of users proc (without_server server)) v.shared
     Answering-gone = Answering-freed users proc server v.shared (Answering-left users k.user w.shared v.shared deed kept.shared left.shared
         (client-keeps (Waits users k.user) (told k w) client moment (waits-before users k.user w.shared kept.shared.waits)))
 
-    pub Serves-disconnected : Serves (shown users w.shared w.events.events) (given_all (with_process_of users proc (without_server server)) v.shared v.events.events) k l (λ part. settled part (or_kept part (serve_disconnect part (record { process = proc.num; server = server }) moment)))
+    pub Serves-disconnected : Serves (shown users w.shared w.mounts w.events.events) (given_all (with_process_of users proc (without_server server)) v.shared v.mounts v.events.events) k l (λ part. settled part (or_kept part (serve_disconnect part (record { process = proc.num; server = server }) moment)))
     Serves-disconnected = Serves-given users w k served kept.shared l v deed proc.user.0 of processes there left (answering (with_process proc.num (without_server server) (part_of processes)) deed) (ap (served_from (part_of processes)) here)
         (resources-machine deed.answers left_part) (lives-answers deed.answers left_part ∙ lives-changed processes proc.num (without_server server) (record { keeps = λ process. refl })) freed v.shared refl refl
         (users-machine freed proc.user.0 deed.answers left_part (row_at-with_same users proc.user.0 (λ rows. with_row rows proc.num (without_server server)) ∙ ap (option_map (λ rows. with_row rows proc.num (without_server server))) there)

@@ -3,6 +3,7 @@ use Rattle.std.proofs.Common.{◌≡◌, ◌≢◌, ◌⊎◌, inl, inr, ℕ, ze
 use Rattle.qx_procs.specs.Calls.{EndsAt, has_ended_in}
 use Rattle.std.proofs.lemmas.Option.{same_Some}
 use Rattle.qx_types.specs.declared.outcome.Answer.{Answer}
+use Rattle.qx_paths.specs.Prefixes.{MountPoint}
 use Rattle.qx_machine.specs.declared.rows.State.{State}
 use Rattle.std.specs.List.{AllByRecursion, flat_map, list_any}
 use Rattle.std.specs.Option.{option_to_list}
@@ -446,11 +447,11 @@ module _ (users : Users) (proc : Proc) (process : Process) (there : process_of u
           node-of number (Some server) is = ap (λ (q : Shared). has_disconnect_node q proc (manager_number server.manager)) dropped_so.queues ∙ kept.servers proc server.manager ∙ ap (served_at server.manager) there
               ∙ subst (λ row. IfSome row (λ server. is_served server.manager process ≡ true)) is (loses.were_used number)
 
-      pub shown-ended : (events after : List Events) → after ≡ slice_set events user (without_pulses proc.num (get_or events user no_events))
-          → shown (with_process_of users proc ended) (with_lost proc (flat_map option_to_list lost) left) after ≡ after_exit (shown users old events) proc
-      shown-ended events after events_are =
-          (λ i. record { users = new; lines = lines i; pipes = pipes i; events = events_are i; room = room i })
-          ∙ ap (ended_in (shown users old events) proc) (sym alive_is)
+      pub shown-ended : (mounts : List (List MountPoint)) (events after : List Events) → after ≡ slice_set events user (without_pulses proc.num (get_or events user no_events))
+          → shown (with_process_of users proc ended) (with_lost proc (flat_map option_to_list lost) left) mounts after ≡ after_exit (shown users old mounts events) proc
+      shown-ended mounts events after events_are =
+          (λ i. record { users = new; lines = lines i; pipes = pipes i; events = events_are i; mounts = mounts; room = room i })
+          ∙ ap (ended_in (shown users old mounts events) proc) (sym alive_is)
         where
           alive_is : living (process_of users proc) ≡ Some process
           alive_is = rw (there, alive) refl

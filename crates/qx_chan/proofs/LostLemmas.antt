@@ -12,6 +12,7 @@ use Rattle.qx_types.specs.declared.names.Manager.TheVariants.{Pipe, Ram}
 use Rattle.qx_types.specs.declared.names.Proc.{Proc}
 use Rattle.qx_types.specs.declared.names.TheConstants.Manager.{COUNT}
 use Rattle.qx_types.specs.declared.names.Thread.{Thread}
+use Rattle.qx_paths.specs.Prefixes.{MountPoint}
 use Rattle.qx_machine.specs.declared.rows.Queued.{Queued}
 use Rattle.qx_machine.specs.declared.rows.ServerName.{ServerName}
 use Rattle.qx_machine.specs.declared.rows.ThreadRow.{ThreadRow}
@@ -189,10 +190,11 @@ lost-there users queues proc after None nodes loses = tt
 lost-there users queues proc after (Some server) nodes loses = nodes server.manager ∙ lost-used (Some server) (process_of users proc) after loses
 
 -- the channel, once the pulse of what is lost stands in its line
-pub shown-lost : (users : Users) (proc : Proc) (f : Process → Process) (queues : Shared) (events : List Events) (lost : Option ServerName) → LosesAt lost (process_of users proc) (process_of (with_process_of users proc f) proc)
-    → shown (with_process_of users proc f) (with_lost proc (option_to_list lost) queues) events
-    ≡ record { users = with_process_of users proc f; lines = lines_after proc.user.0 queues.lines (disconnects proc.num f (process_of users proc)); pipes = queues.pipes; events = events; room = queues.room }
-shown-lost users proc f queues events lost loses = λ i. record {
+pub shown-lost : (users : Users) (proc : Proc) (f : Process → Process) (queues : Shared) (mounts : List (List MountPoint)) (events : List Events) (lost : Option ServerName) → LosesAt lost (process_of users proc) (process_of (with_process_of users proc f) proc)
+    → shown (with_process_of users proc f) (with_lost proc (option_to_list lost) queues) mounts events
+    ≡ record { users = with_process_of users proc f; lines = lines_after proc.user.0 queues.lines (disconnects proc.num f (process_of users proc)); pipes = queues.pipes; events = events; mounts = mounts; room = queues.room }
+shown-lost users proc f queues mounts events lost loses = λ i. record {
+  mounts = mounts;
   users = with_process_of users proc f;
   events = events;
   lines = lines i;

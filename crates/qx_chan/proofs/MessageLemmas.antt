@@ -31,7 +31,7 @@ use Rattle.qx_resmgr.specs.declared.functions.Done.TheVariants.{NoReply, Reply}
 use Rattle.qx_resources.specs.State as state
 use Rattle.qx_resources.specs.inner.State.{IsCallerReceived}
 use Rattle.qx_resources.specs.State.{told}
-use Rattle.qx_resources.specs.declared.waits.Waits.{Waits as AllWaits}
+use Rattle.qx_resources.specs.declared.tables.Tables.{Tables as AllTables}
 use Rattle.qx_chan.specs.inner.Calls.{taken_bytes, taken_call}
 use Rattle.qx_chan.specs.inner.Kept.{StandTogether}
 use Rattle.qx_chan.specs.inner.Serving.{Sends, caller_of_call, deed_in}
@@ -66,7 +66,7 @@ module _ {B E : Type 0} (P : B → Type 0) where
   if_given (Err error) next each = tt
 
 -- so the caller of what it works on is of a process that may be, and its message was received
-pub caller-received : (k : state.Kept) (w : AllWaits) (thread : Thread) (call : Call) (process : Process) (moment : ℕ) (old : Option Coid) → k.user ≡ thread.proc.user.0 → thread.proc.num ≤ PROCESSES → IsReceived w.shared thread
+pub caller-received : (k : state.Kept) (w : AllTables) (thread : Thread) (call : Call) (process : Process) (moment : ℕ) (old : Option Coid) → k.user ≡ thread.proc.user.0 → thread.proc.num ≤ PROCESSES → IsReceived w.shared thread
     → IfOk (opened_by process (caller_of_call thread call) call.target moment old) (λ o. IsCallerReceived k w o)
 caller-received k w thread call process moment old of few is =
     if_given (IsCallerReceived k w) (works_over call.target.over old) _ (λ coid.
@@ -129,7 +129,7 @@ meaning-served users thread process bytes given means of read is =
     is ∙ ap meaning bytes_are
 
 -- it comes to the same as before
-pub deed-served : (k : state.Kept) (w : AllWaits) (users new : Users) (thread : Thread) (call : Call) (moment : ℕ) (process found : Process) (bytes given : List ℕ) (means : Meaning) → Sends users thread process bytes
+pub deed-served : (k : state.Kept) (w : AllTables) (users new : Users) (thread : Thread) (call : Call) (moment : ℕ) (process found : Process) (bytes given : List ℕ) (means : Meaning) → Sends users thread process bytes
     → new ≡ with_thread_row users thread served_thread → Some found ≡ process_of new thread.proc → Some given ≡ taken_bytes (thread_row users thread) → means ≡ meaning given
     → deed_of (told k w) (context_of found (caller_of_call thread call) call.target moment means) means ≡ deed_in k w process (record { thread = thread; call = call; moment = moment }) bytes
 deed-served k w users new thread call moment process found bytes given means of served there read is =
@@ -177,15 +177,15 @@ module _ (thread : Thread) (moment : ℕ) where
     ]
   ]
 
-  pub Serves-untaken : (users : Users) (w : AllWaits) (k : state.Kept) → k.user ≡ thread.proc.user.0 → taken_call (thread_row users thread) ≡ None
-      → Serves (shown users w.shared w.events.events) (shown users w.shared w.events.events) k k (λ part. settled part (or_kept part (serve_message part thread.proc.num thread.tid moment)))
+  pub Serves-untaken : (users : Users) (w : AllTables) (k : state.Kept) → k.user ≡ thread.proc.user.0 → taken_call (thread_row users thread) ≡ None
+      → Serves (shown users w.shared w.mounts w.events.events) (shown users w.shared w.mounts w.events.events) k k (λ part. settled part (or_kept part (serve_message part thread.proc.num thread.tid moment)))
   Serves-untaken users w k of none = Serves-nothing users w k (λ part. or_kept part (serve_message part thread.proc.num thread.tid moment)) (λ processes there.
       let idle : taken_call (thread_of thread.tid (process_of_user thread.proc.num (Some processes))) ≡ None = ap (λ rows. taken_call (thread_of thread.tid (process_of_user thread.proc.num rows))) (sym there ∙ ap (row_at users) of) ∙ none in
       untaken (record { processes = processes; resources = told k w }) idle)
 
 -- whether doing a received message may want memory is told by its call
-pub received-wants : (users : Users) (w : AllWaits) (k : state.Kept) (thread : Thread) (call : Call) (its : Received users thread call) → k.user ≡ thread.proc.user.0 → (moment : ℕ)
-    → thread_wants_memory (part_in (shown users w.shared w.events.events) k) thread.proc.num thread.tid moment ≡ bytes_want_memory call.target.manager (told k w) (meaning its.sent.bytes) (deed_in k w its.process (record { thread = thread; call = call; moment = moment }) its.sent.bytes)
+pub received-wants : (users : Users) (w : AllTables) (k : state.Kept) (thread : Thread) (call : Call) (its : Received users thread call) → k.user ≡ thread.proc.user.0 → (moment : ℕ)
+    → thread_wants_memory (part_in (shown users w.shared w.mounts w.events.events) k) thread.proc.num thread.tid moment ≡ bytes_want_memory call.target.manager (told k w) (meaning its.sent.bytes) (deed_in k w its.process (record { thread = thread; call = call; moment = moment }) its.sent.bytes)
 received-wants users w k thread call its of moment =
     rw (ap (row_at users) of ∙ its.user, its.there, its.at, ap taken_in its.is)
     (ap (λ (call : Call). bytes_want_memory call.target.manager (told k w) (meaning its.sent.bytes) (deed_in k w its.process (record { thread = thread; call = call; moment = moment }) its.sent.bytes)) its.call_is)

@@ -8,6 +8,7 @@ use Rattle.qx_types.specs.declared.names.Proc.{Proc}
 use Rattle.qx_types.specs.declared.names.Thread.{Thread}
 use Rattle.qx_types.specs.declared.outcome.Answer.{Answer}
 use Rattle.qx_types.specs.declared.outcome.Outcome.{Outcome}
+use Rattle.qx_paths.specs.Prefixes.{MountPoint}
 use Rattle.qx_machine.specs.declared.rows.Over.{Over}
 use Rattle.qx_machine.specs.declared.rows.Queued.{Queued}
 use Rattle.qx_machine.specs.declared.rows.Sent.{Sent}
@@ -25,7 +26,7 @@ use Rattle.qx_shared.specs.Shared.{Shared, has_disconnect_node, shared_after, wi
 use Rattle.qx_resmgr.specs.declared.functions.Done.{Done}
 use Rattle.qx_resmgr.specs.declared.functions.Done.TheVariants.{NoReply, Reply}
 use Rattle.qx_resources.specs.State.{Kept}
-use Rattle.qx_resources.specs.declared.waits.Waits.{Waits}
+use Rattle.qx_resources.specs.declared.tables.Tables.{Tables}
 use Rattle.qx_chan.specs.inner.Answers.{answered_queues}
 use Rattle.qx_chan.specs.Channel.{after_send}
 use Rattle.qx_chan.specs.inner.Kept.{StandTogether, lost_of, with_attached, with_lost, with_room}
@@ -89,8 +90,8 @@ module _ (users : Users) (queues : Shared) (thread : Thread) (sent : Sent) (kept
   pub places-sent : UsesAt sent.target (process_of users thread.proc) (process_of sent_users thread.proc) → length sent_queues.pipes ≡ length queues.pipes
   places-sent uses = ap length (sent-fields (λ c. c.pipes) (λ c. refl) refl)
 
-  pub shown-sent : UsesAt sent.target (process_of users thread.proc) (process_of sent_users thread.proc) → (events : List Events) → shown sent_users sent_queues events ≡ after_send (shown users queues events) thread sent
-  shown-sent uses events = λ i. record { users = sent_users; lines = lines i; pipes = pipes i; events = events; room = room i }
+  pub shown-sent : UsesAt sent.target (process_of users thread.proc) (process_of sent_users thread.proc) → (mounts : List (List MountPoint)) (events : List Events) → shown sent_users sent_queues mounts events ≡ after_send (shown users queues mounts events) thread sent
+  shown-sent uses mounts events = λ i. record { users = sent_users; lines = lines i; pipes = pipes i; events = events; mounts = mounts; room = room i }
     where
       lines : sent_queues.lines ≡ with_line queues.lines number change
       lines = sent-fields (λ c. c.lines) (λ c. refl) refl
@@ -117,9 +118,9 @@ room-answered queues before after thread call (Err error) = room-lost thread.pro
 
 -- what a function does to a user's resources touches nothing else of what is shared than the user's pipes and the answers to calls in them
 pub did-fields : {A : Type 0} (read : Shared → A) → ((c : Shared) (user : ℕ) (pipes : Pipes) (answers : List (WaitingCall × Answer)) → read (with_pipes c user pipes answers) ≡ read c)
-    → (lives : ℕ → Bool) (k l : Kept) (w v : Waits) (bytes : List ℕ) (given : Result Done Errno) (r : Result (Deed Resources) Errno) → Comes lives k w l v bytes given r → read v.shared ≡ read w.shared
+    → (lives : ℕ → Bool) (k l : Kept) (w v : Tables) (bytes : List ℕ) (given : Result Done Errno) (r : Result (Deed Resources) Errno) → Comes lives k w l v bytes given r → read v.shared ≡ read w.shared
 did-fields read same lives k l w v bytes (Ok done) (Ok deed) did = ap read did.1.shared ∙ same w.shared k.user deed.state.pipes deed.answers
-did-fields read same lives k l w v bytes (Err error) (Err refused) did = ap (λ (w : Waits). read w.shared) did.2
+did-fields read same lives k l w v bytes (Err error) (Err refused) did = ap (λ (w : Tables). read w.shared) did.2
 did-fields read same lives k l w v bytes (Ok done) (Err refused) did = absurd did
 did-fields read same lives k l w v bytes (Err error) (Ok deed) did = absurd did
 

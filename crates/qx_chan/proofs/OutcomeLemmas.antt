@@ -13,6 +13,7 @@ use Rattle.qx_types.specs.declared.names.Thread.{Thread}
 use Rattle.qx_types.specs.declared.outcome.Answer.{Answer}
 use Rattle.qx_types.specs.declared.outcome.Answer.TheVariants as answer
 use Rattle.qx_wire.specs.Reading.{meaning}
+use Rattle.qx_paths.specs.Prefixes.{MountPoint}
 use Rattle.qx_machine.specs.declared.rows.Effect.{Effect}
 use Rattle.qx_machine.specs.declared.rows.OwnItem.TheVariants as item
 use Rattle.qx_machine.specs.declared.rows.Queued as queued
@@ -39,7 +40,7 @@ use Rattle.qx_resmgr.specs.declared.functions.Done.{Done}
 use Rattle.qx_resmgr.specs.declared.functions.Done.TheVariants as done
 use Rattle.qx_resources.specs.State as state
 use Rattle.qx_resources.specs.State.{told}
-use Rattle.qx_resources.specs.declared.waits.Waits.{Waits as AllWaits}
+use Rattle.qx_resources.specs.declared.tables.Tables.{Tables as AllTables}
 use Rattle.qx_procs.specs.Calls.{LosesAt}
 use Rattle.qx_chan.specs.inner.Answers.{answered_queues, answered_users, given_lines, given_users, without_pulse}
 use Rattle.qx_chan.specs.inner.Calls.{taken_call}
@@ -98,7 +99,7 @@ pipe_or_ram : (manager : Manager) → (manager ≡ Pipe) ⊎ (manager ≡ Ram)
 pipe_or_ram Pipe = inl refl
 pipe_or_ram Ram = inr refl
 
-module _ (users : Users) (w : AllWaits) (thread : Thread) (call : Call) (taken : Some call ≡ taken_call (thread_row users thread)) (kept : StandTogether users w.shared) where
+module _ (users : Users) (w : AllTables) (thread : Thread) (call : Call) (taken : Some call ≡ taken_call (thread_row users thread)) (kept : StandTogether users w.shared) where
   abbrev its : Received users thread call
   its = received users thread call taken
 
@@ -156,10 +157,10 @@ module _ (users : Users) (w : AllWaits) (thread : Thread) (call : Call) (taken :
 
   -- ---- what it comes to
 
-  abbrev After : Users → Shared → List Events → state.Kept → state.Kept → (Part → Served) → Type 0
-  After rows after events k l served = Answering rows after × Serves (shown users w.shared w.events.events) (given_all rows after events) k l (λ part. settled part (served part))
+  abbrev After : Users → Shared → List (List MountPoint) → List Events → state.Kept → state.Kept → (Part → Served) → Type 0
+  After rows after mounts events k l served = Answering rows after × Serves (shown users w.shared w.mounts w.events.events) (given_all rows after mounts events) k l (λ part. settled part (served part))
 
-  module _ (k l : state.Kept) (v : AllWaits) (of : k.user ≡ user) (moment : ℕ) where
+  module _ (k l : state.Kept) (v : AllTables) (of : k.user ≡ user) (moment : ℕ) where
     abbrev part : Part
     part = record { processes = its.processes; resources = told k w }
 
@@ -222,7 +223,7 @@ module _ (users : Users) (w : AllWaits) (thread : Thread) (call : Call) (taken :
       serves : (rows : Users) (after : Shared) → after.answered ≡ v.shared.answered → after.pipes ≡ v.shared.pipes
           → given_users rows (map (users_given user) deed.answers) ≡ with_row users user (λ _. (served_by r).part.processes)
           → given_lines after.lines (map (users_given user) deed.answers) ≡ lines_after user w.shared.lines (served_by r).changes
-          → Serves (shown users w.shared w.events.events) (given_all rows after v.events.events) k l (λ part. settled part (served part))
+          → Serves (shown users w.shared w.mounts w.events.events) (given_all rows after v.mounts v.events.events) k l (λ part. settled part (served part))
       serves = Serves-given users w k served kept l v deed user of its.processes its.user left (served_by r) (served_is ∙ ap served_by is) resources_are (lives-answered part thread.proc.num thread.tid call.target.over r)
 
       -- the thread is answered too
@@ -230,7 +231,7 @@ module _ (users : Users) (w : AllWaits) (thread : Thread) (call : Call) (taken :
           → (lost : Option ServerName) → LosesAt lost (process_of users thread.proc) (process_of (with_process_of users thread.proc f) thread.proc)
           → given_users (with_process_of users thread.proc f) (map (users_given user) deed.answers) ≡ with_row users user (λ _. (served_by r).part.processes)
           → given_lines (lines_after user (with_line w.shared.lines (manager_number manager) drop_pulse) (map (disconnect thread.proc.num) (option_to_list lost))) (map (users_given user) deed.answers) ≡ lines_after user w.shared.lines (served_by r).changes
-          → After (with_process_of users thread.proc f) (without_pulse v.shared users (with_process_of users thread.proc f) thread call) v.events.events k l served
+          → After (with_process_of users thread.proc f) (without_pulse v.shared users (with_process_of users thread.proc f) thread call) v.mounts v.events.events k l served
       answered f given answers keeps gone lost loses rows_are lines_are = rw (lost-listed lost (process_of users thread.proc) (process_of rows thread.proc) loses) (
         Answering-answered users v.shared thread call taken (Answering-left users k.user w.shared v.shared deed kept left.shared keeps) f given answers gone lost loses,
         serves rows after (lost-fields thread.proc (λ c. c.answered) (λ c server. refl) (option_to_list lost) dropped) (lost-fields thread.proc (λ c. c.pipes) (λ c server. refl) (option_to_list lost) dropped) rows_are
@@ -259,7 +260,7 @@ module _ (users : Users) (w : AllWaits) (thread : Thread) (call : Call) (taken :
 
       reply_after : (status : ℕ) (bytes : List ℕ) (effect : Effect) → Some (record { status = status; bytes = bytes; effect = effect }) ≡ deed.reply → Gone v.shared
           → (lost : Option ServerName) → LosesAt lost (process_of users thread.proc) (process_of (with_process_of users thread.proc (process_replied thread.tid effect status bytes call.target.over)) thread.proc)
-          → After (with_process_of users thread.proc (process_replied thread.tid effect status bytes call.target.over)) (without_pulse v.shared users (with_process_of users thread.proc (process_replied thread.tid effect status bytes call.target.over)) thread call) v.events.events k l served
+          → After (with_process_of users thread.proc (process_replied thread.tid effect status bytes call.target.over)) (without_pulse v.shared users (with_process_of users thread.proc (process_replied thread.tid effect status bytes call.target.over)) thread call) v.mounts v.events.events k l served
       reply_after status bytes effect reply_is gone lost loses =
           let reply : Reply = record { status = status; bytes = bytes; effect = effect } in
           let pulses = map (disconnect thread.proc.num) (option_to_list lost) in
@@ -270,7 +271,7 @@ module _ (users : Users) (w : AllWaits) (thread : Thread) (call : Call) (taken :
           gone lost loses (rows_by (Some reply) reply_is) (lines-done user manager deed.answers (only deed is) w.shared.lines (caller_of_call thread call) pulses ∙ lines_by (Some reply) pulses reply_is pulses_are)
 
       -- where it is left without a reply, its own call waits or is answered
-      waiting_after : None ≡ deed.reply → After served_users v.shared v.events.events k l served
+      waiting_after : None ≡ deed.reply → After served_users v.shared v.mounts v.events.events k l served
       waiting_after reply_is = (
         Answering-left served_users k.user w.shared v.shared deed Kept-served left.shared
             (deed-keeps (told k w) its.process (caller_of_call thread call) call.target moment (meaning its.sent.bytes) deed is (Waits served_users k.user) (waits-before served_users k.user w.shared Kept-served.waits)
@@ -282,7 +283,7 @@ module _ (users : Users) (w : AllWaits) (thread : Thread) (call : Call) (taken :
   -- it is refused, and nothing of the resources or what is shared is different
   error_after : (k : state.Kept) (of : k.user ≡ user) (moment : ℕ) (error : Errno) → meant k k w of moment ≡ Err error → Gone w.shared
       → (lost : Option ServerName) → LosesAt lost (process_of users thread.proc) (process_of (with_process_of users thread.proc (failed thread.tid error call.target.over)) thread.proc)
-      → After (with_process_of users thread.proc (failed thread.tid error call.target.over)) (without_pulse w.shared users (with_process_of users thread.proc (failed thread.tid error call.target.over)) thread call) w.events.events k k (served k k w of moment)
+      → After (with_process_of users thread.proc (failed thread.tid error call.target.over)) (without_pulse w.shared users (with_process_of users thread.proc (failed thread.tid error call.target.over)) thread call) w.mounts w.events.events k k (served k k w of moment)
   error_after k of moment error is gone lost loses =
       let pulses = map (disconnect thread.proc.num) (option_to_list lost) in
       answered k k w of moment (nothing_done (told k w)) (left-same (is_living its.processes) k w) (Err error) is refl (failed thread.tid error call.target.over) (answer.Failed error) (fails thread.tid error call.target.over)
@@ -296,9 +297,9 @@ module _ (users : Users) (w : AllWaits) (thread : Thread) (call : Call) (taken :
   abbrev rows_then : List ℕ → Result Done Errno → Users
   rows_then bytes given = answered_users served_users thread call.target.over bytes given
 
-  abbrev Outcome : state.Kept → state.Kept → AllWaits → ℕ → List ℕ → Result Done Errno → Type 0
+  abbrev Outcome : state.Kept → state.Kept → AllTables → ℕ → List ℕ → Result Done Errno → Type 0
   Outcome k l v moment bytes given =
-      After (rows_then bytes given) (answered_queues v.shared served_users (rows_then bytes given) thread call given) v.events.events k l
+      After (rows_then bytes given) (answered_queues v.shared served_users (rows_then bytes given) thread call given) v.mounts v.events.events k l
       (λ part. or_kept part (serve_message part thread.proc.num thread.tid moment))
 
   -- its process has lost a server connection by that or none
@@ -306,16 +307,16 @@ module _ (users : Users) (w : AllWaits) (thread : Thread) (call : Call) (taken :
   HasLost bytes given = (lost : Option ServerName) × LosesAt lost (process_of served_users thread.proc) (process_of (rows_then bytes given) thread.proc)
 
   -- the same, told from the rows before it was served
-  from_before : (k l : state.Kept) (v : AllWaits) (done : Part → Served) (f : Process → Process) → with_process_of served_users thread.proc f ≡ with_process_of users thread.proc f
+  from_before : (k l : state.Kept) (v : AllTables) (done : Part → Served) (f : Process → Process) → with_process_of served_users thread.proc f ≡ with_process_of users thread.proc f
       → (lost : Option ServerName) → LosesAt lost (process_of served_users thread.proc) (process_of (with_process_of served_users thread.proc f) thread.proc)
-      → (LosesAt lost (process_of users thread.proc) (process_of (with_process_of users thread.proc f) thread.proc) → After (with_process_of users thread.proc f) (without_pulse v.shared users (with_process_of users thread.proc f) thread call) v.events.events k l done)
-      → After (with_process_of served_users thread.proc f) (without_pulse v.shared served_users (with_process_of served_users thread.proc f) thread call) v.events.events k l done
+      → (LosesAt lost (process_of users thread.proc) (process_of (with_process_of users thread.proc f) thread.proc) → After (with_process_of users thread.proc f) (without_pulse v.shared users (with_process_of users thread.proc f) thread call) v.mounts v.events.events k l done)
+      → After (with_process_of served_users thread.proc f) (without_pulse v.shared served_users (with_process_of served_users thread.proc f) thread call) v.mounts v.events.events k l done
   from_before k l v done f same lost loses after =
-      subst (λ rows. After rows (without_pulse v.shared served_users rows thread call) v.events.events k l done) (sym same)
-      (subst (λ servers. After (with_process_of users thread.proc f) (with_lost thread.proc servers (with_shared_line v.shared (manager_number manager) drop_pulse)) v.events.events k l done) (sym (lost_before (process_of (with_process_of users thread.proc f) thread.proc)))
+      subst (λ rows. After rows (without_pulse v.shared served_users rows thread call) v.mounts v.events.events k l done) (sym same)
+      (subst (λ servers. After (with_process_of users thread.proc f) (with_lost thread.proc servers (with_shared_line v.shared (manager_number manager) drop_pulse)) v.mounts v.events.events k l done) (sym (lost_before (process_of (with_process_of users thread.proc f) thread.proc)))
       (after (loses_before lost _ (subst (λ rows. LosesAt lost (process_of served_users thread.proc) (process_of rows thread.proc)) same loses))))
 
-  outcome_by : (k l : state.Kept) (v : AllWaits) (of : k.user ≡ thread.proc.user.0) (moment : ℕ) (bytes : List ℕ) (given : Result Done Errno) (r : Result (Deed Resources) Errno) → meant k l v of moment ≡ r
+  outcome_by : (k l : state.Kept) (v : AllTables) (of : k.user ≡ thread.proc.user.0) (moment : ℕ) (bytes : List ℕ) (given : Result Done Errno) (r : Result (Deed Resources) Errno) → meant k l v of moment ≡ r
       → Comes (is_living its.processes) k w l v bytes given r → (IsReplied given → Gone v.shared) → (IsReplied given → HasLost bytes given) → Outcome k l v moment bytes given
   outcome_by k l v of moment bytes (Ok (done.Reply status effect)) (Ok deed) is did gone lost =
       from_before k l v (served k l v of moment) (process_replied thread.tid effect status bytes call.target.over) (reply_served users thread effect status bytes call.target.over) (lost tt).0 (lost tt).1
@@ -325,12 +326,12 @@ module _ (users : Users) (w : AllWaits) (thread : Thread) (call : Call) (taken :
       subst (λ (l : state.Kept). Outcome k l v moment bytes (Err error)) (sym did.1)
       (subst (λ v. Outcome k k v moment bytes (Err error)) (sym did.2)
       (from_before k k w (served k k w of moment) (failed thread.tid error call.target.over) (fail_served users thread error call.target.over) (lost tt).0 (lost tt).1
-      (error_after k of moment error (is ∙ ap Err (sym did.0)) (subst (λ (v : AllWaits). Gone v.shared) did.2 (gone tt)) (lost tt).0)))
+      (error_after k of moment error (is ∙ ap Err (sym did.0)) (subst (λ (v : AllTables). Gone v.shared) did.2 (gone tt)) (lost tt).0)))
   outcome_by k l v of moment bytes (Ok (done.Reply status effect)) (Err error) is did gone lost = absurd did
   outcome_by k l v of moment bytes (Ok done.NoReply) (Err error) is did gone lost = absurd did
   outcome_by k l v of moment bytes (Err error) (Ok deed) is did gone lost = absurd did
 
-  pub outcome : (k l : state.Kept) (v : AllWaits) (of : k.user ≡ thread.proc.user.0) (moment : ℕ) (bytes : List ℕ) (given : Result Done Errno) (r : Result (Deed Resources) Errno) → meant k l v of moment ≡ r
+  pub outcome : (k l : state.Kept) (v : AllTables) (of : k.user ≡ thread.proc.user.0) (moment : ℕ) (bytes : List ℕ) (given : Result Done Errno) (r : Result (Deed Resources) Errno) → meant k l v of moment ≡ r
       → Comes (lives_in users thread.proc.user.0) k w l v bytes given r → (IsReplied given → Gone v.shared) → (IsReplied given → HasLost bytes given) → Outcome k l v moment bytes given
   outcome k l v of moment bytes given r is did =
       outcome_by k l v of moment bytes given r is (subst (λ lives. Comes lives k w l v bytes given r) (ap (λ rows. is_living (unwrap_or rows [])) its.user) did)

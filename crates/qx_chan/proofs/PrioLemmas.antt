@@ -4,6 +4,7 @@ use Rattle.std.specs.Prelude.{MatchOption, option_map, slice_set}
 use Rattle.std.proofs.lemmas.Bool.{cases_Bool}
 use Rattle.qx_types.specs.declared.names.Thread.{Thread}
 use Rattle.qx_types.specs.declared.outcome.Answer.{Answer}
+use Rattle.qx_paths.specs.Prefixes.{MountPoint}
 use Rattle.qx_machine.specs.declared.rows.State.{State}
 use Rattle.qx_machine.specs.declared.rows.State.TheVariants.{Answered, Queued, Ready, Taken, Waiting}
 use Rattle.qx_machine.specs.declared.rows.ThreadRow.{ThreadRow}
@@ -61,11 +62,11 @@ module _ (users : Users) (queues : Shared) (thread : Thread) (row after : Thread
   Kept-answer (Some given) is same = readies given is same
 
 -- the channel's value then
-pub after_answer : (users : Users) (lines : List (List Item)) (pipes : List Pipes) (events : List Events) (room : ℕ) (thread : Thread) (row after : ThreadRow) (result : Option Answer) → Some row ≡ thread_row users thread → result ≡ answer_in row.state → MatchOption result (after ≡ row) (λ _. after ≡ ready_thread row)
-    → ◌≡◌ {A = Channel} (record { users = with_thread_row users thread (λ _. after); lines = lines; pipes = pipes; events = events; room = room }) (after_taking (record { users = users; lines = lines; pipes = pipes; events = events; room = room }) thread)
-after_answer users lines pipes events room thread row after None there is same =
+pub after_answer : (users : Users) (lines : List (List Item)) (pipes : List Pipes) (events : List Events) (mounts : List (List MountPoint)) (room : ℕ) (thread : Thread) (row after : ThreadRow) (result : Option Answer) → Some row ≡ thread_row users thread → result ≡ answer_in row.state → MatchOption result (after ≡ row) (λ _. after ≡ ready_thread row)
+    → ◌≡◌ {A = Channel} (record { users = with_thread_row users thread (λ _. after); lines = lines; pipes = pipes; events = events; mounts = mounts; room = room }) (after_taking (record { users = users; lines = lines; pipes = pipes; events = events; mounts = mounts; room = room }) thread)
+after_answer users lines pipes events mounts room thread row after None there is same =
     rw (same, with_thread-same users thread row (sym there), ← there, ← is) refl
-after_answer users lines pipes events room thread row after (Some given) there is same =
+after_answer users lines pipes events mounts room thread row after (Some given) there is same =
     rw (same, with_thread-put users thread ready_thread row (sym there), ← there, ← is) refl
 
 -- another priority changes one row or none

@@ -18,7 +18,7 @@ use Rattle.qx_shared.specs.Shared.{shared_after, state_after, users_given}
 use Rattle.qx_resources.specs.State as state
 use Rattle.qx_resources.specs.State.{HasUser, told}
 use Rattle.qx_resources.specs.Watching.{watched_call}
-use Rattle.qx_resources.specs.declared.waits.Waits.{Waits as AllWaits}
+use Rattle.qx_resources.specs.declared.tables.Tables.{Tables as AllTables}
 use Rattle.qx_resources.specs.declared.watching.Watched.{Watched}
 use Rattle.qx_chan.specs.inner.Answers.{given_lines}
 use Rattle.qx_chan.specs.inner.Kept.{AllStandTogether, Answering, StandTogether}
@@ -31,7 +31,7 @@ use Rattle.qx_chan.proofs.ServeLemmas.{Answering-left, Serves-given, Waits, give
 use Rattle.qx_chan.proofs.SettledLemmas.{Cancelled, cancelled, fits-cancelled, triggered_in}
 
 -- a user who has processes is one of those who share
-pub user-fits : (users : Users) (w : AllWaits) (k : state.Kept) (processes : List (Option Process)) → row_at users k.user ≡ Some processes → AllStandTogether users w → HasUser k w
+pub user-fits : (users : Users) (w : AllTables) (k : state.Kept) (processes : List (Option Process)) → row_at users k.user ≡ Some processes → AllStandTogether users w → HasUser k w
 user-fits users w k processes there kept = record { pipes = few; events = rw kept.events few }
   where
     few : k.user < length w.shared.pipes
@@ -41,7 +41,7 @@ user-fits users w k processes there kept = record { pipes = few; events = rw kep
 cancel-user : (r : Resources) (process thread call moment : ℕ) → IfOk (cancel_call r process thread call moment) (λ deed. deed.state.user ≡ r.user)
 cancel-user r process thread call moment = search rules
 
-module _ (users : Users) (w : AllWaits) (k l : state.Kept) (v : AllWaits) (processes : List (Option Process)) (there : row_at users k.user ≡ Some processes) (kept : StandTogether users w.shared) (process thread call moment : ℕ) where
+module _ (users : Users) (w : AllTables) (k l : state.Kept) (v : AllTables) (processes : List (Option Process)) (there : row_at users k.user ≡ Some processes) (kept : StandTogether users w.shared) (process thread call moment : ℕ) where
   abbrev part : Part
   part = record { processes = processes; resources = told k w }
 
@@ -56,7 +56,7 @@ module _ (users : Users) (w : AllWaits) (k l : state.Kept) (v : AllWaits) (proce
   served_from r = or_kept part (r >>= (λ deed. Ok (served_by deed)))
 
   abbrev Pulsed : Type 0
-  Pulsed = Answering users v.shared × Serves (shown users w.shared w.events.events) (given_all users v.shared v.events.events) k l (λ part. settled part (served part))
+  Pulsed = Answering users v.shared × Serves (shown users w.shared w.mounts w.events.events) (given_all users v.shared v.mounts v.events.events) k l (λ part. settled part (served part))
 
   by_deed : (deed : Deed Resources) → served part ≡ served_by deed → InDeed (Waits users k.user) deed → Leaves (is_living processes) k w l v deed → Pulsed
   by_deed deed is keeps left = (
@@ -73,10 +73,10 @@ module _ (users : Users) (w : AllWaits) (k l : state.Kept) (v : AllWaits) (proce
       by_deed (nothing_done (told k w)) (ap served_from is) (record { pipes = waits-before users k.user w.shared kept.waits; answers = tt }) left
 
 -- and once the events that are due by it have given their pulses
-pub performed : (users : Users) (w v now : AllWaits) (k l : state.Kept) (processes : List (Option Process)) → row_at users k.user ≡ Some processes → AllStandTogether users w → (process thread call moment : ℕ) (watched : Option Watched)
+pub performed : (users : Users) (w v now : AllTables) (k l : state.Kept) (processes : List (Option Process)) → row_at users k.user ≡ Some processes → AllStandTogether users w → (process thread call moment : ℕ) (watched : Option Watched)
     → l.user ≡ k.user → told l v ≡ state_after (told k w) (cancel_call (told k w) process thread call moment) → v ≡ record w { shared = shared_after w.shared k.user (cancel_call (told k w) process thread call moment) }
     → watched ≡ watched_call (told k w) process thread call → now ≡ triggered_in (is_living processes) l v watched
-    → Answering users now.shared × Serves (shown users w.shared w.events.events) (given_all users now.shared now.events.events) k l (λ part. settled part (or_kept part (serve_pulse part process thread call moment)))
+    → Answering users now.shared × Serves (shown users w.shared w.mounts w.events.events) (given_all users now.shared now.mounts now.events.events) k l (λ part. settled part (or_kept part (serve_pulse part process thread call moment)))
 performed users w v now k l processes there kept process thread call moment watched user told_is shared watches triggers =
     let fits = fits-cancelled k l w v (cancel_call (told k w) process thread call moment) (user-fits users w k processes there kept) user shared in
     pulsed users w k l now processes there kept.shared process thread call moment (cancel_call (told k w) process thread call moment) refl

@@ -7,6 +7,7 @@ use Rattle.std.specs.Prelude.{option_map}
 use Rattle.std.proofs.lemmas.List.{append-nil, length-set, set-get_or}
 use Rattle.std.proofs.lemmas.Option.{same_Some}
 use Rattle.qx_types.specs.Managers.{manager_number}
+use Rattle.qx_paths.specs.Prefixes.{MountPoint}
 use Rattle.qx_machine.specs.declared.rows.WaitingCall.{WaitingCall}
 use Rattle.qx_machine.specs.Events.{Events, no_events}
 use Rattle.qx_machine.specs.Functions.{Deed}
@@ -29,7 +30,7 @@ use Rattle.qx_queues.specs.Waits.{users_call}
 use Rattle.qx_shared.specs.Shared.{Shared, calls_at, has_disconnect_node, has_thread, nothing_shared, pipes_of, users_given, waiting_calls, waiting_in, with_pipes}
 use Rattle.qx_resources.specs.State as state
 use Rattle.qx_resources.specs.State.{told}
-use Rattle.qx_resources.specs.declared.waits.Waits.{Waits as AllWaits}
+use Rattle.qx_resources.specs.declared.tables.Tables.{Tables as AllTables}
 use Rattle.qx_chan.specs.inner.Answers.{given_lines, given_users}
 use Rattle.qx_chan.specs.Channel.{Channel, lists}
 use Rattle.qx_chan.specs.inner.Kept.{Answering, IsAwaited, IsWaiting, StandTogether, may_wait}
@@ -126,12 +127,12 @@ module _ (users : Users) (user : ℕ) where
 -- ---- the channel
 
 -- that of these
-abbrev pub shown : Users → Shared → List Events → Channel
-shown users queues events = record { users = users; lines = queues.lines; pipes = queues.pipes; events = events; room = queues.room }
+abbrev pub shown : Users → Shared → List (List MountPoint) → List Events → Channel
+shown users queues mounts events = record { users = users; lines = queues.lines; pipes = queues.pipes; events = events; mounts = mounts; room = queues.room }
 
 -- once answers that are on their way are given
-abbrev pub given_all : Users → Shared → List Events → Channel
-given_all users queues events = record { users = given_users users queues.answered; lines = given_lines queues.lines queues.answered; pipes = queues.pipes; events = events; room = queues.room }
+abbrev pub given_all : Users → Shared → List (List MountPoint) → List Events → Channel
+given_all users queues mounts events = record { users = given_users users queues.answered; lines = given_lines queues.lines queues.answered; pipes = queues.pipes; events = events; mounts = mounts; room = queues.room }
 
 -- nothing was done, and nobody is answered
 abbrev pub nothing_done : Resources → Deed Resources
@@ -141,14 +142,15 @@ nothing_done resources = record { reply = None; state = resources; answers = [] 
 same_pipes : (c : Shared) (user : ℕ) → c.pipes ≡ slice_set c.pipes user (pipes_of c user)
 same_pipes c user = sym (set-get_or c.pipes user no_pipes)
 
-same_events : (w : AllWaits) (user : ℕ) → w.events.events ≡ slice_set w.events.events user (events_of w.events user)
+same_events : (w : AllTables) (user : ℕ) → w.events.events ≡ slice_set w.events.events user (events_of w.events user)
 same_events w user = sym (set-get_or w.events.events user no_events)
 
-pub left-same : (lives : ℕ → Bool) (k : state.Kept) (w : AllWaits) → Leaves lives k w k w (nothing_done (told k w))
+pub left-same : (lives : ℕ → Bool) (k : state.Kept) (w : AllTables) → Leaves lives k w k w (nothing_done (told k w))
 left-same lives k w = record {
   told_is = ap (λ (e : Events). record (told k w) { events = e }) (sym none_due);
   shared = λ i. record w.shared { pipes = same_pipes w.shared k.user i; answered = sym (append-nil w.shared.answered) i };
   events = same_events w k.user ∙ ap (slice_set w.events.events k.user) (sym none_due);
+  mounts = refl;
   user = refl;
 }
   where
@@ -160,7 +162,7 @@ settled-nothing : (part : Part) (given : Served) → given ≡ record { part = p
 settled-nothing part given is =
     ap (settled part) is ∙ ap (λ (e : Events). record { part = record part { resources = record part.resources { events = e } }; changes = [] }) (settled-unchanged (is_living part.processes) part.resources part.resources refl refl)
 
-module _ (users : Users) (w : AllWaits) (k : state.Kept) (served : Part → Served) where
+module _ (users : Users) (w : AllTables) (k : state.Kept) (served : Part → Served) where
   abbrev part_of : List (Option Process) → Part
   part_of processes = record { processes = processes; resources = told k w }
 
@@ -168,7 +170,7 @@ module _ (users : Users) (w : AllWaits) (k : state.Kept) (served : Part → Serv
   done part = settled part (served part)
 
   abbrev before : Channel
-  before = shown users w.shared w.events.events
+  before = shown users w.shared w.mounts w.events.events
 
   module _ (c : Channel) (l : state.Kept) where
     abbrev DidAll : Served → Type 0
@@ -178,6 +180,7 @@ module _ (users : Users) (w : AllWaits) (k : state.Kept) (served : Part → Serv
           lines = lines_after k.user w.shared.lines s.changes;
           pipes = slice_set w.shared.pipes k.user s.part.resources.pipes;
           events = slice_set w.events.events k.user s.part.resources.events;
+          mounts = w.mounts;
           room = c.room;
         })
         × (told l (lists c) ≡ s.part.resources)
@@ -187,7 +190,7 @@ module _ (users : Users) (w : AllWaits) (k : state.Kept) (served : Part → Serv
 
   -- where nothing happens to the user's part, nothing does
   pub Serves-nothing : ((processes : List (Option Process)) → row_at users k.user ≡ Some processes → served (record { processes = processes; resources = told k w }) ≡ record { part = record { processes = processes; resources = told k w }; changes = [] })
-      → Serves (shown users w.shared w.events.events) (shown users w.shared w.events.events) k k (λ part. settled part (served part))
+      → Serves (shown users w.shared w.mounts w.events.events) (shown users w.shared w.mounts w.events.events) k k (λ part. settled part (served part))
   Serves-nothing same = record { did = by_row (row_at users k.user) refl; user = refl }
     where
       by_row : (row : Option (List (Option Process))) → row_at users k.user ≡ row → PartServed before before k k done (option_map part_of row)
@@ -195,24 +198,24 @@ module _ (users : Users) (w : AllWaits) (k : state.Kept) (served : Part → Serv
       by_row (Some processes) there =
           let users_are : users ≡ with_row users k.user (λ _. processes) = sym (with_row-fixed users k.user (λ _. processes) processes there refl) in
           subst (DidAll before k) (sym (settled-nothing (part_of processes) (served (part_of processes)) (same processes there)))
-          (λ i. record { users = users_are i; lines = w.shared.lines; pipes = same_pipes w.shared k.user i; events = same_events w k.user i; room = w.shared.room }, refl)
+          (λ i. record { users = users_are i; lines = w.shared.lines; pipes = same_pipes w.shared k.user i; events = same_events w k.user i; mounts = w.mounts; room = w.shared.room }, refl)
 
   -- once a deed is done, and the answers are given
-  module _ (kept : StandTogether users w.shared) (l : state.Kept) (v : AllWaits) (deed : Deed Resources) (user : ℕ) (of : k.user ≡ user) (processes : List (Option Process)) (there : row_at users user ≡ Some processes) (left : Leaves (is_living processes) k w l v deed) where
+  module _ (kept : StandTogether users w.shared) (l : state.Kept) (v : AllTables) (deed : Deed Resources) (user : ℕ) (of : k.user ≡ user) (processes : List (Option Process)) (there : row_at users user ≡ Some processes) (left : Leaves (is_living processes) k w l v deed) where
     answered_are : v.shared.answered ≡ map (users_given user) deed.answers
     answered_are = ap (λ q. q.answered) left.shared ∙ ap (λ before. before ++ map (users_given k.user) deed.answers) kept.answered ∙ ap (λ user. map (users_given user) deed.answers) of
 
     pub Serves-given : (s : Served) → served (record { processes = processes; resources = told k w }) ≡ s → s.part.resources ≡ deed.state → is_living s.part.processes ≡ is_living processes → (rows : Users) (after : Shared) → after.answered ≡ v.shared.answered → after.pipes ≡ v.shared.pipes
         → given_users rows (map (users_given user) deed.answers) ≡ with_row users user (λ _. s.part.processes)
         → given_lines after.lines (map (users_given user) deed.answers) ≡ lines_after user w.shared.lines s.changes
-        → Serves (shown users w.shared w.events.events) (given_all rows after v.events.events) k l (λ part. settled part (served part))
+        → Serves (shown users w.shared w.mounts w.events.events) (given_all rows after v.mounts v.events.events) k l (λ part. settled part (served part))
     Serves-given s is resources_are lives_are rows after answered pipes rows_are lines_are = record {
-      did = part-served now l processes (ap (row_at users) of ∙ there) (subst (DidAll now l) (ap (settled (part_of processes)) (sym is)) (λ i. record { users = users_here i; lines = lines_here i; pipes = pipes_here i; events = events_here i; room = after.room }, resources_here));
+      did = part-served now l processes (ap (row_at users) of ∙ there) (subst (DidAll now l) (ap (settled (part_of processes)) (sym is)) (λ i. record { users = users_here i; lines = lines_here i; pipes = pipes_here i; events = events_here i; mounts = left.mounts i; room = after.room }, resources_here));
       user = left.user;
     }
       where
         now : Channel
-        now = given_all rows after v.events.events
+        now = given_all rows after v.mounts v.events.events
 
         users_here : given_users rows after.answered ≡ with_row users k.user (λ _. s.part.processes)
         users_here = ap (given_users rows) (answered ∙ answered_are) ∙ rows_are ∙ ap (λ user. with_row users user (λ _. s.part.processes)) (sym of)
@@ -229,6 +232,6 @@ module _ (users : Users) (w : AllWaits) (k : state.Kept) (served : Part → Serv
         events_here : v.events.events ≡ slice_set w.events.events k.user (events_settled (is_living s.part.processes) (told k w) s.part.resources)
         events_here = left.events ∙ ap (slice_set w.events.events k.user) settled_here
 
-        resources_here : told l (lists (given_all rows after v.events.events)) ≡ record s.part.resources { events = events_settled (is_living s.part.processes) (told k w) s.part.resources }
-        resources_here = ap (λ pipes. told l (record { shared = record (nothing_shared 0) { pipes = pipes }; events = record { events = v.events.events; room = 0 } })) pipes
+        resources_here : told l (lists (given_all rows after v.mounts v.events.events)) ≡ record s.part.resources { events = events_settled (is_living s.part.processes) (told k w) s.part.resources }
+        resources_here = ap (λ pipes. told l (record { shared = record (nothing_shared 0) { pipes = pipes }; events = record { events = v.events.events; room = 0 }; mounts = v.mounts })) pipes
             ∙ left.told_is ∙ (λ i. record (sym resources_are i) { events = settled_here i })

@@ -9,7 +9,7 @@ use Rattle.qx_machine.specs.Lines.{line_at}
 use Rattle.qx_machine.specs.Processes.{Process, living}
 use Rattle.qx_machine.specs.Rows.{row_at}
 use Rattle.qx_notify.specs.Events.{AllEvents, events_of, with_events}
-use Rattle.qx_resources.specs.declared.waits.Waits.{Waits}
+use Rattle.qx_resources.specs.declared.tables.Tables.{Tables}
 use Rattle.qx_chan.specs.Channel.{after_pulse, with_pulse_taken}
 use Rattle.qx_chan.specs.inner.Kept.{AllStandTogether}
 use Rattle.qx_chan.specs.Users.{Users, process_of}
@@ -17,7 +17,7 @@ use Rattle.qx_chan.proofs.RowReads.{option_cases, row_within}
 use Rattle.qx_chan.proofs.ServeLemmas.{shown}
 
 -- a user who has a process has a place for events
-pub has-events : (users : Users) (w : Waits) (proc : Proc) (process : Process) → Some process ≡ living (process_of users proc) → AllStandTogether users w → proc.user.0 < length w.events.events
+pub has-events : (users : Users) (w : Tables) (proc : Proc) (process : Process) → Some process ≡ living (process_of users proc) → AllStandTogether users w → proc.user.0 < length w.events.events
 has-events users w proc process is kept = elim (option_cases (row_at users proc.user.0)) [
   | inl none ↦ let clash : Some process ≡ None = rw none at is in absurd (cc)
   | inr rows ↦ rw (kept.events, kept.shared.users) (row_within users proc.user.0 rows.0 rows.1)
@@ -37,13 +37,13 @@ none_taken all proc is =
     ap (λ pulses. set all.events proc.user.0 (record (events_of all proc.user.0) { pulses = pulses })) (same_pulses (events_of all proc.user.0).pulses proc.num is) ∙ set-get_or all.events proc.user.0 no_events
 
 -- once the first is taken, or there was none
-pub pulse_taken : (users : Users) (w : Waits) (proc : Proc) (process : Process) (now : AllEvents) → Some process ≡ living (process_of users proc) → now ≡ with_events w.events proc.user.0 (without_first_pulse proc.num (events_of w.events proc.user.0))
-    → shown users w.shared now.events ≡ after_pulse (shown users w.shared w.events.events) proc
+pub pulse_taken : (users : Users) (w : Tables) (proc : Proc) (process : Process) (now : AllEvents) → Some process ≡ living (process_of users proc) → now ≡ with_events w.events proc.user.0 (without_first_pulse proc.num (events_of w.events proc.user.0))
+    → shown users w.shared w.mounts now.events ≡ after_pulse (shown users w.shared w.mounts w.events.events) proc
 pulse_taken users w proc process now there is =
-    ap (λ (all : AllEvents). shown users w.shared all.events) is ∙ by_first (first_pulse proc.num (events_of w.events proc.user.0)) refl
-    ∙ ap (λ place. with_pulse_taken (shown users w.shared w.events.events) proc place (first_pulse proc.num (events_of w.events proc.user.0))) there
+    ap (λ (all : AllEvents). shown users w.shared w.mounts all.events) is ∙ by_first (first_pulse proc.num (events_of w.events proc.user.0)) refl
+    ∙ ap (λ place. with_pulse_taken (shown users w.shared w.mounts w.events.events) proc place (first_pulse proc.num (events_of w.events proc.user.0))) there
   where
     by_first : (first : Option Pulse) → first_pulse proc.num (events_of w.events proc.user.0) ≡ first
-        → shown users w.shared (set w.events.events proc.user.0 (without_first_pulse proc.num (events_of w.events proc.user.0))) ≡ with_pulse_taken (shown users w.shared w.events.events) proc (Some process) first
-    by_first None none = ap (shown users w.shared) (none_taken w.events proc none)
+        → shown users w.shared w.mounts (set w.events.events proc.user.0 (without_first_pulse proc.num (events_of w.events proc.user.0))) ≡ with_pulse_taken (shown users w.shared w.mounts w.events.events) proc (Some process) first
+    by_first None none = ap (shown users w.shared w.mounts) (none_taken w.events proc none)
     by_first (Some first) some = refl

@@ -1,5 +1,6 @@
 -- What contracts see of a channel, and what its calls make of it.
-use Rattle.std.specs.Prelude.{⊤, ℕ, ◌+◌, [], ◌∷◌, ◌++◌, List, Option, Some, None, drop, get_or, map, option_map, replicate, slice_get, slice_set}
+use Rattle.std.specs.Prelude.{⊤, ℕ, ◌+◌, [], ◌∷◌, ◌++◌, List, Option, Some, None, drop, get_or, length, map, option_map, replicate, slice_get, slice_set}
+use Rattle.qx_types.specs.Configuration.{Configuration}
 use Rattle.qx_types.specs.Managers.{manager_number}
 use Rattle.qx_types.specs.declared.errno.Errno.{Errno}
 use Rattle.qx_types.specs.declared.errno.Errno.TheVariants.{EINTR}
@@ -11,6 +12,8 @@ use Rattle.qx_types.specs.declared.outcome.Answer.{Answer}
 use Rattle.qx_types.specs.declared.outcome.Answer.TheVariants.{Failed}
 use Rattle.qx_types.specs.declared.outcome.Outcome.{Outcome}
 use Rattle.qx_types.specs.declared.outcome.Outcome.TheVariants.{Done, NoPulse, WrongState, Pulse as PulseGiven}
+use Rattle.qx_paths.specs.Mounts.{all_boot_mounts}
+use Rattle.qx_paths.specs.Prefixes.{MountPoint}
 use Rattle.qx_machine.specs.declared.rows.Over.{Over}
 use Rattle.qx_machine.specs.declared.rows.Over.TheVariants.{Existing}
 use Rattle.qx_machine.specs.declared.rows.OwnItem.{OwnItem}
@@ -18,6 +21,7 @@ use Rattle.qx_machine.specs.declared.rows.OwnItem.TheVariants as item
 use Rattle.qx_machine.specs.declared.rows.Pulse.{Pulse}
 use Rattle.qx_machine.specs.declared.rows.Queued.{Queued}
 use Rattle.qx_machine.specs.declared.rows.Sent.{Sent}
+use Rattle.qx_machine.specs.Attributes.{top_inode}
 use Rattle.qx_machine.specs.Clients.{dropped, spawn_number, with_abandoned}
 use Rattle.qx_machine.specs.Events.{Events, first_pulse, no_events, without_first_pulse, without_pulses}
 use Rattle.qx_machine.specs.Lines.{into, line_at, with_line}
@@ -29,29 +33,30 @@ use Rattle.qx_machine.specs.Waiting.{Pipes, no_pipes}
 use Rattle.qx_machine.specs.Rows.{row_at, with_row}
 use Rattle.qx_procs.specs.Calls.{after_or, spawned, with_prio}
 use Rattle.qx_queues.specs.Queues.{message_of, nodes_freed, sender, unblock_of}
-use Rattle.qx_resources.specs.declared.waits.Waits.{Waits}
+use Rattle.qx_resources.specs.declared.tables.Tables.{Tables}
 use Rattle.qx_shared.specs.Shared.{nothing_shared}
 use Rattle.qx_chan.specs.Calls.{answer_of, queued_call, unasked_call}
 use Rattle.qx_chan.specs.declared.call.Call.{Call}
 use Rattle.qx_chan.specs.Nodes.{room_for, room_started, room_used, served_at}
 use Rattle.qx_chan.specs.Users.{Users, no_processes, process_of, spawn_number_in, thread_row, with_process_of, with_thread_row}
 
--- the processes of all users, both numbered from 1, the lines under their managers' numbers, the pipes and the events of each user, and how
--- many more nodes can be made with no memory
+-- the processes of all users, both numbered from 1, the lines under their managers' numbers, the pipes, the events and the mounts of each user,
+-- and how many more nodes can be made with no memory
 pub record Channel : Type 0 where
   pub users : Users
   pub lines : List (List Queued)
   pub pipes : List Pipes
   pub events : List Events
+  pub mounts : List (List MountPoint)
   pub room : ℕ
 
--- a share with the channel's pipes and events, and nothing else
-abbrev pub lists : Channel → Waits
-lists c = record { shared = record (nothing_shared 0) { pipes = c.pipes }; events = record { events = c.events; room = 0 } }
+-- tables with the channel's pipes, events and mounts, and nothing else
+abbrev pub lists : Channel → Tables
+lists c = record { shared = record (nothing_shared 0) { pipes = c.pipes }; events = record { events = c.events; room = 0 }; mounts = c.mounts }
 
--- users from 1 to this many with no process, empty lines, no pipe, and no events
-abbrev pub empty_channel : ℕ → Channel
-empty_channel users = record { users = no_processes users; lines = replicate COUNT []; pipes = replicate (users + 1) no_pipes; events = replicate (users + 1) no_events; room = 0 }
+-- at boot: the users with no process, empty lines, no pipe, no events, and of mounts each user's top
+abbrev pub boot_channel : Configuration → Channel
+boot_channel config = let users = length config.users in record { users = no_processes users; lines = replicate COUNT []; pipes = replicate (users + 1) no_pipes; events = replicate (users + 1) no_events; mounts = all_boot_mounts config top_inode; room = 0 }
 
 -- a manager's line
 abbrev pub channel_line : Channel → Manager → List Queued

@@ -33,6 +33,7 @@ module _ (c d : Channel) (k l : Kept) (served : Part → Served) where
         lines = lines_after k.user c.lines (served part).changes;
         pipes = slice_set c.pipes k.user (served part).part.resources.pipes;
         events = slice_set c.events k.user (served part).part.resources.events;
+        mounts = c.mounts;
         room = d.room;
       })
       × (told l (lists d) ≡ (served part).part.resources)

@@ -11,7 +11,7 @@ ghost use Rattle.qx_process.specs.Reads.{CanCall, CanGo, IsPriority, IsRanked};
 ghost use Rattle.qx_procs.specs.Calls.{CanAttachAt, spawn_outcome};
 ghost use Rattle.qx_chan.specs.Calls.{answer_of, queued_call, unasked_call};
 ghost use Rattle.qx_chan.specs.inner.Calls.{taken_call};
-ghost use Rattle.qx_chan.specs.Channel.{IsExisting, after_asking, after_pulse, after_ranking, after_receive, after_send, after_spawn, after_taking, after_withdrawing, channel_events, channel_line, empty_channel, pulse_outcome};
+ghost use Rattle.qx_chan.specs.Channel.{IsExisting, after_asking, after_pulse, after_ranking, after_receive, after_send, after_spawn, after_taking, after_withdrawing, channel_events, channel_line, boot_channel, pulse_outcome};
 ghost use Rattle.qx_chan.specs.Nodes.{room_for};
 ghost use Rattle.qx_chan.specs.Users.{IsThreadReady, prio_outcome_in, process_of, spawn_number_in, thread_row};
 
@@ -21,8 +21,8 @@ use crate::users::Users;
 use qx_machine::{OwnItem, Queued, Sent, ThreadRow};
 use qx_process::Process;
 use qx_procs::Processes;
-use qx_resources::Waits;
-use qx_types::{Answer, Errno, Manager, Outcome, Prio, Proc, Thread, User};
+use qx_resources::Tables;
+use qx_types::{Answer, Config, Errno, Manager, NoMemory, Outcome, Prio, Proc, Thread, User};
 use std::alloc::{AllocError, Global};
 use std::marker::Model;
 
@@ -31,7 +31,7 @@ use std::marker::Model;
 #[derive(Drop)]
 pub struct Channel {
     pub(crate) users: Users,
-    pub(crate) waits: Waits,
+    pub(crate) tables: Tables,
 }
 
 impl Model for Channel {
@@ -43,20 +43,19 @@ impl Model for Channel {
 
     ghost coded = { Prim.hlevel codes };
 
-    ghost view = { λ c. record { users = c.users; lines = c.waits.shared.lines; pipes = c.waits.shared.pipes; events = c.waits.events.events; room = c.waits.shared.room } };
+    ghost view = { λ c. record { users = c.users; lines = c.tables.shared.lines; pipes = c.tables.shared.pipes; events = c.tables.events.events; mounts = c.tables.mounts; room = c.tables.shared.room } };
 
-    ghost invariant = { λ c. AllStandTogether c.users c.waits };
+    ghost invariant = { λ c. AllStandTogether c.users c.tables };
 }
 
 impl Channel {
-    /// Users from 1 to this many with no process, empty lines, and no events.
-    pub fn new(alloc: Global, users: usize) -> Result<Self, AllocError>
-        requires few { users < 256 }
-        ensures empty { IfOk result (λ channel. channel ≡ empty_channel users) }
+    /// At boot: the users of a configuration with no process, empty lines, no events, and of mounts each user's top.
+    pub fn boot(alloc: Global, config: &Config) -> Result<Self, NoMemory>
+        ensures boot { IfOk result (λ channel. channel ≡ boot_channel config.now) }
     {
-        let waits = Waits::new(alloc, users)?;
-        let users = Users::new(alloc, users)?;
-        Ok(Channel { users, waits })
+        let tables = Tables::boot(alloc, config)?;
+        let users = Users::new(alloc, config.user_count())?;
+        Ok(Channel { users, tables })
     }
 
     /// The processes of a user; none where the user is not there.
@@ -85,14 +84,14 @@ impl Channel {
     pub fn first(&self, manager: Manager) -> Option<Queued>
         ensures first { result ≡ slice_get (channel_line self.now manager) 0 }
     {
-        self.waits.shared.first(manager)
+        self.tables.shared.first(manager)
     }
 
     /// How many items stand in a manager's line.
     pub fn len(&self, manager: Manager) -> usize
         ensures count { result ≡ length (channel_line self.now manager) }
     {
-        self.waits.shared.len(manager)
+        self.tables.shared.len(manager)
     }
 
     /// Starts a process of 1 to 4 ready threads of a priority from 1 to 63, under the lowest free number (C Library
@@ -131,9 +130,9 @@ impl Channel {
         ensures err { OnErr result (self.new ≡ record self.old { room = self.new.room }) }
         ensures spare { self.new.room ≤ max self.old.room (2 * threads) }
     {
-        self.waits.shared.reserve(threads)?;
+        self.tables.shared.reserve(threads)?;
         self.users.spawn(proc.user, threads, prio)?;
-        self.waits.shared.add_process(proc, threads, prio);
+        self.tables.shared.add_process(proc, threads, prio);
         Ok(())
     }
 
@@ -151,10 +150,10 @@ impl Channel {
         ensures spare { OnErr result (self.new.room ≤ room_for sent.target.over self.old.room) }
     {
         let target = sent.target;
-        servers::reserve(&mut self.waits.shared, target.over)?;
+        servers::reserve(&mut self.tables.shared, target.over)?;
         self.users.send(alloc, thread, sent)?;
-        self.waits.shared.send(target.manager, thread, target.prio);
-        servers::attach(&mut self.waits.shared, &self.users, thread.proc, target);
+        self.tables.shared.send(target.manager, thread, target.prio);
+        servers::attach(&mut self.tables.shared, &self.users, thread.proc, target);
         Ok(())
     }
 
@@ -164,7 +163,7 @@ impl Channel {
         ensures first { result ≡ slice_get (channel_line self.old manager) 0 }
         ensures rest { self.new ≡ after_receive self.old manager }
     {
-        let first = self.waits.shared.receive(manager)?;
+        let first = self.tables.shared.receive(manager)?;
         match first.item {
             OwnItem::Message { process, thread } => self.users.take(Thread {
                 proc: Proc {
@@ -188,7 +187,7 @@ impl Channel {
             return;
         };
         let target = call.target;
-        self.waits
+        self.tables
             .shared
             .ask_unblock(target.manager, thread, call.number, target.prio);
         self.users.ask_unblock(thread);
@@ -203,11 +202,11 @@ impl Channel {
         let Some(call) = self.queued(thread) else {
             return;
         };
-        self.waits.shared.withdraw(call.target.manager, thread);
+        self.tables.shared.withdraw(call.target.manager, thread);
         let lost = self
             .users
             .fail(thread, call.target.over, Errno::EINTR, None);
-        servers::disconnect(&mut self.waits.shared, thread.proc, lost);
+        servers::disconnect(&mut self.tables.shared, thread.proc, lost);
     }
 
     /// A thread takes its answer and is ready (C Library Reference: what `MsgSend` returns). None where it is not there or
@@ -231,7 +230,7 @@ impl Channel {
         let Some(_) = self.users.living(proc) else {
             return Outcome::WrongState;
         };
-        match self.waits.events.take_pulse(proc) {
+        match self.tables.events.take_pulse(proc) {
             Some(pulse) => Outcome::Pulse(pulse.code, pulse.value),
             None => Outcome::NoPulse,
         }

@@ -29,12 +29,12 @@ impl Channel {
         let Some(process) = self.users.living(proc) else {
             return Outcome::WrongState;
         };
-        let queues = &mut self.waits.shared;
+        let queues = &mut self.tables.shared;
         drop_all_items(queues, &self.users, proc, process.places());
         queues.abandon(proc);
-        self.waits.events.clear(proc);
+        self.tables.events.clear(proc);
         let lost = self.users.end(alloc, proc);
-        servers::disconnect_all(&mut self.waits.shared, proc, lost);
+        servers::disconnect_all(&mut self.tables.shared, proc, lost);
         Outcome::Done
     }
 
@@ -57,10 +57,10 @@ impl Channel {
         let Some(process) = self.users.process(proc) else {
             return;
         };
-        if !process.has_ended() || process.has_server() || self.waits.shared.has_waiting(proc) {
+        if !process.has_ended() || process.has_server() || self.tables.shared.has_waiting(proc) {
             return;
         }
-        self.waits.shared.remove_process(proc);
+        self.tables.shared.remove_process(proc);
         self.users.free_ended(proc);
     }
 }

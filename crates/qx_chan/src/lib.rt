@@ -1,9 +1,11 @@
-//! The channel: the processes of all users, and what waits: their messages in the managers' lines, and their events.
+//! The channel: the processes of all users, what waits: their messages in the managers' lines, and their
+//! events; and their mounts.
 //!
 //! - `channel.rt`: `Channel`, with the calls of message passing, and a process that takes a pulse
 //! - `serving.rt`: a received message served by its manager and answered, an unblock pulse performed, and the events that
 //!   are due then
 //! - `ending.rt`: a process that ends, what it has in lines and pipes, and how it is freed
+//! - `mounting.rt`: where managers are attached, for all users
 //! - `answers.rt`: the answers to calls that waited, as their threads get them
 //! - `users.rt`: the processes of all users: a row that is lent, and what a call changes in it
 //! - `call.rt`: the call that a thread waits for: where its message went, its number, and whether it was asked to
@@ -25,6 +27,7 @@ mod answers;
 mod call;
 pub mod channel;
 pub mod ending;
+pub mod mounting;
 mod servers;
 pub mod serving;
 mod users;

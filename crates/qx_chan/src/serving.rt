@@ -37,7 +37,7 @@ use qx_machine::{Caller, Client, ServerName};
 use qx_process::Room;
 use qx_process::room::reply_bytes;
 use qx_resmgr::Done;
-use qx_resources::{Resources, Waits, context_of};
+use qx_resources::{Resources, Tables, context_of};
 use qx_shared::Shared;
 use qx_types::{Errno, MessageBytes, Proc, Thread};
 use qx_wire::{Meaning, Parsed, meaning};
@@ -72,9 +72,9 @@ impl Channel {
             call,
             moment,
         };
-        let (users, waits) = (&mut self.users, &mut self.waits);
-        let (given, room) = perform(users, waits, resources, message, read, reply)?;
-        let queues = &mut waits.shared;
+        let (users, tables) = (&mut self.users, &mut self.tables);
+        let (given, room) = perform(users, tables, resources, message, read, reply)?;
+        let queues = &mut tables.shared;
         answer(users, queues, message, given, reply.as_slice(), room);
         give_answers(users, queues);
         Ok(())
@@ -91,11 +91,11 @@ impl Channel {
         let Some(processes) = self.users.processes(thread.proc.user) else {
             return;
         };
-        let waits = &mut self.waits;
-        let watched = resources.watch_call(waits, thread, call);
-        resources.cancel(waits, thread, call, moment);
-        resources.trigger(waits, processes, watched);
-        give_answers(&mut self.users, &mut waits.shared);
+        let tables = &mut self.tables;
+        let watched = resources.watch_call(tables, thread, call);
+        resources.cancel(tables, thread, call, moment);
+        resources.trigger(tables, processes, watched);
+        give_answers(&mut self.users, &mut tables.shared);
     }
 
     /// The disconnect pulse of a process' server connection is performed: the open control blocks go that are open over it still,
@@ -122,10 +122,10 @@ impl Channel {
             process: proc.num,
             server,
         };
-        let waits = &mut self.waits;
-        resources.disconnect(waits, processes, client, moment);
+        let tables = &mut self.tables;
+        resources.disconnect(tables, processes, client, moment);
         self.users.free_server(proc, server);
-        give_answers(&mut self.users, &mut waits.shared);
+        give_answers(&mut self.users, &mut tables.shared);
     }
 }
 
@@ -134,22 +134,22 @@ impl Channel {
 /// received as before.
 fn perform(
     users: &mut Users,
-    waits: &mut Waits,
+    tables: &mut Tables,
     resources: &mut Resources,
     message: TakenMessage,
     read: Option<&Parsed>,
     reply: &mut Reply,
 ) -> Result<(Result<Done, Errno>, Option<Room>), AllocError>
     requires user { resources.old.user ≡ message.thread.proc.user.0 }
-    requires fits { HasUser resources.old waits.old }
+    requires fits { HasUser resources.old tables.old }
     requires taken { Some message.call ≡ taken_call (thread_row users.old message.thread) }
-    requires received { IsReceived waits.old.shared message.thread }
+    requires received { IsReceived tables.old.shared message.thread }
     requires read { IsReadOf (option_copied read) (taken_of (thread_row users.old message.thread)) }
     ensures served { OnOk result (users.new ≡ with_thread_row users.old message.thread served_thread) }
-    ensures did { (process : machine.Process) (bytes : List ℕ) → Sends users.old message.thread process bytes → IfOk result (λ given. Comes (lives_in users.old message.thread.proc.user.0) resources.old waits.old resources.new waits.new reply.new given.0 (deed_in resources.old waits.old process message bytes)) }
+    ensures did { (process : machine.Process) (bytes : List ℕ) → Sends users.old message.thread process bytes → IfOk result (λ given. Comes (lives_in users.old message.thread.proc.user.0) resources.old tables.old resources.new tables.new reply.new given.0 (deed_in resources.old tables.old process message bytes)) }
     ensures room { IfOk result (λ given. IsReplied given.0 → IsSome given.1) }
-    ensures err { OnErr result ((users.new ≡ users.old) × (waits.new ≡ waits.old) × (resources.new ≡ resources.old)) }
-    ensures wanted { (process : machine.Process) (bytes : List ℕ) → Sends users.old message.thread process bytes → OnErr result (IsTrue (bytes_want_memory message.call.target.manager (told resources.old waits.old) (reading.meaning bytes) (deed_in resources.old waits.old process message bytes))) }
+    ensures err { OnErr result ((users.new ≡ users.old) × (tables.new ≡ tables.old) × (resources.new ≡ resources.old)) }
+    ensures wanted { (process : machine.Process) (bytes : List ℕ) → Sends users.old message.thread process bytes → OnErr result (IsTrue (bytes_want_memory message.call.target.manager (told resources.old tables.old) (reading.meaning bytes) (deed_in resources.old tables.old process message bytes))) }
 {
     let TakenMessage {
         thread,
@@ -163,13 +163,13 @@ fn perform(
     };
     let meaning = meaning_of(&bytes, read);
     let context = context_of(process, caller(thread, call), call.target, moment, &meaning);
-    let watched = resources.watch_message(waits, &meaning, context.opened);
-    match resources.perform(waits, context, meaning, reply, &mut room) {
+    let watched = resources.watch_message(tables, &meaning, context.opened);
+    match resources.perform(tables, context, meaning, reply, &mut room) {
         Ok(given) => {
             let Some(processes) = users.processes(thread.proc.user) else {
                 unreachable!();
             };
-            resources.trigger(waits, processes, watched);
+            resources.trigger(tables, processes, watched);
             Ok((given, room))
         }
         Err(error) => {

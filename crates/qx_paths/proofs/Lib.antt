@@ -1,3 +1,4 @@
 pub mod MountLemmas
 pub mod PathLemmas
 pub mod ReadLemmas
+pub mod RowLemmas

@@ -1,15 +1,14 @@
--- Which mount of a user a path leads to, and when a mount is refused.
-use Rattle.std.specs.Prelude.{ℕ, ◌≡◌, ◌+◌, nat_lt, List, [], ◌∷◌, ◌++◌, length, Option, None, Some, option_map, Result, Ok, Err, if◌then◌else◌}
+-- Which mount of a user a path leads to, when a mount is refused, and the mounts of all users.
+use Rattle.std.specs.Prelude.{ℕ, ◌+◌, nat_lt, List, [], ◌∷◌, ◌++◌, length, map, get_or, slice_set, Option, None, Some, option_map, Result, Ok, Err, if◌then◌else◌}
 use Rattle.std.specs.List.{list_any}
 use Rattle.std.specs.Str.{bytes_eq}
+use Rattle.qx_types.specs.Configuration.{Configuration}
 use Rattle.qx_types.specs.declared.errno.Errno.{Errno}
 use Rattle.qx_types.specs.declared.errno.Errno.TheVariants.{EACCES, EEXIST, ENOENT, ENOSPC}
 use Rattle.qx_types.specs.declared.limits.TheConstants.Limits.{MOUNTS}
 use Rattle.qx_types.specs.declared.names.Manager.{Manager}
 use Rattle.qx_types.specs.declared.names.Manager.TheVariants.{Ram}
 use Rattle.qx_paths.specs.Prefixes.{MountPoint, behind, is_at}
-use Rattle.qx_paths.specs.declared.mounts.MountFault.{MountFault}
-use Rattle.qx_paths.specs.declared.mounts.MountFault.TheVariants.{Refused, NoMemory}
 use Rattle.qx_paths.specs.declared.resolved.Resolved.{Resolved}
 
 -- a user's mounts at boot: the user's name, of the RAM manager (this profile)
@@ -66,7 +65,16 @@ mount_fault mounts path =
 abbrev pub mounted : List MountPoint → List (List ℕ) → Manager → ℕ → List MountPoint
 mounted mounts path manager root = mounts ++ record { prefix = path; manager = manager; root = root } ∷ []
 
--- an error of adding a mount says why it is refused; want of memory is said only where nothing refuses it
-abbrev pub IsMountError : Option Errno → MountFault → Type 0
-IsMountError reason (Refused errno) = reason ≡ Some errno
-IsMountError reason NoMemory = reason ≡ None
+-- ---- the mounts of all users, under the users' numbers from 1
+
+-- a user's mounts
+abbrev pub mounts_of : List (List MountPoint) → ℕ → List MountPoint
+mounts_of table user = get_or table user []
+
+-- at boot
+abbrev pub all_boot_mounts : Configuration → ℕ → List (List MountPoint)
+all_boot_mounts config root = [] ∷ map (λ name. boot_mounts name root) config.users
+
+-- a user has one mount more, and the others have theirs
+abbrev pub with_mount_of : List (List MountPoint) → ℕ → MountPoint → List (List MountPoint)
+with_mount_of table user mount = slice_set table user (mounted (mounts_of table user) mount.prefix mount.manager mount.root)

@@ -1,162 +1,139 @@
-ghost use Rattle.std.specs.Prelude.{◌≡◌, List, [], ◌∷◌, ◌++◌, IfErr, IfOk, None, OnErr, OnOk, Some, length, slice_get};
-ghost use Rattle.std.specs.Option.{option_copied};
+ghost use Rattle.std.specs.Prelude.{◌≡◌, ◌<◌, List, IfOk, OnErr, OnOk, None, Some, length};
 ghost use Rattle.std.specs.List.{list_any};
+ghost use Rattle.std.specs.Result.{result_err};
 ghost use Rattle.std.specs.Str.{bytes_eq};
-ghost use Rattle.qx_paths.specs.Mounts.{IsMountError, boot_mounts, fit, longer, longest, mount_fault, mounted, name_fault, resolve, top_fault};
-ghost use Rattle.qx_paths.specs.Prefixes.{MountPoint, is_at};
+ghost use Rattle.qx_types.specs.Configuration.{name_bytes};
+ghost use Rattle.qx_paths.specs.Mounts.{all_boot_mounts, fit, longer, longest, mount_fault, mounts_of, name_fault, resolve, top_fault, with_mount_of};
+ghost use Rattle.qx_paths.specs.Prefixes.{is_at};
+ghost use Rattle.qx_paths.specs.inner.Rows.{own};
 
 use crate::mount::Mount;
 use crate::path::Path;
 use crate::resolved::Resolved;
-use qx_types::{Bytes, Errno, Limits, Manager, NoMemory};
+use qx_types::{Bytes, Config, Errno, Limits, Manager, NoMemory, User};
 use std::alloc::Global;
 use std::marker::Model;
-use thiserror::Error;
 
-/// Why a mount was not added. Nothing changed.
-#[derive(Clone, Copy, PartialEq, Eq, Debug, Error)]
-pub enum MountFault {
-    #[error("the mount is refused")]
-    Refused(Errno),
-    #[error("out of memory")]
-    NoMemory,
+/// A mount, and whose it is.
+#[derive(Debug, Drop)]
+struct Row {
+    user: User,
+    mount: Mount,
 }
 
-impl From<NoMemory> for MountFault {
-    ghost use Rattle.std.specs.Prelude.{◌≡◌};
-    ghost use Rattle.qx_paths.specs.declared.mounts.MountFault.TheVariants as fault;
-
-    ghost from_gives = { λ _ given. given ≡ fault.NoMemory };
-
-    fn from(_error: NoMemory) -> MountFault {
-        MountFault::NoMemory
-    }
-}
-
-/// The mounts of one user, at most 8. A mount's number is its place, from 0, and stays (System Architecture: pathname
-/// management, the prefix tree; that each user has mounts of their own is this profile).
+/// The mounts of all users in one table, which contracts see as each user's mounts, at most 8. A mount's number is its place
+/// among its user's mounts, from 0, and stays (System Architecture: pathname management, the prefix tree; that each user has
+/// mounts of their own is this profile). There is room for all that the users may have.
 #[derive(Debug, Drop)]
 pub struct Mounts {
-    rows: Vec<Mount>,
+    // How many users there are, and one more, since nobody has number 0.
+    places: usize,
+    rows: Vec<Row>,
 }
 
 impl Model for Mounts {
-    ghost use Rattle.std.specs.Prelude.{◌≤◌, List, vec_len};
-    ghost use Rattle.qx_types.specs.declared.limits.TheConstants.Limits.{MOUNTS};
+    ghost use Rattle.std.specs.Prelude.{List, vec_capacity};
     ghost use Rattle.qx_paths.specs.Prefixes.{MountPoint};
+    ghost use Rattle.qx_paths.specs.inner.Rows.{IsTable, shown};
 
-    ghost Value = { List MountPoint };
+    ghost Value = { List (List MountPoint) };
 
-    ghost view = { λ m. m.rows.items };
+    ghost view = { λ m. shown m.places m.rows.items };
 
-    ghost invariant = { λ m. vec_len m.rows ≤ MOUNTS };
+    ghost invariant = { λ m. IsTable m.places m.rows.items (vec_capacity m.rows) };
 }
 
 impl Mounts {
-    /// The mounts of a user at boot: the top, which is the user's name, of the RAM manager, with that inode for its root.
-    pub fn boot(alloc: Global, name: &[u8], root: u32) -> Result<Mounts, NoMemory>
-        ensures top { IfOk result (λ mounts. mounts ≡ boot_mounts name.now root) }
+    /// The mounts at boot: each user has the top, which is the user's name, of the RAM manager, with that inode for its root.
+    pub fn boot(alloc: Global, config: &Config, root: u32) -> Result<Mounts, NoMemory>
+        ensures tops { IfOk result (λ mounts. mounts ≡ all_boot_mounts config.now root) }
     {
-        let mut rows = Vec::new(alloc);
-        rows.push(Mount::top(alloc, name, Manager::Ram, root)?)?;
-        Ok(Mounts { rows })
+        let places = config.user_count() + 1;
+        let mut mounts = Mounts {
+            places,
+            rows: Vec::with_capacity(alloc, places * Limits::MOUNTS)?,
+        };
+        for (number, name) in config.names().iter().enumerate() {
+            let top = Mount::top(alloc, name.as_slice(), Manager::Ram, root)?;
+            mounts.push(User(number as u8 + 1), top);
+        }
+        Ok(mounts)
     }
 
-    /// How many mounts there are.
-    pub fn len(&self) -> usize
-        ensures len { result ≡ length self.now }
+    /// Why a user's mount at a path is refused: EEXIST where one is there, or else ENOSPC where the user has 8.
+    pub fn fault(&self, user: User, path: &Path<'_>) -> Option<Errno>
+        ensures fault { result ≡ mount_fault (mounts_of self.now user.0) path.now }
     {
-        self.rows.len()
-    }
-
-    /// The mount of a number.
-    pub fn get(&self, number: usize) -> Option<&Mount>
-        ensures mount { option_copied result ≡ slice_get self.now number }
-    {
-        self.rows.get(number)
-    }
-
-    /// Why a mount at a path is refused: EEXIST where one is there, or else ENOSPC where the user has 8.
-    pub fn fault(&self, path: &Path<'_>) -> Option<Errno>
-        ensures fault { result ≡ mount_fault self.now path.now }
-    {
-        if has_at(&self.rows, path) {
+        if has_at(&self.rows, user, path) {
             Some(Errno::EEXIST)
-        } else if self.rows.len() < Limits::MOUNTS {
+        } else if count(&self.rows, user) < Limits::MOUNTS {
             None
         } else {
             Some(Errno::ENOSPC)
         }
     }
 
-    /// Attaches a manager at a path, under the next number, with that inode for its root (C Library Reference:
-    /// `resmgr_attach`). `Refused` as `fault` says, `NoMemory` where that says nothing; nothing changes then.
-    pub fn add(
-        &mut self,
-        alloc: Global,
-        path: &Path<'_>,
-        manager: Manager,
-        root: u32,
-    ) -> Result<(), MountFault>
-        ensures free { OnOk result (mount_fault self.old path.now ≡ None) }
-        ensures mounted { OnOk result (self.new ≡ mounted self.old path.now manager root) }
-        ensures refused { IfErr result (IsMountError (mount_fault self.old path.now)) }
+    /// Attaches a user's manager at a path, under the user's next number (C Library Reference: `resmgr_attach`). The errors of
+    /// `fault`; nothing changes then. Wants no memory.
+    pub fn add(&mut self, user: User, path: &Path<'_>, mount: Mount) -> Result<(), Errno>
+        requires user { user.0 < length self.old }
+        requires path { mount.prefix ≡ path.now }
+        ensures refused { result_err result ≡ mount_fault (mounts_of self.old user.0) path.now }
+        ensures mounted { OnOk result (self.new ≡ with_mount_of self.old user.0 mount) }
         ensures err { OnErr result (self.new ≡ self.old) }
     {
-        if let Some(errno) = self.fault(path) {
-            return Err(MountFault::Refused(errno));
-        }
-        self.push(alloc, path, manager, root)?;
-        Ok(())
-    }
-
-    /// Takes the mount away that was added last, for who could not finish what goes with it.
-    pub fn take_last(&mut self)
-        ensures before { (mounts : List MountPoint) (last : MountPoint) → self.old ≡ mounts ++ last ∷ [] → self.new ≡ mounts }
-    {
-        let _ = self.rows.pop();
-    }
-
-    /// Attaches a manager at a path where nothing refuses it.
-    fn push(
-        &mut self,
-        alloc: Global,
-        path: &Path<'_>,
-        manager: Manager,
-        root: u32,
-    ) -> Result<(), NoMemory>
-        requires free { mount_fault self.old path.now ≡ None }
-        ensures mounted { OnOk result (self.new ≡ mounted self.old path.now manager root) }
-        ensures err { OnErr result (self.new ≡ self.old) }
-    {
-        let mount = Mount::new(alloc, path, manager, root)?;
-        self.rows.push(mount)?;
-        Ok(())
-    }
-
-    /// Where a path leads the user with that name and these mounts, among the users with these names. EACCES for a path
-    /// without components and under another user's name, ENOENT under nobody's; else the mount of the longest prefix
-    /// (C Library Reference: `open`; that the user is looked at first is this profile).
-    pub fn resolve<'a>(
-        &self,
-        names: &[Bytes],
-        own: &[u8],
-        path: &Path<'a>,
-    ) -> Result<Resolved<'a>, Errno>
-        ensures resolved { result ≡ resolve names.now own.now self.now path.now }
-    {
-        if let Some(errno) = top_fault(names, own, path) {
+        if let Some(errno) = self.fault(user, path) {
             return Err(errno);
         }
-        longest(&self.rows, path).ok_or(Errno::ENOENT)
+        self.push(user, mount);
+        Ok(())
+    }
+
+    /// Attaches a user's manager where nothing refuses it.
+    fn push(&mut self, user: User, mount: Mount)
+        requires user { user.0 < length self.old }
+        requires free { mount_fault (mounts_of self.old user.0) mount.prefix ≡ None }
+        ensures mounted { self.new ≡ with_mount_of self.old user.0 mount }
+    {
+        self.rows.push_reserved(Row { user, mount });
+    }
+
+    /// Where a path leads a user. EACCES for a path without components and under another user's name, ENOENT under nobody's;
+    /// else the mount of the longest prefix, of the user's alone (C Library Reference: `open`; that the user is looked at
+    /// first is this profile). Other users' rows are passed by.
+    pub fn resolve<'a>(
+        &self,
+        config: &Config,
+        user: User,
+        path: &Path<'a>,
+    ) -> Result<Resolved<'a>, Errno>
+        ensures resolved { result ≡ resolve config.now.users (name_bytes config.now user.0) (mounts_of self.now user.0) path.now }
+    {
+        if let Some(errno) = top_fault(config.names(), config.name_bytes(user), path) {
+            return Err(errno);
+        }
+        longest(&self.rows, user, path).ok_or(Errno::ENOENT)
     }
 }
 
-/// Whether there is a mount at that path.
-fn has_at(rows: &[Mount], path: &Path<'_>) -> bool
-    ensures { result ≡ list_any (is_at path.now) rows.now }
+/// Whether a user has a mount at that path.
+fn has_at(rows: &[Row], user: User, path: &Path<'_>) -> bool
+    ensures { result ≡ list_any (is_at path.now) (own user.0 rows.now) }
 {
-    rows.iter().any(|mount| mount.is_at(path))
+    for row in rows.iter() {
+        if row.user == user && row.mount.is_at(path) {
+            return true;
+        }
+    }
+    false
+}
+
+/// How many mounts a user has.
+#[tactic(auto, using(crate::proofs::RowLemmas::own_count))]
+fn count(rows: &[Row], user: User) -> usize
+    ensures { result ≡ length (own user.0 rows.now) }
+{
+    rows.iter().filter(|row| row.user == user).count()
 }
 
 /// Why a user's path is refused whatever is mounted.
@@ -190,13 +167,17 @@ fn has_user(names: &[Bytes], first: &[u8]) -> bool
     names.iter().any(|name| name.as_slice() == first)
 }
 
-/// The mount of the longest prefix.
-fn longest<'a>(rows: &[Mount], path: &Path<'a>) -> Option<Resolved<'a>>
-    ensures { result ≡ longest path.now None 0 rows.now }
+/// The mount of the longest prefix, of a user's.
+fn longest<'a>(rows: &[Row], user: User, path: &Path<'a>) -> Option<Resolved<'a>>
+    ensures { result ≡ longest path.now None 0 (own user.0 rows.now) }
 {
     let mut best = None;
-    for (number, mount) in rows.iter().enumerate() {
-        best = longer(best, fit(path, number, mount));
+    let mut number = 0;
+    for row in rows.iter() {
+        if row.user == user {
+            best = longer(best, fit(path, number, &row.mount));
+            number += 1;
+        }
     }
     best
 }

@@ -19,7 +19,6 @@ pub struct Path<'a> {
 
 impl<'a> Model for Path<'a> {
     ghost use Rattle.std.specs.Prelude.{◌≡◌, ◌≤◌, List, ℕ, true, length};
-    ghost use Rattle.std.specs.List.{list_all};
     ghost use Rattle.qx_types.specs.declared.limits.TheConstants.Limits.{PATH};
     ghost use Rattle.qx_paths.specs.inner.Paths.{IsShortPath};
     ghost use Rattle.qx_paths.specs.Paths.{path_components};

@@ -3,6 +3,7 @@
 ghost use Rattle.std.specs.Prelude.{◌≡◌, ◌<◌, ◌≤◌, IsTrue, IfOk, None, Some, option_map, true};
 ghost use Rattle.qx_types.specs.declared.limits.TheConstants.Limits.{LAST_CONNECTION};
 ghost use Rattle.qx_wire.specs.Rests.{is_rest};
+ghost use Rattle.qx_paths.specs.Mounts.{mounts_of};
 ghost use Rattle.qx_machine.specs.declared.rows.State.TheVariants.{Ready};
 ghost use Rattle.qx_machine.specs.Calls as calls;
 ghost use Rattle.qx_machine.specs.Calls.{can_send, content_of};
@@ -40,7 +41,7 @@ pub fn target_by<'a>(
     ensures sendable { IfOk result (λ addressed. IsTrue (can_send (content_of request.now addressed.rest))) }
     ensures rest { IfOk result (λ addressed. HasRest addressed.target.over addressed.rest) }
     ensures place { IfOk result (λ addressed. CanAttachAt (row_at processes.now thread.proc.num) addressed.target) }
-    ensures target { result ≡ clients.target_by config.now thread.proc.user.0 mounts.now processes.now thread request.now }
+    ensures target { result ≡ clients.target_by config.now thread.proc.user.0 (mounts_of mounts.now thread.proc.user.0) processes.now thread request.now }
 {
     let Some(process) = processes.process(thread.proc.num) else {
         return Err(Outcome::WrongState);
@@ -103,11 +104,11 @@ fn place_of<'a>(
     path: &'a [u8],
 ) -> Result<Resolved<'a>, Outcome>
     ensures rest { IfOk result (λ place. is_rest place.rest ≡ true) }
-    ensures place { result ≡ or_refused (calls.place_of config.now user.0 mounts.now path.now) }
+    ensures place { result ≡ or_refused (calls.place_of config.now user.0 (mounts_of mounts.now user.0) path.now) }
 {
     let path = read_path(path).map_err(Outcome::Refused)?;
     let place = mounts
-        .resolve(config.names(), config.name_bytes(user), &path)
+        .resolve(config, user, &path)
         .map_err(Outcome::Refused)?;
     place.rest.know();
     Ok(place)

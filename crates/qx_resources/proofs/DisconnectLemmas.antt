@@ -20,13 +20,13 @@ use Rattle.qx_machine.proofs.Gives.{gives_done, gives-value}
 use Rattle.qx_notify.specs.Events.{AllEvents, events_of, with_events}
 use Rattle.qx_pipes.proofs.PipesLemmas.{given-same}
 use Rattle.qx_shared.specs.Shared.{Shared, users_given, with_pipes}
-use Rattle.qx_resources.proofs.KeptLemmas.{same-events, waits_of}
+use Rattle.qx_resources.proofs.KeptLemmas.{same-events, tables_of}
 use Rattle.qx_resources.proofs.WatchFacts.{unarmed-settled}
 use Rattle.qx_resources.specs.Disconnects.{disconnected}
 use Rattle.qx_resources.specs.State.{HasUser, Kept, shared, told}
 use Rattle.qx_resources.specs.inner.Conditions.{conditions_in}
 use Rattle.qx_resources.specs.inner.State.{AreLeft, Came}
-use Rattle.qx_resources.specs.declared.waits.Waits.{Waits}
+use Rattle.qx_resources.specs.declared.tables.Tables.{Tables}
 use Rattle.std.proofs.lemmas.Option.{slice_get_within}
 use Rattle.qx_resources.proofs.GoneLemmas.{Fewer, IsGone, fewer-all, fewer-by, fewer-count, fewer-none, gone-blocks, gone-gives}
 
@@ -48,25 +48,25 @@ pipes-then c user one two first second =
     let answered = append_assoc c.answered (map (users_given user) first) (map (users_given user) second) ∙ ap (λ more. c.answered ++ more) (sym (map-append (users_given user) first second)) in
     λ i. record c { pipes = set-set c.pipes user one.pipes two.pipes i; answered = answered i }
 
-shared-then : (k l : Kept) (w : Waits) (one two : Resources) (first second : List (WaitingCall × Answer)) → l.user ≡ k.user → k.user < length w.events.events → event_count one.events ≤ event_count (events_of w.events k.user)
+shared-then : (k l : Kept) (w : Tables) (one two : Resources) (first second : List (WaitingCall × Answer)) → l.user ≡ k.user → k.user < length w.events.events → event_count one.events ≤ event_count (events_of w.events k.user)
     → shared l (shared k w one first) two second ≡ shared k w two (first ++ second)
 shared-then k l w one two first second user within few =
-    ap (λ (user : ℕ). waits_of (with_pipes (shared k w one first).shared user two.pipes second) (with_events (shared k w one first).events user two.events)) user
-    ∙ (λ i. record { shared = pipes-then w.shared k.user one two first second i; events = events-then w.events k.user within one.events two.events few i })
+    ap (λ (user : ℕ). tables_of (with_pipes (shared k w one first).shared user two.pipes second) (with_events (shared k w one first).events user two.events) w.mounts) user
+    ∙ (λ i. record { shared = pipes-then w.shared k.user one two first second i; events = events-then w.events k.user within one.events two.events few i; mounts = w.mounts })
 
-shared-same : (k : Kept) (w : Waits) → w ≡ shared k w (told k w) []
-shared-same k w = λ i. record { shared = given-same w.shared k.user i; events = same-events w.events k.user i }
+shared-same : (k : Kept) (w : Tables) → w ≡ shared k w (told k w) []
+shared-same k w = λ i. record { shared = given-same w.shared k.user i; events = same-events w.events k.user i; mounts = w.mounts }
 
 -- ---- one block after another
 
 -- what is done from here on leads to what was to be done
-pub record LeadsTo (k : Kept) (w : Waits) (meant : Deed Resources) (l : Kept) (v : Waits) (rest : Deed Resources) : Type 0 where
+pub record LeadsTo (k : Kept) (w : Tables) (meant : Deed Resources) (l : Kept) (v : Tables) (rest : Deed Resources) : Type 0 where
   pub state : rest.state ≡ meant.state
   pub shared : shared l v rest.state rest.answers ≡ shared k w meant.state meant.answers
   pub user : l.user ≡ k.user
 
 -- the user has a place still
-has-user : (k l : Kept) (w v : Waits) (deed : Deed Resources) → HasUser k w → AreLeft k w l v deed → HasUser l v
+has-user : (k l : Kept) (w v : Tables) (deed : Deed Resources) → HasUser k w → AreLeft k w l v deed → HasUser l v
 has-user k l w v deed has left = rw (left.user, left.shared) (record {
   pipes = rw (length-set w.shared.pipes k.user deed.state.pipes) has.pipes;
   events = rw (length-set w.events.events k.user deed.state.events) has.events;
@@ -96,10 +96,10 @@ length-gone (y ∷ xs) (suc place) x is = let rest = length-gone xs place x is i
 
 module _ (client : Client) (moment : ℕ) where
   -- what is to be done from a place on
-  abbrev pub left_to : ℕ → Kept → Waits → Deed Resources
+  abbrev pub left_to : ℕ → Kept → Tables → Deed Resources
   left_to place l v = close_all client.server.manager moment (drop place (blocks_of_client l.inodes client)) (told l v)
 
-  module _ (k : Kept) (w : Waits) (meant : Deed Resources) (l m : Kept) (v u : Waits) (place number : ℕ) (has : HasUser l v) (leads : LeadsTo k w meant l v (left_to place l v)) (inodes : Inodes) (same : inodes ≡ l.inodes) (at : Some number ≡ slice_get (blocks_of_client inodes client) place) where
+  module _ (k : Kept) (w : Tables) (meant : Deed Resources) (l m : Kept) (v u : Tables) (place number : ℕ) (has : HasUser l v) (leads : LeadsTo k w meant l v (left_to place l v)) (inodes : Inodes) (same : inodes ≡ l.inodes) (at : Some number ≡ slice_get (blocks_of_client inodes client) place) where
     abbrev numbers : List ℕ
     numbers = blocks_of_client l.inodes client
 
@@ -149,7 +149,7 @@ module _ (client : Client) (moment : ℕ) where
         state = ap (λ (d : Deed Resources). d.state) now ∙ ap (λ (d : Deed Resources). d.state) (sym was) ∙ leads.state;
         shared =
             ap (λ (d : Deed Resources). shared m u d.state d.answers) now
-            ∙ ap (λ (u : Waits). shared m u (later deed.state).state (later deed.state).answers) left.shared
+            ∙ ap (λ (u : Tables). shared m u (later deed.state).state (later deed.state).answers) left.shared
             ∙ shared-then l m v deed.state (later deed.state).state deed.answers (later deed.state).answers left.user has.events few
             ∙ ap (λ (d : Deed Resources). shared l v d.state d.answers) (sym was)
             ∙ leads.shared;
@@ -190,7 +190,7 @@ module _ (client : Client) (moment : ℕ) where
         by (Err error) is came = absurd came
 
   -- nothing is left to be done
-  pub leads-end : (k : Kept) (w : Waits) (meant : Deed Resources) (l : Kept) (v : Waits) (place : ℕ) → LeadsTo k w meant l v (left_to place l v) → slice_get (blocks_of_client l.inodes client) place ≡ None → AreLeft k w l v meant
+  pub leads-end : (k : Kept) (w : Tables) (meant : Deed Resources) (l : Kept) (v : Tables) (place : ℕ) → LeadsTo k w meant l v (left_to place l v) → slice_get (blocks_of_client l.inodes client) place ≡ None → AreLeft k w l v meant
   leads-end k w meant l v place leads none =
       let end : left_to place l v ≡ unreplied (told l v) = ap (λ numbers. close_all client.server.manager moment numbers (told l v)) (drop-none (blocks_of_client l.inodes client) place none) in
       record {
@@ -201,7 +201,7 @@ module _ (client : Client) (moment : ℕ) where
 
 -- ---- events that are due by all of that
 
-module _ (lives : ℕ → Bool) (k l : Kept) (w v : Waits) (client : Client) (moment : ℕ) (has : HasUser k w) (left : AreLeft k w l v (close_client (told k w) client moment)) where
+module _ (lives : ℕ → Bool) (k l : Kept) (w v : Tables) (client : Client) (moment : ℕ) (has : HasUser k w) (left : AreLeft k w l v (close_client (told k w) client moment)) where
   abbrev deed : Deed Resources
   deed = close_client (told k w) client moment
 
@@ -215,7 +215,7 @@ module _ (lives : ℕ → Bool) (k l : Kept) (w v : Waits) (client : Client) (mo
       subst (λ (events : Events). AreLeft k w l v (record deed { state = record deed.state { events = events } })) due left
 
   -- where conditions were noted before, due events give their pulses
-  pub triggered-left : (before : List Conditions) (u : Waits) → ((number : ℕ) → conditions_in before number ≡ block_conditions (told k w) number)
+  pub triggered-left : (before : List Conditions) (u : Tables) → ((number : ℕ) → conditions_in before number ≡ block_conditions (told k w) number)
       → u ≡ record v { events = with_events v.events l.user (triggered lives (conditions_in before) (block_conditions (told l v)) (events_of v.events l.user)) } → AreLeft k w l u (disconnected lives (told k w) client moment)
   triggered-left before u noted is =
       let events : Events = events_settled lives (told k w) deed.state in
@@ -228,8 +228,9 @@ module _ (lives : ℕ → Bool) (k l : Kept) (w v : Waits) (client : Client) (mo
       rw now (record {
         state = λ i. record (left.state i) { events = got i };
         shared = λ i. record {
-          shared = (ap (λ (w : Waits). w.shared) left.shared) i;
-          events = (ap₂ (λ (w : Waits) user. with_events w.events user events) left.shared left.user ∙ events-then w.events k.user has.events deed.state.events events (fewer-count (events_of w.events k.user) deed.state.events fewer)) i;
+          shared = (ap (λ (w : Tables). w.shared) left.shared) i;
+          mounts = (ap (λ (w : Tables). w.mounts) left.shared) i;
+          events = (ap₂ (λ (w : Tables) user. with_events w.events user events) left.shared left.user ∙ events-then w.events k.user has.events deed.state.events events (fewer-count (events_of w.events k.user) deed.state.events fewer)) i;
         };
         user = left.user;
       })

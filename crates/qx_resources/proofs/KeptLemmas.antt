@@ -4,6 +4,7 @@ use Rattle.std.specs.Prelude.{◌||◌, IsTrue}
 use Rattle.std.proofs.lemmas.List.{set-get_or}
 use Rattle.qx_types.specs.declared.errno.Errno.{Errno}
 use Rattle.qx_types.specs.declared.names.Manager.TheVariants as managers
+use Rattle.qx_paths.specs.Mounts.{mounts_of}
 use Rattle.qx_paths.specs.Prefixes.{MountPoint}
 use Rattle.qx_iofunc.specs.Given.{number_replied}
 use Rattle.qx_iofunc.specs.Store.{Store, Stored, with_stored}
@@ -25,20 +26,20 @@ use Rattle.qx_pipes.specs.Pipes.{Follows, done_of, seen}
 use Rattle.qx_resmgr.specs.Deeds.{Did, reply_with}
 use Rattle.qx_resmgr.specs.declared.functions.Done.{Done}
 use Rattle.qx_resmgr.specs.declared.functions.Done.TheVariants.{Reply}
-use Rattle.qx_resources.specs.Boot.{without_pipes}
+use Rattle.qx_resources.specs.Boot.{kept_of}
 use Rattle.qx_notify.specs.Events.{AllEvents, events_of, with_events}
 use Rattle.qx_resources.specs.State.{Kept, state, told}
 use Rattle.qx_resources.specs.inner.State.{AreLeft, Came}
-use Rattle.qx_resources.specs.declared.waits.Waits.{Waits}
+use Rattle.qx_resources.specs.declared.tables.Tables.{Tables}
 use Rattle.qx_shared.specs.Shared.{Shared, pipes_of}
 
 -- what is kept for a user, with this of it in a store
-abbrev pub kept_with : List MountPoint → Stored → Kept
-kept_with mounts s = record { user = s.user; mounts = mounts; inodes = s.inodes; names = s.names; files = s.files }
+abbrev pub kept_with : Stored → Kept
+kept_with s = record { user = s.user; inodes = s.inodes; names = s.names; files = s.files }
 
--- what all share, of these two parts
-abbrev pub waits_of : Shared → AllEvents → Waits
-waits_of c e = record { shared = c; events = e }
+-- what all share, of these parts
+abbrev pub tables_of : Shared → AllEvents → List (List MountPoint) → Tables
+tables_of c e mounts = record { shared = c; events = e; mounts = mounts }
 
 -- no event changes
 pub same-events : (e : AllEvents) (user : ℕ) → e ≡ with_events e user (events_of e user)
@@ -48,34 +49,34 @@ same-events e user =
 
 -- ---- what follows the machine
 
-module _ (mounts : List MountPoint) (old new : Stored) (c d : Shared) (e : AllEvents) (bytes : List ℕ) where
+module _ (mounts : List (List MountPoint)) (old new : Stored) (c d : Shared) (e : AllEvents) (bytes : List ℕ) where
   abbrev before : Resources
-  before = told (kept_with mounts old) (waits_of c e)
+  before = told (kept_with old) (tables_of c e mounts)
 
   abbrev DidSo : Result Done Errno → Result (Deed Resources) Errno → Type 0
-  DidSo result meant = Did state (kept_with mounts old) (waits_of c e) (kept_with mounts new) (waits_of d e) bytes result meant
+  DidSo result meant = Did state (kept_with old) (tables_of c e mounts) (kept_with new) (tables_of d e mounts) bytes result meant
 
-  left-so : (deed : Deed Resources) → Follows {E = Errno} old c new d before (Ok deed) → new.user ≡ old.user → AreLeft (kept_with mounts old) (waits_of c e) (kept_with mounts new) (waits_of d e) deed
+  left-so : (deed : Deed Resources) → Follows {E = Errno} old c new d before (Ok deed) → new.user ≡ old.user → AreLeft (kept_with old) (tables_of c e mounts) (kept_with new) (tables_of d e mounts) deed
   left-so deed follows user = record {
-    state = ap (λ user. record (seen before new d) { events = events_of e user }) user ∙ follows.state;
-    shared = λ i. record { shared = follows.shared i; events = (same-events e old.user ∙ ap (λ (r : Resources). with_events e old.user r.events) follows.state) i };
+    state = ap (λ user. record (seen before new d) { mounts = mounts_of mounts user; events = events_of e user }) user ∙ follows.state;
+    shared = λ i. record { shared = follows.shared i; events = (same-events e old.user ∙ ap (λ (r : Resources). with_events e old.user r.events) follows.state) i; mounts = mounts };
     user = user;
   }
 
   -- what follows the machine came to what the machine gave
-  came-so : (given : Result (Unit {0}) Errno) (meant : Result (Deed Resources) Errno) → Follows old c new d before meant → given ≡ done_of meant → new.user ≡ old.user → Came (kept_with mounts old) (waits_of c e) (kept_with mounts new) (waits_of d e) given meant
+  came-so : (given : Result (Unit {0}) Errno) (meant : Result (Deed Resources) Errno) → Follows old c new d before meant → given ≡ done_of meant → new.user ≡ old.user → Came (kept_with old) (tables_of c e mounts) (kept_with new) (tables_of d e mounts) given meant
   came-so (Ok nothing) (Ok deed) follows is user = left-so deed follows user
-  came-so (Err error) (Err meant) follows is user = let same : error ≡ meant = cc in (same, ap without_pipes follows.state, ap (λ s. waits_of s e) follows.shared)
+  came-so (Err error) (Err meant) follows is user = let same : error ≡ meant = cc in (same, ap kept_of follows.state, ap (λ s. tables_of s e mounts) follows.shared)
   came-so (Ok nothing) (Err meant) follows is user = absurd (cc)
   came-so (Err error) (Ok deed) follows is user = absurd (cc)
 
-  pub came : (given : Result (Unit {0}) Errno) (meant : Resources → Result (Deed Resources) Errno) → ((r : Resources) → Follows old c new d r (meant r)) → ((r : Resources) → given ≡ done_of (meant r)) → new.user ≡ old.user → Came (kept_with mounts old) (waits_of c e) (kept_with mounts new) (waits_of d e) given (meant before)
+  pub came : (given : Result (Unit {0}) Errno) (meant : Resources → Result (Deed Resources) Errno) → ((r : Resources) → Follows old c new d r (meant r)) → ((r : Resources) → given ≡ done_of (meant r)) → new.user ≡ old.user → Came (kept_with old) (tables_of c e mounts) (kept_with new) (tables_of d e mounts) given (meant before)
   came given meant follows is = came-so given (meant before) (follows before) (is before)
 
   passed_as : (answer : Done) (given : Result (Unit {0}) Errno) (result : Result Done Errno) (meant : Result (Deed Resources) Errno) → Follows old c new d before meant → given ≡ done_of meant → new.user ≡ old.user → IfOk meant (λ deed. reply_with bytes answer ≡ deed.reply)
       → bytes ≡ [] → MatchResult given (λ nothing. result ≡ Ok answer) (λ error. result ≡ Err error) → DidSo result meant
   passed_as answer (Ok nothing) result (Ok deed) follows is user replies none gives = let left = left-so deed follows user in rw gives (replies, left.state, left.shared, user)
-  passed_as answer (Err error) result (Err meant) follows is user replies none gives = let same : error ≡ meant = cc in rw gives (same, ap without_pipes follows.state, ap (λ s. waits_of s e) follows.shared, none)
+  passed_as answer (Err error) result (Err meant) follows is user replies none gives = let same : error ≡ meant = cc in rw gives (same, ap kept_of follows.state, ap (λ s. tables_of s e mounts) follows.shared, none)
   passed_as answer (Ok nothing) result (Err meant) follows is user replies none gives = absurd (cc)
   passed_as answer (Err error) result (Ok deed) follows is user replies none gives = absurd (cc)
 
@@ -91,28 +92,28 @@ module _ (mounts : List MountPoint) (old new : Stored) (c d : Shared) (e : AllEv
   told_so tell status effect ok err (Ok value) result meant follows is user none gives =
       rw gives (subst (λ meant. Follows old c new d before meant → DidSo (Ok (Reply (status value) (effect value))) meant) (sym (ok _ value) ∙ is before) (λ follows. let left = left-so _ follows user in (refl, left.state, left.shared, user)) (follows before))
   told_so tell status effect ok err (Err error) result meant follows is user none gives =
-      rw gives (subst (λ meant. Follows old c new d before meant → DidSo (Err error) meant) (sym (err _ error) ∙ is before) (λ follows. (refl, ap without_pipes follows.state, ap (λ s. waits_of s e) follows.shared, none)) (follows before))
+      rw gives (subst (λ meant. Follows old c new d before meant → DidSo (Err error) meant) (sym (err _ error) ∙ is before) (λ follows. (refl, ap kept_of follows.state, ap (λ s. tables_of s e mounts) follows.shared, none)) (follows before))
 
 -- ---- the RAM manager and the default functions leave what all users share
 
-module _ (mounts : List MountPoint) (old new : Store) (w : Waits) (bytes : List ℕ) where
+module _ (old new : Store) (w : Tables) (bytes : List ℕ) where
   abbrev first : Resources
-  first = told (kept_with mounts old.stored) w
+  first = told (kept_with old.stored) w
 
   abbrev DidAlone : Result Done Errno → Result (Deed Resources) Errno → Type 0
-  DidAlone result meant = Did state (kept_with mounts old.stored) w (kept_with mounts new.stored) w bytes result meant
+  DidAlone result meant = Did state (kept_with old.stored) w (kept_with new.stored) w bytes result meant
 
   pub answered : (status : ℕ) (effect : Effect) (done_of : Done) (meant : Resources → Result (Deed Resources) Errno) → done_of ≡ Reply status effect → ((r : Resources) → Ok (reply_alone status bytes effect (with_stored r new.stored)) ≡ meant r) → new.stored.user ≡ old.stored.user → DidAlone (Ok done_of) (meant first)
   answered status effect done_of meant reply is user =
       rw reply (subst (DidAlone (Ok (Reply status effect))) (is first) (
         refl,
-        ap (λ user. record (with_stored first new.stored) { pipes = pipes_of w.shared user; events = events_of w.events user }) user,
-        λ i. record { shared = given-same w.shared old.stored.user i; events = same-events w.events old.stored.user i },
+        ap (λ user. record (with_stored first new.stored) { mounts = mounts_of w.mounts user; pipes = pipes_of w.shared user; events = events_of w.events user }) user,
+        λ i. record { shared = given-same w.shared old.stored.user i; events = same-events w.events old.stored.user i; mounts = w.mounts },
         user,
       ))
 
   pub refused : (error : Errno) (meant : Resources → Result (Deed Resources) Errno) → ((r : Resources) → Err error ≡ meant r) → new ≡ old → bytes ≡ [] → DidAlone (Err error) (meant first)
-  refused error meant is same none = subst (DidAlone (Err error)) (is first) (refl, ap (λ (s : Store). kept_with mounts s.stored) same, refl, none)
+  refused error meant is same none = subst (DidAlone (Err error)) (is first) (refl, ap (λ (s : Store). kept_with s.stored) same, refl, none)
 
   -- each value is told as a reply of its own, and each error is an error
   pub told_alone : {A : Type 0} (tell : Resources → Result A Errno → Result (Deed Resources) Errno) (status : A → ℕ) → ((r : Resources) (value : A) → tell r (Ok value) ≡ Ok (reply_alone (status value) bytes Keeps r)) → ((r : Resources) (error : Errno) → tell r (Err error) ≡ Err error)
@@ -127,7 +128,7 @@ module _ (mounts : List MountPoint) (old new : Store) (w : Waits) (bytes : List 
 
 -- ---- a close of the last connection that has a block
 
-module _ (k l : Kept) (w v : Waits) (own : Kind) (opened : Opened) (last : is_shared (row_at k.inodes.blocks opened.number) ≡ false) where
+module _ (k l : Kept) (w v : Tables) (own : Kind) (opened : Opened) (last : is_shared (row_at k.inodes.blocks opened.number) ≡ false) where
   refused-by : (error : Errno) (meant : Result (Deed Resources) Errno) (next : Deed Resources → Result (Deed Resources) Errno) → Came k w l v (Err error) meant → Did state k w l v [] (Err error) (meant >>= next)
   refused-by error (Ok deed) next came = absurd came
   refused-by error (Err meant) next came = (came.0, came.1, came.2, refl)

@@ -29,7 +29,7 @@ use Rattle.qx_resmgr.specs.Deeds.{Did}
 use Rattle.qx_resmgr.specs.declared.functions.Done.{Done}
 use Rattle.qx_resmgr.specs.declared.functions.Done.TheVariants.{Reply}
 use Rattle.qx_resources.specs.State.{HasUser, Kept, state, told}
-use Rattle.qx_resources.specs.declared.waits.Waits.{Waits}
+use Rattle.qx_resources.specs.declared.tables.Tables.{Tables}
 
 -- ---- what wants memory
 
@@ -81,11 +81,11 @@ module _ (r : Resources) (opened : Opened) (block : Ocb) (action : NotifyAction)
 
 -- ---- what becomes of the events
 
-module _ (k : Kept) (w : Waits) (opened : Opened) (block : Ocb) (action : NotifyAction) (wish : PulseWish) (there : row_at k.inodes.blocks opened.number ≡ Some block) (has : HasUser k w) where
+module _ (k : Kept) (w : Tables) (opened : Opened) (block : Ocb) (action : NotifyAction) (wish : PulseWish) (there : row_at k.inodes.blocks opened.number ≡ Some block) (has : HasUser k w) where
   abbrev meant : Result Notified Errno
   meant = notified action (event_of opened wish) (conditions_at (told k w) (Some block)) (events_of w.events k.user)
 
-  abbrev left_by : Result Notified Errno → Waits
+  abbrev left_by : Result Notified Errno → Tables
   left_by meant = record w { events = notified_after w.events k.user meant }
 
   did-by : (meant : Result Notified Errno) (given : Result ℕ Errno) (result : Result Done Errno) → given ≡ status_given meant → MatchResult given (λ status. result ≡ Ok (Reply status Keeps)) (λ error. result ≡ Err error)
@@ -102,5 +102,5 @@ module _ (k : Kept) (w : Waits) (opened : Opened) (block : Ocb) (action : Notify
   did-by (Ok notified) (Err given) result is gives = absurd (cc)
   did-by (Err error) (Ok status) result is gives = absurd (cc)
 
-  pub notify-did : (v : Waits) (given : Result ℕ Errno) (result : Result Done Errno) → given ≡ status_given meant → v ≡ left_by meant → MatchResult given (λ status. result ≡ Ok (Reply status Keeps)) (λ error. result ≡ Err error) → Did state k w k v [] result (notify_block (told k w) opened action wish)
+  pub notify-did : (v : Tables) (given : Result ℕ Errno) (result : Result Done Errno) → given ≡ status_given meant → v ≡ left_by meant → MatchResult given (λ status. result ≡ Ok (Reply status Keeps)) (λ error. result ≡ Err error) → Did state k w k v [] result (notify_block (told k w) opened action wish)
   notify-did v given result is left gives = rw (left, there) (did-by meant given result is gives)

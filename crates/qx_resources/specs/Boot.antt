@@ -5,11 +5,11 @@ use Rattle.qx_machine.specs.Resources.{Resources}
 use Rattle.qx_machine.specs.Users.{boot_part}
 use Rattle.qx_resources.specs.State.{Kept}
 
--- the machine's resources, but the pipes
-abbrev pub without_pipes : Resources → Kept
-without_pipes r = record { user = r.user; mounts = r.mounts; inodes = r.inodes; names = r.names; files = r.files }
+-- the machine's resources, but what stands in tables of all users
+abbrev pub kept_of : Resources → Kept
+kept_of r = record { user = r.user; inodes = r.inodes; names = r.names; files = r.files }
 
 -- for the users from this one on
 abbrev pub boot_resources : Configuration → ℕ → List (List ℕ) → List (Option Kept)
 boot_resources config user [] = []
-boot_resources config user (name ∷ names) = Some (without_pipes (boot_part config user).resources) ∷ boot_resources config (user + 1) names
+boot_resources config user (name ∷ names) = Some (kept_of (boot_part config user).resources) ∷ boot_resources config (user + 1) names

@@ -11,10 +11,10 @@ ghost use Rattle.qx_resmgr.specs.Deeds.{Did, IsReplied};
 ghost use Rattle.qx_resources.specs.State as kept;
 ghost use Rattle.qx_resources.specs.State.{HasUser};
 ghost use Rattle.qx_resources.specs.inner.State.{IsCallerReceived};
-ghost use Rattle.qx_resources.specs.declared.waits.Waits.{Waits as AllWaits};
+ghost use Rattle.qx_resources.specs.declared.tables.Tables.{Tables as AllTables};
 
 use crate::resources::Resources;
-use crate::waits::Waits;
+use crate::tables::Tables;
 use qx_attr::{Reply, Status};
 use qx_machine::{Effect, Event, NewDup, Opened, PulseWish};
 use qx_resmgr::Done;
@@ -34,7 +34,7 @@ pub fn opened(coid: Coid, block: u16) -> Done
 
 /// Gives a new connection what an old one has open (C Library Reference: `dup`).
 pub fn dup(state: &mut Resources, dup: Result<NewDup, Errno>) -> Result<Done, Errno>
-    ensures did { (waits : AllWaits) → Did kept.state state.old waits state.new waits [] result (function_deed ram_io.dup dup (λ f dup. f (kept.told state.old waits) dup)) }
+    ensures did { (tables : AllTables) → Did kept.state state.old tables state.new tables [] result (function_deed ram_io.dup dup (λ f dup. f (kept.told state.old tables) dup)) }
     ensures replied { IsReplied result }
 {
     let NewDup { coid, old } = dup?;
@@ -60,7 +60,7 @@ pub fn stat(
     reply: &mut Reply,
 ) -> Result<Done, Errno>
     requires empty { reply.old ≡ [] }
-    ensures did { (waits : AllWaits) (moment : ℕ) → Did kept.state state.now waits state.now waits reply.new result (function_deed ram_connect.stat root (λ f root. f (kept.told state.now waits) root rest.now moment)) }
+    ensures did { (tables : AllTables) (moment : ℕ) → Did kept.state state.now tables state.now tables reply.new result (function_deed ram_connect.stat root (λ f root. f (kept.told state.now tables) root rest.now moment)) }
     ensures replied { IsReplied result }
 {
     tell(state.store.stat(root?, rest), reply).map(Done::keeps)
@@ -73,7 +73,7 @@ pub fn fstat(
     reply: &mut Reply,
 ) -> Result<Done, Errno>
     requires empty { reply.old ≡ [] }
-    ensures did { (waits : AllWaits) → Did kept.state state.now waits state.now waits reply.new result (function_deed ram_io.fstat opened (λ f o. f (kept.told state.now waits) o)) }
+    ensures did { (tables : AllTables) → Did kept.state state.now tables state.now tables reply.new result (function_deed ram_io.fstat opened (λ f o. f (kept.told state.now tables) o)) }
     ensures replied { IsReplied result }
 {
     tell(state.store.fstat(opened?), reply).map(Done::keeps)
@@ -87,7 +87,7 @@ pub fn list(
     reply: &mut Reply,
 ) -> Result<Done, Errno>
     requires empty { reply.old ≡ [] }
-    ensures did { (waits : AllWaits) → Did kept.state state.now waits state.now waits reply.new result (function_deed ram_io.list opened (λ f o. f (kept.told state.now waits) o after.now)) }
+    ensures did { (tables : AllTables) → Did kept.state state.now tables state.now tables reply.new result (function_deed ram_io.list opened (λ f o. f (kept.told state.now tables) o after.now)) }
     ensures replied { IsReplied result }
 {
     state.store.list(opened?, after, reply).map(Done::keeps)
@@ -95,7 +95,7 @@ pub fn list(
 
 /// Sets the mode of what is open (C Library Reference: `fchmod`).
 pub fn chmod(state: &mut Resources, opened: Result<Opened, Errno>, mode: u16) -> Result<Done, Errno>
-    ensures did { (waits : AllWaits) → Did kept.state state.old waits state.new waits [] result (function_deed ram_io.chmod opened (λ f o. f (kept.told state.old waits) o mode)) }
+    ensures did { (tables : AllTables) → Did kept.state state.old tables state.new tables [] result (function_deed ram_io.chmod opened (λ f o. f (kept.told state.old tables) o mode)) }
     ensures replied { IsReplied result }
 {
     state.store.chmod(opened?, mode).map(|_| Done::keeps(0))
@@ -105,17 +105,17 @@ pub fn chmod(state: &mut Resources, opened: Result<Opened, Errno>, mode: u16) ->
 /// Reference: `ionotify`; `iofunc_notify`).
 pub fn notify(
     state: &Resources,
-    waits: &mut Waits,
+    tables: &mut Tables,
     opened: Result<Opened, Errno>,
     action: NotifyAction,
     wish: PulseWish,
 ) -> Result<Result<Done, Errno>, AllocError>
-    requires fits { HasUser state.now waits.old }
-    requires ready { IfOk opened (λ o. IsCallerReceived state.now waits.old o) }
-    ensures did { IfOk result (λ given. Did kept.state state.now waits.old state.now waits.new [] given (function_deed ram_io.notify opened (λ f o. f (kept.told state.now waits.old) o action wish))) }
+    requires fits { HasUser state.now tables.old }
+    requires ready { IfOk opened (λ o. IsCallerReceived state.now tables.old o) }
+    ensures did { IfOk result (λ given. Did kept.state state.now tables.old state.now tables.new [] given (function_deed ram_io.notify opened (λ f o. f (kept.told state.now tables.old) o action wish))) }
     ensures replied { IfOk result IsReplied }
-    ensures err { OnErr result (waits.new ≡ waits.old) }
-    ensures wanted { OnErr result (IsTrue (is_done_so got_events (kept.told state.now waits.old) (function_deed ram_io.notify opened (λ f o. f (kept.told state.now waits.old) o action wish)))) }
+    ensures err { OnErr result (tables.new ≡ tables.old) }
+    ensures wanted { OnErr result (IsTrue (is_done_so got_events (kept.told state.now tables.old) (function_deed ram_io.notify opened (λ f o. f (kept.told state.now tables.old) o action wish)))) }
 {
     let opened = match opened {
         Ok(opened) => opened,
@@ -124,7 +124,7 @@ pub fn notify(
     let Some(block) = state.store.inodes().block(opened.number) else {
         return Ok(Err(Errno::EBADF));
     };
-    let holding = state.conditions(waits, block.inode);
+    let holding = state.conditions(tables, block.inode);
     let event = Event {
         process: opened.caller.process,
         block: opened.number,
@@ -132,7 +132,7 @@ pub fn notify(
         code: wish.code,
         value: wish.value,
     };
-    let told = waits
+    let told = tables
         .events
         .notify(state.store.user(), action, event, holding)?;
     Ok(told.map(Done::keeps))

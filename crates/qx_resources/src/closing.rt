@@ -14,7 +14,7 @@ ghost use Rattle.qx_resources.specs.State.{HasUser};
 ghost use Rattle.qx_resources.specs.inner.State.{AreLeft, Came};
 
 use crate::resources::Resources;
-use crate::waits::Waits;
+use crate::tables::Tables;
 use qx_machine::{Client, Effect, Kind, Opened};
 use qx_procs::Processes;
 use qx_resmgr::Done;
@@ -24,19 +24,19 @@ use qx_types::{Coid, Errno, Manager};
 /// Manager: `iofunc_close_dup`).
 pub fn close(
     state: &mut Resources,
-    waits: &mut Waits,
+    tables: &mut Tables,
     manager: Manager,
     opened: Result<Opened, Errno>,
 ) -> Result<Done, Errno>
-    requires fits { HasUser state.old waits.old }
-    ensures did { Did kept.state state.old waits.old state.new waits.new [] result (function_deed (Some (defaults.close_dup (own_kind manager))) opened (λ f o. f (kept.told state.old waits.old) o)) }
+    requires fits { HasUser state.old tables.old }
+    ensures did { Did kept.state state.old tables.old state.new tables.new [] result (function_deed (Some (defaults.close_dup (own_kind manager))) opened (λ f o. f (kept.told state.old tables.old) o)) }
     ensures replied { IsReplied result }
 {
     let opened = opened?;
     if state.store.close_dup(opened.number) {
         return Ok(closed(opened.coid));
     }
-    close_ocb(state, waits, manager, opened.number, opened.moment)?;
+    close_ocb(state, tables, manager, opened.number, opened.moment)?;
     Ok(closed(opened.coid))
 }
 
@@ -54,47 +54,47 @@ fn closed(coid: Coid) -> Done
 /// `iofunc_close_ocb`, `iofunc_notify_remove`). EBADF without a block of the manager's own kind of inode.
 fn close_ocb(
     state: &mut Resources,
-    waits: &mut Waits,
+    tables: &mut Tables,
     manager: Manager,
     number: u16,
     moment: u64,
 ) -> Result<(), Errno>
-    requires fits { HasUser state.old waits.old }
-    ensures { Came state.old waits.old state.new waits.new result (defaults.close_ocb (own_kind manager) (kept.told state.old waits.old) number moment) }
+    requires fits { HasUser state.old tables.old }
+    ensures { Came state.old tables.old state.new tables.new result (defaults.close_ocb (own_kind manager) (kept.told state.old tables.old) number moment) }
 {
-    free_block(state, waits, manager, number, moment)?;
-    waits.events.disarm(state.store.user(), number);
+    free_block(state, tables, manager, number, moment)?;
+    tables.events.disarm(state.store.user(), number);
     Ok(())
 }
 
 /// Takes an open control block of a manager away, and its event stays (C Library Reference: `close`).
 fn free_block(
     state: &mut Resources,
-    waits: &mut Waits,
+    tables: &mut Tables,
     manager: Manager,
     number: u16,
     moment: u64,
 ) -> Result<(), Errno>
-    requires fits { HasUser state.old waits.old }
-    ensures came { Came state.old waits.old state.new waits.new result (defaults.free_block (own_kind manager) (kept.told state.old waits.old) number moment) }
-    ensures events { waits.new.events ≡ waits.old.events }
+    requires fits { HasUser state.old tables.old }
+    ensures came { Came state.old tables.old state.new tables.new result (defaults.free_block (own_kind manager) (kept.told state.old tables.old) number moment) }
+    ensures events { tables.new.events ≡ tables.old.events }
 {
     match manager {
         Manager::Ram => state.store.close(Kind::File, number).map(|_| ()),
-        Manager::Pipe => qx_pipes::close(&mut waits.shared, &mut state.store, number, moment),
+        Manager::Pipe => qx_pipes::close(&mut tables.shared, &mut state.store, number, moment),
     }
 }
 
 /// With a client go the open control blocks that it still has, in order of making, but for those of another manager's kind of
 /// inode.
-fn close_client(state: &mut Resources, waits: &mut Waits, client: Client, moment: u64)
-    requires fits { HasUser state.old waits.old }
-    ensures { AreLeft state.old waits.old state.new waits.new (managers.close_client (kept.told state.old waits.old) client moment) }
+fn close_client(state: &mut Resources, tables: &mut Tables, client: Client, moment: u64)
+    requires fits { HasUser state.old tables.old }
+    ensures { AreLeft state.old tables.old state.new tables.new (managers.close_client (kept.told state.old tables.old) client moment) }
 {
     // So many of them stay.
     let mut kept = 0;
     'numbers: while let Some(number) = state.store.inodes().of_client(client, kept) {
-        if close_ocb(state, waits, client.server.manager, number, moment).is_err() {
+        if close_ocb(state, tables, client.server.manager, number, moment).is_err() {
             kept += 1;
         }
     }
@@ -106,7 +106,7 @@ impl Resources {
     /// C Library Reference: `iofunc_notify_trigger`).
     pub fn disconnect(
         &mut self,
-        all: &mut Waits,
+        all: &mut Tables,
         processes: &Processes,
         client: Client,
         moment: u64,

@@ -1,16 +1,16 @@
 //! Which conditions hold of what a user has open, and the pulses that come of what changed of those of all blocks.
 
-ghost use Rattle.std.specs.Prelude.{◌≡◌, ℕ, slice_index_or};
+ghost use Rattle.std.specs.Prelude.{◌≡◌, ℕ};
 ghost use Rattle.qx_machine.specs.Events.{triggered};
 ghost use Rattle.qx_machine.specs.Notification as machine;
 ghost use Rattle.qx_machine.specs.Settling.{is_living};
 ghost use Rattle.qx_notify.specs.Events.{events_of, with_events};
 ghost use Rattle.qx_resources.specs.State.{HasUser, told};
-ghost use Rattle.qx_resources.specs.Watching.{pipe_conditions, unwatched};
+ghost use Rattle.qx_resources.specs.Watching.{pipe_conditions};
 ghost use Rattle.qx_resources.specs.inner.Conditions.{conditions_in};
 
 use crate::resources::Resources;
-use crate::waits::Waits;
+use crate::tables::Tables;
 use qx_machine::Conditions;
 use qx_notify::{Change, Changes};
 use qx_procs::Processes;
@@ -28,15 +28,15 @@ const PLACES: usize = Limits::BLOCKS + 1;
 impl Resources {
     /// Which conditions hold of what is open under an inode (C Library Reference: `ionotify`): of a pipe input where bytes
     /// stand or nobody has it open for writing, and output where bytes have room or nobody has it open for reading.
-    pub(crate) fn conditions(&self, waits: &Waits, inode: u32) -> Conditions
-        ensures { result ≡ pipe_conditions (told self.now waits.now) inode }
+    pub(crate) fn conditions(&self, tables: &Tables, inode: u32) -> Conditions
+        ensures { result ≡ pipe_conditions (told self.now tables.now) inode }
     {
         let user = self.store.user();
-        if !waits.shared.has_pipe(user, inode) {
+        if !tables.shared.has_pipe(user, inode) {
             return BOTH;
         }
         let sides = self.store.inodes().sides(inode);
-        let len = waits.shared.pipe_len(user, inode);
+        let len = tables.shared.pipe_len(user, inode);
         Conditions {
             input: len != 0 || !sides.for_writing,
             output: len < Limits::PIPE || !sides.for_reading,
@@ -44,23 +44,23 @@ impl Resources {
     }
 
     /// Which conditions hold of what an open control block has open.
-    fn block_conditions(&self, waits: &Waits, number: u16) -> Conditions
-        ensures { result ≡ machine.block_conditions (told self.now waits.now) number }
+    fn block_conditions(&self, tables: &Tables, number: u16) -> Conditions
+        ensures { result ≡ machine.block_conditions (told self.now tables.now) number }
     {
         match self.store.inodes().block(number) {
-            Some(block) => self.conditions(waits, block.inode),
+            Some(block) => self.conditions(tables, block.inode),
             None => BOTH,
         }
     }
 
     /// Which conditions hold of each open control block, under its number.
-    pub(crate) fn all_conditions(&self, waits: &Waits) -> [Conditions; PLACES]
-        ensures { (number : ℕ) → conditions_in result number ≡ machine.block_conditions (told self.now waits.now) number }
+    pub(crate) fn all_conditions(&self, tables: &Tables) -> [Conditions; PLACES]
+        ensures { (number : ℕ) → conditions_in result number ≡ machine.block_conditions (told self.now tables.now) number }
     {
         self.store.inodes().numbered();
         let mut all = [BOTH; PLACES];
         for number in 0..PLACES {
-            all[number] = self.block_conditions(waits, number as u16);
+            all[number] = self.block_conditions(tables, number as u16);
         }
         all
     }
@@ -69,20 +69,20 @@ impl Resources {
     /// `iofunc_notify_trigger`).
     pub(crate) fn trigger_all(
         &self,
-        waits: &mut Waits,
+        tables: &mut Tables,
         processes: &Processes,
         before: [Conditions; PLACES],
     )
-        requires fits { HasUser self.now waits.old }
-        ensures { waits.new ≡ record waits.old { events = with_events waits.old.events self.now.user (triggered (is_living processes.now) (conditions_in before) (machine.block_conditions (told self.now waits.old)) (events_of waits.old.events self.now.user)) } }
+        requires fits { HasUser self.now tables.old }
+        ensures { tables.new ≡ record tables.old { events = with_events tables.old.events self.now.user (triggered (is_living processes.now) (conditions_in before) (machine.block_conditions (told self.now tables.old)) (events_of tables.old.events self.now.user)) } }
     {
-        let after = self.all_conditions(waits);
+        let after = self.all_conditions(tables);
         let changes = BlockChanges {
             processes,
             before,
             after,
         };
-        waits.events.trigger(self.store.user(), &changes);
+        tables.events.trigger(self.store.user(), &changes);
     }
 }
 

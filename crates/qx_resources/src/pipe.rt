@@ -4,7 +4,7 @@ ghost use Rattle.qx_types.specs.declared.names.Manager.TheVariants as manager;
 
 use crate::resources::Resources;
 use crate::state::Told;
-use crate::waits::Waits;
+use crate::tables::Tables;
 use crate::{blocks, closing};
 use qx_attr::Reply;
 use qx_machine::{NewDup, NewOpen, Opened, PulseWish, Wish};
@@ -17,12 +17,12 @@ use std::alloc::AllocError;
 /// The pipe manager.
 pub struct Pipe;
 
-impl Connect<Resources, Waits, Told> for Pipe {
+impl Connect<Resources, Tables, Told> for Pipe {
     ghost connect = { pipe_connect };
 
     fn open(
         state: &mut Resources,
-        waits: &mut Waits,
+        tables: &mut Tables,
         over: Result<NewOpen, Errno>,
         rest: &Rest<'_>,
         wish: Wish,
@@ -31,13 +31,13 @@ impl Connect<Resources, Waits, Told> for Pipe {
             Ok(over) => over,
             Err(error) => return Ok(Err(error)),
         };
-        let opened = qx_pipes::open(&mut waits.shared, &mut state.store, over, rest, wish)?;
+        let opened = qx_pipes::open(&mut tables.shared, &mut state.store, over, rest, wish)?;
         Ok(opened.map(|block| blocks::opened(over.coid, block)))
     }
 
     fn stat(
         state: &mut Resources,
-        _waits: &mut Waits,
+        _tables: &mut Tables,
         root: Result<u32, Errno>,
         rest: &Rest<'_>,
         _moment: u64,
@@ -48,18 +48,18 @@ impl Connect<Resources, Waits, Told> for Pipe {
 
     fn unlink(
         state: &mut Resources,
-        waits: &mut Waits,
+        tables: &mut Tables,
         root: Result<u32, Errno>,
         rest: &Rest<'_>,
         moment: u64,
     ) -> Result<Done, Errno> {
-        let unlinked = qx_pipes::unlink(&mut waits.shared, &mut state.store, root?, rest, moment);
+        let unlinked = qx_pipes::unlink(&mut tables.shared, &mut state.store, root?, rest, moment);
         unlinked.map(|_| Done::keeps(0))
     }
 
     fn mknod(
         _state: &mut Resources,
-        _waits: &mut Waits,
+        _tables: &mut Tables,
         _root: Result<u32, Errno>,
         _mode: u16,
         _rest: &Rest<'_>,
@@ -69,7 +69,7 @@ impl Connect<Resources, Waits, Told> for Pipe {
     }
 }
 
-impl Io<Resources, Waits, Told> for Pipe {
+impl Io<Resources, Tables, Told> for Pipe {
     ghost use Rattle.qx_resources.specs.inner.State.{IsCallerReceived};
 
     ghost io = { pipe_io };
@@ -80,19 +80,19 @@ impl Io<Resources, Waits, Told> for Pipe {
 
     fn read(
         state: &mut Resources,
-        waits: &mut Waits,
+        tables: &mut Tables,
         opened: Result<Opened, Errno>,
         count: u32,
         _reply: &mut Reply,
         room: &mut Option<Room>,
     ) -> Result<Done, Errno> {
-        let read = qx_pipes::read(&mut waits.shared, &mut state.store, opened?, count, room);
+        let read = qx_pipes::read(&mut tables.shared, &mut state.store, opened?, count, room);
         read.map(|_| Done::NoReply)
     }
 
     fn write(
         state: &mut Resources,
-        waits: &mut Waits,
+        tables: &mut Tables,
         opened: Result<Opened, Errno>,
         bytes: &[u8],
         room: &mut Option<Room>,
@@ -101,21 +101,21 @@ impl Io<Resources, Waits, Told> for Pipe {
             Ok(opened) => opened,
             Err(error) => return Ok(Err(error)),
         };
-        let written = qx_pipes::write(&mut waits.shared, &mut state.store, opened, bytes, room);
+        let written = qx_pipes::write(&mut tables.shared, &mut state.store, opened, bytes, room);
         Ok(written.map(|_| Done::NoReply))
     }
 
     fn close(
         state: &mut Resources,
-        waits: &mut Waits,
+        tables: &mut Tables,
         opened: Result<Opened, Errno>,
     ) -> Result<Done, Errno> {
-        closing::close(state, waits, Manager::Pipe, opened)
+        closing::close(state, tables, Manager::Pipe, opened)
     }
 
     fn dup(
         state: &mut Resources,
-        _waits: &mut Waits,
+        _tables: &mut Tables,
         dup: Result<NewDup, Errno>,
     ) -> Result<Done, Errno> {
         blocks::dup(state, dup)
@@ -123,7 +123,7 @@ impl Io<Resources, Waits, Told> for Pipe {
 
     fn lseek(
         state: &mut Resources,
-        _waits: &mut Waits,
+        _tables: &mut Tables,
         opened: Result<Opened, Errno>,
         _whence: Whence,
         _offset: i64,
@@ -133,7 +133,7 @@ impl Io<Resources, Waits, Told> for Pipe {
 
     fn fstat(
         state: &mut Resources,
-        _waits: &mut Waits,
+        _tables: &mut Tables,
         opened: Result<Opened, Errno>,
         reply: &mut Reply,
     ) -> Result<Done, Errno> {
@@ -142,7 +142,7 @@ impl Io<Resources, Waits, Told> for Pipe {
 
     fn list(
         state: &mut Resources,
-        _waits: &mut Waits,
+        _tables: &mut Tables,
         opened: Result<Opened, Errno>,
         after: &[u8],
         reply: &mut Reply,
@@ -152,7 +152,7 @@ impl Io<Resources, Waits, Told> for Pipe {
 
     fn chmod(
         state: &mut Resources,
-        _waits: &mut Waits,
+        _tables: &mut Tables,
         opened: Result<Opened, Errno>,
         mode: u16,
     ) -> Result<Done, Errno> {
@@ -161,11 +161,11 @@ impl Io<Resources, Waits, Told> for Pipe {
 
     fn notify(
         state: &mut Resources,
-        waits: &mut Waits,
+        tables: &mut Tables,
         opened: Result<Opened, Errno>,
         action: NotifyAction,
         wish: PulseWish,
     ) -> Result<Result<Done, Errno>, AllocError> {
-        blocks::notify(state, waits, opened, action, wish)
+        blocks::notify(state, tables, opened, action, wish)
     }
 }

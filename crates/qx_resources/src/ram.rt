@@ -4,7 +4,7 @@ ghost use Rattle.qx_types.specs.declared.names.Manager.TheVariants as manager;
 
 use crate::resources::Resources;
 use crate::state::Told;
-use crate::waits::Waits;
+use crate::tables::Tables;
 use crate::{blocks, closing};
 use qx_attr::Reply;
 use qx_machine::{Kind, NewDup, NewOpen, Opened, PulseWish, Wish};
@@ -17,12 +17,12 @@ use std::alloc::AllocError;
 /// The RAM manager.
 pub struct Ram;
 
-impl Connect<Resources, Waits, Told> for Ram {
+impl Connect<Resources, Tables, Told> for Ram {
     ghost connect = { ram_connect };
 
     fn open(
         state: &mut Resources,
-        _waits: &mut Waits,
+        _tables: &mut Tables,
         over: Result<NewOpen, Errno>,
         rest: &Rest<'_>,
         wish: Wish,
@@ -41,7 +41,7 @@ impl Connect<Resources, Waits, Told> for Ram {
 
     fn stat(
         state: &mut Resources,
-        _waits: &mut Waits,
+        _tables: &mut Tables,
         root: Result<u32, Errno>,
         rest: &Rest<'_>,
         _moment: u64,
@@ -52,7 +52,7 @@ impl Connect<Resources, Waits, Told> for Ram {
 
     fn unlink(
         state: &mut Resources,
-        _waits: &mut Waits,
+        _tables: &mut Tables,
         root: Result<u32, Errno>,
         rest: &Rest<'_>,
         moment: u64,
@@ -63,7 +63,7 @@ impl Connect<Resources, Waits, Told> for Ram {
 
     fn mknod(
         state: &mut Resources,
-        _waits: &mut Waits,
+        _tables: &mut Tables,
         root: Result<u32, Errno>,
         mode: u16,
         rest: &Rest<'_>,
@@ -78,7 +78,7 @@ impl Connect<Resources, Waits, Told> for Ram {
     }
 }
 
-impl Io<Resources, Waits, Told> for Ram {
+impl Io<Resources, Tables, Told> for Ram {
     ghost use Rattle.qx_resources.specs.inner.State.{IsCallerReceived};
 
     ghost io = { ram_io };
@@ -89,7 +89,7 @@ impl Io<Resources, Waits, Told> for Ram {
 
     fn read(
         state: &mut Resources,
-        _waits: &mut Waits,
+        _tables: &mut Tables,
         opened: Result<Opened, Errno>,
         count: u32,
         reply: &mut Reply,
@@ -100,7 +100,7 @@ impl Io<Resources, Waits, Told> for Ram {
 
     fn write(
         state: &mut Resources,
-        _waits: &mut Waits,
+        _tables: &mut Tables,
         opened: Result<Opened, Errno>,
         bytes: &[u8],
         _room: &mut Option<Room>,
@@ -115,15 +115,15 @@ impl Io<Resources, Waits, Told> for Ram {
 
     fn close(
         state: &mut Resources,
-        waits: &mut Waits,
+        tables: &mut Tables,
         opened: Result<Opened, Errno>,
     ) -> Result<Done, Errno> {
-        closing::close(state, waits, Manager::Ram, opened)
+        closing::close(state, tables, Manager::Ram, opened)
     }
 
     fn dup(
         state: &mut Resources,
-        _waits: &mut Waits,
+        _tables: &mut Tables,
         dup: Result<NewDup, Errno>,
     ) -> Result<Done, Errno> {
         blocks::dup(state, dup)
@@ -131,7 +131,7 @@ impl Io<Resources, Waits, Told> for Ram {
 
     fn lseek(
         state: &mut Resources,
-        _waits: &mut Waits,
+        _tables: &mut Tables,
         opened: Result<Opened, Errno>,
         whence: Whence,
         offset: i64,
@@ -141,7 +141,7 @@ impl Io<Resources, Waits, Told> for Ram {
 
     fn fstat(
         state: &mut Resources,
-        _waits: &mut Waits,
+        _tables: &mut Tables,
         opened: Result<Opened, Errno>,
         reply: &mut Reply,
     ) -> Result<Done, Errno> {
@@ -150,7 +150,7 @@ impl Io<Resources, Waits, Told> for Ram {
 
     fn list(
         state: &mut Resources,
-        _waits: &mut Waits,
+        _tables: &mut Tables,
         opened: Result<Opened, Errno>,
         after: &[u8],
         reply: &mut Reply,
@@ -160,7 +160,7 @@ impl Io<Resources, Waits, Told> for Ram {
 
     fn chmod(
         state: &mut Resources,
-        _waits: &mut Waits,
+        _tables: &mut Tables,
         opened: Result<Opened, Errno>,
         mode: u16,
     ) -> Result<Done, Errno> {
@@ -169,11 +169,11 @@ impl Io<Resources, Waits, Told> for Ram {
 
     fn notify(
         state: &mut Resources,
-        waits: &mut Waits,
+        tables: &mut Tables,
         opened: Result<Opened, Errno>,
         action: NotifyAction,
         wish: PulseWish,
     ) -> Result<Result<Done, Errno>, AllocError> {
-        blocks::notify(state, waits, opened, action, wish)
+        blocks::notify(state, tables, opened, action, wish)
     }
 }

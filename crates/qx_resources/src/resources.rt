@@ -1,6 +1,7 @@
 //! What the managers keep for a user, and what messages do to it.
 
-ghost use Rattle.std.specs.Prelude.{◌≡◌, is_ok, IsSome, IsTrue, IfOk, OnErr, OnOk};
+ghost use Rattle.std.specs.Prelude.{◌≡◌, Ok, is_ok, IsSome, IsTrue, IfOk, OnErr, OnOk};
+ghost use Rattle.qx_machine.specs.Inodes.{inode_number};
 ghost use Rattle.qx_machine.specs.Mounting as mounting;
 ghost use Rattle.qx_machine.specs.Performing as performing;
 ghost use Rattle.qx_machine.specs.Performing.{deed_of};
@@ -8,22 +9,23 @@ ghost use Rattle.qx_machine.specs.PipeManager.{cancel_call};
 ghost use Rattle.qx_machine.specs.Users.{boot_part};
 ghost use Rattle.qx_machine.specs.Wants.{bytes_want_memory};
 ghost use Rattle.qx_resmgr.specs.Deeds.{Did, HasRoomAfter};
-ghost use Rattle.qx_resources.specs.Boot.{without_pipes};
-ghost use Rattle.qx_resources.specs.Mounts.{IsNextMount, with_new_mount};
+ghost use Rattle.qx_paths.specs.Mounts.{mounts_of};
+ghost use Rattle.qx_resources.specs.Boot.{kept_of};
+ghost use Rattle.qx_resources.specs.Mounts.{IsNextMount, with_new_root};
 ghost use Rattle.qx_resources.specs.Ranges.{IsInRanges};
 ghost use Rattle.qx_resources.specs.State.{HasUser, state, told};
 ghost use Rattle.qx_resources.specs.inner.State.{IsCallerReceived};
-ghost use Rattle.qx_resources.specs.declared.waits.Waits.{Waits as AllWaits};
-ghost use Rattle.qx_shared.specs.Shared.{IsReceived, shared_after, state_after};
+ghost use Rattle.qx_resources.specs.declared.tables.Tables.{Tables as AllTables};
+ghost use Rattle.qx_shared.specs.Shared.{shared_after, state_after};
 
 use crate::pipe::Pipe;
 use crate::ram::Ram;
 use crate::state::Told;
-use crate::waits::Waits;
+use crate::tables::Tables;
 use qx_attr::Reply;
 use qx_iofunc::Store;
 use qx_machine::{Caller, Context, Opened, Over, Target};
-use qx_paths::{MountFault, Mounts, Path, read_path};
+use qx_paths::{Mounts, Path, read_path};
 use qx_process::{Process, Room};
 use qx_resmgr::{Done, serve};
 use qx_types::{Coid, Config, Errno, Manager, NoMemory, Thread, User};
@@ -31,14 +33,10 @@ use qx_wire::{Meaning, Message};
 use std::alloc::{AllocError, Global};
 use std::marker::Model;
 
-/// The root of a user's top.
-const TOP_INODE: u32 = 1;
-
-/// What the managers keep for a user: where they are attached, and what is under names and numbers there. The pipes stand in
-/// what all users share.
+/// What the managers keep for a user: what is under names and numbers where they are attached. Where that is, the pipes and the
+/// events stand in tables of all users.
 #[derive(Drop)]
 pub struct Resources {
-    mounts: Mounts,
     pub(crate) store: Store,
 }
 
@@ -51,15 +49,15 @@ impl Model for Resources {
 
     ghost coded = { Prim.hlevel (codes, names_code) };
 
-    ghost view = { λ r. record { user = r.store.stored.user; mounts = r.mounts; inodes = r.store.stored.inodes; names = r.store.stored.names; files = r.store.stored.files } };
+    ghost view = { λ r. record { user = r.store.stored.user; inodes = r.store.stored.inodes; names = r.store.stored.names; files = r.store.stored.files } };
 }
 
 /// A mount that is judged and not made yet: its path, its manager, and the inode that its root will have.
 #[derive(Drop)]
 pub struct NewMount<'a> {
-    path: Path<'a>,
-    manager: Manager,
-    root: u32,
+    pub path: Path<'a>,
+    pub manager: Manager,
+    pub root: u32,
 }
 
 impl<'a> Model for NewMount<'a> {
@@ -73,38 +71,31 @@ impl<'a> Model for NewMount<'a> {
 impl Resources {
     /// A user's resources at boot.
     pub fn boot(alloc: Global, config: &Config, user: User) -> Result<Self, NoMemory>
-        ensures { IfOk result (λ resources. resources ≡ without_pipes (boot_part config.now user.0).resources) }
+        ensures { IfOk result (λ resources. resources ≡ kept_of (boot_part config.now user.0).resources) }
     {
         Ok(Resources {
-            mounts: Mounts::boot(alloc, config.name_bytes(user), TOP_INODE)?,
             store: Store::boot(alloc, user)?,
         })
     }
 
-    /// The user's mounts.
-    pub fn mounts(&self) -> &Mounts
-        ensures mounts { result.now ≡ self.now.mounts }
-    {
-        &self.mounts
-    }
-
-    /// A manager's mount at a path of the user of that name, with the lowest free inode for its root (C Library Reference:
-    /// `resmgr_attach`). The errors of `read_path`; EACCES for a path that is neither the name nor below it, whoever has its
-    /// first name; EEXIST where a mount is; ENOSPC where the user has 8 mounts or 1,024 inodes.
+    /// A manager's mount at a path of the user of that name, beside the mounts of all users, with the lowest free inode for its
+    /// root (C Library Reference: `resmgr_attach`). The errors of `read_path`; EACCES for a path that is neither the name nor
+    /// below it, whoever has its first name; EEXIST where a mount is; ENOSPC where the user has 8 mounts or 1,024 inodes.
     pub fn new_mount<'a>(
         &self,
+        mounts: &Mounts,
         name: &[u8],
         path: &'a [u8],
         manager: Manager,
     ) -> Result<NewMount<'a>, Errno>
-        ensures can { IfOk result (λ mount. IsNextMount self.now mount) }
-        ensures mount { (all : AllWaits) → result ≡ mounting.new_mount name.now path.now manager (told self.now all) }
+        ensures can { IfOk result (λ mount. IsNextMount (mounts_of mounts.now self.now.user) self.now mount) }
+        ensures mount { (all : AllTables) → all.mounts ≡ mounts.now → result ≡ mounting.new_mount name.now path.now manager (told self.now all) }
     {
         let path = read_path(path)?;
         if !path.is_under(name) {
             return Err(Errno::EACCES);
         }
-        if let Some(errno) = self.mounts.fault(&path) {
+        if let Some(errno) = mounts.fault(self.store.user(), &path) {
             return Err(errno);
         }
         let root = self.store.inodes().inode_number()?;
@@ -115,25 +106,13 @@ impl Resources {
         })
     }
 
-    /// Attaches a manager, with a root of its own.
-    pub fn mount(&mut self, alloc: Global, mount: &NewMount<'_>) -> Result<(), NoMemory>
-        requires can { IsNextMount self.old mount.now }
-        ensures ok { OnOk result (self.new ≡ with_new_mount mount.now self.old) }
+    /// Makes the root of a mount that is judged.
+    pub fn add_root(&mut self, root: u32) -> Result<(), AllocError>
+        requires next { inode_number self.old.inodes ≡ Ok root }
+        ensures ok { OnOk result (self.new ≡ with_new_root root self.old) }
         ensures err { OnErr result (self.new ≡ self.old) }
     {
-        match self
-            .mounts
-            .add(alloc, &mount.path, mount.manager, mount.root)
-        {
-            Ok(()) => {}
-            Err(MountFault::NoMemory) => return Err(NoMemory),
-            Err(MountFault::Refused(_)) => unreachable!(),
-        }
-        if self.store.add_root(mount.root).is_err() {
-            self.mounts.take_last();
-            return Err(NoMemory);
-        }
-        Ok(())
+        self.store.add_root(root)
     }
 
     /// Does what bytes that were sent to a manager ask it for, by what they mean; the bytes of the reply are then in `reply`,
@@ -141,7 +120,7 @@ impl Resources {
     /// file longer and a notification that arms may want memory, and only where they would be done.
     pub fn perform(
         &mut self,
-        all: &mut Waits,
+        all: &mut Tables,
         context: Context,
         meaning: Meaning<'_>,
         reply: &mut Reply,
@@ -164,17 +143,17 @@ impl Resources {
         };
         match context.target.manager {
             Manager::Ram => {
-                serve::<Ram, Resources, Waits, Told>(self, all, context, message, reply, room)
+                serve::<Ram, Resources, Tables, Told>(self, all, context, message, reply, room)
             }
             Manager::Pipe => {
-                serve::<Pipe, Resources, Waits, Told>(self, all, context, message, reply, room)
+                serve::<Pipe, Resources, Tables, Told>(self, all, context, message, reply, room)
             }
         }
     }
 
     /// A thread's call is asked to unblock: if it waits in a pipe, it is answered EINTR, unless it is served as the pipe is
     /// cleaned before, and others may be served then (Writing a Resource Manager: the unblock pulse). Tells whether it waited.
-    pub fn cancel(&mut self, all: &mut Waits, thread: Thread, call: u64, moment: u64) -> bool
+    pub fn cancel(&mut self, all: &mut Tables, thread: Thread, call: u64, moment: u64) -> bool
         requires user { self.old.user ≡ thread.proc.user.0 }
         requires fits { HasUser self.old all.old }
         ensures user { self.new.user ≡ self.old.user }

@@ -1,7 +1,7 @@
 //! What the managers keep for a user, as their tables of functions see it.
 
 use crate::resources::Resources;
-use crate::waits::Waits;
+use crate::tables::Tables;
 use qx_resmgr::State;
 use std::marker::Model;
 
@@ -22,7 +22,7 @@ impl Model for Told {
     ghost view = { λ _. new_resources 0 [] };
 }
 
-impl State<Waits, Told> for Resources {
+impl State<Tables, Told> for Resources {
     ghost use Rattle.qx_resources.specs.State as state;
 
     ghost told = { state.told };

@@ -1,18 +1,16 @@
 //! The pipe that is watched while a message or an unblock pulse is done, and the pulses that come of it.
 
-ghost use Rattle.std.specs.Prelude.{◌≡◌, ◌&&◌, ◌==◌, ℕ, Some, IsSome, length, not};
-ghost use Rattle.qx_machine.specs.Notification.{conditions_of};
+ghost use Rattle.std.specs.Prelude.{◌≡◌, ◌==◌, ℕ, Some, IsSome};
 ghost use Rattle.qx_machine.specs.Rows.{row_at};
 ghost use Rattle.qx_machine.specs.Settling.{is_living};
-ghost use Rattle.qx_machine.specs.Waiting.{sides_of};
 ghost use Rattle.qx_machine.specs.declared.rows.Ocb as machine;
 ghost use Rattle.qx_notify.specs.Events.{with_events};
 ghost use Rattle.qx_resources.specs.State.{HasUser, told};
-ghost use Rattle.qx_resources.specs.Watching.{pipe_conditions, told_over, watch, watched_call, watched_over, watched_settled};
+ghost use Rattle.qx_resources.specs.Watching.{watch, watched_call, watched_over, watched_settled};
 
 use crate::conditions::BOTH;
 use crate::resources::Resources;
-use crate::waits::Waits;
+use crate::tables::Tables;
 use qx_attr::Inodes;
 use qx_machine::{Conditions, Opened};
 use qx_notify::{Change, Changes};
@@ -32,17 +30,17 @@ impl Resources {
     /// work on one. What is open is there.
     pub fn watch_message(
         &self,
-        waits: &Waits,
+        tables: &Tables,
         meaning: &Meaning<'_>,
         opened: Result<Opened, Errno>,
     ) -> Option<Watched>
-        requires fits { HasUser self.now waits.now }
-        ensures watched { result ≡ watched_over (told self.now waits.now) meaning.now opened }
+        requires fits { HasUser self.now tables.now }
+        ensures watched { result ≡ watched_over (told self.now tables.now) meaning.now opened }
         ensures there { (number : ℕ) (block : machine.Ocb) → row_at self.now.inodes.blocks number ≡ Some block → IsSome (row_at self.now.inodes.attributes block.inode) }
     {
         let inodes = self.store.inodes();
         inodes.opened();
-        if !waits.events.has_armed(self.store.user()) {
+        if !tables.events.has_armed(self.store.user()) {
             return None;
         }
         match meaning {
@@ -50,47 +48,47 @@ impl Resources {
             _ => return None,
         }
         let block = inodes.block(opened.ok()?.number)?;
-        self.watch(waits, block.inode)
+        self.watch(tables, block.inode)
     }
 
     /// The pipe in which a call of a thread waits, if any event of the user is armed: an unblock pulse works on it.
-    pub fn watch_call(&self, waits: &Waits, thread: Thread, call: u64) -> Option<Watched>
+    pub fn watch_call(&self, tables: &Tables, thread: Thread, call: u64) -> Option<Watched>
         requires own { self.now.user ≡ thread.proc.user.0 }
-        requires fits { HasUser self.now waits.now }
-        ensures watched { result ≡ watched_call (told self.now waits.now) thread.proc.num thread.tid call }
+        requires fits { HasUser self.now tables.now }
+        ensures watched { result ≡ watched_call (told self.now tables.now) thread.proc.num thread.tid call }
     {
-        if !waits.events.has_armed(thread.proc.user) {
+        if !tables.events.has_armed(thread.proc.user) {
             return None;
         }
-        let inode = qx_pipes::holder(&waits.shared, self.store.inodes(), thread, call)?;
-        self.watch(waits, inode)
+        let inode = qx_pipes::holder(&tables.shared, self.store.inodes(), thread, call)?;
+        self.watch(tables, inode)
     }
 
     /// The pipe of an inode, if it is one and any event of the user is armed.
-    fn watch(&self, waits: &Waits, inode: u32) -> Option<Watched>
-        requires fits { HasUser self.now waits.now }
-        ensures watched { result ≡ watch (told self.now waits.now) inode }
+    fn watch(&self, tables: &Tables, inode: u32) -> Option<Watched>
+        requires fits { HasUser self.now tables.now }
+        ensures watched { result ≡ watch (told self.now tables.now) inode }
     {
         let user = self.store.user();
-        if !waits.events.has_armed(user) || !waits.shared.has_pipe(user, inode) {
+        if !tables.events.has_armed(user) || !tables.shared.has_pipe(user, inode) {
             return None;
         }
         Some(Watched {
             inode,
-            before: self.conditions(waits, inode),
+            before: self.conditions(tables, inode),
         })
     }
 
     /// Events that are due by what was done to a watched pipe give their pulses (C Library Reference:
     /// `iofunc_notify_trigger`). Where nothing is watched none is due.
-    pub fn trigger(&self, waits: &mut Waits, processes: &Processes, watched: Option<Watched>)
-        requires fits { HasUser self.now waits.old }
-        ensures triggered { waits.new ≡ record waits.old { events = with_events waits.old.events self.now.user (watched_settled (is_living processes.now) watched (told self.now waits.old)) } }
+    pub fn trigger(&self, tables: &mut Tables, processes: &Processes, watched: Option<Watched>)
+        requires fits { HasUser self.now tables.old }
+        ensures triggered { tables.new ≡ record tables.old { events = with_events tables.old.events self.now.user (watched_settled (is_living processes.now) watched (told self.now tables.old)) } }
     {
         let Some(watched) = watched else {
             return;
         };
-        let after = self.conditions(waits, watched.inode);
+        let after = self.conditions(tables, watched.inode);
         let changes = PipeChanges {
             processes,
             inodes: self.store.inodes(),
@@ -100,7 +98,7 @@ impl Resources {
                 after,
             },
         };
-        waits.events.trigger(self.store.user(), &changes);
+        tables.events.trigger(self.store.user(), &changes);
     }
 }
 

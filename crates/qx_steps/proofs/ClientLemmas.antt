@@ -14,6 +14,7 @@ use Rattle.qx_types.specs.declared.request.Request.{Request}
 use Rattle.qx_types.specs.declared.step.Step.{Step}
 use Rattle.qx_types.specs.declared.step.Step.TheVariants.{Spawn, Call, TakeReply, SetPrio, Interrupt}
 use Rattle.qx_paths.specs.Prefixes.{MountPoint}
+use Rattle.qx_paths.specs.Mounts.{mounts_of}
 use Rattle.qx_machine.specs.declared.rows.Addressed.{Addressed}
 use Rattle.qx_machine.specs.declared.rows.Held.{Held}
 use Rattle.qx_machine.specs.declared.rows.Over.{Over}
@@ -47,7 +48,7 @@ use Rattle.qx_steps.proofs.LeftLemmas.{AreLeft, left-kept, left-put, left-thread
 use Rattle.qx_steps.proofs.OwnerLemmas.{Owner, nobody, others_kept, owner, sound-step}
 use Rattle.qx_steps.proofs.SettledLemmas.{settled-processes}
 use Rattle.qx_steps.proofs.StillLemmas.{still-asking, still-ranking, still-send, still-spawn, still-taking, still-withdrawing, world-told}
-use Rattle.qx_steps.proofs.PartsLemmas.{result_cases, row_at-parts}
+use Rattle.qx_steps.proofs.PartsLemmas.{result_cases}
 
 -- what a thread is told that takes its answer, if it has one
 abbrev pub taken_outcome : Option Answer → Outcome
@@ -166,9 +167,11 @@ module _ (config : Configuration) (c : Channel) (ks : List (Option Kept)) (hands
 
   -- ---- call
 
-  pub judged : (thread : Thread) (request : Request) (ps : List (Option Process)) (its : Resources) (given : Result Addressed Outcome) → row_at c.users thread.proc.user.0 ≡ Some ps → row_at rs thread.proc.user.0 ≡ Some its
-      → given ≡ target_by config thread.proc.user.0 its.mounts ps thread request → given ≡ target_in w thread request
-  judged thread request ps its given user resources by = rw (row_at-parts c.users rs thread.proc.user.0, user, resources) by
+  pub judged : (thread : Thread) (request : Request) (ps : List (Option Process)) (given : Result Addressed Outcome) → row_at c.users thread.proc.user.0 ≡ Some ps
+      → given ≡ target_by config thread.proc.user.0 (mounts_of c.mounts thread.proc.user.0) ps thread request → given ≡ target_in w thread request
+  judged thread request ps given user by =
+      let o = the_owner thread.proc.user.0 ps user in
+      rw o.part (by ∙ ap (λ number. target_by config thread.proc.user.0 (mounts_of c.mounts number) ps thread request) (sym o.own))
 
   pub judged-nobody : (thread : Thread) (request : Request) → row_at c.users thread.proc.user.0 ≡ None → Err WrongState ≡ target_in w thread request
   judged-nobody thread request none = rw (none_there thread.proc.user.0 none) refl
@@ -182,7 +185,7 @@ module _ (config : Configuration) (c : Channel) (ks : List (Option Kept)) (hands
         rw nobody (ap (λ o. record { world = w; outcome = o }) (cc))
     | inr ps ↦
         let o = the_owner thread.proc.user.0 ps.0 ps.1 in
-        let its : target_by config thread.proc.user.0 o.k.mounts ps.0 thread request ≡ Err outcome = rw o.part at is in
+        let its : target_by config thread.proc.user.0 (mounts_of c.mounts o.k.user) ps.0 thread request ≡ Err outcome = rw o.part at is in
         rw (o.part, its, ended_same thread.proc.user.0 ps.0 o, put_back thread.proc.user.0 ps.0 o) refl
   ]
 
@@ -204,8 +207,8 @@ module _ (config : Configuration) (c : Channel) (ks : List (Option Kept)) (hands
     | inl none ↦ let clash : Err WrongState ≡ Ok addressed = rw (none_there thread.proc.user.0 none) at is in absurd (cc)
     | inr ps ↦
         let o = the_owner thread.proc.user.0 ps.0 ps.1 in
-        let its : target_by config thread.proc.user.0 o.k.mounts ps.0 thread request ≡ Ok addressed = rw o.part at is in
-        let row = caller thread.proc.user.0 o.k.mounts ps.0 thread request addressed its in
+        let its : target_by config thread.proc.user.0 (mounts_of c.mounts o.k.user) ps.0 thread request ≡ Ok addressed = rw o.part at is in
+        let row = caller thread.proc.user.0 (mounts_of c.mounts o.k.user) ps.0 thread request addressed its in
         let sent = sent_to addressed request in
         let after = with_row ps.0 thread.proc.num (with_queued thread.tid sent) in
         let left = left-kept (held thread.proc.user.0 ps.0 o) (r thread.proc.user.0 ps.0 o).pipes ps.0 thread.proc.num thread.tid row.0 (with_queued thread.tid sent) o.left row.1 (queued-keeps thread.tid sent) in

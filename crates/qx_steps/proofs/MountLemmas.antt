@@ -10,6 +10,8 @@ use Rattle.qx_types.specs.declared.names.Thread.{Thread}
 use Rattle.qx_types.specs.declared.outcome.Outcome.{Outcome}
 use Rattle.qx_types.specs.declared.outcome.Outcome.TheVariants.{Done, WrongState}
 use Rattle.qx_types.specs.declared.step.Step.TheVariants.{Mount}
+use Rattle.std.proofs.lemmas.List.{get_or-set_other, get_or-set_same, length-set}
+use Rattle.qx_paths.specs.Mounts.{mount_fault, mounted, mounts_of, with_mount_of}
 use Rattle.qx_paths.specs.Prefixes.{MountPoint}
 use Rattle.qx_machine.specs.declared.rows.Held.{Held}
 use Rattle.qx_machine.specs.Calls.{is_ready}
@@ -27,7 +29,7 @@ use Rattle.qx_machine.proofs.Places.{row_at-set_other, set-row_at}
 use Rattle.qx_machine.proofs.Settled.{same_settled, settled-left}
 use Rattle.qx_process.proofs.RowLemmas.{with_row-none}
 use Rattle.qx_resources.specs.Mounts as mounts
-use Rattle.qx_resources.specs.Mounts.{with_new_mount}
+use Rattle.qx_resources.specs.Mounts.{with_new_root}
 use Rattle.qx_resources.specs.State.{told, Kept}
 use Rattle.qx_chan.specs.Channel.{Channel, lists}
 use Rattle.qx_steps.specs.inner.Parts.{part_of, parts_of, told_all, world_of, AreResourcesOf, IsSound}
@@ -37,7 +39,8 @@ use Rattle.qx_steps.specs.inner.Steps.{after_mount, mount_from, mount_in, CanMou
 use Rattle.qx_chan.proofs.RowReads.{option_cases, row_at-with_same}
 use Rattle.qx_steps.proofs.LeftLemmas.{AreLeft}
 use Rattle.qx_steps.proofs.SettledLemmas.{settled-mount}
-use Rattle.qx_steps.proofs.PartsLemmas.{mapped-put, row_at-parts, told-none, told-there}
+use Rattle.qx_steps.proofs.PartsLemmas.{mapped-put, row_at-parts, still-resources, told-none, told-there}
+use Rattle.qx_steps.proofs.StillLemmas.{of-users}
 
 -- ---- how it is judged
 
@@ -129,8 +132,8 @@ module _ (w : World) (user : ℕ) (mount : MountPoint) where
         subst (λ number. settle_part part (own_held number w.hands) part ≡ part) (sym its.1.1.0) (subst (λ part. settle_part part (own_held user w.hands) part ≡ part) its.1.1.1 after)
   ]
 
-pub sound-mount : (config : Configuration) (c : Channel) (ks ls : List (Option Kept)) (hands : List (Option Held)) (user : ℕ) (mount : MountPoint) → IsSound config c ks hands → AreResourcesOf c ls → world_of config c ls hands ≡ after_mount (world_of config c ks hands) user mount → IsSound config c ls hands
-sound-mount config c ks ls hands user mount sound users is = record {
+pub sound-mount : (config : Configuration) (c d : Channel) (ks ls : List (Option Kept)) (hands : List (Option Held)) (user : ℕ) (mount : MountPoint) → IsSound config c ks hands → AreResourcesOf d ls → world_of config d ls hands ≡ after_mount (world_of config c ks hands) user mount → IsSound config d ls hands
+sound-mount config c d ks ls hands user mount sound users is = record {
   users = users;
   settled = subst IsSettled (sym is) (mount_settled (world_of config c ks hands) user mount sound.settled);
 }
@@ -148,15 +151,42 @@ parts-with_resources (Some ps ∷ us) (None ∷ rs) zero change = refl
 parts-with_resources (Some ps ∷ us) (Some r ∷ rs) zero change = refl
 parts-with_resources (u ∷ us) (r ∷ rs) (suc user) change = ap (λ parts. part_of u r ∷ parts) (parts-with_resources us rs user change)
 
--- the machine's mount is that of what is kept
-pub attached : (config : Configuration) (c : Channel) (ks : List (Option Kept)) (hands : List (Option Held)) (user : ℕ) (k : Kept) (mount : MountPoint) → row_at ks user ≡ Some k
-    → world_of config c (slice_set ks user (Some (with_new_mount mount k))) hands ≡ after_mount (world_of config c ks hands) user mount
-attached config c ks hands user k mount there =
-    let rs : List (Option Resources) = told_all c ks in
-    let r : Resources = told k (lists c) in
-    let put : told_all c (slice_set ks user (Some (with_new_mount mount k))) ≡ slice_set rs user (Some (with_mount mount r)) = mapped-put _ _ ks user (with_new_mount mount k) (λ other m is differs. refl) in
-    let row : with_row rs user (with_mount mount) ≡ slice_set rs user (Some (with_mount mount r)) = ap (λ old. slice_set rs user (option_map (with_mount mount) old)) (told-there c ks user k there) in
-    ap (λ parts. record (world_of config c ks hands) { parts = parts }) (ap (parts_of c.users) (put ∙ sym row) ∙ parts-with_resources c.users rs user (with_mount mount))
+module _ (config : Configuration) (c : Channel) (ks : List (Option Kept)) (hands : List (Option Held)) (of : AreResourcesOf c ks) (user : ℕ) (k : Kept) (mount : MountPoint) (there : row_at ks user ≡ Some k) where
+  -- the user has one mount more among the mounts of all
+  abbrev mounts_then : Channel
+  mounts_then = record c { mounts = with_mount_of c.mounts user mount }
+
+  abbrev with_root : Kept
+  with_root = with_new_root mount.root k
+
+  pub attached_of : AreResourcesOf mounts_then (slice_set ks user (Some with_root))
+  attached_of = still-resources mounts_then ks user k with_root there refl (of-users c mounts_then ks of of.same (length-set c.mounts user (mounted (mounts_of c.mounts user) mount.prefix mount.manager mount.root)))
+
+  -- what the machine is told of the others
+  told_before : (other : ℕ) (m : Kept) → row_at ks other ≡ Some m → ¬ (other ≡ user) → told m (lists mounts_then) ≡ told m (lists c)
+  told_before other m is differs =
+      ap (λ mounts. record (told m (lists c)) { mounts = mounts })
+      (get_or-set_other c.mounts user m.user (mounted (mounts_of c.mounts user) mount.prefix mount.manager mount.root) [] (λ same. differs (sym (of.own other m is) ∙ same)))
+
+  told_then : told with_root (lists mounts_then) ≡ with_mount mount (told k (lists c))
+  told_then =
+      ap (λ mounts. record (told with_root (lists c)) { mounts = mounts })
+      (ap (mounts_of (with_mount_of c.mounts user mount)) own
+      ∙ get_or-set_same c.mounts user (mounted (mounts_of c.mounts user) mount.prefix mount.manager mount.root) [] (of.mounts user k there)
+      ∙ ap (λ number. mounted (mounts_of c.mounts number) mount.prefix mount.manager mount.root) (sym own))
+    where
+      own : k.user ≡ user
+      own = of.own user k there
+
+  -- the machine's mount is that of the mounts of all and of what is kept
+  pub attached : world_of config mounts_then (slice_set ks user (Some with_root)) hands ≡ after_mount (world_of config c ks hands) user mount
+  attached =
+      let rs : List (Option Resources) = told_all c ks in
+      let r : Resources = told k (lists c) in
+      let put : told_all mounts_then (slice_set ks user (Some with_root)) ≡ slice_set rs user (Some (with_mount mount r)) =
+      mapped-put (λ m. told m (lists mounts_then)) (λ m. told m (lists c)) ks user with_root told_before ∙ ap (λ r. slice_set rs user (Some r)) told_then in
+      let row : with_row rs user (with_mount mount) ≡ slice_set rs user (Some (with_mount mount r)) = ap (λ old. slice_set rs user (option_map (with_mount mount) old)) (told-there c ks user k there) in
+      ap (λ parts. record (world_of config c ks hands) { parts = parts }) (ap (parts_of c.users) (put ∙ sym row) ∙ parts-with_resources c.users rs user (with_mount mount))
 
 unmounted : (ps : Option (List (Option Process))) (mount : MountPoint) → CanMount (part_of ps None) mount → ⊥
 unmounted None mount can = can
@@ -169,7 +199,7 @@ can_by : (ps : Option (List (Option Process))) (r : Resources) (mount : MountPoi
 can_by None r mount can = absurd can
 can_by (Some ps) r mount can = can
 
-pub attached-can : (c : Channel) (ks : List (Option Kept)) (user : ℕ) (k : Kept) (mount : MountPoint) → row_at ks user ≡ Some k → CanMount (row_at (parts_of c.users (told_all c ks)) user) mount → mounts.IsNextMount k mount
-attached-can c ks user k mount there can =
+pub attached-can : (c : Channel) (ks : List (Option Kept)) (user : ℕ) (k : Kept) (mount : MountPoint) → k.user ≡ user → row_at ks user ≡ Some k → CanMount (row_at (parts_of c.users (told_all c ks)) user) mount → mounts.IsNextMount (mounts_of c.mounts user) k mount
+attached-can c ks user k mount own there can =
     let free : IsMountable (told k (lists c)) mount = can_by (row_at c.users user) (told k (lists c)) mount (rw (row_at-parts c.users (told_all c ks) user, told-there c ks user k there) at can) in
-    record { free = free.0; next = free.1 }
+    record { free = ap (λ number. mount_fault (mounts_of c.mounts number) mount.prefix) (sym own) ∙ free.0; next = free.1 }

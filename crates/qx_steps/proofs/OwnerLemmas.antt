@@ -30,7 +30,7 @@ module _ (config : Configuration) (c : Channel) (ks : List (Option Kept)) (hands
 
   -- memory was refused once there was room for nodes
   pub sound-room : (room : ℕ) → IsSound config (record c { room = room }) ks hands
-  sound-room room = record { users = record { same = sound.users.same; own = sound.users.own }; settled = sound.settled }
+  sound-room room = record { users = record { same = sound.users.same; own = sound.users.own; mounts = sound.users.mounts }; settled = sound.settled }
 
   -- ---- a user
 

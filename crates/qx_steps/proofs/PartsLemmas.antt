@@ -1,9 +1,13 @@
--- The rows of users, put together from two columns: one row, and a change in one column; and resources as what waits tells them.
-use Rattle.std.proofs.Common.{◌≡◌, ◌⊎◌, subst, inl, inr, ℕ, zero, suc, ◌+◌, get_or, List, [], ◌∷◌, true, false, Option, Some, None, Result, Ok, Err, length, is_some, map, replicate, refl, sym, ap, ap₂, ◌∙◌, arith}
-use Rattle.std.specs.Prelude.{option_map, slice_set}
-use Rattle.qx_types.specs.Configuration.{Configuration}
+-- The rows of users, put together from two columns: one row, and a change in one column; and resources as the tables of all users tell them.
+use Rattle.std.proofs.Common.{◌≡◌, ◌⊎◌, inl, inr, ℕ, zero, suc, ◌+◌, get_or, List, [], ◌∷◌, true, false, Option, Some, None, Result, Ok, Err, length, is_some, map, replicate, refl, sym, ap, ap₂, ◌∙◌, arith}
+use Rattle.std.specs.Prelude.{◌<◌, ◌≤◌, option_map, slice_set, unwrap_or}
+use Rattle.std.proofs.lemmas.List.{get_or-map, length-map}
+use Rattle.std.proofs.lemmas.Option.{slice_get-get_or}
+use Rattle.qx_types.specs.Configuration.{Configuration, name_bytes}
 use Rattle.qx_types.specs.declared.names.Proc.{Proc}
 use Rattle.qx_types.specs.declared.names.Thread.{Thread}
+use Rattle.qx_paths.specs.Mounts.{all_boot_mounts, boot_mounts, mounts_of}
+use Rattle.qx_machine.specs.Attributes.{top_inode}
 use Rattle.qx_machine.specs.Events.{no_events}
 use Rattle.qx_machine.specs.Machine.{boot, boot_parts}
 use Rattle.qx_machine.specs.Parts.{thread_of}
@@ -13,11 +17,11 @@ use Rattle.qx_machine.specs.Rows.{row_at, with_row}
 use Rattle.qx_machine.specs.Users.{boot_part}
 use Rattle.qx_machine.specs.Waiting.{no_pipes}
 use Rattle.qx_shared.proofs.RowLemmas.{row_at-mapped, rows-agree}
-use Rattle.qx_resources.specs.Boot.{boot_resources, without_pipes}
+use Rattle.qx_resources.specs.Boot.{boot_resources, kept_of}
 use Rattle.qx_resources.specs.State.{told, Kept}
-use Rattle.qx_resources.specs.declared.waits.Waits.{Waits}
-use Rattle.qx_chan.proofs.RowReads.{option_cases}
-use Rattle.qx_chan.specs.Channel.{Channel, empty_channel, lists}
+use Rattle.qx_resources.specs.declared.tables.Tables.{Tables}
+use Rattle.qx_chan.proofs.RowReads.{option_cases, row_within}
+use Rattle.qx_chan.specs.Channel.{Channel, boot_channel, lists}
 use Rattle.qx_chan.specs.Users as users
 use Rattle.qx_chan.specs.Users.{no_processes}
 use Rattle.qx_steps.specs.inner.Parts.{part_of, parts_of, told_all, world_of, AreResourcesOf, SameUsers}
@@ -117,7 +121,7 @@ put-cases (first ∷ rows) (suc i) (suc other) row there is = elim (put-cases ro
   | inr before ↦ inr (λ e. before.0 (omega (arith, e)), before.1)
 ]
 
--- ---- resources, by what waits
+-- ---- resources, by the tables of all users
 
 there-mapped : {A B : Type 0} (f : A → B) (row : Option A) → is_some row ≡ is_some (option_map f row)
 there-mapped f None = refl
@@ -154,6 +158,10 @@ module _ (c : Channel) (ks : List (Option Kept)) (user : ℕ) (k l : Kept) (ther
       | inl its ↦ ap (λ n. n.user) its.1 ∙ (number ∙ (of.own user k there ∙ sym its.0))
       | inr before ↦ of.own other m before.1
     ];
+    mounts = λ other m is. elim (put-cases ks user other l m is) [
+      | inl its ↦ rw its.0 (of.mounts user k there)
+      | inr before ↦ of.mounts other m before.1
+    ];
   }
 
 -- ---- at boot
@@ -163,19 +171,30 @@ get_same zero i x = refl
 get_same (suc n) zero x = refl
 get_same (suc n) (suc i) x = get_same n i x
 
-told-without_pipes : (r : Resources) (q : Waits) → get_or q.shared.pipes r.user no_pipes ≡ r.pipes → get_or q.events.events r.user no_events ≡ r.events → told (without_pipes r) q ≡ r
-told-without_pipes r q pipes events = ap₂ (λ pipes events. record r { pipes = pipes; events = events }) pipes events
+told-kept_of : (r : Resources) (q : Tables) → mounts_of q.mounts r.user ≡ r.mounts → get_or q.shared.pipes r.user no_pipes ≡ r.pipes → get_or q.events.events r.user no_events ≡ r.events → told (kept_of r) q ≡ r
+told-kept_of r q mounts pipes events = λ i. record r { mounts = mounts i; pipes = pipes i; events = events i }
 
-boot-rows : (q : Waits) (pipes : (user : ℕ) → get_or q.shared.pipes user no_pipes ≡ no_pipes) (events : (user : ℕ) → get_or q.events.events user no_events ≡ no_events) (config : Configuration) (user : ℕ) (names : List (List ℕ))
+-- each user has the top
+mounts-boot : (config : Configuration) (root user : ℕ) → 1 ≤ user → user ≤ length config.users → mounts_of (all_boot_mounts config root) user ≡ boot_mounts (name_bytes config user) root
+mounts-boot config root zero some few = absurd (omega (arith, some))
+mounts-boot config root (suc n) some few =
+    let within : n < length config.users = omega (arith, few) in
+    get_or-map (λ name. boot_mounts name root) config.users n [] [] within ∙ ap (λ name. boot_mounts name root) (sym (ap (λ name. unwrap_or name []) (slice_get-get_or config.users n [] within)))
+
+boot-rows : (q : Tables) (pipes : (user : ℕ) → get_or q.shared.pipes user no_pipes ≡ no_pipes) (events : (user : ℕ) → get_or q.events.events user no_events ≡ no_events) (config : Configuration) (mounts : (user : ℕ) → 1 ≤ user → user ≤ length config.users → mounts_of q.mounts user ≡ boot_mounts (name_bytes config user) top_inode)
+    (user : ℕ) (names : List (List ℕ)) → 1 ≤ user → user + length names ≡ length config.users + 1
     → parts_of (replicate (length names) (Some (None ∷ []))) (map (option_map (λ kept. told kept q)) (boot_resources config user names)) ≡ boot_parts config user names
 unfolding boot_part
-boot-rows q pipes events config user [] = refl
-boot-rows q pipes events config user (name ∷ names) =
-    ap₂ (λ r parts. Some (record { processes = None ∷ []; resources = r }) ∷ parts) (told-without_pipes (boot_part config user).resources q (pipes user) (events user)) (boot-rows q pipes events config (user + 1) names)
+boot-rows q pipes events config mounts user [] some fits = refl
+boot-rows q pipes events config mounts user (name ∷ names) some fits =
+    ap₂ (λ r parts. Some (record { processes = None ∷ []; resources = r }) ∷ parts)
+    (told-kept_of (boot_part config user).resources q (mounts user some (omega (arith, fits))) (pipes user) (events user))
+    (boot-rows q pipes events config mounts (user + 1) names (omega arith) (omega (arith, fits)))
 
-parts-boot : (config : Configuration) (names : List (List ℕ))
-    → parts_of (no_processes (length names)) (told_all (empty_channel (length names)) (None ∷ boot_resources config 1 names)) ≡ None ∷ boot_parts config 1 names
-parts-boot config names = ap (λ parts. None ∷ parts) (boot-rows (lists (empty_channel (length names))) (λ user. get_same (length names + 1) user no_pipes) (λ user. get_same (length names + 1) user no_events) config 1 names)
+parts-boot : (config : Configuration)
+    → parts_of (no_processes (length config.users)) (told_all (boot_channel config) (None ∷ boot_resources config 1 config.users)) ≡ None ∷ boot_parts config 1 config.users
+parts-boot config = ap (λ parts. None ∷ parts)
+    (boot-rows (lists (boot_channel config)) (λ user. get_same (length config.users + 1) user no_pipes) (λ user. get_same (length config.users + 1) user no_events) config (mounts-boot config top_inode) 1 config.users (omega arith) (omega arith))
 
 same-boot_rows : (config : Configuration) (user : ℕ) (names : List (List ℕ)) → SameUsers {A = List (Option Process)} (replicate (length names) (Some (None ∷ []))) (boot_resources config user names)
 same-boot_rows config user [] other = refl
@@ -191,7 +210,7 @@ kept_at-boot : (config : Configuration) (user : ℕ) (names : List (List ℕ)) (
 unfolding boot_part
 kept_at-boot config user [] other kept is = absurd (cc)
 kept_at-boot config user (name ∷ names) zero kept is =
-    let its : without_pipes (boot_part config user).resources ≡ kept = cc in
+    let its : kept_of (boot_part config user).resources ≡ kept = cc in
     ap (λ k. k.user) (sym its) ∙ omega arith
 kept_at-boot config user (name ∷ names) (suc other) kept is = kept_at-boot config (user + 1) names other kept is ∙ omega arith
 
@@ -199,15 +218,17 @@ kept_in-boot : (config : Configuration) (names : List (List ℕ)) (user : ℕ) (
 kept_in-boot config names zero kept is = absurd (cc)
 kept_in-boot config names (suc user) kept is = kept_at-boot config 1 names user kept is ∙ omega arith
 
-of-at_boot : (config : Configuration) (names : List (List ℕ)) → AreResourcesOf (empty_channel (length names)) (None ∷ boot_resources config 1 names)
-of-at_boot config names = record { same = same-at_boot config names; own = λ user kept is. kept_in-boot config names user kept is }
+length-boot_resources : (config : Configuration) (user : ℕ) (names : List (List ℕ)) → length (boot_resources config user names) ≡ length names
+length-boot_resources config user [] = refl
+length-boot_resources config user (name ∷ names) = ap suc (length-boot_resources config (user + 1) names)
 
-pub of-boot : (config : Configuration) (count : ℕ) → count ≡ length config.users → AreResourcesOf (empty_channel count) (None ∷ boot_resources config 1 config.users)
-of-boot config count is = subst (λ n. AreResourcesOf (empty_channel n) (None ∷ boot_resources config 1 config.users)) (sym is) (of-at_boot config config.users)
+pub of-boot : (config : Configuration) → AreResourcesOf (boot_channel config) (None ∷ boot_resources config 1 config.users)
+of-boot config = record {
+  same = same-at_boot config config.users;
+  own = λ user kept is. kept_in-boot config config.users user kept is;
+  mounts = λ user kept is. omega (arith, row_within (None ∷ boot_resources config 1 config.users) user kept is, length-boot_resources config 1 config.users, length-map config.users (λ name. boot_mounts name top_inode));
+}
 
-pub world-boot : (config : Configuration) → world_of config (empty_channel (length config.users)) (None ∷ boot_resources config 1 config.users) (None ∷ replicate config.workers None) ≡ boot config
+pub world-boot : (config : Configuration) → world_of config (boot_channel config) (None ∷ boot_resources config 1 config.users) (None ∷ replicate config.workers None) ≡ boot config
 unfolding boot
-world-boot config = rw (parts-boot config config.users) refl
-
-pub world-boot_of : (config : Configuration) (count : ℕ) → count ≡ length config.users → world_of config (empty_channel count) (None ∷ boot_resources config 1 config.users) (None ∷ replicate config.workers None) ≡ boot config
-world-boot_of config count is = ap (λ n. world_of config (empty_channel n) (None ∷ boot_resources config 1 config.users) (None ∷ replicate config.workers None)) is ∙ world-boot config
+world-boot config = rw (parts-boot config) refl

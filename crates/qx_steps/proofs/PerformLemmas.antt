@@ -1,5 +1,5 @@
 -- An item is done for its user, the worker's hand is empty, and processes that have ended are freed: the machine's world then.
-use Rattle.std.proofs.Common.{◌≡◌, inl, inr, ℕ, get_or, List, [], Option, Some, None, is_some, true, refl, sym, ap, ap₂, subst, ◌∙◌}
+use Rattle.std.proofs.Common.{length, ◌≡◌, inl, inr, ℕ, get_or, List, [], Option, Some, None, is_some, true, refl, sym, ap, ap₂, subst, ◌∙◌}
 use Rattle.std.specs.Prelude.{option_map, slice_set}
 use Rattle.std.proofs.lemmas.Bool.{false≢true}
 use Rattle.std.proofs.lemmas.List.{get_or-set_other, set-set}
@@ -8,6 +8,7 @@ use Rattle.qx_types.specs.Configuration.{Configuration}
 use Rattle.qx_types.specs.declared.names.Proc.{Proc}
 use Rattle.qx_types.specs.declared.names.Thread.{Thread}
 use Rattle.qx_types.specs.declared.step.Step.TheVariants.{Perform}
+use Rattle.qx_paths.specs.Mounts.{mounts_of}
 use Rattle.qx_machine.specs.declared.rows.Held.{Held}
 use Rattle.qx_machine.specs.declared.rows.OwnItem.{OwnItem}
 use Rattle.qx_machine.specs.declared.rows.OwnItem.TheVariants as item
@@ -64,11 +65,16 @@ module _ (c d : Channel) (ks : List (Option Kept)) (of : AreResourcesOf c ks) (u
   events_after None did other differs = ap (λ (e : Channel). get_or e.events other no_events) did.0
   events_after (Some part) did other differs = ap (λ (e : Channel). get_or e.events other no_events) did.0 ∙ get_or-set_other c.events k.user other (served part).part.resources.events no_events (λ e. differs (e ∙ own))
 
+  mounts_after : (part : Option Part) → PartServed c d k l served part → d.mounts ≡ c.mounts
+  mounts_after None did = ap (λ (e : Channel). e.mounts) did.0
+  mounts_after (Some part) did = ap (λ (e : Channel). e.mounts) did.0
+
   told_before : (other : ℕ) (m : Kept) → row_at ks other ≡ Some m → ¬ (other ≡ user) → told m (lists d) ≡ told m (lists c)
   told_before other m is differs =
-      ap₂ (λ pipes events. record (told m (lists c)) { pipes = pipes; events = events })
+      ap₂ (λ pipes events. record (told m (lists d)) { pipes = pipes; events = events })
       (pipes_after (part_in c k) serves.did m.user (λ same. differs (sym (of.own other m is) ∙ same)))
       (events_after (part_in c k) serves.did m.user (λ same. differs (sym (of.own other m is) ∙ same)))
+      ∙ ap (λ mounts. record (told m (lists c)) { mounts = mounts_of mounts m.user }) (mounts_after (part_in c k) serves.did)
 
   -- what the machine is told of all users
   pub all-told : told_all d (slice_set ks user (Some l)) ≡ slice_set (told_all c ks) user (Some (told l (lists d)))
@@ -80,7 +86,7 @@ module _ (c d : Channel) (ks : List (Option Kept)) (of : AreResourcesOf c ks) (u
   same_users (Some part) did = subst (λ ps. SameUsers ps ks) (sym (ap (λ (e : Channel). e.users) did.0)) (same-with_processes c.users ks k.user (λ _. (served part).part.processes) of.same)
 
   pub still-serving : AreResourcesOf d (slice_set ks user (Some l))
-  still-serving = still-resources d ks user k l there serves.user (of-users c d ks of (same_users (part_in c k) serves.did))
+  still-serving = still-resources d ks user k l there serves.user (of-users c d ks of (same_users (part_in c k) serves.did) (ap length (mounts_after (part_in c k) serves.did)))
 
 -- by whatever resources the user has
 pub still-performing : (c d : Channel) (ks ls : List (Option Kept)) (of : AreResourcesOf c ks) (held : Held) (moment : ℕ) (config : Configuration) (k : Option Kept) → row_at ks held.user.0 ≡ k → PerformsFor c d ks ls held moment k → AreResourcesOf d ls

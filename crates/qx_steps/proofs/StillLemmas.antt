@@ -1,5 +1,5 @@
 -- Resources are still those of the channel's users once the channel has changed, where its pipes and events are as before, and where a pulse is taken.
-use Rattle.std.proofs.Common.{◌≡◌, ℕ, List, Option, Some, None, refl, ap}
+use Rattle.std.proofs.Common.{length, ◌≡◌, ℕ, List, Option, Some, None, refl, ap}
 use Rattle.std.specs.Prelude.{map, option_map, slice_get}
 use Rattle.qx_types.specs.Configuration.{Configuration}
 use Rattle.qx_types.specs.declared.errno.Errno.TheVariants.{EINTR}
@@ -28,15 +28,15 @@ use Rattle.qx_steps.specs.inner.Parts.{told_all, told_world, world_of, AreResour
 use Rattle.qx_steps.specs.inner.Performing.{with_left}
 use Rattle.qx_steps.proofs.PartsLemmas.{same-with_processes}
 
--- a channel with the same pipes and events tells the same resources
+-- a channel with the same pipes, events and mounts tells the same resources
 pub world-told : (config : Configuration) (c d : Channel) (ks : List (Option Kept)) (hands : List (Option Held)) → lists d ≡ lists c → world_of config d ks hands ≡ told_world config d (told_all c ks) hands
 world-told config c d ks hands same = ap (λ waits. told_world config d (map (option_map (λ kept. told kept waits)) ks) hands) same
 
--- a channel in which the same users have processes
-pub of-users : (c d : Channel) (ks : List (Option Kept)) → AreResourcesOf c ks → SameUsers d.users ks → AreResourcesOf d ks
-of-users c d ks of users = record { same = users; own = of.own }
+-- a channel in which the same users have processes and places for mounts
+pub of-users : (c d : Channel) (ks : List (Option Kept)) → AreResourcesOf c ks → SameUsers d.users ks → length d.mounts ≡ length c.mounts → AreResourcesOf d ks
+of-users c d ks of users mounts = record { same = users; own = of.own; mounts = λ user kept is. rw mounts (of.mounts user kept is) }
 
--- they are so still, and pipes and events are as before
+-- they are so still, and pipes, events and mounts are as before
 pub record Still (c d : Channel) (ks : List (Option Kept)) : Type 0 where
   pub of : AreResourcesOf d ks
   pub waits : lists d ≡ lists c
@@ -47,17 +47,17 @@ module _ (c : Channel) (ks : List (Option Kept)) (of : AreResourcesOf c ks) wher
   one user change = same-with_processes c.users ks user change of.same
 
   pub still-spawn : (user threads prio : ℕ) → AreResourcesOf (after_spawn c user threads prio) ks
-  still-spawn user threads prio = of-users c (after_spawn c user threads prio) ks of (one user (λ processes. spawned processes threads prio (spawn_number processes threads prio)))
+  still-spawn user threads prio = of-users c (after_spawn c user threads prio) ks of (one user (λ processes. spawned processes threads prio (spawn_number processes threads prio))) refl
 
   -- memory was refused once there was room for nodes
   pub still-room : (room : ℕ) → AreResourcesOf (record c { room = room }) ks
-  still-room room = of-users c (record c { room = room }) ks of of.same
+  still-room room = of-users c (record c { room = room }) ks of of.same refl
 
   pub still-ranking : (thread : Thread) (prio : ℕ) → AreResourcesOf (after_ranking c thread prio) ks
-  still-ranking thread prio = of-users c (after_ranking c thread prio) ks of (one thread.proc.user.0 (λ processes. after_or processes (with_prio processes thread.proc.num thread.tid prio)))
+  still-ranking thread prio = of-users c (after_ranking c thread prio) ks of (one thread.proc.user.0 (λ processes. after_or processes (with_prio processes thread.proc.num thread.tid prio))) refl
 
   pub still-send : (thread : Thread) (sent : Sent) → AreResourcesOf (after_send c thread sent) ks
-  still-send thread sent = of-users c (after_send c thread sent) ks of (one thread.proc.user.0 (λ processes. with_row processes thread.proc.num (with_queued thread.tid sent)))
+  still-send thread sent = of-users c (after_send c thread sent) ks of (one thread.proc.user.0 (λ processes. with_row processes thread.proc.num (with_queued thread.tid sent))) refl
 
   taken : (first : Option Queued) → SameUsers (with_first_taken c.users first) ks
   taken None = of.same
@@ -69,39 +69,39 @@ module _ (c : Channel) (ks : List (Option Kept)) (of : AreResourcesOf c ks) wher
       by_item (item.Disconnect process server) = of.same
 
   pub still-receive : (manager : Manager) → AreResourcesOf (after_receive c manager) ks
-  still-receive manager = of-users c (after_receive c manager) ks of (taken (slice_get (channel_line c manager) 0))
+  still-receive manager = of-users c (after_receive c manager) ks of (taken (slice_get (channel_line c manager) 0)) refl
 
   -- a process ends
   ended_by : (proc : Proc) (process : Option Process) → AreResourcesOf (ended_in c proc process) ks
   ended_by proc None = of
-  ended_by proc (Some process) = of-users c (ended_in c proc (Some process)) ks of (one proc.user.0 (λ processes. with_row processes proc.num ended))
+  ended_by proc (Some process) = of-users c (ended_in c proc (Some process)) ks of (one proc.user.0 (λ processes. with_row processes proc.num ended)) refl
 
   pub still-exit : (proc : Proc) → AreResourcesOf (after_exit c proc) ks
   still-exit proc = ended_by proc (living (process_of c.users proc))
 
   -- processes that have ended are freed
   pub still-left : (held : List OwnItem) (user room : ℕ) → AreResourcesOf (record (with_left c held user) { room = room }) ks
-  still-left held user room = of-users c (record (with_left c held user) { room = room }) ks of (one user (processes_left held (channel_pipes c user) 0))
+  still-left held user room = of-users c (record (with_left c held user) { room = room }) ks of (one user (processes_left held (channel_pipes c user) 0)) refl
 
   -- where a thread has a call, or an answer, its process changes
 
   asked_by : (thread : Thread) (call : Option Call) → Still c (asked c thread call) ks
   asked_by thread None = record { of = of; waits = refl }
-  asked_by thread (Some call) = record { of = of-users c (asked c thread (Some call)) ks of (one thread.proc.user.0 (λ processes. with_row processes thread.proc.num (with_thread thread.tid asked_thread))); waits = refl }
+  asked_by thread (Some call) = record { of = of-users c (asked c thread (Some call)) ks of (one thread.proc.user.0 (λ processes. with_row processes thread.proc.num (with_thread thread.tid asked_thread))) refl; waits = refl }
 
   pub still-asking : (thread : Thread) → Still c (after_asking c thread) ks
   still-asking thread = asked_by thread (unasked_call (thread_row c.users thread))
 
   withdrawn_by : (thread : Thread) (call : Option Call) → Still c (withdrawn c thread call) ks
   withdrawn_by thread None = record { of = of; waits = refl }
-  withdrawn_by thread (Some call) = record { of = of-users c (withdrawn c thread (Some call)) ks of (one thread.proc.user.0 (λ processes. with_row processes thread.proc.num (failed thread.tid EINTR call.target.over))); waits = refl }
+  withdrawn_by thread (Some call) = record { of = of-users c (withdrawn c thread (Some call)) ks of (one thread.proc.user.0 (λ processes. with_row processes thread.proc.num (failed thread.tid EINTR call.target.over))) refl; waits = refl }
 
   pub still-withdrawing : (thread : Thread) → Still c (after_withdrawing c thread) ks
   still-withdrawing thread = withdrawn_by thread (queued_call (thread_row c.users thread))
 
   readied_by : (thread : Thread) (answer : Option Answer) → Still c (readied c thread answer) ks
   readied_by thread None = record { of = of; waits = refl }
-  readied_by thread (Some answer) = record { of = of-users c (readied c thread (Some answer)) ks of (one thread.proc.user.0 (λ processes. with_row processes thread.proc.num (with_thread thread.tid ready_thread))); waits = refl }
+  readied_by thread (Some answer) = record { of = of-users c (readied c thread (Some answer)) ks of (one thread.proc.user.0 (λ processes. with_row processes thread.proc.num (with_thread thread.tid ready_thread))) refl; waits = refl }
 
   pub still-taking : (thread : Thread) → Still c (after_taking c thread) ks
   still-taking thread = readied_by thread (answer_of (thread_row c.users thread))
@@ -111,7 +111,7 @@ module _ (c : Channel) (ks : List (Option Kept)) (of : AreResourcesOf c ks) wher
   pulsed_by : (proc : Proc) (process : Option Process) (first : Option Pulse) → AreResourcesOf (with_pulse_taken c proc process first) ks
   pulsed_by proc None first = of
   pulsed_by proc (Some process) None = of
-  pulsed_by proc (Some process) (Some first) = of-users c (with_pulse_taken c proc (Some process) (Some first)) ks of of.same
+  pulsed_by proc (Some process) (Some first) = of-users c (with_pulse_taken c proc (Some process) (Some first)) ks of of.same refl
 
   pub still-pulse : (proc : Proc) → AreResourcesOf (after_pulse c proc) ks
   still-pulse proc = pulsed_by proc (living (process_of c.users proc)) (first_pulse proc.num (channel_events c proc.user.0))

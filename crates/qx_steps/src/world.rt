@@ -1,6 +1,6 @@
 //! The rows of all users, the managers' lines and what each worker holds, with one call for each step.
 
-ghost use Rattle.std.specs.Prelude.{◌≡◌, ℕ, ◌∷◌, ◌↔◌, ◌≢◌, [], None, Some, Err, IfOk, IfSome, IsOk, IsTrue, IsFalse, OnOk, OnErr, IsErrOf, length, is_some, option_map, replicate, slice_set, unwrap_or};
+ghost use Rattle.std.specs.Prelude.{◌≡◌, ◌∷◌, ◌↔◌, ◌≢◌, None, Some, Err, IfOk, IsOk, IsTrue, IsFalse, OnOk, OnErr, IsErrOf, length, is_some, option_map, replicate, slice_set};
 ghost use Rattle.std.specs.Option.{option_copied};
 ghost use Rattle.qx_machine.specs.Clients as clients;
 ghost use Rattle.qx_machine.specs.Laws.{IsSettled, is_refusal};
@@ -79,7 +79,7 @@ impl World {
     pub fn new(alloc: Global, config: Config) -> Result<Self, NoMemory>
         ensures { IfOk result (λ world. world ≡ machine.boot config) }
     {
-        let channel = Channel::new(alloc, config.user_count())?;
+        let channel = Channel::boot(alloc, &config)?;
         let resources = AllResources::boot(alloc, &config)?;
         let hands = empty_hands(alloc, config.workers())?;
         let reply = Reply::new(alloc)?;
@@ -211,10 +211,8 @@ impl World {
         let Some(processes) = self.channel.processes(user) else {
             return Err(Outcome::WrongState);
         };
-        let Some(resources) = self.resources.user(user) else {
-            return Err(Outcome::WrongState);
-        };
-        target_by(&self.config, resources.mounts(), processes, thread, request)
+        let mounts = self.channel.mounts();
+        target_by(&self.config, mounts, processes, thread, request)
     }
 
     /// A manager is attached at a path of the thread's user, with a root of its own (C Library Reference:
@@ -259,8 +257,9 @@ impl World {
         if !self.is_ready(thread) {
             return Err(Outcome::WrongState);
         }
+        let (mounts, name) = (self.channel.mounts(), self.config.name_bytes(user));
         resources
-            .new_mount(self.config.name_bytes(user), path.as_slice(), manager)
+            .new_mount(mounts, name, path.as_slice(), manager)
             .map_err(Outcome::Refused)
     }
 
@@ -283,7 +282,7 @@ impl World {
         let Some(resources) = self.resources.user_mut(user) else {
             return Ok(());
         };
-        resources.mount(self.alloc, mount)?;
+        self.channel.mount(self.alloc, user, resources, mount)?;
         Ok(())
     }
 

@@ -18,7 +18,7 @@ use Rattle.qx_machine.specs.Parts.{thread_of}
 use Rattle.qx_machine.specs.Processes.{Process, has_ended, lost_servers}
 use Rattle.qx_machine.specs.Rows.{row_at}
 use Rattle.qx_queues.specs.Queues.{UsersAnswer, UsersCall, caller, stands, unblock_call}
-use Rattle.qx_resources.specs.declared.waits.Waits.{Waits}
+use Rattle.qx_resources.specs.declared.tables.Tables.{Tables}
 use Rattle.qx_shared.specs.Shared.{Shared, has_disconnect_node, has_thread, waiting_in, with_shared_disconnect, with_shared_server}
 use Rattle.qx_chan.specs.Nodes.{attaches, served_at}
 use Rattle.qx_procs.specs.Calls.{has_ended_in}
@@ -90,7 +90,7 @@ pub record StandTogether (processes : Users) (queues : Shared) : Type 0 where
   pub answered : queues.answered ≡ []
 
 -- and who has a place for pipes has one for events
-pub record AllStandTogether (processes : Users) (waits : Waits) : Type 0 where
+pub record AllStandTogether (processes : Users) (waits : Tables) : Type 0 where
   pub shared : StandTogether processes waits.shared
   pub events : length waits.events.events ≡ length waits.shared.pipes
 

@@ -13,7 +13,7 @@ use Rattle.qx_shared.specs.Shared.{with_pipes}
 use Rattle.qx_resmgr.specs.Deeds.{reply_with}
 use Rattle.qx_resmgr.specs.declared.functions.Done.{Done}
 use Rattle.qx_resources.specs.State.{told, Kept}
-use Rattle.qx_resources.specs.declared.waits.Waits.{Waits}
+use Rattle.qx_resources.specs.declared.tables.Tables.{Tables}
 use Rattle.qx_chan.specs.inner.Calls.{taken_bytes}
 use Rattle.qx_chan.specs.Users.{Users, process_of, thread_row}
 use Rattle.qx_chan.specs.declared.call.Call.{Call}
@@ -29,20 +29,21 @@ abbrev pub caller_of_call : Thread → Call → Caller
 caller_of_call thread call = record { process = thread.proc.num; thread = thread.tid; call = call.number; is_asked = call.is_asked }
 
 -- what a message of a process with these bytes comes to
-abbrev pub deed_in : Kept → Waits → Process → TakenMessage → List ℕ → Result (Deed Resources) Errno
+abbrev pub deed_in : Kept → Tables → Process → TakenMessage → List ℕ → Result (Deed Resources) Errno
 deed_in resources waits process message bytes =
     deed_of (told resources waits) (context_of process (caller_of_call message.thread message.call) message.call.target message.moment (meaning bytes)) (meaning bytes)
 
 -- what a deed to a user's resources leaves, once the events that are due by it have given their pulses to the processes that live: its answers
 -- are on their way, and of the room for events nothing is said
-pub record Leaves (lives : ℕ → Bool) (k : Kept) (w : Waits) (l : Kept) (v : Waits) (deed : Deed Resources) : Type 0 where
+pub record Leaves (lives : ℕ → Bool) (k : Kept) (w : Tables) (l : Kept) (v : Tables) (deed : Deed Resources) : Type 0 where
   pub told_is : told l v ≡ record deed.state { events = events_settled lives (told k w) deed.state }
   pub shared : v.shared ≡ with_pipes w.shared k.user deed.state.pipes deed.answers
   pub events : v.events.events ≡ slice_set w.events.events k.user (events_settled lives (told k w) deed.state)
+  pub mounts : v.mounts ≡ w.mounts
   pub user : l.user ≡ k.user
 
 -- that a message came to that: it is replied as it is to be, and leaves that, or it is that error, and nothing is different
-abbrev pub Comes : (ℕ → Bool) → Kept → Waits → Kept → Waits → List ℕ → Result Done Errno → Result (Deed Resources) Errno → Type 0
+abbrev pub Comes : (ℕ → Bool) → Kept → Tables → Kept → Tables → List ℕ → Result Done Errno → Result (Deed Resources) Errno → Type 0
 Comes lives k w l v bytes (Ok done) (Ok deed) = (reply_with bytes done ≡ deed.reply) × Leaves lives k w l v deed
 Comes lives k w l v bytes (Err error) (Err meant) = (error ≡ meant) × (l ≡ k) × (v ≡ w)
 Comes lives k w l v bytes _ _ = ⊥

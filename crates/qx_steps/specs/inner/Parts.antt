@@ -1,5 +1,5 @@
 -- The machine's world, put together from what the channel has and what the managers keep.
-use Rattle.std.specs.Prelude.{◌≡◌, ℕ, List, [], ◌∷◌, Option, Some, None, is_some, map, option_map}
+use Rattle.std.specs.Prelude.{◌≡◌, ◌<◌, ℕ, List, [], ◌∷◌, Option, Some, None, is_some, length, map, option_map}
 use Rattle.qx_types.specs.Configuration.{Configuration}
 use Rattle.qx_machine.specs.declared.rows.Held.{Held}
 use Rattle.qx_machine.specs.Laws.{IsSettled}
@@ -21,7 +21,7 @@ abbrev pub parts_of : List (Option (List (Option Process))) → List (Option Res
 parts_of (processes ∷ users) (resources ∷ rows) = part_of processes resources ∷ parts_of users rows
 parts_of _ _ = []
 
--- the resources of all users, with the pipes and the events that the channel has
+-- the resources of all users, with the mounts, the pipes and the events that the channel has
 abbrev pub told_all : Channel → List (Option Kept) → List (Option Resources)
 told_all channel resources = map (option_map (λ kept. told kept (lists channel))) resources
 
@@ -36,10 +36,11 @@ world_of config channel resources hands = told_world config channel (told_all ch
 abbrev pub SameUsers : {A B : Type 0} → List (Option A) → List (Option B) → Type 0
 SameUsers users resources = (user : ℕ) → is_some (row_at users user) ≡ is_some (row_at resources user)
 
--- resources are those of the channel's users: who has processes has resources, that user's own
+-- resources are those of the channel's users: who has processes has resources, that user's own, and a place for mounts
 pub record AreResourcesOf (channel : Channel) (resources : List (Option Kept)) : Type 0 where
   pub same : SameUsers channel.users resources
   pub own : (user : ℕ) (kept : Kept) → row_at resources user ≡ Some kept → kept.user ≡ user
+  pub mounts : (user : ℕ) (kept : Kept) → row_at resources user ≡ Some kept → user < length channel.mounts
 
 -- channel and resources are of the same users, and make a world in which nothing is left to be settled
 pub record IsSound (config : Configuration) (channel : Channel) (resources : List (Option Kept)) (hands : List (Option Held)) : Type 0 where

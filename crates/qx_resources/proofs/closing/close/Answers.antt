@@ -14,7 +14,7 @@ use Rattle.qx_resources.proofs.closing.close.Goals as goal
 
 pub returns-in_err-close_ocb-clause-did : goal.returns-in_err-close_ocb-clause-did
 returns-in_err-close_ocb-clause-did c =
-    let waits = c.args.waits.now in
+    let tables = c.args.tables.now in
     let own = own_kind c.args.manager in
     let opened = c.in_ok-opened.opened in
     let error = c.in_err-close_ocb.field-0.0 in
@@ -23,6 +23,6 @@ returns-in_err-close_ocb-clause-did c =
     let same : c.close_dup.new.self ≡ c.state.inside.store = c.close_dup.ensures.left ∙ cond-false (is_shared (row_at k.inodes.blocks opened.number)) _ _ last in
     let failed : c.from_residual-in_err-close_ocb.result ≡ Err error = search rules in
     rw (failed, c.in_ok-opened.was)
-    (subst (λ k. Did state k waits c.close_ocb.new.state c.close_ocb.new.waits [] (Err error) (close_dup own (told k waits) opened)) c.state.view_is
-    (close-refused k c.close_ocb.new.state waits c.close_ocb.new.waits own opened last error
-    (subst (λ (store : Store). let k = the_view (record { mounts = c.state.inside.mounts; store = store }) in Came k waits c.close_ocb.new.state c.close_ocb.new.waits (Err error) (close_ocb own (told k waits) opened.number opened.moment)) same c.in_err-close_ocb.ensures)))
+    (subst (λ k. Did state k tables c.close_ocb.new.state c.close_ocb.new.tables [] (Err error) (close_dup own (told k tables) opened)) c.state.view_is
+    (close-refused k c.close_ocb.new.state tables c.close_ocb.new.tables own opened last error
+    (subst (λ (store : Store). let k = the_view (record { store = store }) in Came k tables c.close_ocb.new.state c.close_ocb.new.tables (Err error) (close_ocb own (told k tables) opened.number opened.moment)) same c.in_err-close_ocb.ensures)))

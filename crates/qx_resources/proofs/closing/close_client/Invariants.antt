@@ -8,8 +8,8 @@ use Rattle.qx_resources.proofs.closing.close_client.Given as goal
 -- those before the place stay, and what is done from there on leads to what was to be done
 abbrev pub invariant-numbers : goal.invariant-numbers
 invariant-numbers l = record {
-  has : HasUser l.state l.waits;
-  leads : LeadsTo l.initial.state l.initial.waits (close_client (told l.initial.state l.initial.waits) l.client l.moment) l.state l.waits (left_to l.client l.moment l.kept l.state l.waits);
+  has : HasUser l.state l.tables;
+  leads : LeadsTo l.initial.state l.initial.tables (close_client (told l.initial.state l.initial.tables) l.client l.moment) l.state l.tables (left_to l.client l.moment l.kept l.state l.tables);
 }
 
 abbrev pub decreases-numbers : goal.decreases-numbers

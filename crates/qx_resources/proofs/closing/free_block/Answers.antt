@@ -5,5 +5,5 @@ use Rattle.qx_resources.proofs.closing.free_block.Goals as goal
 pub returns-in-Pipe-clause-came : goal.returns-in-Pipe-clause-came
 returns-in-Pipe-clause-came c =
     rw (c.in-Pipe.is, ← c.state.view_is)
-    (came c.state.inside.mounts c.state.inside.store.stored c.close-in-Pipe.new.store.stored c.args.waits.now.shared c.close-in-Pipe.new.shared c.args.waits.now.events [] c.close-in-Pipe.result _
+    (came c.args.tables.now.mounts c.state.inside.store.stored c.close-in-Pipe.new.store.stored c.args.tables.now.shared c.close-in-Pipe.new.shared c.args.tables.now.events [] c.close-in-Pipe.result _
     c.close-in-Pipe.ensures.left c.close-in-Pipe.ensures.done c.close-in-Pipe.ensures.user)

@@ -7,12 +7,12 @@ use Rattle.qx_chan.proofs.channel.Channel.ask_unblock.Goals as goal
 pub ask_unblock-requires-clause-idle : goal.ask_unblock-requires-clause-idle
 ask_unblock-requires-clause-idle c =
     let unasked : Some c.in-Some.call ≡ unasked_call (thread_row c.self.inside.users c.args.thread) = rw (← c.self.view_is) at c.in-Some.ensures.call in
-    no_pulse c.self.inside.users c.self.inside.waits.shared c.args.thread c.in-Some.call unasked c.self.invariant.shared
+    no_pulse c.self.inside.users c.self.inside.tables.shared c.args.thread c.in-Some.call unasked c.self.invariant.shared
 
 pub invariant_of-self : goal.invariant_of-self
 invariant_of-self c =
     let unasked : Some c.in-Some.call ≡ unasked_call (thread_row c.self.inside.users c.args.thread) = rw (← c.self.view_is) at c.in-Some.ensures.call in
     record {
-      shared = rw (c.ask_unblock.ensures.asked, c.ask_unblock-2.ensures.asked) (Kept-asked c.self.inside.users c.self.inside.waits.shared c.args.thread c.in-Some.call unasked c.self.invariant.shared);
+      shared = rw (c.ask_unblock.ensures.asked, c.ask_unblock-2.ensures.asked) (Kept-asked c.self.inside.users c.self.inside.tables.shared c.args.thread c.in-Some.call unasked c.self.invariant.shared);
       events = rw c.ask_unblock.ensures.asked c.self.invariant.events;
     }

@@ -13,7 +13,7 @@ drop_all_items-requires-clause-stands c = λ tid. record {
 }
 
 pub clear-requires-clause-user : goal.clear-requires-clause-user
-clear-requires-clause-user c = has-events c.self.inside.users c.self.inside.waits c.args.proc c.in-Some.process.now c.in-Some.ensures.row c.self.invariant
+clear-requires-clause-user c = has-events c.self.inside.users c.self.inside.tables c.args.proc c.in-Some.process.now c.in-Some.ensures.row c.self.invariant
 
 pub invariant_of-self : goal.invariant_of-self
 invariant_of-self c =
@@ -22,10 +22,10 @@ invariant_of-self c =
     let loses = loses-all c.self.inside.users c.args.proc c.in-Some.process.now its.0 its.1 c.end-lost.new.self c.end-lost.ensures.ended c.end-lost.result c.end-lost.ensures.lost in
     record {
       shared = rw (c.disconnect_all.ensures.disconnected, c.abandon.ensures.abandoned, c.end-lost.ensures.ended)
-          (Kept-ended c.self.inside.users c.args.proc c.in-Some.process.now its.0 its.1 c.self.inside.waits.shared c.drop_all_items.new.queues c.self.invariant.shared c.places.result few c.drop_all_items.ensures.dropped c.end-lost.result loses);
+          (Kept-ended c.self.inside.users c.args.proc c.in-Some.process.now its.0 its.1 c.self.inside.tables.shared c.drop_all_items.new.queues c.self.invariant.shared c.places.result few c.drop_all_items.ensures.dropped c.end-lost.result loses);
       events = rw (c.clear.ensures, c.disconnect_all.ensures.disconnected, c.abandon.ensures.abandoned)
-          (length-set c.self.inside.waits.events.events c.args.proc.user.0 _ ∙ c.self.invariant.events
-          ∙ sym (pipes-ended c.self.inside.users c.args.proc c.in-Some.process.now its.0 its.1 c.self.inside.waits.shared c.drop_all_items.new.queues c.self.invariant.shared c.places.result few c.drop_all_items.ensures.dropped c.end-lost.result loses));
+          (length-set c.self.inside.tables.events.events c.args.proc.user.0 _ ∙ c.self.invariant.events
+          ∙ sym (pipes-ended c.self.inside.users c.args.proc c.in-Some.process.now its.0 its.1 c.self.inside.tables.shared c.drop_all_items.new.queues c.self.invariant.shared c.places.result few c.drop_all_items.ensures.dropped c.end-lost.result loses));
     }
 
 pub returns-clause-ended : goal.returns-clause-ended
@@ -34,5 +34,5 @@ returns-clause-ended c =
     let few : length c.in-Some.process.now.threads ≤ c.places.result = omega (arith, c.places.ensures.places) in
     let loses = loses-all c.self.inside.users c.args.proc c.in-Some.process.now its.0 its.1 c.end-lost.new.self c.end-lost.ensures.ended c.end-lost.result c.end-lost.ensures.lost in
     rw (← c.self.view_is, c.end-lost.ensures.ended, c.disconnect_all.ensures.disconnected, c.abandon.ensures.abandoned)
-    (shown-ended c.self.inside.users c.args.proc c.in-Some.process.now its.0 its.1 c.self.inside.waits.shared c.drop_all_items.new.queues c.self.invariant.shared c.places.result few c.drop_all_items.ensures.dropped c.end-lost.result loses
-    c.self.inside.waits.events.events c.clear.new.self.events (ap (λ (all : AllEvents). all.events) c.clear.ensures))
+    (shown-ended c.self.inside.users c.args.proc c.in-Some.process.now its.0 its.1 c.self.inside.tables.shared c.drop_all_items.new.queues c.self.invariant.shared c.places.result few c.drop_all_items.ensures.dropped c.end-lost.result loses
+    c.self.inside.tables.mounts c.self.inside.tables.events.events c.clear.new.self.events (ap (λ (all : AllEvents). all.events) c.clear.ensures))

@@ -32,11 +32,11 @@ invariant_of-self-2 c =
       shared = rw (c.attach.ensures.attached, c.send-2.ensures.sent, c.in_ok-send.ensures.ok, c.in_ok-reserve.ensures.ok)
           (Kept-sent c.self.inside.users _ c.args.thread c.args.sent ready (Kept-with_room _ _ _ c.self.invariant.shared) uses);
       events = rw (c.attach.ensures.attached, c.send-2.ensures.sent, c.in_ok-send.ensures.ok, c.in_ok-reserve.ensures.ok)
-          (c.self.invariant.events ∙ sym (places-sent c.self.inside.users c.self.inside.waits.shared c.args.thread c.args.sent c.self.invariant.shared uses));
+          (c.self.invariant.events ∙ sym (places-sent c.self.inside.users c.self.inside.tables.shared c.args.thread c.args.sent c.self.invariant.shared uses));
     }
 
 pub returns-clause-ok : goal.returns-clause-ok
 returns-clause-ok c =
     let uses = rw c.in_ok-send.ensures.ok at c.in_ok-send.ensures.uses in
     rw (← c.self.view_is, c.attach.ensures.attached, c.send-2.ensures.sent, c.in_ok-send.ensures.ok, c.in_ok-reserve.ensures.ok)
-    (shown-sent c.self.inside.users c.self.inside.waits.shared c.args.thread c.args.sent c.self.invariant.shared uses c.self.inside.waits.events.events)
+    (shown-sent c.self.inside.users c.self.inside.tables.shared c.args.thread c.args.sent c.self.invariant.shared uses c.self.inside.tables.mounts c.self.inside.tables.events.events)

@@ -16,22 +16,22 @@ use Rattle.qx_chan.proofs.channel.Channel.serve.Goals as goal
 pub returns-in_default-clause-ok : goal.returns-in_default-clause-ok
 returns-in_default-clause-ok c =
     rw (← c.self.view_is)
-    (Serves-untaken c.args.thread c.args.moment c.self.inside.users c.self.inside.waits c.args.resources.now c.requires.user (rw (← c.self.view_is) at (sym c.taken.ensures.call ∙ c.in_default.is)))
+    (Serves-untaken c.args.thread c.args.moment c.self.inside.users c.self.inside.tables c.args.resources.now c.requires.user (rw (← c.self.view_is) at (sym c.taken.ensures.call ∙ c.in_default.is)))
 
 pub perform-requires-clause-received : goal.perform-requires-clause-received
-perform-requires-clause-received c = received-alone c.self.inside.users c.self.inside.waits.shared c.args.thread c.in-Some.call (rw (← c.self.view_is) at c.in-Some.ensures.call) c.self.invariant.shared
+perform-requires-clause-received c = received-alone c.self.inside.users c.self.inside.tables.shared c.args.thread c.in-Some.call (rw (← c.self.view_is) at c.in-Some.ensures.call) c.self.invariant.shared
 
 pub perform-requires-clause-fits : goal.perform-requires-clause-fits
 perform-requires-clause-fits c =
     let its = received c.self.inside.users c.args.thread c.in-Some.call (rw (← c.self.view_is) at c.in-Some.ensures.call) in
-    user-fits c.self.inside.users c.self.inside.waits c.args.resources.now its.processes (ap (row_at c.self.inside.users) c.requires.user ∙ its.user) c.self.invariant
+    user-fits c.self.inside.users c.self.inside.tables c.args.resources.now its.processes (ap (row_at c.self.inside.users) c.requires.user ∙ its.user) c.self.invariant
 
 pub returns-in_err-given-clause-sure : goal.returns-in_err-given-clause-sure
 returns-in_err-given-clause-sure c = λ no.
     let taken : Some c.in-Some.call ≡ taken_call (thread_row c.self.inside.users c.args.thread) = rw (← c.self.view_is) at c.in-Some.ensures.call in
     let its = received c.self.inside.users c.args.thread c.in-Some.call taken in
     let of = sends c.self.inside.users c.args.thread c.in-Some.call its in
-    absurd (false≢true (sym (rw (← c.self.view_is, received-wants c.self.inside.users c.self.inside.waits c.args.resources.now c.args.thread c.in-Some.call its c.requires.user c.args.moment) at no) ∙ c.in_err-given.ensures.wanted its.process its.sent.bytes of))
+    absurd (false≢true (sym (rw (← c.self.view_is, received-wants c.self.inside.users c.self.inside.tables c.args.resources.now c.args.thread c.in-Some.call its c.requires.user c.args.moment) at no) ∙ c.in_err-given.ensures.wanted its.process its.sent.bytes of))
 
 pub answer-requires-clause-served : goal.answer-requires-clause-served
 answer-requires-clause-served c =
@@ -43,7 +43,7 @@ give_answers-requires c =
     let its = received c.self.inside.users c.args.thread c.in-Some.call taken in
     record {
       answering = rw (c.answer.ensures.queues, c.answer.ensures.users, c.in_ok-given.ensures.served, c.as_slice.ensures.bytes)
-          (outcome c.self.inside.users c.self.inside.waits c.args.thread c.in-Some.call taken c.self.invariant.shared c.args.resources.now c.perform.new.resources c.perform.new.waits c.requires.user
+          (outcome c.self.inside.users c.self.inside.tables c.args.thread c.in-Some.call taken c.self.invariant.shared c.args.resources.now c.perform.new.resources c.perform.new.tables c.requires.user
           c.args.moment c.perform.new.reply c.in_ok-given.given _ refl
           (c.in_ok-given.ensures.did its.process its.sent.bytes (sends c.self.inside.users c.args.thread c.in-Some.call its)) c.answer.ensures.gone (rw (c.answer.ensures.users, c.in_ok-given.ensures.served, c.as_slice.ensures.bytes) at c.answer.ensures.lost)).0;
     }
@@ -53,7 +53,7 @@ returns-clause-ok c =
     let taken : Some c.in-Some.call ≡ taken_call (thread_row c.self.inside.users c.args.thread) = rw (← c.self.view_is) at c.in-Some.ensures.call in
     let its = received c.self.inside.users c.args.thread c.in-Some.call taken in
     rw (← c.self.view_is, c.give_answers.ensures.queues, c.give_answers.ensures.users, c.answer.ensures.queues, c.answer.ensures.users, c.in_ok-given.ensures.served, c.as_slice.ensures.bytes)
-    (outcome c.self.inside.users c.self.inside.waits c.args.thread c.in-Some.call taken c.self.invariant.shared c.args.resources.now c.perform.new.resources c.perform.new.waits c.requires.user
+    (outcome c.self.inside.users c.self.inside.tables c.args.thread c.in-Some.call taken c.self.invariant.shared c.args.resources.now c.perform.new.resources c.perform.new.tables c.requires.user
     c.args.moment c.perform.new.reply c.in_ok-given.given _ refl
     (c.in_ok-given.ensures.did its.process its.sent.bytes (sends c.self.inside.users c.args.thread c.in-Some.call its)) c.answer.ensures.gone (rw (c.answer.ensures.users, c.in_ok-given.ensures.served, c.as_slice.ensures.bytes) at c.answer.ensures.lost)).1
 
@@ -64,7 +64,7 @@ invariant_of-self-2 c =
     record {
       shared = c.give_answers.ensures.kept;
       events = rw (c.give_answers.ensures.queues, c.answer.ensures.queues, c.answer.ensures.users, c.in_ok-given.ensures.served, c.as_slice.ensures.bytes)
-          (places _ _ _ _ _ (outcome c.self.inside.users c.self.inside.waits c.args.thread c.in-Some.call taken c.self.invariant.shared c.args.resources.now c.perform.new.resources c.perform.new.waits c.requires.user
+          (places _ _ _ _ _ (outcome c.self.inside.users c.self.inside.tables c.args.thread c.in-Some.call taken c.self.invariant.shared c.args.resources.now c.perform.new.resources c.perform.new.tables c.requires.user
           c.args.moment c.perform.new.reply c.in_ok-given.given _ refl
           (c.in_ok-given.ensures.did its.process its.sent.bytes (sends c.self.inside.users c.args.thread c.in-Some.call its)) c.answer.ensures.gone (rw (c.answer.ensures.users, c.in_ok-given.ensures.served, c.as_slice.ensures.bytes) at c.answer.ensures.lost)).1 c.self.invariant.events);
     }
@@ -74,13 +74,13 @@ returns-clause-room c =
     let taken : Some c.in-Some.call ≡ taken_call (thread_row c.self.inside.users c.args.thread) = rw (← c.self.view_is) at c.in-Some.ensures.call in
     let its = received c.self.inside.users c.args.thread c.in-Some.call taken in
     rw (← c.self.view_is) (ap (λ (q : Shared). q.room) c.give_answers.ensures.queues ∙ ap (λ (q : Shared). q.room) c.answer.ensures.queues
-    ∙ room-answered c.perform.new.waits.shared c.perform.new.users c.answer.new.users c.args.thread c.in-Some.call c.in_ok-given.given
-    ∙ did-fields (λ q. q.room) (λ q user pipes answers. refl) _ c.args.resources.now c.perform.new.resources c.self.inside.waits c.perform.new.waits c.perform.new.reply c.in_ok-given.given _ (c.in_ok-given.ensures.did its.process its.sent.bytes (sends c.self.inside.users c.args.thread c.in-Some.call its)))
+    ∙ room-answered c.perform.new.tables.shared c.perform.new.users c.answer.new.users c.args.thread c.in-Some.call c.in_ok-given.given
+    ∙ did-fields (λ q. q.room) (λ q user pipes answers. refl) _ c.args.resources.now c.perform.new.resources c.self.inside.tables c.perform.new.tables c.perform.new.reply c.in_ok-given.given _ (c.in_ok-given.ensures.did its.process its.sent.bytes (sends c.self.inside.users c.args.thread c.in-Some.call its)))
 
 pub answer-requires-clause-nodes : goal.answer-requires-clause-nodes
 answer-requires-clause-nodes c manager =
     let taken : Some c.in-Some.call ≡ taken_call (thread_row c.self.inside.users c.args.thread) = rw (← c.self.view_is) at c.in-Some.ensures.call in
     let its = received c.self.inside.users c.args.thread c.in-Some.call taken in
     let same = did-fields (λ q. has_disconnect_node q c.args.thread.proc (manager_number manager)) (λ q user pipes answers. refl)
-    _ c.args.resources.now c.perform.new.resources c.self.inside.waits c.perform.new.waits c.perform.new.reply c.in_ok-given.given _ (c.in_ok-given.ensures.did its.process its.sent.bytes (sends c.self.inside.users c.args.thread c.in-Some.call its)) in
-    rw (c.in_ok-given.ensures.served, same) ((Kept-served c.self.inside.users c.self.inside.waits c.args.thread c.in-Some.call taken c.self.invariant.shared).servers c.args.thread.proc manager)
+    _ c.args.resources.now c.perform.new.resources c.self.inside.tables c.perform.new.tables c.perform.new.reply c.in_ok-given.given _ (c.in_ok-given.ensures.did its.process its.sent.bytes (sends c.self.inside.users c.args.thread c.in-Some.call its)) in
+    rw (c.in_ok-given.ensures.served, same) ((Kept-served c.self.inside.users c.self.inside.tables c.args.thread c.in-Some.call taken c.self.invariant.shared).servers c.args.thread.proc manager)

@@ -24,5 +24,5 @@ returns c = λ number. elim (cases_lt number PLACES) [
       let few = c.numbered.ensures.blocks in
       let same = ap length (ap (λ (i : Inodes). i.blocks) c.inodes.ensures) in
       get_or_past c.loop-number.all number unwatched (omega (arith, past, c.loop-number.invariant.places))
-      ∙ sym (rw (← c.self.view_is) (past-all (told (the_view c.self.inside) c.args.waits.now) number (omega (arith, past, few, same))))
+      ∙ sym (rw (← c.self.view_is) (past-all (told (the_view c.self.inside) c.args.tables.now) number (omega (arith, past, few, same))))
 ]

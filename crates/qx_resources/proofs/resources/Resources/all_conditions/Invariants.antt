@@ -9,5 +9,5 @@ use Rattle.qx_resources.proofs.resources.Resources.all_conditions.Given as goal
 abbrev pub invariant-loop-number : goal.invariant-loop-number
 invariant-loop-number l = record {
   places : length l.all ≡ PLACES;
-  noted : (k : ℕ) → k < l.number → conditions_in l.all k ≡ block_conditions (told l.self l.waits) k;
+  noted : (k : ℕ) → k < l.number → conditions_in l.all k ≡ block_conditions (told l.self l.tables) k;
 }

@@ -1,8 +1,6 @@
 use Rattle.std.proofs.Common.{sym}
-use Rattle.qx_resources.specs.State.{told}
-use Rattle.qx_chan.specs.Channel.{lists}
 use Rattle.qx_steps.proofs.ClientLemmas.{judged, judged-nobody, judged-ready}
-use Rattle.qx_steps.proofs.PartsLemmas.{process-told, thread_row-told, told-there}
+use Rattle.qx_steps.proofs.PartsLemmas.{process-told, thread_row-told}
 use Rattle.qx_steps.proofs.world.World.judge.Goals as goal
 
 pub returns-in_default-clause-target : goal.returns-in_default-clause-target
@@ -18,4 +16,4 @@ pub returns-clause-place : goal.returns-clause-place
 returns-clause-place c = rw (← c.self.view_is, process-told c.self.inside.channel c.self.inside.resources c.args.thread.proc c.self.invariant.users, ← c.in-Some.ensures.row) c.target_by.ensures.place
 
 pub returns-clause-target : goal.returns-clause-target
-returns-clause-target c = rw (← c.self.view_is) (judged c.self.inside.config c.self.inside.channel c.self.inside.resources c.self.inside.hands.items c.self.invariant c.args.thread c.args.request.now c.in-Some.processes.now (told c.in-Some-user.resources.now (lists c.self.inside.channel)) c.target_by.result (sym c.in-Some.ensures.row) (told-there c.self.inside.channel c.self.inside.resources c.args.thread.proc.user.0 c.in-Some-user.resources.now (sym c.in-Some-user.ensures.row)) (rw c.mounts.ensures.mounts at c.target_by.ensures.target))
+returns-clause-target c = rw (← c.self.view_is) (judged c.self.inside.config c.self.inside.channel c.self.inside.resources c.self.inside.hands.items c.self.invariant c.args.thread c.args.request.now c.in-Some.processes.now c.target_by.result (sym c.in-Some.ensures.row) (rw c.mounts-mounts.ensures.mounts at c.target_by.ensures.target))

@@ -1,5 +1,6 @@
 use Rattle.std.proofs.Common.{rules, ◌≡◌, true, refl, sym, ap, ◌∙◌}
 use Rattle.qx_types.specs.Configuration.{name_bytes}
+use Rattle.qx_paths.specs.Mounts.{mounts_of}
 use Rattle.qx_machine.specs.Judgements.{or_refused}
 use Rattle.qx_machine.specs.Mounting.{new_mount}
 use Rattle.qx_machine.specs.Rows.{row_at}
@@ -29,7 +30,7 @@ returns-clause-can c =
     let is : is_thread_ready (row_among_parts c.args.self.now.parts c.args.thread) ≡ true = search rules in
     let can = (ready-mount w c.self.inside.channel.users (told_all c.self.inside.channel c.self.inside.resources) c.args.thread c.args.path.now c.args.manager r refl there (rw (← c.self.view_is) at is)).1 in
     rw (refused, ← c.self.view_is)
-    (still_ok c.new_mount.result (λ mount. mounts.IsNextMount c.in-Some.resources.now mount) (λ mount. CanMount (row_at w.parts c.args.thread.proc.user.0) mount) (λ mount free. can mount (free.free, free.next)) c.new_mount.ensures.can)
+    (still_ok c.new_mount.result (λ mount. mounts.IsNextMount (mounts_of c.mounts-mounts.result.now c.in-Some.resources.now.user) c.in-Some.resources.now mount) (λ mount. CanMount (row_at w.parts c.args.thread.proc.user.0) mount) (λ mount free. can mount (rw (← c.mounts-mounts.ensures.mounts) free.free, free.next)) c.new_mount.ensures.can)
 
 pub returns-clause-mount : goal.returns-clause-mount
 returns-clause-mount c =
@@ -39,6 +40,6 @@ returns-clause-mount c =
     let refused : c.map_err.result ≡ or_refused c.new_mount.result = search rules in
     let is : is_thread_ready (row_among_parts c.args.self.now.parts c.args.thread) ≡ true = search rules in
     let judged = (ready-mount w c.self.inside.channel.users (told_all c.self.inside.channel c.self.inside.resources) c.args.thread c.args.path.now c.args.manager r refl there (rw (← c.self.view_is) at is)).0 in
-    let path = c.new_mount.ensures.mount (lists c.self.inside.channel) in
+    let path = c.new_mount.ensures.mount (lists c.self.inside.channel) (sym c.mounts-mounts.ensures.mounts) in
     let given : c.new_mount.result ≡ new_mount (name_bytes c.self.inside.config c.args.thread.proc.user.0) c.args.path.now c.args.manager r = search rules in
     rw (refused, ← c.self.view_is) (ap or_refused given ∙ sym judged)

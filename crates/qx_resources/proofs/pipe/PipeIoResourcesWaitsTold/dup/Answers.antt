@@ -1,4 +1,0 @@
-use Rattle.qx_resources.proofs.pipe.PipeIoResourcesWaitsTold.dup.Goals as goal
-
-pub returns-clause-did : goal.returns-clause-did
-returns-clause-did c = c.dup.ensures.did c.args._waits.now
