@@ -4,16 +4,19 @@
 //! deed, an answer or an ending that is none of those that have to come (`tally.rt`); and where one of these did not come
 //! or the line stayed short. What a step is about to do, how a message and a call that waited were answered, and what made
 //! events due and a server connection leave, is told in `deeds.rt`; what comes of exits, in `endings.rt`; when each is
-//! marked, in `marks.rt`. A perform is tried first with other work, which has to be stale. What is printed doesn't change
+//! marked, in `marks.rt`. The first steps are run once more with a trace, and what each user received is compared with what
+//! the user receives in the erased run, in `erased.rt`. A perform is tried first with other work, which has to be stale. What is printed doesn't change
 //! with the rules.
 #![tactic(auto)]
 
 mod deeds;
 mod endings;
+mod erased;
 mod marks;
 mod tally;
 
 use anyhow::bail;
+use erased::compare_erased;
 use marks::Before;
 use plain_machine::steps::{Dice, next_exit, next_guest, next_step, next_visit};
 use plain_machine::{Held, Plain, State};
@@ -39,6 +42,9 @@ const GUESTS: u32 = 2 * ROUND;
 /// With this seed the steps come to all that has to come.
 const SEED: u64 = 1000;
 
+/// So many of the first steps are run with a trace.
+const TRACED: u32 = 20_000;
+
 /// So many items have to stand in the line at some time.
 const LONG: usize = 100;
 
@@ -53,15 +59,17 @@ fn main(rt: HostRuntime) -> anyhow::Result<()> {
     Ok(())
 }
 
-/// Takes so many steps in both. A difference is an error, and so is what did not come.
+/// Takes so many steps in both. A difference is an error, and so is what did not come, and what a user receives otherwise in
+/// the erased run of the first steps.
 fn compare(alloc: Global, count: u32) -> anyhow::Result<()> {
     let mut plain = Plain::new(alloc, four_users(alloc)?)?;
     let Ok(mut world) = World::new(alloc, four_users(alloc)?) else {
         bail!("out of memory");
     };
     let mut tally = Tally::new();
-    take_steps(alloc, &mut world, &mut plain, &mut tally, count)?;
-    judge(&tally)
+    let first = take_steps(alloc, &mut world, &mut plain, &mut tally, count)?;
+    judge(&tally)?;
+    compare_erased(alloc, four_users(alloc)?, first)
 }
 
 /// What did not come is an error, and so is a line that was always short.
@@ -75,13 +83,15 @@ fn judge(tally: &Tally) -> anyhow::Result<()> {
     Ok(())
 }
 
+/// Takes so many steps in both, and gives back the first of them.
 fn take_steps(
     alloc: Global,
     world: &mut World,
     plain: &mut Plain,
     tally: &mut Tally,
     count: u32,
-) -> anyhow::Result<()> {
+) -> anyhow::Result<Vec<Step>> {
+    let mut first = Vec::new(alloc);
     let mut dice = Dice::new(SEED);
     for number in 0..count {
         let step = chosen_step(alloc, &mut dice, plain, number)?;
@@ -90,11 +100,14 @@ fn take_steps(
         if let Err(odd) = before.mark(plain, tally, &step, &outcome) {
             bail!("{step:?}: {odd}");
         }
+        if number < TRACED {
+            first.push(step)?;
+        }
     }
     if !no_others(world, plain) {
         bail!("a thread is there that was not started");
     }
-    Ok(())
+    Ok(first)
 }
 
 /// The step of that number.
