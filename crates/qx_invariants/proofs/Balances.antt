@@ -14,9 +14,10 @@ use Rattle.qx_machine.specs.Pipes.{Pipe, pipe_of}
 use Rattle.qx_machine.specs.Resources.{Resources}
 use Rattle.qx_machine.specs.Rows.{row_at, put_row, with_row}
 use Rattle.qx_machine.specs.Waiting.{Pipes, is_gone}
+use Rattle.qx_procs.specs.Calls.{has_ended_in}
 use Rattle.qx_invariants.specs.Changes.{Abandons, ResourceChange, Closes, Comes, Fills, MayHappen, Mounts, Unlinks, with_change, with_named, with_unlinked}
 use Rattle.qx_invariants.specs.Holds.{HasOpenWaiters, size_if}
-use Rattle.qx_invariants.specs.Waits.{count_answers_to, count_waiting, count_waiting_in, count_waiting_of, is_ended, is_of, though_gone, unless_gone, waits, count_state_waiting}
+use Rattle.qx_invariants.specs.Waits.{count_answers_to, count_waiting, count_waiting_in, count_waiting_of, is_of, though_gone, unless_gone, waits, count_state_waiting}
 use Rattle.qx_invariants.proofs.Astray.{closed_astray, nobody_over, nobody_unused}
 use Rattle.qx_attr.proofs.CountLemmas.{within_table}
 use Rattle.qx_invariants.proofs.Rows.{content_cases, empty_cases, freed, inode_is_new, unused_cases, with_row-at, with_row-other}
@@ -241,7 +242,7 @@ module _ (process thread : ℕ) where
 -- ---- processes that have ended
 
 -- such a process has no thread
-pub ended_nobody : (row : Option Process) (t : ℕ) → is_ended row ≡ true → thread_of t row ≡ None
+pub ended_nobody : (row : Option Process) (t : ℕ) → has_ended_in row ≡ true → thread_of t row ≡ None
 ended_nobody None t is = refl
 ended_nobody (Some process) t is = by process.threads is
   where
@@ -250,13 +251,13 @@ ended_nobody (Some process) t is = by process.threads is
     by (row ∷ threads) is = let none = eqb-true (length (row ∷ threads)) 0 is in absurd (omega (arith, none))
 
 -- one that changes and has as many threads has ended as before
-pub ended_same : (part : Part) (number : ℕ) (f : Process → Process) → ((process : Process) → length (f process).threads ≡ length process.threads) → (p : ℕ) → is_ended (row_at (with_process number f part).processes p) ≡ is_ended (row_at part.processes p)
+pub ended_same : (part : Part) (number : ℕ) (f : Process → Process) → ((process : Process) → length (f process).threads ≡ length process.threads) → (p : ℕ) → has_ended_in (row_at (with_process number f part).processes p) ≡ has_ended_in (row_at part.processes p)
 ended_same part number f same p = elim (cases_eq p number) [
-  | inl is ↦ ap (λ n. is_ended (row_at (with_row part.processes number f) n)) is ∙ (ap is_ended (with_row-at part.processes number f) ∙ (by (row_at part.processes number) ∙ ap (λ n. is_ended (row_at part.processes n)) (sym is)))
-  | inr apart ↦ ap is_ended (with_row-other part.processes number f p apart)
+  | inl is ↦ ap (λ n. has_ended_in (row_at (with_row part.processes number f) n)) is ∙ (ap has_ended_in (with_row-at part.processes number f) ∙ (by (row_at part.processes number) ∙ ap (λ n. has_ended_in (row_at part.processes n)) (sym is)))
+  | inr apart ↦ ap has_ended_in (with_row-other part.processes number f p apart)
 ]
   where
-    by : (row : Option Process) → is_ended (option_map f row) ≡ is_ended row
+    by : (row : Option Process) → has_ended_in (option_map f row) ≡ has_ended_in row
     by None = refl
     by (Some process) = ap (λ n. n == 0) (same process)
 
@@ -264,7 +265,7 @@ ended_same part number f same p = elim (cases_eq p number) [
 pub same_threads : (thread : ℕ) (change : ThreadRow → ThreadRow) (f : Process → Process) → ChangesThread thread change f → (process : Process) → length (f process).threads ≡ length process.threads
 same_threads thread change f changes process = ap (λ threads. length threads) (changes process) ∙ length-set process.threads thread (option_map change (row_at process.threads thread))
 
-pub ended_answers : (answers : List (WaitingCall × Answer)) (part : Part) (p : ℕ) → is_ended (row_at (with_answers answers part).processes p) ≡ is_ended (row_at part.processes p)
+pub ended_answers : (answers : List (WaitingCall × Answer)) (part : Part) (p : ℕ) → has_ended_in (row_at (with_answers answers part).processes p) ≡ has_ended_in (row_at part.processes p)
 ended_answers [] part p = refl
 ended_answers ((call, given) ∷ answers) part p =
     ended_answers answers (with_answer (call, given) part) p ∙ ended_same part call.process (with_thread call.thread (answered_thread given)) (same_threads call.thread (answered_thread given) (with_thread call.thread (answered_thread given)) (λ process. refl)) p
@@ -287,10 +288,10 @@ after_spawn part number threads prio free p t = elim (row-put part.processes num
 ]
 
 -- it has not ended
-pub spawn_ended : (part : Part) (number threads prio : ℕ) → row_at part.processes number ≡ None → (p : ℕ) → is_ended (row_at (put_row part.processes number (new_process threads prio)) p) ≡ is_ended (row_at part.processes p)
+pub spawn_ended : (part : Part) (number threads prio : ℕ) → row_at part.processes number ≡ None → (p : ℕ) → has_ended_in (row_at (put_row part.processes number (new_process threads prio)) p) ≡ has_ended_in (row_at part.processes p)
 spawn_ended part number threads prio free p = elim (row-put part.processes number (new_process threads prio) free p) [
-  | inl same ↦ ap is_ended same
-  | inr new ↦ ap is_ended new.0 ∙ (some (replicate threads (Some (new_thread prio))) ∙ ap is_ended (sym new.1))
+  | inl same ↦ ap has_ended_in same
+  | inr new ↦ ap has_ended_in new.0 ∙ (some (replicate threads (Some (new_thread prio))) ∙ ap has_ended_in (sym new.1))
 ]
   where
     some : (rows : List (Option ThreadRow)) → (length (None ∷ rows) == 0) ≡ false

@@ -57,8 +57,9 @@ use Rattle.qx_machine.specs.Users.{boot_part, client, serve, settle_part, take}
 use Rattle.qx_machine.proofs.Places.{lowest_from_free}
 use Rattle.qx_machine.proofs.Settled.{row_at-left}
 use Rattle.qx_machine.proofs.Waiters.{opened_by-caller}
+use Rattle.qx_procs.specs.Calls.{has_ended_in}
 use Rattle.qx_invariants.specs.Holds.{WaitsOnce}
-use Rattle.qx_invariants.specs.Waits.{count_answers_to, count_state_waiting, count_waiting, count_waiting_in, is_ended, is_of, though_gone, unless_gone, waits}
+use Rattle.qx_invariants.specs.Waits.{count_answers_to, count_state_waiting, count_waiting, count_waiting_in, is_of, though_gone, unless_gone, waits}
 use Rattle.qx_attr.specs.inner.Counts.{one}
 use Rattle.qx_invariants.proofs.Balances.{Balanced, IsBalance, balanced-keeps, balanced_first, ChangesThread, after_answers, after_spawn, ended_answers, ended_nobody, ended_same, is_its, same_threads, spawn_ended, thread_changed, thread_other, thread_same, waits_few}
 use Rattle.qx_invariants.proofs.Calls.{abandoned_part}
@@ -71,7 +72,7 @@ use Rattle.qx_invariants.proofs.Steps.{answers-resources, client-keeps, deed_kep
 use Rattle.qx_invariants.proofs.Together.{Holds, boot_holds, holds-keep}
 
 -- the threads of a user's part that wait are the same, the processes that have ended too, and as many calls wait in the pipes
-same_once : (part now : Part) → WaitsOnce part → now.resources.pipes ≡ part.resources.pipes → ((p t : ℕ) → waits (thread_at now p t) ≡ waits (thread_at part p t)) → ((p : ℕ) → is_ended (row_at now.processes p) ≡ is_ended (row_at part.processes p)) → WaitsOnce now
+same_once : (part now : Part) → WaitsOnce part → now.resources.pipes ≡ part.resources.pipes → ((p t : ℕ) → waits (thread_at now p t) ≡ waits (thread_at part p t)) → ((p : ℕ) → has_ended_in (row_at now.processes p) ≡ has_ended_in (row_at part.processes p)) → WaitsOnce now
 same_once part now h pipes same ended = record {
   once = λ p t. ap (count_waiting (unless_gone (is_of p t))) pipes ∙ (h.once p t ∙ sym (same p t));
   few = λ p t. subst (λ (all : Pipes). count_waiting (is_of p t) all ≤ 1) (sym pipes) (h.few p t);
@@ -149,7 +150,7 @@ of_process p t call = by (call.process == p) (call.thread == t) (is_gone call)
 
 -- calls were answered, as many as waited before or came: none came whose process has ended
 module _ (part mid : Part) (answers : List (WaitingCall × Answer)) (came : List WaitingCall) (h : WaitsOnce part) (balance : IsBalance part.resources.pipes mid.resources.pipes answers came) (here : count_by is_gone came ≡ 0)
-    (threads : (p t : ℕ) → waits (thread_at mid p t) ≡ waits (thread_at part p t) + count_by (unless_gone (is_of p t)) came) (ended : (p : ℕ) → is_ended (row_at mid.processes p) ≡ is_ended (row_at part.processes p)) where
+    (threads : (p t : ℕ) → waits (thread_at mid p t) ≡ waits (thread_at part p t) + count_by (unless_gone (is_of p t)) came) (ended : (p : ℕ) → has_ended_in (row_at mid.processes p) ≡ has_ended_in (row_at part.processes p)) where
   none_gone : (which : WaitingCall → Bool) → count_by (though_gone which) came ≡ 0
   none_gone which = let less = count-le (though_gone which) is_gone (λ call. by (which call) (is_gone call)) came in omega (arith, less, here)
     where
@@ -159,7 +160,7 @@ module _ (part mid : Part) (answers : List (WaitingCall × Answer)) (came : List
 
   -- of a process that has ended no thread waits, and of any other each call is here
   all_here : (p t : ℕ) → (waits (thread_at mid p t) ≡ 0) ⊎ (count_waiting (though_gone (is_of p t)) part.resources.pipes ≡ 0)
-  all_here p t = elim (cases_Bool (is_ended (row_at part.processes p))) [
+  all_here p t = elim (cases_Bool (has_ended_in (row_at part.processes p))) [
     | inl is ↦ inl (ap waits (ended_nobody (row_at mid.processes p) t (ended p ∙ is)))
     | inr alive ↦ inr (let less = waiting-le (though_gone (is_of p t)) (though_gone (is_of_process p)) (of_process p t) part.resources.pipes in let none = h.gone p alive in omega (arith, less, none))
   ]
@@ -341,11 +342,11 @@ module _ (held : List OwnItem) (pipes : Pipes) where
   left_thread number t (Some process) =
       cond_both (stays held pipes number process) (Some process) None (λ left. thread_of t left ≡ row_at process.threads t) (λ is. refl) (λ goes. sym (ended_nobody (Some process) t (freed-by held pipes number process goes).ended))
 
-  left_gone : (number : ℕ) (row : Option Process) → is_ended (row_left held pipes number row) ≡ false → (is_ended row ≡ false) ⊎ (has_waiting pipes number ≡ false)
+  left_gone : (number : ℕ) (row : Option Process) → has_ended_in (row_left held pipes number row) ≡ false → (has_ended_in row ≡ false) ⊎ (has_waiting pipes number ≡ false)
   left_gone number None alive = inl alive
   left_gone number (Some process) alive = by (stays held pipes number process) refl alive
     where
-      by : (b : Bool) → stays held pipes number process ≡ b → is_ended (if b then Some process else None) ≡ false → (has_ended process ≡ false) ⊎ (has_waiting pipes number ≡ false)
+      by : (b : Bool) → stays held pipes number process ≡ b → has_ended_in (if b then Some process else None) ≡ false → (has_ended process ≡ false) ⊎ (has_waiting pipes number ≡ false)
       by true is alive = inl alive
       by false goes alive = inr (freed-by held pipes number process goes).none
 
@@ -354,7 +355,7 @@ unfolding settle_part
 settle_once before held after h = record {
   once = λ p t. h.once p t ∙ ap waits (sym (ap (thread_of t) (left-at held after.resources.pipes p after.processes) ∙ left_thread held after.resources.pipes p t (row_at after.processes p)));
   few = h.few;
-  gone = λ p alive. elim (left_gone held after.resources.pipes p (row_at after.processes p) (ap is_ended (sym (left-at held after.resources.pipes p after.processes)) ∙ alive)) [
+  gone = λ p alive. elim (left_gone held after.resources.pipes p (row_at after.processes p) (ap has_ended_in (sym (left-at held after.resources.pipes p after.processes)) ∙ alive)) [
     | inl living ↦ h.gone p living
     | inr none ↦
         let nobody = nobody_holds (is_of_process p) after.resources.pipes none in
@@ -489,8 +490,8 @@ module _ (part : Part) (h : WaitsOnce part) where
       ];
       few = λ p t. let same = abandoned_count number (is_of p t) (is_of p t) (λ call. abandoned_part number call (is_of p t) refl) part.resources.pipes in let few = h.few p t in omega (arith, same, few);
       gone = λ p alive. elim (cases_eq p number) [
-        | inl same ↦ let clash : true ≡ false = ap is_ended (sym exited_row) ∙ (ap (λ n. is_ended (row_at exited.processes n)) (sym same) ∙ alive) in absurd (cc)
-        | inr apart ↦ other_calls p apart (though_gone (is_of_process p)) (λ call differs. ap (λ b. b && is_gone call) (not_of p call differs)) ∙ h.gone p (ap is_ended (sym (exited_other p apart)) ∙ alive)
+        | inl same ↦ let clash : true ≡ false = ap has_ended_in (sym exited_row) ∙ (ap (λ n. has_ended_in (row_at exited.processes n)) (sym same) ∙ alive) in absurd (cc)
+        | inr apart ↦ other_calls p apart (though_gone (is_of_process p)) (λ call differs. ap (λ b. b && is_gone call) (not_of p call differs)) ∙ h.gone p (ap has_ended_in (sym (exited_other p apart)) ∙ alive)
       ];
     }
 

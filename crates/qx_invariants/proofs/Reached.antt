@@ -23,7 +23,6 @@ use Rattle.qx_machine.specs.Runs.{run}
 use Rattle.qx_machine.specs.Settling.{has_waiting, is_held}
 use Rattle.qx_machine.proofs.Settled.{ended_kept}
 use Rattle.qx_invariants.specs.Changes.{Become, ResourceChange, MayHappen, with_change}
-use Rattle.qx_machine.proofs.Listings.{listed_end, listed_to_end}
 use Rattle.qx_invariants.proofs.Steps.{client-keeps, serve-keeps, settle-keeps, take-keeps, IsKept, run-holds}
 use Rattle.qx_machine.specs.Users.{boot_part}
 use Rattle.qx_invariants.proofs.Together.{Holds, boot_holds, boot_owned}

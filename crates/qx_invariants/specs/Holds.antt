@@ -29,8 +29,9 @@ use Rattle.qx_machine.specs.Rows.{row_at}
 use Rattle.qx_machine.specs.Runs.{run}
 use Rattle.qx_machine.specs.Servers.{in_use}
 use Rattle.qx_machine.specs.Waiting.{is_of_process}
+use Rattle.qx_procs.specs.Calls.{has_ended_in}
 use Rattle.qx_invariants.specs.Changes.{IsDirectoryAt, IsPipeSettled}
-use Rattle.qx_invariants.specs.Waits.{count_waiting, count_waiting_in, is_astray, is_ended, is_foreign, is_of, though_gone, unless_gone, waits}
+use Rattle.qx_invariants.specs.Waits.{count_waiting, count_waiting_in, is_astray, is_foreign, is_of, though_gone, unless_gone, waits}
 
 -- this holds of each user's part in each world that a run reaches
 abbrev pub HoldsOfParts : (Part → Type 0) → Type 0
@@ -204,4 +205,4 @@ pub record WaitsOnce (part : Part) : Type 0 where
   -- of no thread more than one waits, whether its process has ended or not
   pub few : (process thread : ℕ) → count_waiting (is_of process thread) part.resources.pipes ≤ 1
   -- that the process of a call has ended is said of such a process alone, which is there still
-  pub gone : (process : ℕ) → is_ended (row_at part.processes process) ≡ false → count_waiting (though_gone (is_of_process process)) part.resources.pipes ≡ 0
+  pub gone : (process : ℕ) → has_ended_in (row_at part.processes process) ≡ false → count_waiting (though_gone (is_of_process process)) part.resources.pipes ≡ 0

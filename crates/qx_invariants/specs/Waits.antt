@@ -9,7 +9,6 @@ use Rattle.qx_machine.specs.declared.rows.ThreadRow.{ThreadRow}
 use Rattle.qx_machine.specs.declared.rows.WaitingCall.{WaitingCall}
 use Rattle.qx_machine.specs.Inodes.{is_open}
 use Rattle.qx_machine.specs.Pipes.{Pipe}
-use Rattle.qx_machine.specs.Processes.{Process, has_ended}
 use Rattle.qx_machine.specs.Rows.{row_at}
 use Rattle.qx_machine.specs.Waiting.{Pipes, is_gone}
 
@@ -63,8 +62,3 @@ count_state_waiting _ = 0
 abbrev pub waits : Option ThreadRow → ℕ
 waits None = 0
 waits (Some row) = count_state_waiting row.state
-
--- a process is there and has ended
-abbrev pub is_ended : Option Process → Bool
-is_ended None = false
-is_ended (Some process) = has_ended process
