@@ -1,5 +1,5 @@
 -- A process ends, and is freed if nothing is left of it.
-use Rattle.std.proofs.Common.{◌≡◌, ◌≢◌, inl, inr, ℕ, zero, suc, ◌+◌, get_or, List, [], ◌∷◌, Option, Some, None, map, replicate, refl, sym, ap, subst, ◌∙◌}
+use Rattle.std.proofs.Common.{◌≡◌, ◌≢◌, inl, inr, ℕ, zero, suc, ◌+◌, get_or, List, [], ◌∷◌, Option, Some, None, map, replicate, refl, sym, ap, subst, ◌∙◌, arith}
 use Rattle.std.specs.Prelude.{option_map, slice_set}
 use Rattle.std.proofs.lemmas.List.{get_or-set_other, set-set}
 use Rattle.qx_types.specs.Configuration.{Configuration}
@@ -19,18 +19,20 @@ use Rattle.qx_machine.specs.Parts.{Part, with_process}
 use Rattle.qx_machine.specs.Processes.{Process, ended, living}
 use Rattle.qx_machine.specs.Resources.{Resources}
 use Rattle.qx_machine.specs.Rows.{row_at, with_row}
-use Rattle.qx_machine.specs.Settling.{is_living, processes_left}
+use Rattle.qx_machine.specs.Settling.{has_waiting, is_living, processes_left, row_left}
 use Rattle.qx_machine.specs.Users.{client, settle_part}
 use Rattle.qx_machine.specs.Waiting.{no_pipes}
 use Rattle.qx_machine.proofs.NotifyLemmas.{settled-ended}
+use Rattle.qx_machine.proofs.Places.{set-row_at}
 use Rattle.qx_process.proofs.RowLemmas.{set-row, with_row-none}
 use Rattle.qx_resources.specs.State.{told, Kept}
 use Rattle.qx_chan.specs.Channel.{Channel, after_exit, channel_events, channel_pipes, ended_in, exit_outcome, lists}
 use Rattle.qx_chan.specs.Users.{process_of, process_of_user}
 use Rattle.qx_chan.proofs.RowReads.{option_cases, row_at-with_same}
 use Rattle.qx_steps.specs.inner.Parts.{parts_of, told_all, world_of, IsSound}
-use Rattle.qx_steps.specs.inner.Performing.{with_left}
-use Rattle.qx_steps.proofs.FreeLemmas.{those_left}
+use Rattle.qx_steps.specs.inner.Performing.{with_left, with_one_left}
+use Rattle.qx_steps.proofs.FreeLemmas.{nobody-left, nobody_left, those_left}
+use Rattle.qx_steps.proofs.LeftLemmas.{left-row, left-waits, one-alone, waiting-marked}
 use Rattle.qx_steps.proofs.OwnerLemmas.{Owner, get-set, nobody, owner, sound-step, told_otherwise}
 use Rattle.qx_steps.proofs.SettledLemmas.{settled-processes}
 use Rattle.qx_steps.proofs.StillLemmas.{still-exit, still-left}
@@ -175,6 +177,58 @@ module _ (config : Configuration) (c : Channel) (ks : List (Option Kept)) (hands
           done
           ∙ sym (ap (λ row. came (freed (ended_in c proc row)) (exit_outcome row)) row-there
           ∙ (ap (λ d. came d Done) freed-is ∙ ap (λ parts. record { world = record { config = config; parts = parts; lines = d.lines; hands = hands }; outcome = Done }) parts-then))
+
+  -- no other process is freed
+
+  module _ (ps : List (Option Process)) (o : Owner config c ks hands sound proc.user.0 ps) where
+    before_left : processes_left held (channel_pipes c proc.user.0) 0 ps ≡ ps
+    before_left = subst (λ user. processes_left held (channel_pipes c user) 0 ps ≡ ps) o.own o.left
+
+    none-else : living (row_at ps proc.num) ≡ None → with_one_left (after_exit c proc) held proc ≡ freed (after_exit c proc)
+    none-else none =
+        let row : living (process_of c.users proc) ≡ None = ap living (ap (process_of_user proc.num) o.users) ∙ none in
+        let same : row_left held (channel_pipes c proc.user.0) proc.num (row_at ps proc.num) ≡ row_at ps proc.num = left-row held (channel_pipes c proc.user.0) ps proc.num before_left in
+        subst (λ row. with_one_left (ended_in c proc row) held proc ≡ freed (ended_in c proc row)) (sym row) (
+        ap (λ users. record c { users = users }) (rw o.users (ap (λ rows. slice_set c.users proc.user.0 (Some rows)) (ap (slice_set ps proc.num) same ∙ set-row_at ps proc.num ∙ sym before_left)))
+        )
+
+    one-else : (process : Process) → living (row_at ps proc.num) ≡ Some process → with_one_left (after_exit c proc) held proc ≡ freed (after_exit c proc)
+    one-else process there =
+        let row : living (process_of c.users proc) ≡ Some process = ap living (ap (process_of_user proc.num) o.users) ∙ there in
+        let d : Channel = ended_in c proc (Some process) in
+        let x : Option Process = option_map ended (row_at ps proc.num) in
+        let rows : row_at d.users proc.user.0 ≡ Some (slice_set ps proc.num x) = row_at-with_same c.users proc.user.0 (λ processes. with_row processes proc.num ended) ∙ ap (option_map (λ processes. with_row processes proc.num ended)) o.users in
+        let pipes : channel_pipes d proc.user.0 ≡ map (option_map (with_abandoned proc.num)) (channel_pipes c proc.user.0) =
+        get-set (map (option_map (with_abandoned proc.num))) no_pipes (unmapped (with_abandoned proc.num) (INODES + 1)) c.pipes proc.user.0 in
+        let left : processes_left held (channel_pipes d proc.user.0) 0 ps ≡ ps =
+        left-waits held (channel_pipes c proc.user.0) (channel_pipes d proc.user.0) (λ number. sym (ap (λ pipes. has_waiting pipes number) pipes ∙ waiting-marked proc.num number (channel_pipes c proc.user.0))) 0 ps before_left in
+        let zeroth : 0 + proc.num ≡ proc.num = omega arith in
+        let all : processes_left held (channel_pipes d proc.user.0) 0 (slice_set ps proc.num x) ≡ slice_set ps proc.num (row_left held (channel_pipes d proc.user.0) proc.num x) =
+        one-alone held (channel_pipes d proc.user.0) 0 proc.num ps x left ∙ ap (λ n. slice_set ps proc.num (row_left held (channel_pipes d proc.user.0) n x)) zeroth in
+        let its : row_at (slice_set ps proc.num x) proc.num ≡ x = row_at-with_same ps proc.num ended in
+        let one : slice_set (slice_set ps proc.num x) proc.num (row_left held (channel_pipes d proc.user.0) proc.num (row_at (slice_set ps proc.num x) proc.num)) ≡ slice_set ps proc.num (row_left held (channel_pipes d proc.user.0) proc.num x) =
+        set-set ps proc.num x (row_left held (channel_pipes d proc.user.0) proc.num (row_at (slice_set ps proc.num x) proc.num)) ∙ ap (λ y. slice_set ps proc.num (row_left held (channel_pipes d proc.user.0) proc.num y)) its in
+        subst (λ row. with_one_left (ended_in c proc row) held proc ≡ freed (ended_in c proc row)) (sym row) (
+        ap (λ users. record d { users = users }) (rw rows (ap (λ rows. slice_set d.users proc.user.0 (Some rows)) (one ∙ sym all)))
+        )
+
+  one-freed_alone : with_one_left (after_exit c proc) held proc ≡ freed (after_exit c proc)
+  one-freed_alone = elim (option_cases (row_at c.users proc.user.0)) [
+    | inl none ↦
+        let row : living (process_of c.users proc) ≡ None = ap (λ processes. living (process_of_user proc.num processes)) none in
+        subst (λ row. with_one_left (ended_in c proc row) held proc ≡ freed (ended_in c proc row)) (sym row) (nobody-left c held proc none ∙ sym (nobody_left c held proc.user.0 none))
+    | inr ps ↦
+        let o = owner config c ks hands sound proc.user.0 ps.0 ps.1 in
+        elim (option_cases (living (row_at ps.0 proc.num))) [
+          | inl none ↦ none-else ps.0 o none
+          | inr process ↦ one-else ps.0 o process.0 process.1
+        ]
+  ]
+
+  -- once the process is freed that ended, if nothing is left of it, all are that can be
+  pub exit-freed : (old now : Channel) → old ≡ after_exit c proc → now ≡ record (with_one_left old held proc) { room = now.room } → now ≡ record (freed (after_exit c proc)) { room = now.room }
+  exit-freed old now comes is =
+      is ∙ ap {A = Channel} (λ d. record (with_one_left d held proc) { room = now.room }) comes ∙ ap {A = Channel} (λ d. record d { room = now.room }) one-freed_alone
 
   pub exit-step : step w (Exit proc) ≡ came (freed (after_exit c proc)) (exit_outcome (living (process_of c.users proc)))
   exit-step = elim (option_cases (row_at c.users proc.user.0)) [

@@ -113,7 +113,7 @@ module _ (c : Channel) (held : List OwnItem) (proc : Proc) where
       ap (λ users. record c { users = users })
       (rw user (ap (λ rows. slice_set c.users proc.user.0 (Some rows)) (ap (slice_set processes proc.num) same ∙ set-row_at processes proc.num) ∙ set-row c.users proc.user.0 processes user))
 
-  nobody-left : row_at c.users proc.user.0 ≡ None → with_one_left c held proc ≡ c
+  pub nobody-left : row_at c.users proc.user.0 ≡ None → with_one_left c held proc ≡ c
   nobody-left none = ap (λ users. record c { users = users }) (with_row-none c.users proc.user.0 (λ processes. slice_set processes proc.num (left processes)) none)
 
   pub one-unended : has_ended_in (process_of c.users proc) ≡ false → with_one_left c held proc ≡ c

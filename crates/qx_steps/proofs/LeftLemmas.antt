@@ -1,6 +1,6 @@
 -- Processes of which none is to be freed, as one of them changes or comes, and as a worker takes an item.
 use Rattle.std.proofs.Common.{◌≡◌, inl, inr, ℕ, zero, suc, ◌+◌, List, [], ◌∷◌, ◌++◌, length, Bool, true, false, refl, sym, ap, ap₂, ◌∙◌, arith}
-use Rattle.std.specs.Prelude.{Option, Some, None, ◌==◌, ◌||◌, not, drop, is_none, nat_lt, option_map, slice_set}
+use Rattle.std.specs.Prelude.{map, Option, Some, None, ◌==◌, ◌||◌, not, drop, is_none, nat_lt, option_map, slice_set}
 use Rattle.std.proofs.lemmas.Bool.{cases_Bool, cond_both}
 use Rattle.std.proofs.lemmas.Bool.Decides.{nat_tests}
 use Rattle.std.proofs.lemmas.List.{length-set}
@@ -16,7 +16,11 @@ use Rattle.qx_machine.specs.Parts.{thread_of}
 use Rattle.qx_machine.specs.Processes.{Process, has_ended, has_server, new_process, queued_thread, with_over, with_queued, with_side, with_thread}
 use Rattle.qx_machine.specs.Rows.{put_row, row_at, with_row}
 use Rattle.qx_machine.specs.Settling.{has_waiting, is_held, process_of_item, processes_left, row_left, stays}
-use Rattle.qx_machine.specs.Waiting.{Pipes}
+use Rattle.qx_machine.specs.declared.rows.WaitingCall.{WaitingCall}
+use Rattle.qx_machine.specs.Clients.{abandoned, with_abandoned}
+use Rattle.qx_machine.specs.Pipes.{Pipe}
+use Rattle.qx_machine.specs.Waiting.{Pipes, holds, is_of_process}
+use Rattle.std.specs.List.{list_any}
 use Rattle.qx_machine.proofs.Living.{KeepsThreads, keeps-thread}
 use Rattle.qx_machine.proofs.Settled.{row_at-left}
 use Rattle.qx_chan.proofs.RowReads.{option_cases}
@@ -137,6 +141,53 @@ module _ (held more : List OwnItem) (pipes : Pipes) (grows : (number : ℕ) → 
   pub left-held : (first : ℕ) (rows : List (Option Process)) → AreLeft held pipes first rows → AreLeft more pipes first rows
   left-held first [] left = refl
   left-held first (row ∷ rows) left = ap₂ (λ y ys. y ∷ ys) (row-held first row (left-first held pipes first row rows left)) (left-held (first + 1) rows (left-rest held pipes first row rows left))
+
+-- ---- calls that wait
+
+or-waits : (a b c d e : Bool) → (d ≡ true → e ≡ true) → (a || (b || c || d)) ≡ true → (a || (b || c || e)) ≡ true
+or-waits true b c d e waits is = refl
+or-waits false true c d e waits is = refl
+or-waits false false true d e waits is = refl
+or-waits false false false true e waits is = waits refl
+or-waits false false false false e waits is = absurd (cc)
+
+module _ (held : List OwnItem) (before after : Pipes) (waits : (number : ℕ) → has_waiting before number ≡ has_waiting after number) where
+  row-waits : (number : ℕ) (row : Option Process) → IsLeft held before number row → IsLeft held after number row
+  row-waits number None left = refl
+  row-waits number (Some process) left =
+      rw (or-waits (not (has_ended process)) (has_server process) (is_held held number) (has_waiting before number) (has_waiting after number) (λ is. sym (waits number) ∙ is) (stay held before number process left)) refl
+
+  pub left-waits : (first : ℕ) (rows : List (Option Process)) → AreLeft held before first rows → AreLeft held after first rows
+  left-waits first [] left = refl
+  left-waits first (row ∷ rows) left = ap₂ (λ y ys. y ∷ ys) (row-waits first row (left-first held before first row rows left)) (left-waits (first + 1) rows (left-rest held before first row rows left))
+
+-- calls that are marked are of the process that they were of
+same_process : (process number : ℕ) (call : WaitingCall) → is_of_process number (abandoned process call) ≡ is_of_process number call
+same_process process number call = cond_both (is_of_process process call) (record call { is_gone = true }) call (λ marked. is_of_process number marked ≡ is_of_process number call) (λ is. refl) (λ is. refl)
+
+any-marked : (process number : ℕ) (calls : List WaitingCall) → list_any (is_of_process number) (map (abandoned process) calls) ≡ list_any (is_of_process number) calls
+any-marked process number [] = refl
+any-marked process number (call ∷ calls) = ap₂ (λ one rest. one || rest) (same_process process number call) (any-marked process number calls)
+
+held-marked : (process number : ℕ) (row : Option (Pipe WaitingCall)) → holds (is_of_process number) (option_map (with_abandoned process) row) ≡ holds (is_of_process number) row
+held-marked process number None = refl
+held-marked process number (Some pipe) = ap₂ (λ one other. one || other) (any-marked process number pipe.readers) (any-marked process number pipe.writers)
+
+pub waiting-marked : (process number : ℕ) (pipes : Pipes) → has_waiting (map (option_map (with_abandoned process)) pipes) number ≡ has_waiting pipes number
+waiting-marked process number [] = refl
+waiting-marked process number (row ∷ rows) = ap₂ (λ one rest. one || rest) (held-marked process number row) (waiting-marked process number rows)
+
+-- ---- one row alone is not left
+
+pub one-alone : (held : List OwnItem) (pipes : Pipes) (first number : ℕ) (rows : List (Option Process)) (row : Option Process) → AreLeft held pipes first rows
+    → processes_left held pipes first (slice_set rows number row) ≡ slice_set rows number (row_left held pipes (first + number) row)
+one-alone held pipes first number [] row left = refl
+one-alone held pipes first zero (x ∷ rows) row left =
+    let at : first ≡ first + 0 = omega arith in
+    ap₂ (λ y ys. y ∷ ys) (ap (λ n. row_left held pipes n row) at) (left-rest held pipes first x rows left)
+one-alone held pipes first (suc number) (x ∷ rows) row left =
+    let at : first + 1 + number ≡ first + suc number = omega arith in
+    ap₂ (λ y ys. y ∷ ys) (left-first held pipes first x rows left) (one-alone held pipes (first + 1) number rows row (left-rest held pipes first x rows left) ∙ ap (λ n. slice_set rows number (row_left held pipes n row)) at)
 
 -- what workers hold of a user, as one of them takes an item more
 more-held : (first : OwnItem) (held more : List OwnItem) (number : ℕ) → (is_held held number ≡ true → is_held more number ≡ true) → is_held (first ∷ held) number ≡ true → is_held (first ∷ more) number ≡ true

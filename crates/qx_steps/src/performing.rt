@@ -78,7 +78,7 @@ pub(crate) fn free_ended(channel: &mut Channel, hands: &[Option<Held>], user: Us
 }
 
 /// Frees a process, if it has ended and nothing of it is left.
-fn free_one(channel: &mut Channel, hands: &[Option<Held>], proc: Proc)
+pub(crate) fn free_one(channel: &mut Channel, hands: &[Option<Held>], proc: Proc)
     ensures { channel.new ≡ record (with_one_left channel.old (own_held proc.user.0 hands.now) proc) { room = channel.new.room } }
 {
     if channel.has_ended(proc) && !is_held_of(hands, proc) {

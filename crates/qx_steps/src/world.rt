@@ -18,7 +18,7 @@ ghost use Rattle.qx_steps.specs.inner.Reads.{is_thread_ready};
 ghost use Rattle.qx_steps.specs.inner.Steps.{after_mount, mount_in, CanMount};
 ghost use Rattle.qx_steps.specs.Steps.{target_in, HasMemory};
 
-use crate::performing::{free_ended, named_thread, perform};
+use crate::performing::{free_ended, free_one, named_thread, perform};
 use crate::work::{PerformFault, Work, WorkRef};
 use qx_attr::Reply;
 use qx_chan::Channel;
@@ -116,7 +116,7 @@ impl World {
         ensures world { self.new ≡ (machine.step self.old (Step.Exit proc)).world }
     {
         let outcome = self.channel.exit(self.alloc, proc);
-        free_ended(&mut self.channel, self.hands.as_slice(), proc.user);
+        free_one(&mut self.channel, self.hands.as_slice(), proc);
         outcome
     }
 
