@@ -1,13 +1,12 @@
 -- A thread's row among the rows of all users, and what it tells.
-use Rattle.std.specs.Prelude.{ℕ, Bool, true, false, List, Option, Some, None}
+use Rattle.std.specs.Prelude.{ℕ, Bool, List, Option, Some, None, is_some}
 use Rattle.qx_types.specs.declared.names.Proc.{Proc}
 use Rattle.qx_types.specs.declared.names.Thread.{Thread}
-use Rattle.qx_machine.specs.declared.rows.State.{State}
-use Rattle.qx_machine.specs.declared.rows.State.TheVariants.{Answered}
 use Rattle.qx_machine.specs.declared.rows.ThreadRow.{ThreadRow}
 use Rattle.qx_machine.specs.Parts.{Part, thread_of}
 use Rattle.qx_machine.specs.Processes.{Process}
 use Rattle.qx_machine.specs.Rows.{row_at}
+use Rattle.qx_chan.specs.Calls.{answer_of}
 
 abbrev pub process_of_part : ℕ → Option Part → Option Process
 process_of_part number None = None
@@ -21,10 +20,5 @@ process_among_parts parts proc = process_of_part proc.num (row_at parts proc.use
 abbrev pub row_among_parts : List (Option Part) → Thread → Option ThreadRow
 row_among_parts parts thread = thread_of thread.tid (process_among_parts parts thread.proc)
 
-abbrev pub is_state_answered : State → Bool
-is_state_answered (Answered answer) = true
-is_state_answered _ = false
-
 abbrev pub is_thread_answered : Option ThreadRow → Bool
-is_thread_answered None = false
-is_thread_answered (Some row) = is_state_answered row.state
+is_thread_answered row = is_some (answer_of row)

@@ -9,6 +9,7 @@ ghost use Rattle.qx_machine.specs.Calls.{can_send, content_of};
 ghost use Rattle.qx_machine.specs.Rows.{row_at};
 ghost use Rattle.qx_machine.specs.Wants.{wants_memory};
 ghost use Rattle.qx_process.specs.Reads.{is_thread_blocked, CanCall, CanGo};
+ghost use Rattle.qx_chan.specs.Calls.{answer_of};
 ghost use Rattle.qx_chan.specs.Users.{IsThreadReady};
 ghost use Rattle.qx_procs.specs.Calls.{CanAttachAt};
 ghost use Rattle.qx_requests.specs.Targets.{HasRest};
@@ -435,14 +436,21 @@ impl World {
         self.hand(worker).is_some()
     }
 
+    /// The answer that a thread has and has not yet taken. None for a thread that is not there.
+    pub fn answer(&self, thread: Thread) -> Option<&Answer>
+        ensures { option_copied result ≡ answer_of (row_among_parts self.now.parts thread) }
+    {
+        match &self.channel.thread(thread)?.state {
+            State::Answered(answer) => Some(answer),
+            _ => None,
+        }
+    }
+
     /// Whether a thread has an answer that it has not yet taken. False for a thread that is not there.
     pub fn answered(&self, thread: Thread) -> bool
         ensures { result ≡ is_thread_answered (row_among_parts self.now.parts thread) }
     {
-        match self.channel.thread(thread) {
-            Some(row) => matches!(row.state, State::Answered(_)),
-            None => false,
-        }
+        self.answer(thread).is_some()
     }
 
     /// Whether a thread waits for an answer: its message stands in a line, or was received, or its call waits in a pipe.

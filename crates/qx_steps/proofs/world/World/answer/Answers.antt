@@ -1,6 +1,6 @@
 use Rattle.std.proofs.Common.{rules}
 use Rattle.qx_steps.proofs.PartsLemmas.{thread_row-told}
-use Rattle.qx_steps.proofs.world.World.answered.Goals as goal
+use Rattle.qx_steps.proofs.world.World.answer.Goals as goal
 
 pub returns-in-Answered : goal.returns-in-Answered
 returns-in-Answered c = rw (← c.self.view_is, thread_row-told c.self.inside.channel c.self.inside.resources c.args.thread c.self.invariant.users) (search rules)

@@ -1,0 +1,5 @@
+//! Tests of worker threads round one lock.
+#![tactic(auto)]
+
+#[cfg(test)]
+mod tests;

@@ -1,0 +1,102 @@
+//! A client: a thread of a process that calls, and who takes other steps of clients.
+
+use crate::seat::Seat;
+use crate::server::Server;
+use qx_types::{Errno, MessageBytes, Outcome, Request, Step, Thread};
+use qx_world::Unstored;
+use std::sync::Wait;
+use std::sync::ledger::Ledger;
+
+/// How a call ended.
+#[derive(Debug, Drop, PartialEq, Eq)]
+pub enum CallEnd {
+    /// The manager's reply: its status and its bytes (C Library Reference: `MsgReply`).
+    Reply(u64, MessageBytes),
+    /// The manager's error (C Library Reference: `MsgError`).
+    Failed(Errno),
+    /// The call was refused at once.
+    Refused(Errno),
+    /// The thread is not there or not ready; or its process ended, or its answer was taken, while the client waited.
+    WrongState,
+    /// The server was stopped. A message that was sent stands where it stood.
+    Stopped,
+    /// Memory was short, for the call or for its answer, which the thread then has still.
+    NoMemory,
+}
+
+/// A thread of a process, at a seat of a server.
+#[derive(Drop)]
+pub struct Client<L: Ledger> {
+    seat: Seat<L>,
+    thread: Thread,
+}
+
+impl<L: Ledger> Client<L> {
+    /// A client that calls as a thread, which need not be there yet.
+    pub fn new(seat: Seat<L>, thread: Thread) -> Self {
+        Client { seat, thread }
+    }
+
+    /// Gives the seat back.
+    pub fn into_seat(self) -> Seat<L> {
+        let Client { seat, thread: _ } = self;
+        seat
+    }
+
+    /// Calls, waits while the thread is blocked, and takes the answer (C Library Reference: `MsgSend`).
+    pub fn call(&mut self, rt: &impl Wait, server: &Server<L>, request: Request) -> CallEnd {
+        let thread = self.thread;
+        let mut guard = server.lock(rt);
+        if guard.is_stopped() {
+            return CallEnd::Stopped;
+        }
+        let called = guard.take(&mut self.seat, Step::Call { thread, request });
+        drop(guard);
+        match called {
+            Ok(Outcome::Sent) => {}
+            Ok(outcome) => return end_of(outcome),
+            Err(_) => return CallEnd::NoMemory,
+        }
+        server.wake_worker();
+        let mut guard = server.lock_for_answer(rt, thread);
+        if guard.world().blocked(thread) {
+            return CallEnd::Stopped;
+        }
+        match guard.take(&mut self.seat, Step::TakeReply { thread }) {
+            Ok(outcome) => end_of(outcome),
+            Err(_) => CallEnd::NoMemory,
+        }
+    }
+
+    /// Takes one step of any client, and gives its outcome; or hands it back for want of memory. It waits for the lock alone.
+    pub fn step(
+        &mut self,
+        rt: &impl Wait,
+        server: &Server<L>,
+        step: Step,
+    ) -> Result<Outcome, Unstored> {
+        let user = step.actor().map(|actor| actor.user());
+        let mut guard = server.lock(rt);
+        let result = guard.take(&mut self.seat, step);
+        let released = user.map(|user| guard.released(user));
+        let waiting = guard.next_line().is_some();
+        drop(guard);
+        if let Some(released) = released {
+            server.wake_clients(released);
+        }
+        if waiting {
+            server.wake_worker();
+        }
+        result
+    }
+}
+
+/// The end of a call that was not sent, or whose answer was taken.
+fn end_of(outcome: Outcome) -> CallEnd {
+    match outcome {
+        Outcome::Reply(status, bytes) => CallEnd::Reply(status, bytes),
+        Outcome::Failed(error) => CallEnd::Failed(error),
+        Outcome::Refused(error) => CallEnd::Refused(error),
+        _ => CallEnd::WrongState,
+    }
+}

@@ -1,0 +1,30 @@
+//! Worker threads and clients' threads round one lock, under which a trace takes their steps.
+//!
+//! - `server.rt`: `Server`, the lock and where threads sleep; how it is stopped
+//! - `locked.rt`: what lies under the lock, and how a step is taken, stored and noted
+//! - `seat.rt`: `Seat`, a thread's place at the server, with a `Note` of each step that it took
+//! - `copies.rt`: copies that a step needs, made before it is taken
+//! - `waits.rt`: for which threads clients wait
+//! - `worker.rt`: `worker_loop`, with what an author gives it: a `Gate` and a `Clock`
+//! - `client.rt`: `Client`, who calls and takes other steps
+//! - `finish.rt`: the end of a server
+//! - `agreement.rt`: whether all that was noted stands in what was stored
+//!
+//! `Notes.antt` says how notes stand in what was stored, `Ends.antt` what a call and a loop add to them.
+#![tactic(auto)]
+
+mod agreement;
+pub mod client;
+mod copies;
+pub mod finish;
+mod locked;
+pub mod seat;
+pub mod server;
+mod waits;
+pub mod worker;
+
+pub use client::{CallEnd, Client};
+pub use finish::{FinishFault, finish};
+pub use seat::{Note, Seat};
+pub use server::Server;
+pub use worker::{Clock, Gate, worker_loop};

@@ -1,0 +1,117 @@
+//! A server: one lock, and where threads sleep.
+
+use crate::locked::Locked;
+use crate::seat::Seat;
+use crate::waits::{THREADS, ThreadSet, place_of};
+use qx_types::{Config, Limits, NoMemory, Thread, User};
+use std::alloc::{AllocError, Global};
+use std::sync::ledger::{Blank, Ledger, Share};
+use std::sync::{Condvar, Mutex, MutexGuard, Wait};
+
+/// A trace under a lock, to which workers and clients come, each at a seat of its own.
+#[derive(Drop)]
+pub struct Server<L: Ledger> {
+    pub(crate) locked: Mutex<Locked<L>>,
+    /// Where workers sleep until an item stands in a line.
+    items: Condvar,
+    /// Where clients sleep until a thread waits for no answer, for each thread one.
+    answers: Vec<Condvar>,
+    pub(crate) made: usize,
+}
+
+impl<L: Ledger> Server<L> {
+    /// A server of a system at boot, and its seats: one for each of the configuration's workers, and so many more for
+    /// clients, as many in all as the blank ledger has parts.
+    pub fn new(
+        alloc: Global,
+        blank: Blank,
+        config: Config,
+        clients: usize,
+    ) -> Result<(Server<L>, Vec<Seat<L>>), NoMemory> {
+        let workers = config.workers() as usize;
+        let (book, mut all) = blank.open::<L>();
+        let mut seats = Vec::new(alloc);
+        add_seats(alloc, &mut seats, &mut all, workers)?;
+        add_seats(alloc, &mut seats, &mut all, clients)?;
+        let server = Server {
+            locked: Mutex::new(Locked::new(alloc, config, book, all)?),
+            items: Condvar::new(),
+            answers: condvars(alloc)?,
+            made: seats.len(),
+        };
+        Ok((server, seats))
+    }
+
+    /// Ends the service: loops end once both lines are empty, clients that wait are answered `Stopped`, their calls standing
+    /// where they stand, and so are later calls.
+    pub fn stop(&self, rt: &impl Wait) {
+        let mut guard = self.lock(rt);
+        guard.stop();
+        drop(guard);
+        self.items.notify_all();
+        for bell in &self.answers {
+            bell.notify_all();
+        }
+    }
+
+    /// Takes the lock.
+    pub(crate) fn lock(&self, rt: &impl Wait) -> MutexGuard<'_, Locked<L>> {
+        self.locked.lock(rt)
+    }
+
+    /// Takes the lock once an item stands in a line, or the server was stopped.
+    pub(crate) fn lock_for_item<R: Wait>(&self, rt: &R) -> MutexGuard<'_, Locked<L>> {
+        self.items.wait_while(rt, self.lock(rt), |locked| {
+            locked.next_line().is_none() && !locked.is_stopped()
+        })
+    }
+
+    /// Takes the lock once a thread waits for no answer, or the server was stopped.
+    pub(crate) fn lock_for_answer<R: Wait>(
+        &self,
+        rt: &R,
+        thread: Thread,
+    ) -> MutexGuard<'_, Locked<L>> {
+        self.bell(thread)
+            .wait_while(rt, self.lock(rt), |locked| locked.waits(thread))
+    }
+
+    /// Wakes a worker, where one waits for an item.
+    pub(crate) fn wake_worker(&self) {
+        self.items.notify_one();
+    }
+
+    /// Wakes the clients that wait for these threads.
+    pub(crate) fn wake_clients(&self, mut threads: ThreadSet) {
+        for _ in 0..threads.len() {
+            self.bell(threads.pop()).notify_all();
+        }
+    }
+
+    /// Where clients wait for a thread.
+    fn bell(&self, thread: Thread) -> &Condvar {
+        &self.answers[place_of(thread)]
+    }
+}
+
+/// So many seats more, each with one part of what is there.
+fn add_seats<L: Ledger>(
+    alloc: Global,
+    seats: &mut Vec<Seat<L>>,
+    all: &mut Share<L>,
+    count: usize,
+) -> Result<(), AllocError> {
+    for _ in 0..count {
+        seats.push(Seat::new(alloc, all.split_off(1, 0)))?;
+    }
+    Ok(())
+}
+
+/// A place to sleep for each thread.
+fn condvars(alloc: Global) -> Result<Vec<Condvar>, AllocError> {
+    let mut condvars = Vec::new(alloc);
+    for _ in 0..THREADS {
+        condvars.push(Condvar::new())?;
+    }
+    Ok(condvars)
+}

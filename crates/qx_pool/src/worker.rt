@@ -1,0 +1,129 @@
+//! The loop of a worker.
+
+use crate::locked::HeldCopy;
+use crate::seat::Seat;
+use crate::server::Server;
+use qx_types::{Item, Outcome, Worker};
+use qx_wire::Parsed;
+use qx_world::{PerformFault, Work};
+use std::sync::Wait;
+use std::sync::ledger::Ledger;
+
+/// What a worker does between the receiving of an item and its performing. It holds no lock then.
+pub trait Gate {
+    fn between(&self, rt: &impl Wait, worker: Worker, item: Item);
+}
+
+/// What tells the moment of a perform.
+pub trait Clock {
+    fn moment(&self) -> u64;
+}
+
+/// A worker receives items and performs them until the server is stopped and both lines are empty, and gives its seat back. It
+/// serves the RAM manager's line first, and begins with what it holds. A loop whose worker is no worker of the server, or
+/// holds what another loop took, ends at once; one that wants memory stops the server, and what it holds it holds.
+pub fn worker_loop<L: Ledger, G: Gate, C: Clock, R: Wait>(
+    rt: &R,
+    server: &Server<L>,
+    seat: Seat<L>,
+    worker: Worker,
+    gate: &G,
+    clock: &C,
+) -> Seat<L> {
+    let mut seat = seat;
+    if !resume(rt, server, &mut seat, worker, clock) {
+        return seat;
+    }
+    for _ in rt.forever() {
+        let Some((item, held)) = receive(rt, server, &mut seat, worker) else {
+            return seat;
+        };
+        let work = decoded(held);
+        gate.between(rt, worker, item);
+        if !perform(rt, server, &mut seat, worker, &work, clock) {
+            return seat;
+        }
+    }
+    seat
+}
+
+/// Performs what the worker holds, if anything. False where the loop ends.
+fn resume<L: Ledger, C: Clock, R: Wait>(
+    rt: &R,
+    server: &Server<L>,
+    seat: &mut Seat<L>,
+    worker: Worker,
+    clock: &C,
+) -> bool {
+    let guard = server.lock(rt);
+    let held = guard.held(worker);
+    drop(guard);
+    match held {
+        Ok(Some(held)) => perform(rt, server, seat, worker, &decoded(held), clock),
+        Ok(None) => true,
+        Err(_) => {
+            server.stop(rt);
+            false
+        }
+    }
+}
+
+/// Waits for an item, takes it, and copies it. None where the loop ends.
+fn receive<L: Ledger, R: Wait>(
+    rt: &R,
+    server: &Server<L>,
+    seat: &mut Seat<L>,
+    worker: Worker,
+) -> Option<(Item, HeldCopy)> {
+    let mut guard = server.lock_for_item(rt);
+    let manager = guard.next_line()?;
+    let received = guard.receive(seat, worker, manager);
+    drop(guard);
+    match received {
+        Ok(Some(received)) => Some(received),
+        Ok(None) => {
+            server.wake_worker();
+            None
+        }
+        Err(_) => {
+            server.stop(rt);
+            None
+        }
+    }
+}
+
+/// Performs what the worker holds, and wakes who was answered by that. False where the loop ends.
+fn perform<L: Ledger, C: Clock, R: Wait>(
+    rt: &R,
+    server: &Server<L>,
+    seat: &mut Seat<L>,
+    worker: Worker,
+    work: &Work,
+    clock: &C,
+) -> bool {
+    let moment = clock.moment();
+    let mut guard = server.lock(rt);
+    let user = guard.user_of_work(worker);
+    let done = guard.perform(seat, worker, work, moment);
+    let released = user.map(|user| guard.released(user));
+    drop(guard);
+    if let Some(released) = released {
+        server.wake_clients(released);
+    }
+    match done {
+        Ok(Outcome::Handled) => true,
+        Err(PerformFault::NoMemory) => {
+            server.stop(rt);
+            false
+        }
+        _ => false,
+    }
+}
+
+/// What the copy means.
+fn decoded(held: HeldCopy) -> Work {
+    match held {
+        HeldCopy::Message(bytes) => Work::Message(Parsed::read(bytes)),
+        HeldCopy::Pulse => Work::Pulse,
+    }
+}
