@@ -1,5 +1,12 @@
 //! A client: a thread of a process that calls, and who takes other steps of clients.
 
+ghost use Rattle.std.specs.Prelude.{◌≡◌, ◌≢◌, true, IfErr, IfOk, MatchBool, OnErr};
+ghost use Rattle.qx_types.specs.Step.{is_client_step};
+ghost use Rattle.qx_types.specs.declared.outcome.Outcome.{Outcome};
+ghost use Rattle.qx_pool.specs.Ends.{CallAdds};
+ghost use Rattle.qx_pool.specs.Notes.{AddsOne};
+ghost use Rattle.qx_pool.specs.inner.Ends.{end_of};
+
 use crate::seat::Seat;
 use crate::server::Server;
 use qx_types::{Errno, MessageBytes, Outcome, Request, Step, Thread};
@@ -33,18 +40,26 @@ pub struct Client<L: Ledger> {
 
 impl<L: Ledger> Client<L> {
     /// A client that calls as a thread, which need not be there yet.
-    pub fn new(seat: Seat<L>, thread: Thread) -> Self {
+    pub fn new(seat: Seat<L>, thread: Thread) -> Self
+        ensures seat { result.seat ≡ seat }
+        ensures thread { result.thread ≡ thread }
+    {
         Client { seat, thread }
     }
 
     /// Gives the seat back.
-    pub fn into_seat(self) -> Seat<L> {
+    pub fn into_seat(self) -> Seat<L>
+        ensures { result ≡ self.seat }
+    {
         let Client { seat, thread: _ } = self;
         seat
     }
 
     /// Calls, waits while the thread is blocked, and takes the answer (C Library Reference: `MsgSend`).
-    pub fn call(&mut self, rt: &impl Wait, server: &Server<L>, request: Request) -> CallEnd {
+    pub fn call(&mut self, rt: &impl Wait, server: &Server<L>, request: Request) -> CallEnd
+        ensures notes { CallAdds self.old.thread request self.old.seat.notes.items self.new.seat.notes.items result }
+        ensures thread { self.new.thread ≡ self.old.thread }
+    {
         let thread = self.thread;
         let mut guard = server.lock(rt);
         if guard.is_stopped() {
@@ -52,10 +67,11 @@ impl<L: Ledger> Client<L> {
         }
         let called = guard.take(&mut self.seat, Step::Call { thread, request });
         drop(guard);
-        match called {
-            Ok(Outcome::Sent) => {}
-            Ok(outcome) => return end_of(outcome),
-            Err(_) => return CallEnd::NoMemory,
+        let Ok(outcome) = called else {
+            return CallEnd::NoMemory;
+        };
+        if !is_sent(&outcome) {
+            return end_of(outcome);
         }
         server.wake_worker();
         let mut guard = server.lock_for_answer(rt, thread);
@@ -74,7 +90,13 @@ impl<L: Ledger> Client<L> {
         rt: &impl Wait,
         server: &Server<L>,
         step: Step,
-    ) -> Result<Outcome, Unstored> {
+    ) -> Result<Outcome, Unstored>
+        requires client { is_client_step step ≡ true }
+        ensures notes { IfOk result (λ outcome. AddsOne self.old.seat.notes.items self.new.seat.notes.items step outcome) }
+        ensures none { OnErr result (self.new.seat.notes.items ≡ self.old.seat.notes.items) }
+        ensures handed_back { IfErr result (λ unstored. unstored.step ≡ step) }
+        ensures thread { self.new.thread ≡ self.old.thread }
+    {
         let user = step.actor().map(|actor| actor.user());
         let mut guard = server.lock(rt);
         let result = guard.take(&mut self.seat, step);
@@ -91,8 +113,17 @@ impl<L: Ledger> Client<L> {
     }
 }
 
+/// Whether a call's message was sent.
+fn is_sent(outcome: &Outcome) -> bool
+    ensures { MatchBool result (outcome.now ≡ Outcome.Sent) (outcome.now ≢ Outcome.Sent) }
+{
+    matches!(outcome, Outcome::Sent)
+}
+
 /// The end of a call that was not sent, or whose answer was taken.
-fn end_of(outcome: Outcome) -> CallEnd {
+fn end_of(outcome: Outcome) -> CallEnd
+    ensures { result ≡ end_of outcome }
+{
     match outcome {
         Outcome::Reply(status, bytes) => CallEnd::Reply(status, bytes),
         Outcome::Failed(error) => CallEnd::Failed(error),

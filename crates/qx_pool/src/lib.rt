@@ -7,7 +7,7 @@
 //! - `waits.rt`: for which threads clients wait
 //! - `worker.rt`: `worker_loop`, with what an author gives it: a `Gate` and a `Clock`
 //! - `client.rt`: `Client`, who calls and takes other steps
-//! - `finish.rt`: the end of a server
+//! - `ending.rt`: the end of a server
 //! - `agreement.rt`: whether all that was noted stands in what was stored
 //!
 //! `Notes.antt` says how notes stand in what was stored, `Ends.antt` what a call and a loop add to them.
@@ -16,7 +16,7 @@
 mod agreement;
 pub mod client;
 mod copies;
-pub mod finish;
+pub mod ending;
 mod locked;
 pub mod seat;
 pub mod server;
@@ -24,7 +24,7 @@ mod waits;
 pub mod worker;
 
 pub use client::{CallEnd, Client};
-pub use finish::{FinishFault, finish};
+pub use ending::{FinishFault, finish};
 pub use seat::{Note, Seat};
 pub use server::Server;
 pub use worker::{Clock, Gate, worker_loop};

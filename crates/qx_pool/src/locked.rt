@@ -1,7 +1,19 @@
 //! What lies under the lock of a server, and the steps that are taken there.
 
+ghost use Rattle.std.specs.Prelude.{◌≡◌, ◌≢◌, ◌≤◌, ◌<◌, ◌+◌, ◌++◌, ◌∷◌, [], true, length, map, sum_by, vec_len, vec_capacity, IfOk, IfErr, OnOk, IsErrOf, MatchBool, is_ok, if◌then◌else◌};
+ghost use Rattle.qx_types.specs.declared.outcome.Outcome.{Outcome};
+ghost use Rattle.qx_types.specs.declared.step.Step.{Step};
+ghost use Rattle.qx_machine.specs.Machine as machine;
+ghost use Rattle.qx_steps.specs.Held.{held_work, IsStale};
+ghost use Rattle.qx_steps.specs.Reads.{row_among_parts};
+ghost use Rattle.qx_steps.specs.declared.work.PerformFault.{PerformFault};
+ghost use Rattle.qx_process.specs.Reads.{is_thread_blocked};
+ghost use Rattle.qx_world.specs.Trace.{IsAfter, IsLast, outcome_now, run_of};
+ghost use Rattle.qx_pool.specs.Notes.{AddsOf, Agrees, notes_after, note};
+ghost use Rattle.qx_pool.specs.inner.Copies.{AreCopies};
+
 use crate::agreement::agree;
-use crate::copies::{Copies, plain};
+use crate::copies::{Copies, both};
 use crate::seat::{Note, Seat};
 use crate::waits::{ThreadSet, Waits};
 use qx_types::{
@@ -36,15 +48,22 @@ pub(crate) enum HeldCopy {
 }
 
 impl<L: Ledger> Locked<L> {
-    /// No step was taken.
+    /// A lock's value at which no step was taken.
     pub(crate) fn new(
         alloc: Global,
         config: Config,
         book: Book<L>,
         hand: Share<L>,
-    ) -> Result<Self, NoMemory> {
+    ) -> Result<Self, NoMemory>
+        requires total { book.total ≡ 0 }
+        requires parts { hand.parts ≡ 0 }
+        requires amount { hand.amount ≡ 0 }
+        ensures config { IfOk result (λ locked. locked.traced.config ≡ config) }
+        ensures steps { IfOk result (λ locked. locked.traced.steps ≡ []) }
+    {
+        let traced = Traced::new(alloc, config)?;
         Ok(Locked {
-            traced: Traced::new(alloc, config)?,
+            traced,
             book,
             hand,
             marks: Vec::new(alloc),
@@ -55,12 +74,25 @@ impl<L: Ledger> Locked<L> {
 
     /// A step is taken at a seat: it is stored, and noted with the outcome that is told; or it comes back, and nothing
     /// changed.
-    pub(crate) fn take(&mut self, seat: &mut Seat<L>, step: Step) -> Result<Outcome, Unstored> {
-        let Ok(copies) = self.prepare(seat, &step) else {
+    pub(crate) fn take(&mut self, seat: &mut Seat<L>, step: Step) -> Result<Outcome, Unstored>
+        ensures told { IfOk result (λ outcome. outcome ≡ outcome_now self.old.traced step) }
+        ensures stored { IsAfter self.old.traced step (is_ok result) self.new.traced }
+        ensures noted { seat.new.notes.items ≡ notes_after seat.old.notes.items self.old.traced step (is_ok result) }
+        ensures handed_back { IfErr result (λ unstored. unstored.step ≡ step) }
+    {
+        let Locked {
+            traced,
+            book,
+            hand: _,
+            marks,
+            waits: _,
+            is_stopped: _,
+        } = self;
+        let Ok(copies) = prepare(traced, marks, seat, &step) else {
             return Err(Unstored { step });
         };
-        self.traced.store(step)?;
-        Ok(self.note(seat, copies))
+        traced.store(step)?;
+        Ok(note_last(traced, book, marks, seat, copies))
     }
 
     /// A worker does what it holds, if that is the work at hand, and the step is stored and noted.
@@ -70,37 +102,26 @@ impl<L: Ledger> Locked<L> {
         worker: Worker,
         work: &Work,
         moment: u64,
-    ) -> Result<Outcome, PerformFault> {
+    ) -> Result<Outcome, PerformFault>
+        ensures told { IfOk result (λ outcome. outcome ≡ outcome_now self.old.traced (Step.Perform worker moment)) }
+        ensures stored { IsAfter self.old.traced (Step.Perform worker moment) (is_ok result) self.new.traced }
+        ensures noted { seat.new.notes.items ≡ notes_after seat.old.notes.items self.old.traced (Step.Perform worker moment) (is_ok result) }
+        ensures stale { IsErrOf result PerformFault.Stale → IsStale (held_work (run_of self.old.traced).world worker.0) work.now }
+    {
+        let Locked {
+            traced,
+            book,
+            hand: _,
+            marks,
+            waits: _,
+            is_stopped: _,
+        } = self;
         let step = Step::Perform { worker, moment };
-        let Ok(copies) = self.prepare(seat, &step) else {
+        let Ok(copies) = prepare(traced, marks, seat, &step) else {
             return Err(PerformFault::NoMemory);
         };
-        self.traced.perform(worker, work, moment)?;
-        Ok(self.note(seat, copies))
-    }
-
-    /// Makes room for a step's note and its mark, and the copies that it needs.
-    fn prepare(&mut self, seat: &mut Seat<L>, step: &Step) -> Result<Copies, AllocError> {
-        seat.notes.reserve(1)?;
-        self.marks.reserve(1)?;
-        Copies::before(self.traced.world(), step)
-    }
-
-    /// Notes the step that was stored last.
-    fn note(&mut self, seat: &mut Seat<L>, copies: Copies) -> Outcome {
-        let at = self.traced.entries().len() as u64;
-        let Copies { step, answers } = copies;
-        let (outcome, told) = match answers {
-            Some(both) => both,
-            None => {
-                let last = self.traced.last();
-                (plain(last), plain(last))
-            }
-        };
-        self.marks.push_reserved(false);
-        self.book.add(&mut seat.share, 1);
-        seat.notes.push_reserved(Note { at, step, outcome });
-        told
+        traced.store_work(worker, work, moment)?;
+        Ok(note_last(traced, book, marks, seat, copies))
     }
 
     /// A worker receives the first item of a manager's line, and what it holds then is copied. None where the worker is none,
@@ -110,7 +131,9 @@ impl<L: Ledger> Locked<L> {
         seat: &mut Seat<L>,
         worker: Worker,
         manager: Manager,
-    ) -> Result<Option<(Item, HeldCopy)>, NoMemory> {
+    ) -> Result<Option<(Item, HeldCopy)>, NoMemory>
+        ensures { AddsOf worker.0 seat.old.notes.items seat.new.notes.items }
+    {
         match self.take(seat, Step::Receive { worker, manager }) {
             Ok(Outcome::Took(item)) => Ok(self.held(worker)?.map(|held| (item, held))),
             Ok(_) => Ok(None),
@@ -130,10 +153,13 @@ impl<L: Ledger> Locked<L> {
     /// The manager whose line a worker serves next: the RAM manager, if an item stands in its line, else the pipe manager;
     /// none where both lines are empty.
     pub(crate) fn next_line(&self) -> Option<Manager> {
-        let world = self.world();
-        [Manager::Ram, Manager::Pipe]
-            .into_iter()
-            .find(|manager| world.waiting(*manager) != 0)
+        if self.world().waiting(Manager::Ram) != 0 {
+            Some(Manager::Ram)
+        } else if self.world().waiting(Manager::Pipe) != 0 {
+            Some(Manager::Pipe)
+        } else {
+            None
+        }
     }
 
     /// Whose item a worker holds.
@@ -142,7 +168,9 @@ impl<L: Ledger> Locked<L> {
     }
 
     /// Whether a client still waits for a thread's answer. If so, its bell has to ring once that may have changed.
-    pub(crate) fn waits(&mut self, thread: Thread) -> bool {
+    pub(crate) fn waits(&mut self, thread: Thread) -> bool
+        ensures { self.new.traced ≡ self.old.traced }
+    {
         if self.is_stopped || !self.world().blocked(thread) {
             return false;
         }
@@ -151,14 +179,25 @@ impl<L: Ledger> Locked<L> {
     }
 
     /// The threads of a user for which clients wait no longer, as they wait for no answer.
-    pub(crate) fn released(&mut self, user: User) -> ThreadSet {
-        let world = self.traced.world();
-        let released = self.waits.of(user).filter(|thread| !world.blocked(thread));
+    pub(crate) fn released(&mut self, user: User) -> ThreadSet
+        ensures { self.new.traced ≡ self.old.traced }
+    {
+        let mut waiting = self.waits.of(user);
+        let mut released = ThreadSet::new(user);
+        for _ in 0..waiting.len() {
+            let thread = waiting.pop();
+            if !self.world().blocked(thread) {
+                released.insert(thread);
+            }
+        }
         self.waits.remove(released);
         released
     }
 
-    pub(crate) fn stop(&mut self) {
+    /// From now on loops end once both lines are empty, and clients wait no longer.
+    pub(crate) fn stop(&mut self)
+        ensures { self.new.traced ≡ self.old.traced }
+    {
         self.is_stopped = true;
     }
 
@@ -166,12 +205,21 @@ impl<L: Ledger> Locked<L> {
         self.is_stopped
     }
 
-    pub(crate) fn world(&self) -> &World {
+    /// The world that the steps came to.
+    pub(crate) fn world(&self) -> &World
+        ensures { result.now ≡ (run_of self.now.traced).world }
+    {
         self.traced.world()
     }
 
     /// The trace, with the seats as they were, and whether all that they noted stands in it as it was stored.
-    pub(crate) fn end(self, mut seats: Vec<Seat<L>>) -> (Traced, Vec<Seat<L>>, bool) {
+    pub(crate) fn end(self, mut seats: Vec<Seat<L>>) -> (Traced, Vec<Seat<L>>, bool)
+        requires all { L.parts ≤ vec_len seats }
+        ensures traced { result.0 ≡ self.traced }
+        ensures seats { map (λ s. s.notes.items) result.1.items ≡ map (λ s. s.notes.items) seats.items }
+        ensures sum { length self.traced.steps ≡ sum_by (λ s. vec_len s.notes) seats.items }
+        ensures agrees { MatchBool result.2 (Agrees (run_of self.traced).entries (map (λ s. s.notes.items) seats.items)) (Agrees (run_of self.traced).entries (map (λ s. s.notes.items) seats.items) → ⊥) }
+    {
         let Locked {
             traced,
             mut book,
@@ -186,8 +234,64 @@ impl<L: Ledger> Locked<L> {
     }
 }
 
+/// Makes room for a step's note and its mark, and the copies that it needs.
+fn prepare<L: Ledger>(
+    traced: &Traced,
+    marks: &mut Vec<bool>,
+    seat: &mut Seat<L>,
+    step: &Step,
+) -> Result<Copies, AllocError>
+    ensures marks { vec_len marks.new ≡ vec_len marks.old }
+    ensures notes { seat.new.notes.items ≡ seat.old.notes.items }
+    ensures mark_room { OnOk result (vec_len marks.new < vec_capacity marks.new) }
+    ensures note_room { OnOk result (vec_len seat.new.notes < vec_capacity seat.new.notes) }
+    ensures step { IfOk result (λ copies. copies.step ≡ step.now) }
+    ensures answers { IfOk result (λ copies. AreCopies copies.answers (outcome_now traced.now step.now)) }
+{
+    seat.notes.reserve(1)?;
+    marks.reserve(1)?;
+    Copies::before(traced.world(), step)
+}
+
+/// Notes the step that was stored last, and tells its outcome.
+#[tactic(auto, using(crate::proofs::NoteLemmas::entries_length))]
+fn note_last<L: Ledger>(
+    traced: &Traced,
+    book: &mut Book<L>,
+    marks: &mut Vec<bool>,
+    seat: &mut Seat<L>,
+    copies: Copies,
+) -> Outcome
+    requires mark_room { vec_len marks.old < vec_capacity marks.old }
+    requires note_room { vec_len seat.old.notes < vec_capacity seat.old.notes }
+    requires some { traced.now.steps ≢ [] }
+    requires copies { (outcome : Outcome) → IsLast traced.now outcome → AreCopies copies.answers outcome }
+    ensures told { IsLast traced.now result }
+    ensures marks { vec_len marks.new ≡ vec_len marks.old + 1 }
+    ensures total { book.new.total ≡ book.old.total + 1 }
+    ensures noted { seat.new.notes.items ≡ seat.old.notes.items ++ note (length traced.now.steps) copies.step result ∷ [] }
+{
+    let at = traced.entries().len() as u64;
+    let Copies { step, answers } = copies;
+    let (outcome, told) = both(answers, traced.last());
+    marks.push_reserved(false);
+    seat.add(book, Note { at, step, outcome });
+    told
+}
+
 /// Takes each seat's share in, compares their sum with the book, and gives the shares back.
-fn audit<L: Ledger>(book: &mut Book<L>, seats: &mut Vec<Seat<L>>, hand: &mut Share<L>) {
+fn audit<L: Ledger>(book: &mut Book<L>, seats: &mut Vec<Seat<L>>, hand: &mut Share<L>)
+    requires whole { L.parts ≤ hand.old.parts + vec_len seats.old }
+    requires within { hand.old.parts ≤ L.parts }
+    requires backed { hand.old.parts ≡ 0 → hand.old.amount ≡ 0 }
+    ensures total { book.old.total ≡ hand.old.amount + sum_by (λ s. vec_len s.notes) seats.old.items }
+    ensures book { book.new.total ≡ book.old.total }
+    ensures parts { hand.new.parts ≡ hand.old.parts }
+    ensures amount { hand.new.amount ≡ hand.old.amount }
+    ensures seats { map (λ s. s.notes.items) seats.new.items ≡ map (λ s. s.notes.items) seats.old.items }
+    ensures len { vec_len seats.new ≡ vec_len seats.old }
+    ensures capacity { vec_capacity seats.new ≡ vec_capacity seats.old }
+{
     let Some(seat) = seats.pop() else {
         book.audit(hand);
         return;

@@ -1,8 +1,10 @@
 //! A thread's place at a server: what it did, and its share of the ledger.
 
+ghost use Rattle.std.specs.Prelude.{◌≡◌, ◌<◌, ◌+◌, ◌++◌, ◌∷◌, [], vec_len, vec_capacity};
+
 use qx_types::{Outcome, Step};
 use std::alloc::Global;
-use std::sync::ledger::{Ledger, Share};
+use std::sync::ledger::{Book, Ledger, Share};
 
 /// A step that was taken at a seat: its place in the stored list, from 1, and what it gave.
 #[derive(Debug, Drop, PartialEq, Eq)]
@@ -32,6 +34,17 @@ impl<L: Ledger> Seat<L> {
             notes: Vec::new(alloc),
             share,
         }
+    }
+
+    /// A note more, which counts in the book.
+    pub(crate) fn add(&mut self, book: &mut Book<L>, note: Note)
+        requires room { vec_len self.old.notes < vec_capacity self.old.notes }
+        ensures total { book.new.total ≡ book.old.total + 1 }
+        ensures noted { self.new.notes.items ≡ self.old.notes.items ++ note ∷ [] }
+    {
+        let Seat { notes, share } = self;
+        book.add(share, 1);
+        notes.push_reserved(note);
     }
 
     /// What was done at the seat, in order.

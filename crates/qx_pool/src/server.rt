@@ -1,10 +1,14 @@
 //! A server: one lock, and where threads sleep.
 
+ghost use Rattle.std.specs.Prelude.{◌≡◌, ◌+◌, ◌≤◌, [], All, IfOk, OnOk, vec_len};
+ghost use Rattle.qx_pool.specs.declared.waits.TheConstants.{THREADS};
+
 use crate::locked::Locked;
 use crate::seat::Seat;
 use crate::waits::{THREADS, ThreadSet, place_of};
-use qx_types::{Config, Limits, NoMemory, Thread, User};
+use qx_types::{Config, NoMemory, Thread};
 use std::alloc::{AllocError, Global};
+use std::marker::Model;
 use std::sync::ledger::{Blank, Ledger, Share};
 use std::sync::{Condvar, Mutex, MutexGuard, Wait};
 
@@ -13,10 +17,23 @@ use std::sync::{Condvar, Mutex, MutexGuard, Wait};
 pub struct Server<L: Ledger> {
     pub(crate) locked: Mutex<Locked<L>>,
     /// Where workers sleep until an item stands in a line.
-    items: Condvar,
+    pub(crate) items: Condvar,
     /// Where clients sleep until a thread waits for no answer, for each thread one.
-    answers: Vec<Condvar>,
+    pub(crate) answers: Vec<Condvar>,
+    /// How many seats were made.
     pub(crate) made: usize,
+}
+
+/// Contracts see how many seats were made.
+impl<L: Ledger> Model for Server<L> {
+    ghost use Rattle.std.specs.Prelude.{◌≡◌, ℕ, vec_len};
+    ghost use Rattle.qx_pool.specs.declared.waits.TheConstants.{THREADS};
+
+    ghost Value = { ℕ };
+
+    ghost view = { λ s. s.made };
+
+    ghost invariant = { λ s. (s.made ≡ L.parts) × (vec_len s.answers ≡ THREADS) };
 }
 
 impl<L: Ledger> Server<L> {
@@ -27,7 +44,14 @@ impl<L: Ledger> Server<L> {
         blank: Blank,
         config: Config,
         clients: usize,
-    ) -> Result<(Server<L>, Vec<Seat<L>>), NoMemory> {
+    ) -> Result<(Server<L>, Vec<Seat<L>>), NoMemory>
+        requires name { blank.name ≡ L.name }
+        requires parts { blank.parts ≡ L.parts }
+        requires seats { blank.parts ≡ config.workers + clients }
+        ensures made { IfOk result (λ r. r.0 ≡ config.workers + clients) }
+        ensures seats { IfOk result (λ r. vec_len r.1 ≡ config.workers + clients) }
+        ensures empty { IfOk result (λ r. All (λ s. s.notes.items ≡ []) r.1.items) }
+    {
         let workers = config.workers() as usize;
         let (book, mut all) = blank.open::<L>();
         let mut seats = Vec::new(alloc);
@@ -100,17 +124,27 @@ fn add_seats<L: Ledger>(
     seats: &mut Vec<Seat<L>>,
     all: &mut Share<L>,
     count: usize,
-) -> Result<(), AllocError> {
-    for _ in 0..count {
+) -> Result<(), AllocError>
+    requires parts { count ≤ all.old.parts }
+    requires amount { all.old.amount ≡ 0 }
+    requires empty { All (λ s. s.notes.items ≡ []) seats.old.items }
+    ensures seats { OnOk result (vec_len seats.new ≡ vec_len seats.old + count) }
+    ensures parts { OnOk result (all.new.parts + count ≡ all.old.parts) }
+    ensures amount { OnOk result (all.new.amount ≡ 0) }
+    ensures empty { OnOk result (All (λ s. s.notes.items ≡ []) seats.new.items) }
+{
+    'adding: for _number in 0..count {
         seats.push(Seat::new(alloc, all.split_off(1, 0)))?;
     }
     Ok(())
 }
 
 /// A place to sleep for each thread.
-fn condvars(alloc: Global) -> Result<Vec<Condvar>, AllocError> {
+fn condvars(alloc: Global) -> Result<Vec<Condvar>, AllocError>
+    ensures { IfOk result (λ condvars. vec_len condvars ≡ THREADS) }
+{
     let mut condvars = Vec::new(alloc);
-    for _ in 0..THREADS {
+    'making: for _number in 0..THREADS {
         condvars.push(Condvar::new())?;
     }
     Ok(condvars)

@@ -1,5 +1,9 @@
 //! For which threads clients wait.
 
+ghost use Rattle.std.specs.Prelude.{◌<◌};
+ghost use Rattle.qx_types.specs.declared.limits.TheConstants.Limits.{USERS};
+ghost use Rattle.qx_pool.specs.declared.waits.TheConstants.{EACH, THREADS};
+
 use qx_types::{Limits, Proc, Thread, User};
 
 /// How many threads a user can have.
@@ -23,12 +27,16 @@ pub(crate) struct Waits {
 }
 
 /// Where the user's threads stand.
-fn word_of(user: User) -> usize {
+fn word_of(user: User) -> usize
+    ensures { result < USERS }
+{
     user.0 as usize % Limits::USERS
 }
 
 /// The number of a thread among those of its user, from 0.
-fn number_of(thread: Thread) -> u32 {
+fn number_of(thread: Thread) -> u32
+    ensures { result < EACH }
+{
     let process = u32::from(thread.proc.num) % 16;
     process * 4 + u32::from(thread.tid) % 4
 }
@@ -46,7 +54,9 @@ fn thread_of(user: User, number: u32) -> Thread {
 }
 
 /// The number of a thread among those of all users, from 0.
-pub(crate) fn place_of(thread: Thread) -> usize {
+pub(crate) fn place_of(thread: Thread) -> usize
+    ensures { result < THREADS }
+{
     word_of(thread.proc.user) * EACH + number_of(thread) as usize
 }
 
@@ -57,7 +67,7 @@ impl ThreadSet {
     }
 
     /// A thread of the user joins the set.
-    fn insert(&mut self, thread: Thread) {
+    pub(crate) fn insert(&mut self, thread: Thread) {
         self.bits |= 1 << number_of(thread);
     }
 
@@ -71,18 +81,6 @@ impl ThreadSet {
         let first = thread_of(self.user, self.bits.trailing_zeros());
         self.bits &= self.bits.wrapping_sub(1);
         first
-    }
-
-    /// Those threads of the set that are so.
-    pub(crate) fn filter(mut self, is_so: impl Fn(Thread) -> bool) -> ThreadSet {
-        let mut so = ThreadSet::new(self.user);
-        for _ in 0..self.len() {
-            let thread = self.pop();
-            if is_so(thread) {
-                so.insert(thread);
-            }
-        }
-        so
     }
 }
 

@@ -1,5 +1,7 @@
 //! The loop of a worker.
 
+ghost use Rattle.qx_pool.specs.Notes.{AddsOf};
+
 use crate::locked::HeldCopy;
 use crate::seat::Seat;
 use crate::server::Server;
@@ -29,18 +31,20 @@ pub fn worker_loop<L: Ledger, G: Gate, C: Clock, R: Wait>(
     worker: Worker,
     gate: &G,
     clock: &C,
-) -> Seat<L> {
+) -> Seat<L>
+    ensures { AddsOf worker.0 seat.notes.items result.notes.items }
+{
     let mut seat = seat;
     if !resume(rt, server, &mut seat, worker, clock) {
         return seat;
     }
-    for _ in rt.forever() {
+    'working: for _ in rt.forever() {
         let Some((item, held)) = receive(rt, server, &mut seat, worker) else {
             return seat;
         };
         let work = decoded(held);
         gate.between(rt, worker, item);
-        if !perform(rt, server, &mut seat, worker, &work, clock) {
+        if !perform(rt, server, &mut seat, worker, work, clock) {
             return seat;
         }
     }
@@ -54,12 +58,14 @@ fn resume<L: Ledger, C: Clock, R: Wait>(
     seat: &mut Seat<L>,
     worker: Worker,
     clock: &C,
-) -> bool {
+) -> bool
+    ensures { AddsOf worker.0 seat.old.notes.items seat.new.notes.items }
+{
     let guard = server.lock(rt);
     let held = guard.held(worker);
     drop(guard);
     match held {
-        Ok(Some(held)) => perform(rt, server, seat, worker, &decoded(held), clock),
+        Ok(Some(held)) => perform(rt, server, seat, worker, decoded(held), clock),
         Ok(None) => true,
         Err(_) => {
             server.stop(rt);
@@ -74,7 +80,9 @@ fn receive<L: Ledger, R: Wait>(
     server: &Server<L>,
     seat: &mut Seat<L>,
     worker: Worker,
-) -> Option<(Item, HeldCopy)> {
+) -> Option<(Item, HeldCopy)>
+    ensures { AddsOf worker.0 seat.old.notes.items seat.new.notes.items }
+{
     let mut guard = server.lock_for_item(rt);
     let manager = guard.next_line()?;
     let received = guard.receive(seat, worker, manager);
@@ -98,13 +106,15 @@ fn perform<L: Ledger, C: Clock, R: Wait>(
     server: &Server<L>,
     seat: &mut Seat<L>,
     worker: Worker,
-    work: &Work,
+    work: Work,
     clock: &C,
-) -> bool {
+) -> bool
+    ensures { AddsOf worker.0 seat.old.notes.items seat.new.notes.items }
+{
     let moment = clock.moment();
     let mut guard = server.lock(rt);
     let user = guard.user_of_work(worker);
-    let done = guard.perform(seat, worker, work, moment);
+    let done = guard.perform(seat, worker, &work, moment);
     let released = user.map(|user| guard.released(user));
     drop(guard);
     if let Some(released) = released {

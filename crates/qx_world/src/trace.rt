@@ -162,8 +162,35 @@ impl Traced {
         self
     }
 
-    /// A worker does what it holds, if that is the work at hand, and the step is stored. `Stale` comes where something
-    /// else is held.
+    /// A worker does what it holds, if that is the work at hand, and the step is stored with its outcome. A message is not
+    /// read again. `Stale` comes where something else is held.
+    pub fn store_work(
+        &mut self,
+        worker: Worker,
+        work: &Work,
+        moment: u64,
+    ) -> Result<(), PerformFault>
+        ensures after { IsAfter self.old (Step.Perform worker moment) (is_ok result) self.new }
+        ensures stale { IsErrOf result PerformFault.Stale ↔ IsStale (held_work (run_of self.old).world worker.0) work.now }
+        ensures sure { 0 < self.old.room → IsFalse (wants_memory (run_of self.old).world (Step.Perform worker moment)) → result ≢ Err PerformFault.NoMemory }
+    {
+        if self.reserve(1).is_err() {
+            return Err(if self.world.is_stale(worker, work) {
+                PerformFault::Stale
+            } else {
+                PerformFault::NoMemory
+            });
+        }
+        let step = Step::Perform { worker, moment };
+        let owner = self.world.owner(&step);
+        let outcome = self.world.perform(worker, work, moment)?;
+        let entry = Entry { step, outcome };
+        self.entries.push_reserved(entry);
+        self.owners.push_reserved(owner);
+        Ok(())
+    }
+
+    /// Does what `store_work` does, and lends the outcome.
     pub fn perform(
         &mut self,
         worker: Worker,
@@ -175,12 +202,7 @@ impl Traced {
         ensures stale { IsErrOf result PerformFault.Stale ↔ IsStale (held_work (run_of self.old).world worker.0) work.now }
         ensures sure { 0 < self.old.room → IsFalse (wants_memory (run_of self.old).world (Step.Perform worker moment)) → result ≢ Err PerformFault.NoMemory }
     {
-        if self.world.is_stale(worker, work) {
-            return Err(PerformFault::Stale);
-        }
-        if self.store(Step::Perform { worker, moment }).is_err() {
-            return Err(PerformFault::NoMemory);
-        }
+        self.store_work(worker, work, moment)?;
         Ok(last_outcome(self.entries.as_slice()))
     }
 

@@ -8,5 +8,5 @@ returns-in-Answered c = rw (← c.self.view_is, thread_row-told c.self.inside.ch
 pub returns-in_default : goal.returns-in_default
 returns-in_default c = rw (← c.self.view_is, thread_row-told c.self.inside.channel c.self.inside.resources c.args.thread c.self.invariant.users) (search rules)
 
-pub returns-in-None : goal.returns-in-None
-returns-in-None c = rw (← c.self.view_is, thread_row-told c.self.inside.channel c.self.inside.resources c.args.thread c.self.invariant.users) (search rules)
+pub returns-in_err-answer : goal.returns-in_err-answer
+returns-in_err-answer c = rw (← c.self.view_is, thread_row-told c.self.inside.channel c.self.inside.resources c.args.thread c.self.invariant.users) (search rules)

@@ -7,9 +7,8 @@ use Rattle.qx_world.proofs.trace.Traced.perform.Goals as goal
 
 pub returns : goal.returns
 returns c =
-    let stored = rw c.if-is_err.ensures.negation at c.store.ensures.after in
-    let after = rw (← c.self-2.view_is) at stored in
-    let last = is_run-last _ _ _ _ (Perform c.args.worker c.args.moment) c.self-2.invariant after.steps in (
+    let after = rw (← c.self.view_is) at c.in_ok-store_work.ensures.after in
+    let last = is_run-last _ _ _ _ (Perform c.args.worker c.args.moment) c.self.invariant after.steps in (
       (refl, (λ _. tt), after),
       record {
         after = tt;

@@ -1,0 +1,6 @@
+-- notes against what was stored, and marks of the places that were noted
+mod MarkLemmas
+-- what is added to notes
+mod NoteLemmas
+-- which outcomes steps have
+mod OutcomeLemmas

@@ -1,0 +1,4 @@
+pub mod Ends
+pub mod Notes
+pub mod Outcomes
+pub mod inner

@@ -1,0 +1,3 @@
+pub mod Copies
+pub mod Ends
+pub mod Marks
