@@ -1,0 +1,97 @@
+//! What becomes of what a worker holds.
+
+use crate::runs::{run, thread};
+use qx_pool::CallEnd;
+use qx_types::{Errno, NoMemory, User};
+use std::alloc::Global;
+use std::process::Abort;
+use std::sync::Wait;
+use std::thread::Threads;
+
+/// Opens a pipe, and waits until the message of a read by another thread is held.
+const OPENER: &str = "\
+    spawn ann 2 10\n\
+    mount ann.1.1 /ann/p pipe\n\
+    open ann.1.1 /ann/p/q rwc 600\n\
+    raise\n\
+    await 2\n";
+
+/// Asserts how a read of an empty pipe ends where a step is taken while its message is held, by one worker and by two.
+fn assert_read_ends<R: Threads + Wait + Abort + Sync>(
+    rt: &R,
+    alloc: Global,
+    step: &str,
+    end: CallEnd,
+) -> Result<(), NoMemory> {
+    let opener = format!(in alloc; "{OPENER}{step}\nraise")?;
+    let clients = [opener.as_str(), "await 1\nread ann.1.2 3 3"];
+    let held = Some((thread(1, 2), 3));
+    let one = run(rt, alloc, "user ann\n", held, &clients, &["work 1"])?;
+    let (users, workers) = ("user ann\nworkers 2\n", ["work 1", "work 2"]);
+    let two = run(rt, alloc, users, held, &clients, &workers)?;
+    let ends = [end];
+    assert!(rt; one.has_ended(1, &ends) && two.has_ended(1, &ends));
+    Ok(())
+}
+
+#[test]
+fn interrupted_in_the_gate(rt: HostRuntime) -> Result<(), NoMemory> {
+    let end = CallEnd::Failed(Errno::EINTR);
+    assert_read_ends(&rt, rt.alloc(), "interrupt ann.1.2", end)
+}
+
+#[test]
+fn exited_in_the_gate(rt: HostRuntime) -> Result<(), NoMemory> {
+    assert_read_ends(&rt, rt.alloc(), "exit ann.1", CallEnd::WrongState)
+}
+
+/// Two opens that are answered.
+const OPENED_TWICE: &str = "\
+    ann spawned 1\n\
+    ann.1.1 sent\n\
+    ann.1.1 reply 3 -\n\
+    ann.1.1 sent\n\
+    ann.1.1 reply 4 -\n";
+
+/// The loop of a worker that is none ends before anybody calls.
+#[test]
+fn worker_that_is_none(rt: HostRuntime) -> Result<(), NoMemory> {
+    let ann = "await 1\nspawn ann 1 10\nopen ann.1.1 /ann r 000\nopen ann.1.1 /ann r 000";
+    let workers = ["work 2\nraise", "work 1"];
+    let ran = run(&rt, rt.alloc(), "user ann\n", None, &[ann], &workers)?;
+    ran.assert_received(&rt, rt.alloc(), User(1), OPENED_TWICE)
+}
+
+/// A loop takes what another loop of its worker holds, which ends then, before the next call.
+#[test]
+fn taken_by_another_loop(rt: HostRuntime) -> Result<(), NoMemory> {
+    let ann = "\
+        spawn ann 1 10\n\
+        open ann.1.1 /ann r 000\n\
+        raise\n\
+        await 3\n\
+        open ann.1.1 /ann r 000";
+    let (workers, held) = (
+        ["work 1\nraise", "await 1\nwork 1"],
+        Some((thread(1, 1), 2)),
+    );
+    let ran = run(&rt, rt.alloc(), "user ann\n", held, &[ann], &workers)?;
+    ran.assert_received(&rt, rt.alloc(), User(1), OPENED_TWICE)
+}
+
+/// Of two loops of one worker one ends, as it finds the worker busy or its item was taken. The other answers both calls.
+#[test]
+fn two_loops_of_one_worker(rt: HostRuntime) -> Result<(), NoMemory> {
+    let ann = "spawn ann 1 10\nopen ann.1.1 /ann r 000\nopen ann.1.1 /ann r 000";
+    let bob = "await 1\nspawn bob 1 10\nopen bob.1.1 /bob r 000\nraise\nawait 3";
+    let (workers, held) = (["work 1\nraise"; 2], Some((thread(1, 1), 2)));
+    let ran = run(
+        &rt,
+        rt.alloc(),
+        "user ann\nuser bob\n",
+        held,
+        &[ann, bob],
+        &workers,
+    )?;
+    ran.assert_received(&rt, rt.alloc(), User(1), OPENED_TWICE)
+}

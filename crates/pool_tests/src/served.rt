@@ -1,0 +1,87 @@
+//! Calls that are served.
+
+use crate::runs::{run, thread};
+use qx_types::{NoMemory, Step, User};
+
+/// The calls of a script, whose answers tell no moment, and what it shows where each is served before the next.
+const SCRIPT: &str = "\
+    spawn ann 1 10\n\
+    open ann.1.1 /ann r 000\n\
+    close ann.1.1 3\n\
+    open ann.1.1 /ann r 000\n\
+    fstat ann.1.1 3\n";
+
+const SCRIPT_SHOWN: &str = "\
+    ann spawned 1\n\
+    ann.1.1 sent\n\
+    ann.1.1 reply 3 -\n\
+    ann.1.1 sent\n\
+    ann.1.1 reply 0 -\n\
+    ann.1.1 sent\n\
+    ann.1.1 reply 3 -\n\
+    ann.1.1 sent\n\
+    ann.1.1 reply 0 010000000200c0010100000001000000000000000000000000000000000000000000000000000000\n";
+
+#[test]
+fn served_as_alone(rt: HostRuntime) -> Result<(), NoMemory> {
+    let ran = run(&rt, rt.alloc(), "user ann\n", None, &[SCRIPT], &["work 1"])?;
+    ran.assert_received(&rt, rt.alloc(), User(1), SCRIPT_SHOWN)
+}
+
+/// The calls of three users, and what the first of them receives.
+const ANN: &str = "\
+    spawn ann 1 10\n\
+    open ann.1.1 /ann/f rwc 600\n\
+    write ann.1.1 3 6869\n\
+    seek ann.1.1 3 set 0\n\
+    read ann.1.1 3 9\n\
+    fstat ann.1.1 3\n";
+
+const BOB: &str = "\
+    spawn bob 1 20\n\
+    open bob.1.1 /bob/f rwc 600\n\
+    write bob.1.1 3 00\n\
+    exit bob.1\n";
+
+const CY: &str = "\
+    spawn cy 1 10\n\
+    open cy.1.1 /ann/f r 000\n";
+
+const ANN_SHOWN: &str = "\
+    ann spawned 1\n\
+    ann.1.1 sent\n\
+    ann.1.1 reply 3 -\n\
+    ann.1.1 sent\n\
+    ann.1.1 reply 2 -\n\
+    ann.1.1 sent\n\
+    ann.1.1 reply 0 -\n\
+    ann.1.1 sent\n\
+    ann.1.1 reply 2 6869\n\
+    ann.1.1 sent\n\
+    ann.1.1 reply 0 02000000010080010100000001000000020000000000000006000000000000000600000000000000\n";
+
+#[test]
+fn three_users(rt: HostRuntime) -> Result<(), NoMemory> {
+    let users = "user ann\nuser bob\nuser cy\nworkers 4\n";
+    let workers = ["work 1", "work 2", "work 3", "work 4"];
+    let ran = run(&rt, rt.alloc(), users, None, &[ANN, BOB, CY], &workers)?;
+    let refused = "cy spawned 1\ncy.1.1 refused EACCES\n";
+    ran.assert_received(&rt, rt.alloc(), User(3), refused)?;
+    ran.assert_received(&rt, rt.alloc(), User(1), ANN_SHOWN)
+}
+
+/// Bob's call is answered while ann's message is held, and hers is performed next.
+#[test]
+fn overlap(rt: HostRuntime) -> Result<(), NoMemory> {
+    let ann = "spawn ann 1 10\nopen ann.1.1 /ann r 000";
+    let bob = "await 1\nspawn bob 1 10\nopen bob.1.1 /bob r 000\nraise";
+    let (users, workers) = ("user ann\nuser bob\nworkers 2\n", ["work 1", "work 2"]);
+    let held = Some((thread(1, 1), 2));
+    let ran = run(&rt, rt.alloc(), users, held, &[ann, bob], &workers)?;
+    let mut steps = ran.traced.entries().iter().map(|entry| &entry.step);
+    let thread = thread(2, 1);
+    let answered = steps.position(|step| *step == Step::TakeReply { thread });
+    assert_eq!(rt; answered, Some(7));
+    assert!(rt; matches!(steps.next(), Some(Step::Perform { .. })));
+    Ok(())
+}
