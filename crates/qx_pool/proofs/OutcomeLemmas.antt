@@ -8,6 +8,7 @@ use Rattle.qx_types.specs.declared.errno.Errno.{Errno}
 use Rattle.qx_types.specs.declared.names.Actor.{Actor}
 use Rattle.qx_types.specs.declared.names.Prio.{Prio}
 use Rattle.qx_types.specs.declared.names.Thread.{Thread}
+use Rattle.qx_types.specs.declared.names.Worker.{Worker}
 use Rattle.qx_types.specs.declared.outcome.Answer.{Answer}
 use Rattle.qx_types.specs.declared.outcome.Answer.TheVariants as answer
 use Rattle.qx_types.specs.declared.outcome.Outcome.{Outcome}
@@ -191,7 +192,11 @@ plainly : (o : Outcome) → not (is_reply o) ≡ true → is_reply o ≡ false
 plainly (Reply status bytes) may = absurd (false≢true may)
 plainly _ may = refl
 
--- another step gives no reply
+-- a perform gives no reply
+pub perform_plain : (w : World) (worker : Worker) (moment : ℕ) → is_reply (step w (Perform worker moment)).outcome ≡ false
+perform_plain w worker moment = plainly _ (step_gives w (Perform worker moment))
+
+-- nor does another step than the taking of an answer
 pub plain_outcome : (w : World) (e : Step) → ((thread : Thread) → e ≢ TakeReply thread) → is_reply (step w e).outcome ≡ false
 plain_outcome w (TakeReply thread) other = absurd (other thread refl)
 plain_outcome w (Call thread request) other = not_reply _ (step_gives w (Call thread request))
@@ -202,7 +207,7 @@ plain_outcome w (SetPrio thread prio) other = plainly _ (step_gives w (SetPrio t
 plain_outcome w (Interrupt thread) other = plainly _ (step_gives w (Interrupt thread))
 plain_outcome w (Mount thread path manager) other = plainly _ (step_gives w (Mount thread path manager))
 plain_outcome w (Receive worker manager) other = plainly _ (step_gives w (Receive worker manager))
-plain_outcome w (Perform worker moment) other = plainly _ (step_gives w (Perform worker moment))
+plain_outcome w (Perform worker moment) other = perform_plain w worker moment
 
 -- nor does a thread that has no answer get one
 pub unanswered_outcome : (w : World) (thread : Thread) → None ≡ answer_of (row_among_parts w.parts thread) → is_reply (step w (TakeReply thread)).outcome ≡ false

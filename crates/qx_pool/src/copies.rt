@@ -1,4 +1,5 @@
-//! What a step needs copies of, made before it is taken, since nothing may fail after it.
+//! Copies of a step's outcome, for its note and for whoever took it. Those that want memory are made before the step, since
+//! nothing may fail after it.
 
 ghost use Rattle.std.specs.Prelude.{◌≡◌, false, IfOk};
 ghost use Rattle.qx_machine.specs.Clients.{outcome_of};
@@ -10,29 +11,9 @@ use qx_types::{Answer, Outcome, Step};
 use qx_world::World;
 use std::alloc::AllocError;
 
-/// A step once more, for its note, and of an answer that it takes two copies: for the note, and for whoever took the step.
-#[derive(Drop)]
-pub(crate) struct Copies {
-    pub(crate) step: Step,
-    pub(crate) answers: Option<(Outcome, Outcome)>,
-}
-
-impl Copies {
-    /// What a step needs that is taken now.
-    pub(crate) fn before(world: &World, step: &Step) -> Result<Copies, AllocError>
-        ensures step { IfOk result (λ copies. copies.step ≡ step.now) }
-        ensures answers { IfOk result (λ copies. AreCopies copies.answers (machine.step world.now step.now).outcome) }
-    {
-        Ok(Copies {
-            step: step.clone()?,
-            answers: answers(world, step)?,
-        })
-    }
-}
-
-/// Of a step that takes an answer, what it will give, twice.
+/// Of a step that takes an answer, what it will give, twice; of another one nothing, since what that gives wants no memory.
 #[tactic(auto, using(crate::proofs::OutcomeLemmas::plain_outcome, crate::proofs::OutcomeLemmas::taken_outcome, crate::proofs::OutcomeLemmas::unanswered_outcome))]
-fn answers(world: &World, step: &Step) -> Result<Option<(Outcome, Outcome)>, AllocError>
+pub(crate) fn answers(world: &World, step: &Step) -> Result<Option<(Outcome, Outcome)>, AllocError>
     ensures { IfOk result (λ answers. AreCopies answers (machine.step world.now step.now).outcome) }
 {
     let Step::TakeReply { thread } = step else {
@@ -54,7 +35,8 @@ fn given(answer: &Answer) -> Result<Outcome, AllocError>
     })
 }
 
-/// The outcome of the step, twice: the copies, or those of an outcome that wants no memory to be copied.
+/// The outcome of a step that was taken, twice: the copies that were made before, or copies of an outcome that wants no
+/// memory.
 pub(crate) fn both(answers: Option<(Outcome, Outcome)>, outcome: &Outcome) -> (Outcome, Outcome)
     requires copies { AreCopies answers outcome.now }
     ensures one { result.0 ≡ outcome.now }

@@ -3,7 +3,7 @@
 //! - `server.rt`: `Server`, the lock and where threads sleep; how it is stopped
 //! - `locked.rt`: what lies under the lock, and how a step is taken, stored and noted
 //! - `seat.rt`: `Seat`, a thread's place at the server, with a `Note` of each step that it took
-//! - `copies.rt`: copies that a step needs, made before it is taken
+//! - `copies.rt`: copies of a step's outcome, for its note and for whoever took it
 //! - `waits.rt`: for which threads clients wait
 //! - `worker.rt`: `worker_loop`, with what an author gives it: a `Gate` and a `Clock`
 //! - `client.rt`: `Client`, who calls and takes other steps

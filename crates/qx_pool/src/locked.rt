@@ -13,7 +13,7 @@ ghost use Rattle.qx_pool.specs.Notes.{AddsOf, Agrees, notes_after, note};
 ghost use Rattle.qx_pool.specs.inner.Copies.{AreCopies};
 
 use crate::agreement::agree;
-use crate::copies::{Copies, both};
+use crate::copies::{answers, both};
 use crate::seat::{Note, Seat};
 use crate::waits::{ThreadSet, Waits};
 use qx_types::{
@@ -88,14 +88,21 @@ impl<L: Ledger> Locked<L> {
             waits: _,
             is_stopped: _,
         } = self;
-        let Ok(copies) = prepare(traced, marks, seat, &step) else {
+        if make_room(marks, seat).is_err() {
+            return Err(Unstored { step });
+        }
+        let Ok(answers) = answers(traced.world(), &step) else {
+            return Err(Unstored { step });
+        };
+        let Ok(copy) = step.clone() else {
             return Err(Unstored { step });
         };
         traced.store(step)?;
-        Ok(note_last(traced, book, marks, seat, copies))
+        Ok(note_last(traced, book, marks, seat, copy, answers))
     }
 
     /// A worker does what it holds, if that is the work at hand, and the step is stored and noted.
+    #[tactic(auto, using(crate::proofs::OutcomeLemmas::perform_plain))]
     pub(crate) fn perform(
         &mut self,
         seat: &mut Seat<L>,
@@ -116,12 +123,12 @@ impl<L: Ledger> Locked<L> {
             waits: _,
             is_stopped: _,
         } = self;
-        let step = Step::Perform { worker, moment };
-        let Ok(copies) = prepare(traced, marks, seat, &step) else {
+        if make_room(marks, seat).is_err() {
             return Err(PerformFault::NoMemory);
-        };
+        }
         traced.store_work(worker, work, moment)?;
-        Ok(note_last(traced, book, marks, seat, copies))
+        let step = Step::Perform { worker, moment };
+        Ok(note_last(traced, book, marks, seat, step, None))
     }
 
     /// A worker receives the first item of a manager's line, and what it holds then is copied. None where the worker is none,
@@ -234,23 +241,15 @@ impl<L: Ledger> Locked<L> {
     }
 }
 
-/// Makes room for a step's note and its mark, and the copies that it needs.
-fn prepare<L: Ledger>(
-    traced: &Traced,
-    marks: &mut Vec<bool>,
-    seat: &mut Seat<L>,
-    step: &Step,
-) -> Result<Copies, AllocError>
+/// Makes room for a step's note and its mark.
+fn make_room<L: Ledger>(marks: &mut Vec<bool>, seat: &mut Seat<L>) -> Result<(), AllocError>
     ensures marks { vec_len marks.new ≡ vec_len marks.old }
     ensures notes { seat.new.notes.items ≡ seat.old.notes.items }
     ensures mark_room { OnOk result (vec_len marks.new < vec_capacity marks.new) }
     ensures note_room { OnOk result (vec_len seat.new.notes < vec_capacity seat.new.notes) }
-    ensures step { IfOk result (λ copies. copies.step ≡ step.now) }
-    ensures answers { IfOk result (λ copies. AreCopies copies.answers (outcome_now traced.now step.now)) }
 {
     seat.notes.reserve(1)?;
-    marks.reserve(1)?;
-    Copies::before(traced.world(), step)
+    marks.reserve(1)
 }
 
 /// Notes the step that was stored last, and tells its outcome.
@@ -260,19 +259,19 @@ fn note_last<L: Ledger>(
     book: &mut Book<L>,
     marks: &mut Vec<bool>,
     seat: &mut Seat<L>,
-    copies: Copies,
+    step: Step,
+    answers: Option<(Outcome, Outcome)>,
 ) -> Outcome
     requires mark_room { vec_len marks.old < vec_capacity marks.old }
     requires note_room { vec_len seat.old.notes < vec_capacity seat.old.notes }
     requires some { traced.now.steps ≢ [] }
-    requires copies { (outcome : Outcome) → IsLast traced.now outcome → AreCopies copies.answers outcome }
+    requires copies { (outcome : Outcome) → IsLast traced.now outcome → AreCopies answers outcome }
     ensures told { IsLast traced.now result }
     ensures marks { vec_len marks.new ≡ vec_len marks.old + 1 }
     ensures total { book.new.total ≡ book.old.total + 1 }
-    ensures noted { seat.new.notes.items ≡ seat.old.notes.items ++ note (length traced.now.steps) copies.step result ∷ [] }
+    ensures noted { seat.new.notes.items ≡ seat.old.notes.items ++ note (length traced.now.steps) step result ∷ [] }
 {
     let at = traced.entries().len() as u64;
-    let Copies { step, answers } = copies;
     let (outcome, told) = both(answers, traced.last());
     marks.push_reserved(false);
     seat.add(book, Note { at, step, outcome });

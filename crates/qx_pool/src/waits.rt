@@ -6,7 +6,7 @@ ghost use Rattle.qx_pool.specs.declared.waits.TheConstants.{EACH, THREADS};
 
 use qx_types::{Limits, Proc, Thread, User};
 
-/// How many threads a user can have.
+/// How many threads a user can have: 4 in each of 16 processes.
 const EACH: usize = 64;
 
 /// How many threads all users can have.

@@ -74,7 +74,8 @@ fn resume<L: Ledger, C: Clock, R: Wait>(
     }
 }
 
-/// Waits for an item, takes it, and copies it. None where the loop ends.
+/// Waits for an item, takes it, and copies it; where another one stands in a line, one more worker is woken. None where the
+/// loop ends.
 fn receive<L: Ledger, R: Wait>(
     rt: &R,
     server: &Server<L>,
@@ -86,13 +87,13 @@ fn receive<L: Ledger, R: Wait>(
     let mut guard = server.lock_for_item(rt);
     let manager = guard.next_line()?;
     let received = guard.receive(seat, worker, manager);
+    let is_more = guard.next_line().is_some();
     drop(guard);
+    if is_more {
+        server.wake_worker();
+    }
     match received {
-        Ok(Some(received)) => Some(received),
-        Ok(None) => {
-            server.wake_worker();
-            None
-        }
+        Ok(received) => received,
         Err(_) => {
             server.stop(rt);
             None
