@@ -2,7 +2,7 @@
 
 use qx_pool::{Clock, Gate};
 use qx_script::{Command, Script, parse};
-use qx_types::{Item, NoMemory, Step, Thread, Worker};
+use qx_types::{Item, NoMemory, Step, Worker};
 use std::alloc::Global;
 use std::process::Abort;
 use std::sync::Wait;
@@ -64,8 +64,8 @@ const FAILED: u64 = 1 << 32;
 #[derive(Drop)]
 pub(crate) struct Signals {
     pub(crate) raised: AtomicU64,
-    /// Whose message a worker holds between its receiving, which is a signal, and its performing, until how many signals.
-    pub(crate) held: Option<(Thread, u64)>,
+    /// Which item a worker holds between its receiving, which is a signal, and its performing, until how many signals.
+    pub(crate) held: Option<(Item, u64)>,
 }
 
 impl Signals {
@@ -83,7 +83,9 @@ impl Signals {
     }
 
     /// Waits until something is so.
-    pub(crate) fn wait_until(&self, rt: &impl Wait, mut is_so: impl FnMut() -> bool) {
+    pub(crate) fn wait_until<F: FnMut() -> bool>(&self, rt: &impl Wait, mut is_so: F)
+        requires { F.IsAlwaysCallable is_so }
+    {
         for _ in 0..TURNS {
             if is_so() {
                 return;
@@ -101,8 +103,8 @@ impl Signals {
 
 impl Gate for Signals {
     fn between(&self, rt: &impl Wait, _worker: Worker, item: Item) {
-        if let Some((thread, count)) = self.held {
-            if item == Item::Message(thread) {
+        if let Some((held, count)) = self.held {
+            if item == held {
                 self.raise();
                 self.wait_for(rt, count);
             }

@@ -2,7 +2,7 @@
 
 use crate::runs::{run, thread};
 use qx_pool::CallEnd;
-use qx_types::{Errno, NoMemory, User};
+use qx_types::{Errno, Item, Manager, NoMemory, User};
 use std::alloc::Global;
 use std::process::Abort;
 use std::sync::Wait;
@@ -25,7 +25,7 @@ fn assert_read_ends<R: Threads + Wait + Abort + Sync>(
 ) -> Result<(), NoMemory> {
     let opener = format!(in alloc; "{OPENER}{step}\nraise")?;
     let clients = [opener.as_str(), "await 1\nread ann.1.2 3 3"];
-    let held = Some((thread(1, 2), 3));
+    let held = Some((Item::Message(thread(1, 2)), 3));
     let one = run(rt, alloc, "user ann\n", held, &clients, &["work 1"])?;
     let (users, workers) = ("user ann\nworkers 2\n", ["work 1", "work 2"]);
     let two = run(rt, alloc, users, held, &clients, &workers)?;
@@ -43,6 +43,25 @@ fn interrupted_in_the_gate(rt: HostRuntime) -> Result<(), NoMemory> {
 #[test]
 fn exited_in_the_gate(rt: HostRuntime) -> Result<(), NoMemory> {
     assert_read_ends(&rt, rt.alloc(), "exit ann.1", CallEnd::WrongState)
+}
+
+/// An exit that leaves two disconnect pulses, one at each manager, wakes two workers: each holds its pulse until the other
+/// has come.
+#[test]
+fn both_pulses_of_an_exit(rt: HostRuntime) -> Result<(), NoMemory> {
+    let ann = "\
+        spawn ann 1 10\n\
+        mount ann.1.1 /ann/p pipe\n\
+        open ann.1.1 /ann r 000\n\
+        open ann.1.1 /ann/p/q rwc 600\n\
+        exit ann.1\n\
+        await 2";
+    let (users, workers) = ("user ann\nworkers 2\n", ["work 1", "work 2"]);
+    let held = Some((Item::Disconnect(thread(1, 1).proc), 2));
+    let ran = run(&rt, rt.alloc(), users, held, &[ann], &workers)?;
+    assert!(rt; ran.traced.world().waiting(Manager::Ram) == 0);
+    assert!(rt; ran.traced.world().waiting(Manager::Pipe) == 0);
+    Ok(())
 }
 
 /// Two opens that are answered.
@@ -73,7 +92,7 @@ fn taken_by_another_loop(rt: HostRuntime) -> Result<(), NoMemory> {
         open ann.1.1 /ann r 000";
     let (workers, held) = (
         ["work 1\nraise", "await 1\nwork 1"],
-        Some((thread(1, 1), 2)),
+        Some((Item::Message(thread(1, 1)), 2)),
     );
     let ran = run(&rt, rt.alloc(), "user ann\n", held, &[ann], &workers)?;
     ran.assert_received(&rt, rt.alloc(), User(1), OPENED_TWICE)
@@ -84,7 +103,7 @@ fn taken_by_another_loop(rt: HostRuntime) -> Result<(), NoMemory> {
 fn two_loops_of_one_worker(rt: HostRuntime) -> Result<(), NoMemory> {
     let ann = "spawn ann 1 10\nopen ann.1.1 /ann r 000\nopen ann.1.1 /ann r 000";
     let bob = "await 1\nspawn bob 1 10\nopen bob.1.1 /bob r 000\nraise\nawait 3";
-    let (workers, held) = (["work 1\nraise"; 2], Some((thread(1, 1), 2)));
+    let (workers, held) = (["work 1\nraise"; 2], Some((Item::Message(thread(1, 1)), 2)));
     let ran = run(
         &rt,
         rt.alloc(),

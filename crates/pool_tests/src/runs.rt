@@ -7,7 +7,7 @@ use qx_machine::{Entry, Seen};
 use qx_play::text::push_transcript;
 use qx_pool::{CallEnd, Client, FinishFault, Note, Seat, Server, finish, worker_loop};
 use qx_script::{Script, parse};
-use qx_types::{Actor, Config, NoMemory, Outcome, Prio, Proc, Step, Thread, User};
+use qx_types::{Actor, Config, Item, NoMemory, Outcome, Prio, Proc, Step, Thread, User};
 use qx_world::Traced;
 use std::alloc::Global;
 use std::marker::Brand;
@@ -16,7 +16,7 @@ use std::sync::Wait;
 use std::sync::atomic::AtomicU64;
 use std::sync::ledger::{Blank, Ledger};
 use std::thread;
-use std::thread::Threads;
+use std::thread::{JoinHandle, Threads};
 
 /// What a thread is to do, and how its calls ended, for which there is room.
 #[derive(Drop)]
@@ -113,8 +113,43 @@ fn finished<L: Ledger>(server: Server<L>, mut seats: Vec<Seat<L>>) -> Option<(Tr
     Some((finish(server, seats).ok()?, came_back))
 }
 
-/// Runs a server with so many clients' seats, and a thread for each role. When the first `callers` of them have ended it is
-/// stopped. None where the trace is not whole.
+/// The seats, and for each role how its calls ended, for which there is room.
+type Played<L> = (Vec<Seat<L>>, Vec<Vec<CallEnd>>);
+
+/// Plays each role in a thread at a seat, and stops the server once the first `callers` of them have ended.
+fn play_all<'a, L: Ledger + Send + Sync, R: Threads + Wait + Sync>(
+    rt: &'a R,
+    server: &'a Server<L>,
+    signals: &'a Signals,
+    callers: usize,
+    roles: Vec<Role>,
+    mut running: Vec<JoinHandle<(Seat<L>, Vec<CallEnd>)>>,
+    played: Played<L>,
+) -> Played<L> {
+    thread::scope(thread::scope_env(), rt, move |scope| {
+        let (mut seats, mut ends) = played;
+        for role in roles {
+            let Some(seat) = seats.pop() else {
+                break;
+            };
+            match scope.spawn(move || play(rt, server, signals, seat, role)) {
+                Ok(thread) => drop(running.push(thread)),
+                Err(_) => server.stop(rt),
+            }
+        }
+        for thread in running {
+            if ends.len() == callers {
+                server.stop(rt);
+            }
+            let (seat, ended) = thread.join(rt);
+            let _ = seats.push(seat);
+            let _ = ends.push(ended);
+        }
+        (seats, ends)
+    })
+}
+
+/// Runs a server with so many clients' seats. None where the trace is not whole.
 fn serve<L: Ledger + Send + Sync, R: Threads + Wait + Sync>(
     rt: &R,
     alloc: Global,
@@ -129,29 +164,11 @@ fn serve<L: Ledger + Send + Sync, R: Threads + Wait + Sync>(
     requires parts { blank.parts ≡ L.parts }
     requires seats { blank.parts ≡ config.workers + clients }
 {
-    let mut ends = Vec::with_capacity(alloc, roles.len())?;
-    let mut running = Vec::with_capacity(alloc, roles.len())?;
-    let (server, mut seats) = Server::<L>::new(alloc, blank, config, clients)?;
-    let shared = &server;
-    thread::scope(thread::scope_env(), rt, |scope| {
-        for role in roles {
-            let Some(seat) = seats.pop() else {
-                break;
-            };
-            match scope.spawn(move || play(rt, shared, signals, seat, role)) {
-                Ok(thread) => drop(running.push(thread)),
-                Err(_) => shared.stop(rt),
-            }
-        }
-        for thread in running {
-            if ends.len() == callers {
-                shared.stop(rt);
-            }
-            let (seat, ended) = thread.join(rt);
-            let _ = seats.push(seat);
-            let _ = ends.push(ended);
-        }
-    });
+    let ends = Vec::with_capacity(alloc, roles.len())?;
+    let running = Vec::with_capacity(alloc, roles.len())?;
+    let (server, seats) = Server::<L>::new(alloc, blank, config, clients)?;
+    let played = (seats, ends);
+    let (seats, ends) = play_all(rt, &server, signals, callers, roles, running, played);
     Ok(finished(server, seats).map(|(traced, came_back)| Ran {
         traced,
         ends,
@@ -165,7 +182,7 @@ pub(crate) fn run<R: Threads + Wait + Abort + Sync>(
     rt: &R,
     alloc: Global,
     users: &str,
-    held: Option<(Thread, u64)>,
+    held: Option<(Item, u64)>,
     clients: &[&str],
     workers: &[&str],
 ) -> Result<Ran, NoMemory> {

@@ -1,7 +1,7 @@
 //! Calls that are served.
 
 use crate::runs::{run, thread};
-use qx_types::{NoMemory, Step, User};
+use qx_types::{Item, NoMemory, Step, User};
 
 /// The calls of a script, whose answers tell no moment, and what it shows where each is served before the next.
 const SCRIPT: &str = "\
@@ -76,7 +76,7 @@ fn overlap(rt: HostRuntime) -> Result<(), NoMemory> {
     let ann = "spawn ann 1 10\nopen ann.1.1 /ann r 000";
     let bob = "await 1\nspawn bob 1 10\nopen bob.1.1 /bob r 000\nraise";
     let (users, workers) = ("user ann\nuser bob\nworkers 2\n", ["work 1", "work 2"]);
-    let held = Some((thread(1, 1), 2));
+    let held = Some((Item::Message(thread(1, 1)), 2));
     let ran = run(&rt, rt.alloc(), users, held, &[ann, bob], &workers)?;
     let mut steps = ran.traced.entries().iter().map(|entry| &entry.step);
     let thread = thread(2, 1);

@@ -2,7 +2,7 @@
 
 use crate::runs::{run, thread};
 use qx_pool::CallEnd;
-use qx_types::{Manager, NoMemory, User};
+use qx_types::{Item, Manager, NoMemory, User};
 
 #[test]
 fn one_seat_kept(rt: HostRuntime) -> Result<(), NoMemory> {
@@ -29,7 +29,7 @@ fn stopped_while_clients_wait(rt: HostRuntime) -> Result<(), NoMemory> {
     let ann = "await 1\nopen ann.1.1 /ann r 000\nstat ann.1.1 /ann\nraise";
     let bob = "await 2\nopen bob.1.1 /bob r 000\nraise";
     let (users, clients) = ("user ann\nuser bob\n", [STOP_BOTH, ann, bob]);
-    let held = Some((thread(1, 1), 5));
+    let held = Some((Item::Message(thread(1, 1)), 5));
     let ran = run(&rt, rt.alloc(), users, held, &clients, &["work 1"])?;
     let world = ran.traced.world();
     assert!(rt; ran.has_ended(1, &[CallEnd::Stopped, CallEnd::Stopped]));

@@ -148,6 +148,11 @@ impl<L: Ledger> Locked<L> {
         }
     }
 
+    /// Whether there is such a worker.
+    pub(crate) fn is_worker(&self, worker: Worker) -> bool {
+        1 <= worker.0 && worker.0 <= self.world().config().workers()
+    }
+
     /// A copy of what a worker holds, if it holds anything.
     pub(crate) fn held(&self, worker: Worker) -> Result<Option<HeldCopy>, AllocError> {
         Ok(match self.traced.world().held(worker) {

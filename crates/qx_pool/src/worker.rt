@@ -51,7 +51,7 @@ pub fn worker_loop<L: Ledger, G: Gate, C: Clock, R: Wait>(
     seat
 }
 
-/// Performs what the worker holds, if anything. False where the loop ends.
+/// Performs what the worker holds, if anything. False where the loop ends, as one does whose worker is none.
 fn resume<L: Ledger, C: Clock, R: Wait>(
     rt: &R,
     server: &Server<L>,
@@ -62,8 +62,12 @@ fn resume<L: Ledger, C: Clock, R: Wait>(
     ensures { AddsOf worker.0 seat.old.notes.items seat.new.notes.items }
 {
     let guard = server.lock(rt);
+    let is_worker = guard.is_worker(worker);
     let held = guard.held(worker);
     drop(guard);
+    if !is_worker {
+        return false;
+    }
     match held {
         Ok(Some(held)) => perform(rt, server, seat, worker, decoded(held), clock),
         Ok(None) => true,
