@@ -174,11 +174,6 @@ impl<L: Ledger> Locked<L> {
         }
     }
 
-    /// Whether a worker has nothing to do but wait: both lines are empty, and the server was not stopped.
-    pub(crate) fn has_no_item(&self) -> bool {
-        self.next_line().is_none() && !self.is_stopped
-    }
-
     /// Whose item a worker holds.
     pub(crate) fn user_of_work(&self, worker: Worker) -> Option<User> {
         self.world().owner(&Step::Perform { worker, moment: 0 })

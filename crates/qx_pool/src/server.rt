@@ -8,7 +8,6 @@ use crate::seat::Seat;
 use crate::waits::{THREADS, ThreadSet, place_of};
 use qx_types::{Config, NoMemory, Thread};
 use std::alloc::{AllocError, Global};
-use std::hint::spin_loop;
 use std::marker::Model;
 use std::sync::ledger::{Blank, Ledger, Share};
 use std::sync::{Condvar, Mutex, MutexGuard, Wait};
@@ -86,15 +85,9 @@ impl<L: Ledger> Server<L> {
 
     /// Takes the lock once an item stands in a line, or the server was stopped.
     pub(crate) fn lock_for_item<R: Wait>(&self, rt: &R) -> MutexGuard<'_, Locked<L>> {
-        let mut guard = self.lock(rt);
-        if guard.has_no_item() {
-            let seen = self.items.notifications();
-            drop(guard);
-            look(&self.items, seen);
-            guard = self.lock(rt);
-        }
-        self.items
-            .wait_while(rt, guard, |locked| locked.has_no_item())
+        self.items.wait_while(rt, self.lock(rt), |locked| {
+            locked.next_line().is_none() && !locked.is_stopped()
+        })
     }
 
     /// Takes the lock once a thread waits for no answer, or the server was stopped.
@@ -103,15 +96,8 @@ impl<L: Ledger> Server<L> {
         rt: &R,
         thread: Thread,
     ) -> MutexGuard<'_, Locked<L>> {
-        let bell = self.bell(thread);
-        let mut guard = self.lock(rt);
-        if guard.waits(thread) {
-            let seen = bell.notifications();
-            drop(guard);
-            look(bell, seen);
-            guard = self.lock(rt);
-        }
-        bell.wait_while(rt, guard, |locked| locked.waits(thread))
+        self.bell(thread)
+            .wait_while(rt, self.lock(rt), |locked| locked.waits(thread))
     }
 
     /// Wakes a worker, where one waits for an item.
@@ -129,20 +115,6 @@ impl<L: Ledger> Server<L> {
     /// Where clients wait for a thread.
     fn bell(&self, thread: Thread) -> &Condvar {
         &self.answers[place_of(thread)]
-    }
-}
-
-/// How often a thread looks whether it was notified before it sleeps: some microseconds, in which a thread on another
-/// processor mostly has done what is waited for.
-const LOOKS: u32 = 200;
-
-/// Looks for a while whether there were more notifications than were seen.
-fn look(notified: &Condvar, seen: u64) {
-    for _ in 0..LOOKS {
-        if notified.notifications() != seen {
-            return;
-        }
-        spin_loop();
     }
 }
 
