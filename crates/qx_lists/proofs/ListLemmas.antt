@@ -156,14 +156,6 @@ pub slice_get-first : (xs : List ℕ) → slice_get xs 0 ≡ first_place xs None
 slice_get-first [] = refl
 slice_get-first (x ∷ xs) = refl
 
-last_from : (x : ℕ) (xs : List ℕ) → slice_get (x ∷ xs) (length xs) ≡ last_place (Some x) xs
-last_from x [] = refl
-last_from x (y ∷ ys) = last_from y ys
-
-pub slice_get-last : (xs : List ℕ) → slice_get xs (length xs - 1) ≡ last_place None xs
-slice_get-last [] = refl
-slice_get-last (x ∷ xs) = let less : length (x ∷ xs) - 1 ≡ length xs = omega arith in rw less (last_from x xs)
-
 pub next_after-split : (x : ℕ) (front back : List ℕ) → Avoids (Some x) front → next_after x (front ++ x ∷ back) ≡ first_place back None
 next_after-split x [] back before = elim (eqb_tells x x) [
   | inl same ↦ rw same.0 (slice_get-first back)
@@ -216,6 +208,11 @@ length-keys {X} m (x ∷ xs) apart there =
 avoids_from_differs : (x : ℕ) (xs : List ℕ) → AllByRecursion (λ y. nat_eq x y ≡ false) xs → Avoids (Some x) xs
 avoids_from_differs x [] all = tt
 avoids_from_differs x (y ∷ ys) all = (λ same. let equal : y ≡ x = cc in elim (eqb_tells x y) [ inl both ↦ let clash : true ≡ false = sym both.0 ∙ all.0 in cc | inr differs ↦ differs.1 (sym equal) ], avoids_from_differs x ys all.1)
+
+pub apart_from_distinct : (xs : List ℕ) → IsDistinct nat_eq xs → IsApart xs
+unfolding IsDistinct
+apart_from_distinct [] distinct = tt
+apart_from_distinct (x ∷ xs) distinct = (avoids_from_differs x xs distinct.0, apart_from_distinct xs distinct.1)
 
 -- the rest of a list of nodes that differ is the list without its first
 pub without-first : (nodes : List ℕ) (first : ℕ) → IsDistinct nat_eq nodes → slice_get nodes 0 ≡ Some first → without first nodes ≡ drop 1 nodes

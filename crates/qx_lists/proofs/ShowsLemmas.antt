@@ -111,9 +111,6 @@ module _ {T : Type 0} (r : Rings T) where
     pub first_is : (list : ℕ) (links : Links) → IsSome (map.get lists list) → links_at r list None ≡ Some links → links.next ≡ first_place (nodes_at lists list) None
     first_is list links there linked = field_is (λ x. x.next) _ links _ linked (next-path (ways r list) None _ None (ring list there))
 
-    pub last_is : (list : ℕ) (links : Links) → IsSome (map.get lists list) → links_at r list None ≡ Some links → links.previous ≡ last_place None (nodes_at lists list)
-    last_is list links there linked = field_is (λ x. x.previous) _ links _ linked (previous-path (ways r list) None _ None (ring list there))
-
     -- the nodes of a list around one of them
     record Around (list node : ℕ) : Type 0 where
       pub front : List ℕ

@@ -4,7 +4,11 @@
 //!
 //! `Table` stands here, over the links of `rings.rt`: each list is a ring through the list itself, whose links are its
 //! first and its last node, so taking a node out is one `join` and putting one in is two, with no case for the ends.
-//! All writes of links stand in two functions there.
+//! All writes of links stand in two functions there, and all reads in one.
+//!
+//! How much work a call is stands in its contract: two `Steps` (`steps.rt`) tick where `rings.rt` changes a link and where
+//! it looks at one. A link is a node's next or previous one, or a list's first or last; lengths and values are not counted.
+//! A caller that counts nothing makes the same calls through `uncounted.rt`.
 //!
 //! What contracts see is `Table.antt`, and of a value that is lent `Lends.antt`. A caller uses the ruleset
 //! `table_facts` (`proofs/TableFacts.antt`): named in `using(..)`, calls in a row need no answer, as `linked` in
@@ -12,7 +16,7 @@
 //! `nowhere_from` open and close.
 #![tactic(auto)]
 
-ghost use Rattle.std.specs.Prelude.{◌≡◌, ◌+◌, ◌-◌, ◌≤◌, ◌<◌, ◌^◌, ◌++◌, ◌∷◌, ℕ, List, [], None, Some, IfOk, IfErr, IfSome, OnOk, OnErr, IsOk, max, drop, length, slice_get, nat_eq};
+ghost use Rattle.std.specs.Prelude.{◌≡◌, ◌+◌, ◌-◌, ◌≤◌, ◌<◌, ◌^◌, ◌++◌, ◌∷◌, ℕ, List, [], None, Some, if◌then◌else◌, is_some, IfOk, IfErr, IfSome, OnOk, OnErr, IsOk, max, drop, length, slice_get, nat_eq};
 ghost use Rattle.std.specs.List.{IsDistinct};
 ghost use Rattle.std.specs.FinMap as map;
 ghost use Rattle.std.specs.Borrow.{sem};
@@ -22,11 +26,15 @@ ghost use Rattle.qx_lists.specs.Table.{ContainsList, ContainsNode, IsFree, IsIn,
 ghost use Rattle.qx_lists.specs.inner.Table.{placed};
 
 mod rings;
+mod steps;
+pub mod uncounted;
 
 use rings::{Links, Node, Rings};
 use slab::Slab;
 use std::alloc::{AllocError, AllocFailed, Global};
 use std::marker::Model;
+use std::sync::ledger::Ledger;
+pub use steps::Steps;
 
 /// Many doubly linked lists in one table of nodes.
 #[derive(Drop)]
@@ -152,36 +160,53 @@ impl<T> Table<T> {
     }
 
     /// The first node of the list.
-    pub fn first(&self, list: usize) -> Option<usize>
+    pub fn first<L: Ledger, M: Ledger>(
+        &self,
+        list: usize,
+        changes: &mut Steps<L>,
+        looks: &mut Steps<M>,
+    ) -> Option<usize>
         requires { ContainsList self.now list }
-        ensures { result ≡ slice_get (nodes_of self.now list) 0 }
+        ensures first { result ≡ slice_get (nodes_of self.now list) 0 }
+        ensures changes { changes.new ≡ changes.old }
+        ensures looks { looks.new ≡ looks.old + 2 }
     {
-        self.rings.links(list, None).next
-    }
-
-    /// The last node of the list.
-    pub fn last(&self, list: usize) -> Option<usize>
-        requires { ContainsList self.now list }
-        ensures { result ≡ slice_get (nodes_of self.now list) (length (nodes_of self.now list) - 1) }
-    {
-        self.rings.links(list, None).previous
+        let _unchanged = changes;
+        self.rings.links(list, None, looks).next
     }
 
     /// The node right after `node` in the list.
-    pub fn next(&self, list: usize, node: usize) -> Option<usize>
+    pub fn next<L: Ledger, M: Ledger>(
+        &self,
+        list: usize,
+        node: usize,
+        changes: &mut Steps<L>,
+        looks: &mut Steps<M>,
+    ) -> Option<usize>
         requires { IsIn self.now list node }
-        ensures { result ≡ next_after node (nodes_of self.now list) }
+        ensures next { result ≡ next_after node (nodes_of self.now list) }
+        ensures changes { changes.new ≡ changes.old }
+        ensures looks { looks.new ≡ looks.old + 2 }
     {
-        self.rings.links(list, Some(node)).next
+        let _unchanged = changes;
+        self.rings.links(list, Some(node), looks).next
     }
 
     /// Puts a free node at the end of the list.
-    pub fn push_back(&mut self, list: usize, node: usize)
+    pub fn push_back<L: Ledger, M: Ledger>(
+        &mut self,
+        list: usize,
+        node: usize,
+        changes: &mut Steps<L>,
+        looks: &mut Steps<M>,
+    )
         requires list { ContainsList self.old list }
         requires free { IsFree self.old node }
-        ensures { self.new ≡ with_nodes self.old list (nodes_of self.old list ++ node ∷ []) }
+        ensures pushed { self.new ≡ with_nodes self.old list (nodes_of self.old list ++ node ∷ []) }
+        ensures changes { changes.new ≡ changes.old + 4 }
+        ensures looks { looks.new ≡ looks.old + 2 }
     {
-        self.link(list, node, None);
+        self.link(list, node, None, changes, looks);
     }
 
     /// Puts a free node into the list right before `at`.
@@ -190,29 +215,44 @@ impl<T> Table<T> {
         requires free { IsFree self.old node }
         ensures { self.new ≡ with_nodes self.old list (put_before node at (nodes_of self.old list)) }
     {
-        self.link(list, node, Some(at));
+        uncounted::link(self, list, node, Some(at));
     }
 
     /// Takes a node out of the list.
-    pub fn unlink(&mut self, list: usize, node: usize)
+    pub fn unlink<L: Ledger, M: Ledger>(
+        &mut self,
+        list: usize,
+        node: usize,
+        changes: &mut Steps<L>,
+        looks: &mut Steps<M>,
+    )
         requires { IsIn self.old list node }
         ensures unlinked { self.new ≡ with_nodes self.old list (without node (nodes_of self.old list)) }
         ensures freed { IsFree self.new node }
+        ensures changes { changes.new ≡ changes.old + 2 }
+        ensures looks { looks.new ≡ looks.old + 2 }
     {
-        let links = self.rings.links(list, Some(node));
-        self.rings.join(list, links.previous, links.next);
+        let links = self.rings.links(list, Some(node), looks);
+        self.rings.join(list, links.previous, links.next, changes);
     }
 
     /// Takes the first node out of the list.
-    pub fn pop_front(&mut self, list: usize) -> Option<usize>
+    pub fn pop_front<L: Ledger, M: Ledger>(
+        &mut self,
+        list: usize,
+        changes: &mut Steps<L>,
+        looks: &mut Steps<M>,
+    ) -> Option<usize>
         requires { ContainsList self.old list }
         ensures first { result ≡ slice_get (nodes_of self.old list) 0 }
         ensures rest { self.new ≡ with_nodes self.old list (drop 1 (nodes_of self.old list)) }
         ensures freed { IfSome result (IsFree self.new) }
+        ensures changes { changes.new ≡ changes.old + (if is_some result then 2 else 0) }
+        ensures looks { looks.new ≡ looks.old + (if is_some result then 4 else 2) }
     {
-        let first = self.first(list)?;
+        let first = self.first(list, changes, looks)?;
         self.know();
-        self.unlink(list, first);
+        self.unlink(list, first, changes, looks);
         Some(first)
     }
 
@@ -228,13 +268,22 @@ impl<T> Table<T> {
     }
 
     // Puts a free node into the list before a place, where `None` is the list's end.
-    fn link(&mut self, list: usize, node: usize, at: Option<usize>)
+    fn link<L: Ledger, M: Ledger>(
+        &mut self,
+        list: usize,
+        node: usize,
+        at: Option<usize>,
+        changes: &mut Steps<L>,
+        looks: &mut Steps<M>,
+    )
         requires place { IsPlace self.old list at }
         requires free { IsFree self.old node }
-        ensures { self.new ≡ with_nodes self.old list (placed node at (nodes_of self.old list)) }
+        ensures linked { self.new ≡ with_nodes self.old list (placed node at (nodes_of self.old list)) }
+        ensures changes { changes.new ≡ changes.old + 4 }
+        ensures looks { looks.new ≡ looks.old + 2 }
     {
-        let before = self.rings.links(list, at).previous;
-        self.rings.join(list, before, Some(node));
-        self.rings.join(list, Some(node), at);
+        let before = self.rings.links(list, at, looks).previous;
+        self.rings.join(list, before, Some(node), changes);
+        self.rings.join(list, Some(node), at, changes);
     }
 }

@@ -1,10 +1,12 @@
 //! The links of the lists: each list is a ring of places, of which one is the list itself.
-ghost use Rattle.std.specs.Prelude.{◌≡◌, Some, IsSome, option_map};
+ghost use Rattle.std.specs.Prelude.{◌≡◌, ◌+◌, Some, IsSome, option_map};
 ghost use Rattle.std.specs.Borrow.{sem};
 ghost use Rattle.slab.specs.Slab.{get, ContainsKey};
 ghost use Rattle.qx_lists.specs.Rings.{links_at, with_next, with_previous, with_adjacent};
 
+use crate::steps::Steps;
 use slab::Slab;
+use std::sync::ledger::Ledger;
 
 /// The places next to a place of a ring. `None` is the place of the list itself.
 #[derive(Clone, Copy)]
@@ -36,25 +38,40 @@ pub(crate) struct Rings<T> {
 impl<T> Rings<T> {
     ghost use Rattle.qx_lists.specs.inner.RingLends.{lends_ring_value};
 
-    /// The links of a place of the list's ring.
-    pub(crate) fn links(&self, list: usize, place: Option<usize>) -> Links
+    /// The links of a place of the list's ring, which are two looks.
+    pub(crate) fn links<M: Ledger>(
+        &self,
+        list: usize,
+        place: Option<usize>,
+        looks: &mut Steps<M>,
+    ) -> Links
         requires { IsSome (links_at self.now list place) }
-        ensures { links_at self.now list place ≡ Some result }
+        ensures links { links_at self.now list place ≡ Some result }
+        ensures looks { looks.new ≡ looks.old + 2 }
     {
+        looks.tick();
+        looks.tick();
         match place {
             None => self.lists[list],
             Some(node) => self.nodes[node].links,
         }
     }
 
-    /// Makes `after` come right after `before` in the list's ring.
-    pub(crate) fn join(&mut self, list: usize, before: Option<usize>, after: Option<usize>)
+    /// Makes `after` come right after `before` in the list's ring, which are two changes.
+    pub(crate) fn join<L: Ledger>(
+        &mut self,
+        list: usize,
+        before: Option<usize>,
+        after: Option<usize>,
+        changes: &mut Steps<L>,
+    )
         requires before { IsSome (links_at self.old list before) }
         requires after { IsSome (links_at self.old list after) }
-        ensures { self.new ≡ with_adjacent self.old list before after }
+        ensures joined { self.new ≡ with_adjacent self.old list before after }
+        ensures changes { changes.new ≡ changes.old + 2 }
     {
-        self.set_next(list, before, after);
-        self.set_previous(list, after, before);
+        self.set_next(list, before, after, changes);
+        self.set_previous(list, after, before, changes);
     }
 
     /// The value of a node, for writing.
@@ -67,20 +84,36 @@ impl<T> Rings<T> {
         &mut node.value
     }
 
-    fn set_next(&mut self, list: usize, place: Option<usize>, next: Option<usize>)
+    fn set_next<L: Ledger>(
+        &mut self,
+        list: usize,
+        place: Option<usize>,
+        next: Option<usize>,
+        changes: &mut Steps<L>,
+    )
         requires { IsSome (links_at self.old list place) }
-        ensures { self.new ≡ with_next self.old list place next }
+        ensures set { self.new ≡ with_next self.old list place next }
+        ensures changes { changes.new ≡ changes.old + 1 }
     {
+        changes.tick();
         match place {
             None => self.lists[list].next = next,
             Some(node) => self.nodes[node].links.next = next,
         }
     }
 
-    fn set_previous(&mut self, list: usize, place: Option<usize>, previous: Option<usize>)
+    fn set_previous<L: Ledger>(
+        &mut self,
+        list: usize,
+        place: Option<usize>,
+        previous: Option<usize>,
+        changes: &mut Steps<L>,
+    )
         requires { IsSome (links_at self.old list place) }
-        ensures { self.new ≡ with_previous self.old list place previous }
+        ensures set { self.new ≡ with_previous self.old list place previous }
+        ensures changes { changes.new ≡ changes.old + 1 }
     {
+        changes.tick();
         match place {
             None => self.lists[list].previous = previous,
             Some(node) => self.nodes[node].links.previous = previous,

@@ -2,6 +2,7 @@
 use Rattle.std.proofs.Common.{◌≡◌, ◌≢◌, inl, inr, ℕ, zero, suc, ◌&&◌, ◌||◌, ◌==◌, not, cond, Bool, true, false, List, [], ◌∷◌, ◌++◌, Contains, Option, Some, None, option_map, map, slice_get, slice_set, unwrap_or, is_some, refl, sym, ◌∙◌, ap, ap₂}
 use Rattle.std.specs.FinMap as maps
 use Rattle.std.specs.FinMap.{find}
+use Rattle.std.specs.List.{list_any}
 use Rattle.std.specs.Ordering.{eq_by_cmp, nat_cmp}
 use Rattle.std.proofs.lemmas.Bool.{cases_Bool}
 use Rattle.std.proofs.lemmas.Bool.Decides.{eqb_tells}
@@ -11,12 +12,13 @@ use Rattle.std.proofs.lemmas.Option.{same_Some}
 use Rattle.qx_lists.specs.Table.{Table, ContainsList, IsIn, nodes_of}
 use Rattle.qx_lists.proofs.MapLemmas.{get-insert_other, get-insert_same, same_map}
 use Rattle.qx_lines.specs.declared.Line.{Line}
-use Rattle.qx_lines.specs.Line.{IsOwn}
-use Rattle.qx_queues.specs.inner.Kept.{answered_calls, call_at, given_at, is_line, is_pipes, list_of_line, users_call_carried, waiting_of_node, waiting_lists}
+use Rattle.qx_lines.specs.Line.{IsOwn, nodes_in}
+use Rattle.qx_queues.specs.inner.Kept.{IsListOf, answered_calls, call_at, given_at, is_line, is_own, is_pipes, users_call_carried, waiting_of_node, waiting_lists}
 use Rattle.qx_queues.specs.Queues.{UsersCall, each_changed}
 use Rattle.qx_queues.specs.Waiting.{Waiting}
 use Rattle.qx_queues.specs.inner.Waiting.{given_of}
 use Rattle.qx_queues.proofs.EntryLemmas.{map-agree, or_false, or_true}
+use Rattle.qx_queues.proofs.OwnLemmas.{is_own-list, not_own, own-none, own_list}
 use Rattle.qx_queues.proofs.TableLemmas.{none_some}
 
 there_if : {A B : Type 0} (f : A → B) (b : Bool) (o : Option A) → is_some (option_map f (cond b o None)) ≡ true → (b ≡ true) × (is_some o ≡ true)
@@ -25,26 +27,23 @@ there_if f true (Some x) is = (refl, refl)
 there_if f false o is = cc
 
 -- what it is that a list is a line's
-pub line_numbered : (lines : List Line) (list : ℕ) → is_line lines list ≡ true → (number : ℕ) × (list_of_line lines number ≡ Some list)
-line_numbered [] list is = cc
-line_numbered (line ∷ lines) list is = elim (eqb_tells line.list list) [
-  | inl same ↦ (0, ap Some same.1)
-  | inr differs ↦ let rest = line_numbered lines list (rw differs.0 at is) in (suc rest.0, rest.1)
+pub line_of : (lines : List Line) (list : ℕ) → is_line lines list ≡ true → (number : ℕ) × IsListOf lines number list
+line_of [] list is = cc
+line_of (line ∷ lines) list is = elim (cases_Bool (is_own list line)) [
+  | inl own ↦ (0, (line, refl, own_list line list own))
+  | inr off ↦ let rest = line_of lines list (rw off at is) in (suc rest.0, rest.1)
 ]
 
-pub is_line-numbered : (lines : List Line) (number list : ℕ) → list_of_line lines number ≡ Some list → is_line lines list ≡ true
-is_line-numbered [] number list is = absurd (none_some list None refl is)
-is_line-numbered (line ∷ lines) zero list is = elim (eqb_tells line.list list) [
-  | inl same ↦ rw same.0 refl
-  | inr differs ↦ absurd (differs.1 (same_Some line.list list is))
-]
-is_line-numbered (line ∷ lines) (suc number) list is = rw (is_line-numbered lines number list is) (or_true (line.list == list))
+pub is_line-numbered : (lines : List Line) (number list : ℕ) → IsListOf lines number list → is_line lines list ≡ true
+is_line-numbered [] number list of = absurd (none_some of.0 None refl of.1)
+is_line-numbered (line ∷ lines) zero list of = rw (is_own-list line list (rw (same_Some line of.0 of.1) of.2)) refl
+is_line-numbered (line ∷ lines) (suc number) list of = rw (is_line-numbered lines number list of) (or_true (is_own list line))
 
--- a line that changes keeps its list
-pub is_line-set : (before after : Line) → after.list ≡ before.list → (lines : List Line) (number list : ℕ) → slice_get lines number ≡ Some before → is_line (slice_set lines number after) list ≡ is_line lines list
+-- a line that changes keeps its lists
+pub is_line-set : (before after : Line) → after.lists ≡ before.lists → (lines : List Line) (number list : ℕ) → slice_get lines number ≡ Some before → is_line (slice_set lines number after) list ≡ is_line lines list
 is_line-set before after own [] number list is = refl
-is_line-set before after own (line ∷ lines) zero list is = ap (λ l. (l == list) || is_line lines list) (own ∙ ap (λ l. l.list) (sym (same_Some line before is)))
-is_line-set before after own (line ∷ lines) (suc number) list is = ap (λ b. (line.list == list) || b) (is_line-set before after own lines number list is)
+is_line-set before after own (line ∷ lines) zero list is = ap (λ all. list_any (λ it. list == it) all || is_line lines list) (own ∙ ap (λ l. l.lists) (sym (same_Some line before is)))
+is_line-set before after own (line ∷ lines) (suc number) list is = ap (λ b. is_own list line || b) (is_line-set before after own lines number list is)
 
 find-mapped : {A B : Type 0} (f : A → B) (q : ℕ) (es : List (ℕ × A)) → find nat_cmp q (map (λ e. (e.0, f e.1)) es) ≡ option_map f (find nat_cmp q es)
 find-mapped f q [] = refl
@@ -98,8 +97,8 @@ same_mapped f g None same = refl
 same_mapped f g (Some nodes) same = ap Some (map-agree f g nodes same)
 
 -- one more line
-pub is_line-more : (lines : List Line) (line : Line) (list : ℕ) → is_line (lines ++ line ∷ []) list ≡ (is_line lines list || (line.list == list))
-is_line-more lines line list = list_any-append (λ l. l.list == list) lines (line ∷ []) ∙ ap (λ b. is_line lines list || b) (or_false (line.list == list))
+pub is_line-more : (lines : List Line) (line : Line) (list : ℕ) → is_line (lines ++ line ∷ []) list ≡ (is_line lines list || is_own list line)
+is_line-more lines line list = list_any-append (is_own list) lines (line ∷ []) ∙ ap (λ b. is_line lines list || b) (or_false (is_own list line))
 
 -- nothing but lines and nodes that stand in no list changed
 pub record SameBeside (old new : Table Waiting) (lines : List Line) : Type 0 where
@@ -188,8 +187,8 @@ first_list t answered lists = record {
 -- one more line
 pub no_pipes-line : (old new : Table Waiting) (lines : List Line) (line : Line) (answered : ℕ) → ((list : ℕ) → (IsOwn line list → ⊥) → maps.get new.lists list ≡ maps.get old.lists list) → NoPipes old lines answered → NoPipes new (lines ++ line ∷ []) answered
 no_pipes-line old new lines line answered elsewhere before list pipes =
-    let told = both (list == answered) (is_line lines list) (line.list == list) (ap (λ b. not (list == answered) && not b) (sym (is_line-more lines line list)) ∙ pipes) in
-    elsewhere list (λ own. elim (eqb_tells line.list list) [ inl same ↦ (let clash : true ≡ false = sym same.0 ∙ told.1 in cc) | inr differs ↦ differs.1 (sym own) ]) ∙ before list told.0
+    let told = both (list == answered) (is_line lines list) (is_own list line) (ap (λ b. not (list == answered) && not b) (sym (is_line-more lines line list)) ∙ pipes) in
+    elsewhere list (not_own line list told.1) ∙ before list told.0
   where
     both : (a b c : Bool) → (not a && not (b || c)) ≡ true → ((not a && not b) ≡ true) × (c ≡ false)
     both false false false is = (refl, refl)
@@ -198,10 +197,10 @@ no_pipes-line old new lines line answered elsewhere before list pipes =
     both true b c is = absurd (cc)
 
 -- and no list has a node
-pub empty-line : (old new : Table Waiting) (line : Line) → nodes_of new line.list ≡ [] → ((list : ℕ) → (IsOwn line list → ⊥) → maps.get new.lists list ≡ maps.get old.lists list) → ((list : ℕ) → nodes_of old list ≡ []) → (list : ℕ) → nodes_of new list ≡ []
-empty-line old new line none elsewhere before list = elim (eqb_tells list line.list) [
-  | inl same ↦ rw same.1 none
-  | inr differs ↦ ap (λ o. unwrap_or o []) (elsewhere list differs.1) ∙ before list
+pub empty-line : (old new : Table Waiting) (line : Line) → nodes_in new line ≡ [] → ((list : ℕ) → (IsOwn line list → ⊥) → maps.get new.lists list ≡ maps.get old.lists list) → ((list : ℕ) → nodes_of old list ≡ []) → (list : ℕ) → nodes_of new list ≡ []
+empty-line old new line none elsewhere before list = elim (cases_Bool (is_own list line)) [
+  | inl own ↦ own-none new line none list (own_list line list own)
+  | inr off ↦ ap (λ o. unwrap_or o []) (elsewhere list (not_own line list off)) ∙ before list
 ]
 
 -- so nobody waits

@@ -10,25 +10,26 @@ use Rattle.qx_lists.specs.Table.{Table, ContainsList, ContainsNode, IsFree, IsIn
 use Rattle.qx_lists.proofs.MapLemmas.{get-insert_other, get-insert_same, get-remove_other, get-remove_same, same_map}
 use Rattle.qx_lists.proofs.ListLemmas.{absent_without, contains_cases, contains_first, contains_later, contains_without, without_keeps}
 use Rattle.qx_lines.specs.declared.Line.{Line}
-use Rattle.qx_lines.proofs.LineFacts.{IsLineOf-same}
+use Rattle.qx_lines.specs.Line.{nodes_in}
+use Rattle.qx_lines.proofs.LineFacts.{IsLineOf-same, nodes_in-same}
 use Rattle.qx_machine.specs.Machine.{rank}
-use Rattle.qx_queues.specs.inner.Kept.{Carries, AreListsOfTable, IsOwners, KnowsPulses, Moved, answered_calls, call_at, entries, entry_of_node, given_at, is_line, is_pipes, nobodys, node_owner, users_call_carried, waiting_of_node, waiting_lists}
+use Rattle.qx_queues.specs.inner.Kept.{Carries, AreListsOfTable, IsOwners, KnowsPulses, Moved, answered_calls, call_at, entries, entry_of_node, given_at, is_line, is_own, is_pipes, nobodys, node_owner, users_call_carried, waiting_of_node, waiting_lists}
 use Rattle.qx_queues.specs.Queues.{Queues, UsersAnswer, with_waiting, without_list}
 use Rattle.qx_queues.specs.Waiting.{Load, Nothing, Waiting, carrying, idle, rank_of}
 use Rattle.qx_queues.specs.inner.Waiting.{given_of}
 use Rattle.qx_queues.specs.declared.nodes.UserNodes.{UserNodes}
 use Rattle.qx_queues.specs.Nodes.{Owner, servers_of, threads_of}
-use Rattle.qx_queues.proofs.BesideLemmas.{get-waiting_lists, is_line-numbered, line_numbered, pipes_apart, same_mapped, same_waiting}
+use Rattle.qx_queues.proofs.BesideLemmas.{get-waiting_lists, is_line-numbered, line_of, pipes_apart, same_mapped, same_waiting}
 use Rattle.qx_queues.proofs.EntryLemmas.{map-agree, or_true}
-use Rattle.qx_queues.proofs.KeptLemmas.{line_of, list_of, same-owners}
+use Rattle.qx_queues.proofs.KeptLemmas.{same-owners}
 use Rattle.qx_queues.proofs.PresenceLemmas.{same_queues}
-use Rattle.qx_queues.proofs.TableLemmas.{absent_is, contains-self, entry-other, entry-same, inserted, nowhere, rank_at-entry, waiting-other, waiting-same}
+use Rattle.qx_queues.proofs.TableLemmas.{SameLists, absent_is, contains-self, entry-other, entry-same, inserted, nowhere, rank_at-entry, waiting-other, waiting-same}
 
 -- the lines stay as they are, and so does whose each node is
 module _ {answered : ℕ} (old new : Table Waiting) (lines : List Line) (node_of : Owner → Option ℕ) (kept : AreListsOfTable old lines answered node_of) (line_lists : (list : ℕ) → is_line lines list ≡ true → maps.get new.lists list ≡ maps.get old.lists list) (same_entries : (node : ℕ) → entry_of_node new node ≡ entry_of_node old node) where
   pub Kept-beside : ContainsList new answered → ((node : ℕ) → is_some (maps.get new.values node) ≡ is_some (maps.get old.values node)) → ((node : ℕ) → ((list : ℕ) → IsIn new list node → is_line lines list ≡ false → ⊥) → (waiting_of_node new node).load ≡ Nothing) → ((list node : ℕ) → is_line lines list ≡ false → IsIn new list node → Carries (list == answered) (waiting_of_node new node) × IsOwners node_of node (node_owner (entry_of_node old node))) → AreListsOfTable new lines answered node_of
   Kept-beside answers same nothing carries = record {
-    line = λ number line at. IsLineOf-same rank_of old new line (kept.line number line at) (λ list own. line_lists list (is_line-numbered lines number list (list_of lines number line at ∙ ap Some (sym own)))) (λ node in_line. rank_at-entry new node ∙ ap rank (same_entries node) ∙ sym (rank_at-entry old node));
+    line = λ number line at. IsLineOf-same rank_of old new line (kept.line number line at) (λ list own. line_lists list (is_line-numbered lines number list (line, at, own))) (λ node in_line. rank_at-entry new node ∙ ap rank (same_entries node) ∙ sym (rank_at-entry old node));
     apart = kept.apart;
     answers = answers;
     off_lines = kept.off_lines;
@@ -47,16 +48,14 @@ module _ {answered : ℕ} (old new : Table Waiting) (lines : List Line) (node_of
   pub shown-beside : map (entries new) lines ≡ map (entries old) lines
   shown-beside = all lines (λ list is. is)
     where
-      first : (line : Line) (some : List Line) → is_line (line ∷ some) line.list ≡ true
-      first line some = is_line-numbered (line ∷ some) 0 line.list refl
-
       later : (line : Line) (some : List Line) (list : ℕ) → is_line some list ≡ true → is_line (line ∷ some) list ≡ true
-      later line some list is = rw is (or_true (line.list == list))
+      later line some list is = rw is (or_true (is_own list line))
 
       all : (some : List Line) → ((list : ℕ) → is_line some list ≡ true → is_line lines list ≡ true) → map (entries new) some ≡ map (entries old) some
       all [] within = refl
       all (line ∷ some) within =
-          let same : entries new line ≡ entries old line = ap (λ o. map (entry_of_node new) (unwrap_or o [])) (line_lists line.list (within line.list (first line some))) ∙ map-agree (entry_of_node new) (entry_of_node old) (nodes_of old line.list) (λ node at. same_entries node) in
+          let lists : SameLists old new line = λ list own. line_lists list (within list (is_line-numbered (line ∷ some) 0 list (line, refl, own))) in
+          let same : entries new line ≡ entries old line = ap (map (entry_of_node new)) (nodes_in-same old new line lists) ∙ map-agree (entry_of_node new) (entry_of_node old) (nodes_in old line) (λ node at. same_entries node) in
           rw (same, all some (λ list is. within list (later line some list is))) refl
 
 contains_last : (xs : List ℕ) (x : ℕ) → Contains (xs ++ x ∷ []) x
@@ -247,9 +246,8 @@ list-new {answered} old lines node_of kept list fresh = (
   elim (cases_Bool (is_line lines list)) [
     | inr off ↦ off
     | inl is ↦
-        let of = line_numbered lines list is in
-        let line = line_of lines of.0 list of.1 in
-        absurd (absent_is (maps.get old.lists list) (rw (← line.1.1) (kept.line of.0 line.0 line.1.0).there) fresh)
+        let of = line_of lines list is in
+        absurd (absent_is (maps.get old.lists list) ((kept.line of.0 of.1.0 of.1.1).there list of.1.2) fresh)
   ],
   λ same. absent_is (maps.get old.lists answered) kept.answers (rw (← same) fresh),
 )

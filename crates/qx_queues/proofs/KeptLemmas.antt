@@ -13,7 +13,7 @@ use Rattle.qx_lists.proofs.ListLemmas.{contains_first, contains_later, contains_
 use Rattle.qx_lists.proofs.MapLemmas.{get-remove_same}
 use Rattle.qx_lines.specs.declared.Line.{Line}
 use Rattle.qx_lines.specs.Line.{IsInLine, IsLineOf, IsOwn, SameElsewhere, nodes_in}
-use Rattle.qx_lines.proofs.LineFacts.{IsLineOf-same, IsLineOf-elsewhere, apart_from_new}
+use Rattle.qx_lines.proofs.LineFacts.{IsLineOf-same, IsLineOf-elsewhere, apart_from_new, nodes_in-same}
 use Rattle.qx_machine.specs.declared.rows.OwnItem.{OwnItem}
 use Rattle.qx_machine.specs.declared.rows.OwnItem.TheVariants as item
 use Rattle.qx_machine.specs.declared.rows.Queued.{Queued}
@@ -21,16 +21,17 @@ use Rattle.qx_machine.specs.declared.rows.ServerName.{ServerName}
 use Rattle.qx_machine.specs.Machine.{line_without, rank}
 use Rattle.qx_machine.specs.Lines.{into, line_at, with_line}
 use Rattle.qx_queues.specs.Queues.{IsGone, caller, has_call, has_answer_among, pulse_call, first_field, is_same_thread, as_message, no_other, sender, sender_of, stands, own_field, unblock_call}
-use Rattle.qx_queues.specs.inner.Kept.{Carries, AreListsOfTable, IsOwners, PutIn, TakenOut, answered_calls, call_at, given_at, waiting_lists, entries, entry_of_node, is_line, list_of_line, named, nobodys, owner_in, node_owner, users_call_carried, waiting_of_node}
+use Rattle.qx_queues.specs.inner.Kept.{Carries, AreListsOfTable, IsListOf, IsOwners, PutIn, TakenOut, answered_calls, call_at, given_at, waiting_lists, entries, entry_of_node, is_line, is_own, named, nobodys, owner_in, node_owner, users_call_carried, waiting_of_node}
 use Rattle.qx_queues.specs.Kept.{HasLoad}
 use Rattle.qx_queues.specs.Waiting.{Answered, Load, Nothing, Waiting, Waits, carried, no_call, rank_of}
 use Rattle.qx_queues.specs.inner.Waiting.{thread_of_load, thread_carried, given_in, given_of}
 use Rattle.qx_queues.specs.Nodes.{Disconnect, Message, Owner, Unblock}
-use Rattle.qx_queues.proofs.BesideLemmas.{SameCalls, is_line-more, is_line-numbered, is_line-set, line_numbered, nodes_waiting, same_calls}
+use Rattle.qx_queues.proofs.BesideLemmas.{SameCalls, is_line-more, is_line-numbered, is_line-set, line_of, nodes_waiting, same_calls}
 use Rattle.qx_queues.proofs.EntryLemmas.{Reads, any-there, differs_from, is_same_thread-self, map-drop, owned_thread, reads-call, reads-message, some_of, field-entry, field-find, field-part}
 use Rattle.qx_queues.proofs.LineLemmas.{is_this, other-unblock, owner-this, this-message, this-unblock, without-absent, without-map}
 use Rattle.qx_queues.proofs.NodesLemmas.{none_of}
-use Rattle.qx_queues.proofs.TableLemmas.{absent_is, contains-insert, contains-other, contains-self, entries-kept, entry-other, entry-same, inserted, line-kept, none_some, nowhere, removed, some_same, waiting-other, waiting-same}
+use Rattle.qx_queues.proofs.OwnLemmas.{in_no_line, in_own, nodes_in-none, not_own, own_in, own_list}
+use Rattle.qx_queues.proofs.TableLemmas.{SameLists, absent_is, contains-insert, contains-other, contains-self, entries-kept, entry-other, entry-same, inserted, line-kept, none_some, nowhere, removed, some_same, waiting-other, waiting-same}
 
 -- a place that was written, and the others
 pub slice_get-set : {A : Type 0} (xs : List A) (i j : ℕ) (x y : A) → slice_get (slice_set xs i x) j ≡ Some y → ((j ≡ i) × (y ≡ x)) ⊎ ((j ≢ i) × (slice_get xs j ≡ Some y))
@@ -52,26 +53,9 @@ slice_get-more (z ∷ zs) x y (suc i) is = elim (slice_get-more zs x y i is) [
   | inr there ↦ inr there
 ]
 
--- the line of a number whose list is known
-pub line_of : (lines : List Line) (number list : ℕ) → list_of_line lines number ≡ Some list → (line : Line) × ((slice_get lines number ≡ Some line) × (line.list ≡ list))
-line_of [] number list is = absurd (none_some list None refl is)
-line_of (line ∷ lines) zero list is = (line, (refl, same_Some line.list list is))
-line_of (line ∷ lines) (suc number) list is = line_of lines number list is
-
-pub list_of : (lines : List Line) (number : ℕ) (line : Line) → slice_get lines number ≡ Some line → list_of_line lines number ≡ Some line.list
-list_of lines number line is = ap (option_map (λ l. l.list)) is
-
 -- the items of the line of a number
 pub line_at-shown : (t : Table Waiting) (lines : List Line) (number : ℕ) (line : Line) → slice_get lines number ≡ Some line → line_at (map (entries t) lines) number ≡ entries t line
 line_at-shown t lines number line is = ap (λ o. unwrap_or o []) (slice_get-map (entries t) lines number ∙ ap (option_map (entries t)) is)
-
--- a line that changes keeps its list
-list_at-set : (before after : Line) → after.list ≡ before.list → (lines : List Line) (number other : ℕ) → slice_get lines number ≡ Some before → list_of_line (slice_set lines number after) other ≡ list_of_line lines other
-list_at-set before after own [] number other is = refl
-list_at-set before after own (line ∷ lines) zero zero is = ap Some (own ∙ ap (λ l. l.list) (sym (same_Some line before is)))
-list_at-set before after own (line ∷ lines) zero (suc other) is = refl
-list_at-set before after own (line ∷ lines) (suc number) zero is = refl
-list_at-set before after own (line ∷ lines) (suc number) (suc other) is = list_at-set before after own lines number other is
 
 -- lines that show what they showed, but for one
 shown-set : (old new : Table Waiting) (lines : List Line) (number : ℕ) (after : Line) → ((other : ℕ) (line : Line) → other ≢ number → slice_get lines other ≡ Some line → entries new line ≡ entries old line) → map (entries new) (slice_set lines number after) ≡ slice_set (map (entries old) lines) number (entries new after)
@@ -111,6 +95,9 @@ Kept-owners {answered} t lines node_of after same kept =
 -- a node that stands in a list is its owner's, where that is a thread
 pub owners-node : {answered : ℕ} (t : Table Waiting) (lines : List Line) (node_of : Owner → Option ℕ) → AreListsOfTable t lines answered node_of → (list node : ℕ) → IsIn t list node → (owner : Owner) → named owner ≡ owner → node_owner (entry_of_node t node) ≡ owner → node_of owner ≡ Some node
 owners-node t lines node_of kept list node at owner own_name is = ap node_of (sym is) ∙ (kept.listed list node at).1 (ap named is ∙ own_name ∙ sym is)
+
+pub owners-in : {answered : ℕ} (t : Table Waiting) (lines : List Line) (node_of : Owner → Option ℕ) → AreListsOfTable t lines answered node_of → (line : Line) (node : ℕ) → IsInLine t line node → (owner : Owner) → named owner ≡ owner → node_owner (entry_of_node t node) ≡ owner → node_of owner ≡ Some node
+owners-in t lines node_of kept line node at = let own = in_own t line node at in owners-node t lines node_of kept own.0 node own.2
 
 -- a node of unblock pulses carries no call
 pub no_call-unblock : {answered : ℕ} (t : Table Waiting) (lines : List Line) (node_of : Owner → Option ℕ) (thread : Thread) (node : ℕ) → AreListsOfTable t lines answered node_of → node_of (Unblock thread) ≡ Some node → (list : ℕ) → IsIn t list node → is_line lines list ≡ false → Carries (list == answered) (waiting_of_node t node) → ⊥
@@ -182,7 +169,7 @@ module _ {A : Type 0} {answered : ℕ} (part : OwnItem → Option A) (thread : T
   found-own a line xs members is =
       let found = field-find (entry_of_node t) part thread a xs is in
       let own = reads.of (entry_of_node t found.0) (ap is_some found.1.1) in
-      (found.0, (found.1.0, (owners-node t lines node_of kept line.list found.0 (members found.0 found.1.0) owner reads.own_name own, field-part (is_same_thread (sender (entry_of_node t found.0)) thread) (part (entry_of_node t found.0).item) a found.1.1)))
+      (found.0, (found.1.0, (owners-in t lines node_of kept line found.0 (members found.0 found.1.0) owner reads.own_name own, field-part (is_same_thread (sender (entry_of_node t found.0)) thread) (part (entry_of_node t found.0).item) a found.1.1)))
 
   pub stands-owned : (number : ℕ) → is_some (first_field part thread (line_at (map (entries t) lines) number)) ≡ true → node_of owner ≡ None → ⊥
   stands-owned number some none =
@@ -208,17 +195,15 @@ module _ {A : Type 0} {answered : ℕ} (part : OwnItem → Option A) (thread : T
     in_no_list = nowhere_from t.lists node (λ list at. elim (cases_Bool (is_line lines list)) [
       | inr apart ↦ no_call list at apart ((kept.listed list node at).0 apart)
       | inl is ↦
-          let of = line_numbered lines list is in
-          let line = line_of lines of.0 list of.1 in
-          let here : Contains (nodes_in t line.0) node = rw (← line.1.1) at at in
-          let in_line : is_some (first_field part thread (entries t line.0)) ≡ true = field-entry (entry_of_node t) part thread (nodes_in t line.0) node here tells in
-          let clash : true ≡ false = sym in_line ∙ ap (λ l. is_some (first_field part thread l)) (sym (line_at-shown t lines of.0 line.0 line.1.0)) ∙ idle of.0 in
+          let of = line_of lines list is in
+          let in_line : is_some (first_field part thread (entries t of.1.0)) ≡ true = field-entry (entry_of_node t) part thread (nodes_in t of.1.0) node (own_in t of.1.0 list node of.1.2 at) tells in
+          let clash : true ≡ false = sym in_line ∙ ap (λ l. is_some (first_field part thread l)) (sym (line_at-shown t lines of.0 of.1.0 of.1.1)) ∙ idle of.0 in
           absurd (cc)
     ]);
   }
 
-  only : (list x : ℕ) → IsIn t list x → node_owner (entry_of_node t x) ≡ owner → x ≡ node
-  only list x at is = some_same x node (node_of owner) (owners-node t lines node_of kept list x at owner reads.own_name is) has
+  only : (line : Line) (x : ℕ) → IsInLine t line x → node_owner (entry_of_node t x) ≡ owner → x ≡ node
+  only line x at is = some_same x node (node_of owner) (owners-in t lines node_of kept line x at owner reads.own_name is) has
 
   -- where something is, the node stands in that line
   pub in_line-own : (line : Line) → is_some (first_field part thread (entries t line)) ≡ true → IsInLine t line node
@@ -251,7 +236,7 @@ module _ {A : Type 0} {answered : ℕ} (part : OwnItem → Option A) (thread : T
     | inl same ↦ rw same.0 (ap (λ y. is_this user it (entry_of_node t y)) same.1 ∙ this)
     | inr differs ↦ rw differs.0 (elim (cases_Bool (is_this user it (entry_of_node t x))) [
       | inr other ↦ other
-      | inl is ↦ absurd (differs.1 (only line.list x at (names (entry_of_node t x) is)))
+      | inl is ↦ absurd (differs.1 (only line x at (names (entry_of_node t x) is)))
     ])
   ])
 
@@ -260,7 +245,7 @@ module _ {A : Type 0} {answered : ℕ} (part : OwnItem → Option A) (thread : T
   items-other line user it not names = without-absent (entry_of_node t) user it (nodes_in t line) (λ x at. elim (cases_Bool (is_this user it (entry_of_node t x))) [
     | inr other ↦ other
     | inl is ↦
-        let same = only line.list x at (names (entry_of_node t x) is) in
+        let same = only line x at (names (entry_of_node t x) is) in
         let clash : true ≡ false = sym is ∙ ap (λ y. is_this user it (entry_of_node t y)) same ∙ not in
         absurd (cc)
   ])
@@ -298,15 +283,15 @@ module _ {answered : ℕ} (t : Table Waiting) (lines : List Line) (node_of : Own
       differs (some_same other call (pulse_call (entry_of_node t node).item) names part)
 
 -- one line changes
-module _ {answered : ℕ} (old new : Table Waiting) (lines : List Line) (number : ℕ) (before after : Line) (node_of : Owner → Option ℕ) (kept : AreListsOfTable old lines answered node_of) (is : slice_get lines number ≡ Some before) (own : after.list ≡ before.list) (elsewhere : (list : ℕ) → (IsOwn before list → ⊥) → maps.get new.lists list ≡ maps.get old.lists list) where
-  not_own : (other : ℕ) (line : Line) → other ≢ number → slice_get lines other ≡ Some line → line.list ≢ before.list
-  not_own other line differs at same = differs (kept.apart other number line.list (list_of lines other line at) (list_of lines number before is ∙ ap Some (sym same)))
+module _ {answered : ℕ} (old new : Table Waiting) (lines : List Line) (number : ℕ) (before after : Line) (node_of : Owner → Option ℕ) (kept : AreListsOfTable old lines answered node_of) (is : slice_get lines number ≡ Some before) (own : after.lists ≡ before.lists) (elsewhere : (list : ℕ) → (IsOwn before list → ⊥) → maps.get new.lists list ≡ maps.get old.lists list) where
+  lists_stay : (other : ℕ) (line : Line) → other ≢ number → slice_get lines other ≡ Some line → SameLists old new line
+  lists_stay other line differs at list its = elsewhere list (λ here. differs (kept.apart other number list (line, at, its) (before, is, here)))
 
   same_lines : (list : ℕ) → is_line (slice_set lines number after) list ≡ is_line lines list
   same_lines list = is_line-set before after own lines number list is
 
   off_line : (list : ℕ) → is_line lines list ≡ false → IsOwn before list → ⊥
-  off_line list apart here = let clash : true ≡ false = sym (is_line-numbered lines number list (list_of lines number before is ∙ ap Some (sym here))) ∙ apart in cc
+  off_line list apart here = let clash : true ≡ false = sym (is_line-numbered lines number list (before, is, here)) ∙ apart in cc
 
   calls-changed : ((list node : ℕ) → IsIn old list node → waiting_of_node new node ≡ waiting_of_node old node) → SameCalls old new lines (slice_set lines number after) answered
   calls-changed same_waiting = same_calls old new lines (slice_set lines number after) answered same_lines kept.off_lines (record {
@@ -314,37 +299,39 @@ module _ {answered : ℕ} (old new : Table Waiting) (lines : List Line) (number 
     nodes = same_waiting;
   })
 
-  changed : IsLineOf rank_of new after → ((line : Line) → IsLineOf rank_of old line → maps.get new.lists line.list ≡ maps.get old.lists line.list → IsLineOf rank_of new line) → ((node : ℕ) → is_some (maps.get new.values node) ≡ is_some (maps.get old.values node)) → ((owner : Owner) (node : ℕ) → node_of owner ≡ Some node → node_owner (entry_of_node new node) ≡ named owner) → ((node : ℕ) → (waiting_of_node old node).load ≡ Nothing → (waiting_of_node new node).load ≡ Nothing) → ((list node : ℕ) → IsIn old list node → waiting_of_node new node ≡ waiting_of_node old node) → ((node : ℕ) → Contains (nodes_in new after) node → Contains (nodes_in old before) node ⊎ IsOwners node_of node (node_owner (entry_of_node new node))) → AreListsOfTable new (slice_set lines number after) answered node_of
+  changed : IsLineOf rank_of new after → ((line : Line) → IsLineOf rank_of old line → SameLists old new line → IsLineOf rank_of new line) → ((node : ℕ) → is_some (maps.get new.values node) ≡ is_some (maps.get old.values node)) → ((owner : Owner) (node : ℕ) → node_of owner ≡ Some node → node_owner (entry_of_node new node) ≡ named owner) → ((node : ℕ) → (waiting_of_node old node).load ≡ Nothing → (waiting_of_node new node).load ≡ Nothing) → ((list node : ℕ) → IsIn old list node → waiting_of_node new node ≡ waiting_of_node old node) → ((node : ℕ) → Contains (nodes_in new after) node → Contains (nodes_in old before) node ⊎ IsOwners node_of node (node_owner (entry_of_node new node))) → AreListsOfTable new (slice_set lines number after) answered node_of
   changed line others same names still same_waiting among = record {
     line = λ other found at. elim (slice_get-set lines number other after found at) [
       | inl here ↦ rw here.1 line
-      | inr there ↦ others found (kept.line other found there.1) (elsewhere found.list (not_own other found there.0 there.1))
+      | inr there ↦ others found (kept.line other found there.1) (lists_stay other found there.0 there.1)
     ];
-    apart = λ one other list a b. kept.apart one other list (sym (stays one) ∙ a) (sym (stays other) ∙ b);
+    apart = λ one other list at also. kept.apart one other list (was one list at) (was other list also);
     answers = ap is_some (elsewhere answered (off_line answered kept.off_lines)) ∙ kept.answers;
     off_lines = same_lines answered ∙ kept.off_lines;
     there = λ owner node has. same node ∙ kept.there owner node has;
     names = names;
     once = kept.once;
     unlisted = λ node none. still node (kept.unlisted node (λ list at apart. none list (rw (ap (λ o. unwrap_or o []) (sym (elsewhere list (off_line list apart)))) at at) (same_lines list ∙ apart)));
-    listed = λ list node at. elim (eqb_tells list before.list) [
-      | inl here ↦
-          let in_after : Contains (nodes_in new after) node = rw (own ∙ sym here.1) at in (
-            λ apart. absurd (off_line list (sym (same_lines list) ∙ apart) here.1),
-            elim (among node in_after) [
-              | inl earlier ↦ same-owners old new node_of node (ap (λ w. w.queued) (same_waiting before.list node earlier)) (kept.listed before.list node earlier).1
-              | inr it ↦ it
-            ],
-          )
-      | inr differs ↦
-          let earlier : IsIn old list node = rw (ap (λ o. unwrap_or o []) (elsewhere list differs.1)) at at in
+    listed = λ list node at. elim (cases_Bool (is_own list before)) [
+      | inl is ↦ let here = own_list before list is in (
+        λ apart. absurd (off_line list (sym (same_lines list) ∙ apart) here),
+        elim (among node (own_in new after list node (rw own here) at)) [
+          | inl earlier ↦ let stood = in_own old before node earlier in same-owners old new node_of node (ap (λ w. w.queued) (same_waiting stood.0 node stood.2)) (kept.listed stood.0 node stood.2).1
+          | inr it ↦ it
+        ],
+      )
+      | inr off ↦
+          let earlier : IsIn old list node = rw (ap (λ o. unwrap_or o []) (elsewhere list (not_own before list off))) at at in
           let was = kept.listed list node earlier in
           (λ apart. rw (same_waiting list node earlier) (was.0 (sym (same_lines list) ∙ apart)), same-owners old new node_of node (ap (λ w. w.queued) (same_waiting list node earlier)) was.1)
     ];
   }
     where
-      stays : (other : ℕ) → list_of_line (slice_set lines number after) other ≡ list_of_line lines other
-      stays other = list_at-set before after own lines number other is
+      was : (other list : ℕ) → IsListOf (slice_set lines number after) other list → IsListOf lines other list
+      was other list of = elim (slice_get-set lines number other after of.0 of.1) [
+        | inl here ↦ (before, rw here.0 is, rw (← own, ← here.1) of.2)
+        | inr there ↦ (of.0, there.1, of.2)
+      ]
 
 -- an owner's free node is put into a line, and stands for another item
 module _ {answered : ℕ} (old new : Table Waiting) (lines : List Line) (number : ℕ) (before after : Line) (node_of : Owner → Option ℕ) (owner : Owner) (node : ℕ) (waiting : Waiting) (kept : AreListsOfTable old lines answered node_of) (is : slice_get lines number ≡ Some before) (own : node_of owner ≡ Some node) (free : IsFree old node) (put : PutIn old new before after node waiting) where
@@ -360,7 +347,7 @@ module _ {answered : ℕ} (old new : Table Waiting) (lines : List Line) (number 
   -- and whose it is agrees with what it stands for
   placed : (after_of : Owner → Option ℕ) → AreListsOfTable old lines answered after_of → ((one : Owner) → after_of one ≡ Some node → node_owner waiting.queued ≡ named one) → IsOwners after_of node (node_owner waiting.queued) → waiting.load ≡ Nothing → AreListsOfTable new (slice_set lines number after) answered after_of
   placed after_of then names owns nothing = changed old new lines number before after after_of then is put.own put.lists put.line
-      (λ line stands lists. line-kept old new node (inserted old new _ _ put.values) line stands lists (nowhere old free line.list))
+      (λ line stands lists. line-kept old new node (inserted old new _ _ put.values) line stands lists (in_no_line old line (nowhere old free)))
       (λ other. elim (eqb_tells other node) [
         | inl same ↦ rw same.1 (contains-self old new node waiting put.values ∙ sym free.there)
         | inr differs ↦ ap is_some (inserted old new node waiting put.values other differs.1)
@@ -415,29 +402,29 @@ module _ {answered : ℕ} (old new : Table Waiting) (lines : List Line) (number 
 
   pub shown-put : map (entries new) (slice_set lines number after) ≡ with_line (map (entries old) lines) number (λ line. into rank line waiting.queued)
   shown-put =
-      shown-set old new lines number after (λ other line differs at. entries-kept old new node (inserted old new _ _ put.values) line (put.lists line.list (not_own old new lines number before after node_of kept is put.own put.lists other line differs at)) (nowhere old free line.list))
+      shown-set old new lines number after (λ other line differs at. entries-kept old new node (inserted old new _ _ put.values) line (lists_stay old new lines number before after node_of kept is put.own put.lists other line differs at) (in_no_line old line (nowhere old free)))
       ∙ ap (slice_set (map (entries old) lines) number) (put.entries ∙ ap (λ line. into rank line waiting.queued) (sym (line_at-shown old lines number before is)))
 
 -- nodes leave a line
 module _ {answered : ℕ} (old new : Table Waiting) (lines : List Line) (number : ℕ) (before after : Line) (change : List ℕ → List ℕ) (node_of : Owner → Option ℕ) (kept : AreListsOfTable old lines answered node_of) (is : slice_get lines number ≡ Some before) (taken : TakenOut old new before after change) where
   pub Kept-taken : ((x : ℕ) → Contains (change (nodes_in old before)) x → Contains (nodes_in old before) x) → AreListsOfTable new (slice_set lines number after) answered node_of
-  Kept-taken fewer = changed old new lines number before after node_of kept is taken.own taken.lists taken.line
-      (λ line stands lists. IsLineOf-same rank_of old new line stands (λ list own. rw own lists) (λ node at. rw taken.values refl))
-      (λ node. rw taken.values refl)
-      (λ owner node has. rw taken.values (kept.names owner node has))
-      (λ node was. rw taken.values was)
-      (λ list node at. rw taken.values refl)
+  Kept-taken fewer = changed old new lines number before after node_of kept is taken.own taken.elsewhere.lists taken.line
+      (λ line stands lists. IsLineOf-same rank_of old new line stands lists (λ node at. rw taken.elsewhere.values refl))
+      (λ node. rw taken.elsewhere.values refl)
+      (λ owner node has. rw taken.elsewhere.values (kept.names owner node has))
+      (λ node was. rw taken.elsewhere.values was)
+      (λ list node at. rw taken.elsewhere.values refl)
       (λ node at. let rest : Contains (change (nodes_in old before)) node = rw taken.nodes at at in inl (fewer node rest))
 
   pub calls-taken : SameCalls old new lines (slice_set lines number after) answered
-  calls-taken = calls-changed old new lines number before after node_of kept is taken.own taken.lists (λ list node at. rw taken.values refl)
+  calls-taken = calls-changed old new lines number before after node_of kept is taken.own taken.elsewhere.lists (λ list node at. rw taken.elsewhere.values refl)
 
   pub shown-taken : (items : List Queued → List Queued) → map (entry_of_node old) (change (nodes_in old before)) ≡ items (entries old before) → map (entries new) (slice_set lines number after) ≡ with_line (map (entries old) lines) number items
   shown-taken items same =
-      let rest : entries new after ≡ items (entries old before) = rw (taken.nodes, taken.values) same in
+      let rest : entries new after ≡ items (entries old before) = rw (taken.nodes, taken.elsewhere.values) same in
       shown-set old new lines number after (λ other line differs at.
-      let nodes : nodes_in new line ≡ nodes_in old line = ap (λ o. unwrap_or o []) (taken.lists line.list (not_own old new lines number before after node_of kept is taken.own taken.lists other line differs at)) in
-      rw (nodes, taken.values) refl)
+      let nodes : nodes_in new line ≡ nodes_in old line = nodes_in-same old new line (lists_stay old new lines number before after node_of kept is taken.own taken.elsewhere.lists other line differs at) in
+      rw (nodes, taken.elsewhere.values) refl)
       ∙ ap (slice_set (map (entries old) lines) number) (rest ∙ ap items (sym (line_at-shown old lines number before is)))
 
 -- the first leaves it
@@ -463,7 +450,7 @@ module _ (old new : Table Waiting) (node : ℕ) (waiting : Waiting) (room : ℕ)
   was_there other there same = absent_is (maps.get old.values node) (rw (← same) there) absent
 
   pub entries-made : (line : Line) → entries new line ≡ entries old line
-  entries-made line = entries-kept old new node (inserted old new _ _ values_made) line (lists_made line.list) (not_listed line.list)
+  entries-made line = entries-kept old new node (inserted old new _ _ values_made) line (λ list own. lists_made list) (in_no_line old line not_listed)
 
   pub calls-made : (lines : List Line) (answered : ℕ) → is_line lines answered ≡ false → SameCalls old new lines lines answered
   calls-made lines answered off = same_calls old new lines lines answered (λ list. refl) off (record {
@@ -473,7 +460,7 @@ module _ (old new : Table Waiting) (node : ℕ) (waiting : Waiting) (room : ℕ)
 
   pub Kept-made : {answered : ℕ} (lines : List Line) (node_of after : Owner → Option ℕ) (owner : Owner) → node_of owner ≡ None → after owner ≡ Some node → ((other : Owner) → (other ≡ owner) ⊎ ((other ≢ owner) × (after other ≡ node_of other))) → node_owner waiting.queued ≡ named owner → waiting.load ≡ Nothing → AreListsOfTable old lines answered node_of → AreListsOfTable new lines answered after
   Kept-made {answered} lines node_of after owner lacked gets others names nothing kept = record {
-    line = λ number line at. line-kept old new node (inserted old new _ _ values_made) line (kept.line number line at) (lists_made line.list) (not_listed line.list);
+    line = λ number line at. line-kept old new node (inserted old new _ _ values_made) line (kept.line number line at) (λ list own. lists_made list) (in_no_line old line not_listed);
     apart = kept.apart;
     answers = ap is_some (lists_made answered) ∙ kept.answers;
     off_lines = kept.off_lines;
@@ -527,7 +514,7 @@ module _ (old new : Table Waiting) (node room : ℕ) (is : new ≡ record old { 
   lists_freed list = ap (λ t. maps.get t.lists list) is
 
   pub entries-freed : (line : Line) → entries new line ≡ entries old line
-  entries-freed line = entries-kept old new node (removed old new node values_freed) line (lists_freed line.list) (nowhere old free line.list)
+  entries-freed line = entries-kept old new node (removed old new node values_freed) line (λ list own. lists_freed list) (in_no_line old line (nowhere old free))
 
   pub calls-freed : (lines : List Line) (answered : ℕ) → is_line lines answered ≡ false → SameCalls old new lines lines answered
   calls-freed lines answered off = same_calls old new lines lines answered (λ list. refl) off (record {
@@ -539,7 +526,7 @@ module _ (old new : Table Waiting) (node room : ℕ) (is : new ≡ record old { 
     -- owners keep all nodes but that one
     Kept-but : (after : Owner → Option ℕ) → ((one : Owner) (x : ℕ) → after one ≡ Some x → (node_of one ≡ Some x) × (x ≢ node)) → ((one : Owner) (x : ℕ) → node_of one ≡ Some x → x ≢ node → after one ≡ Some x) → AreListsOfTable new lines answered after
     Kept-but after had has_still = record {
-      line = λ number line at. line-kept old new node (removed old new node values_freed) line (kept.line number line at) (lists_freed line.list) (nowhere old free line.list);
+      line = λ number line at. line-kept old new node (removed old new node values_freed) line (kept.line number line at) (λ list own. lists_freed list) (in_no_line old line (nowhere old free));
       apart = kept.apart;
       answers = ap is_some (lists_freed answered) ∙ kept.answers;
       off_lines = kept.off_lines;
@@ -585,7 +572,7 @@ module _ (old new : Table Waiting) (node room : ℕ) (is : new ≡ record old { 
 pub Kept-none : (t : Table Waiting) (answered : ℕ) (node_of : Owner → Option ℕ) → t.values ≡ maps.empty → ((list : ℕ) → nodes_of t list ≡ []) → ContainsList t answered → ((owner : Owner) → node_of owner ≡ None) → AreListsOfTable t [] answered node_of
 Kept-none t answered node_of values no_list answers none = record {
   line = λ number line at. absurd (none_some line None refl at);
-  apart = λ one other list at also. absurd (none_some list None refl at);
+  apart = λ one other list at also. absurd (none_some at.0 None refl at.1);
   answers = answers;
   off_lines = refl;
   there = λ owner node has. absurd (none_some node _ (none owner) has);
@@ -605,19 +592,16 @@ Kept-line {answered} old new lines line node_of none stands was_new elsewhere ke
     | inl last ↦ rw last.1 stands
     | inr earlier ↦ IsLineOf-elsewhere rank_of old new found line (kept.line number found earlier) elsewhere (unlike number found earlier)
   ];
-  apart = λ one other list at also.
-      let first = line_of (lines ++ line ∷ []) one list at in
-      let second = line_of (lines ++ line ∷ []) other list also in
-      elim (slice_get-more lines line first.0 one first.1.0) [
-        | inl last ↦ elim (slice_get-more lines line second.0 other second.1.0) [
-          | inl again ↦ last.0 ∙ sym again.0
-          | inr earlier ↦ absurd (unlike other second.0 earlier list (sym second.1.1) (sym first.1.1 ∙ ap (λ l. l.list) last.1))
-        ]
-        | inr earlier ↦ elim (slice_get-more lines line second.0 other second.1.0) [
-          | inl last ↦ absurd (unlike one first.0 earlier list (sym first.1.1) (sym second.1.1 ∙ ap (λ l. l.list) last.1))
-          | inr too ↦ kept.apart one other list (list_of lines one first.0 earlier ∙ ap Some first.1.1) (list_of lines other second.0 too ∙ ap Some second.1.1)
-        ]
-      ];
+  apart = λ one other list at also. elim (slice_get-more lines line at.0 one at.1) [
+    | inl last ↦ elim (slice_get-more lines line also.0 other also.1) [
+      | inl again ↦ last.0 ∙ sym again.0
+      | inr earlier ↦ absurd (unlike other also.0 earlier list also.2 (rw (← last.1) at.2))
+    ]
+    | inr earlier ↦ elim (slice_get-more lines line also.0 other also.1) [
+      | inl last ↦ absurd (unlike one at.0 earlier list at.2 (rw (← last.1) also.2))
+      | inr too ↦ kept.apart one other list (at.0, earlier, at.2) (also.0, too, also.2)
+    ]
+  ];
   answers = ap is_some (elsewhere.lists answered not_new) ∙ kept.answers;
   off_lines = is_line-more lines line answered ∙ rw (kept.off_lines, differs_new answered not_new) refl;
   there = rw elsewhere.values kept.there;
@@ -626,12 +610,12 @@ Kept-line {answered} old new lines line node_of none stands was_new elsewhere ke
   unlisted = λ node nowhere. rw elsewhere.values (kept.unlisted node (λ list at apart.
       let here : IsIn new list node = rw (ap (λ o. unwrap_or o []) (sym (elsewhere.lists list (not_listed list node at)))) at at in
       nowhere list here (is_line-more lines line list ∙ rw (apart, differs_new list (not_listed list node at)) refl)));
-  listed = λ list node at. elim (eqb_tells list line.list) [
-    | inl own ↦ let here : Contains [] node = rw (own.1, none) at at in absurd (omega (arith, here.1))
-    | inr differs ↦
-        let earlier : IsIn old list node = rw (ap (λ o. unwrap_or o []) (elsewhere.lists list differs.1)) at at in
+  listed = λ list node at. elim (cases_Bool (is_own list line)) [
+    | inl own ↦ let here : Contains [] node = rw none at (own_in new line list node (own_list line list own) at) in absurd (omega (arith, here.1))
+    | inr off ↦
+        let earlier : IsIn old list node = rw (ap (λ o. unwrap_or o []) (elsewhere.lists list (not_own line list off))) at at in
         let was = kept.listed list node earlier in
-        (λ apart. rw elsewhere.values (was.0 (fewer (is_line lines list) (line.list == list) (sym (is_line-more lines line list) ∙ apart))), rw elsewhere.values was.1)
+        (λ apart. rw elsewhere.values (was.0 (fewer (is_line lines list) (is_own list line) (sym (is_line-more lines line list) ∙ apart))), rw elsewhere.values was.1)
   ];
 }
   where
@@ -641,8 +625,8 @@ Kept-line {answered} old new lines line node_of none stands was_new elsewhere ke
     not_listed : (list node : ℕ) → IsIn old list node → IsOwn line list → ⊥
     not_listed list node at own = let here : Contains [] node = rw (ap (λ o. unwrap_or o []) (was_new list own)) at at in omega (arith, here.1)
 
-    differs_new : (list : ℕ) → (IsOwn line list → ⊥) → (line.list == list) ≡ false
-    differs_new list apart = elim (eqb_tells line.list list) [ inl same ↦ absurd (apart (sym same.1)) | inr differs ↦ differs.0 ]
+    differs_new : (list : ℕ) → (IsOwn line list → ⊥) → is_own list line ≡ false
+    differs_new list apart = elim (cases_Bool (is_own list line)) [ inl own ↦ absurd (apart (own_list line list own)) | inr off ↦ off ]
 
     fewer : (a b : Bool) → (a || b) ≡ false → a ≡ false
     fewer false b is = refl
@@ -654,7 +638,7 @@ Kept-line {answered} old new lines line node_of none stands was_new elsewhere ke
 -- where no list has a node, the lines are empty
 pub shown-none : (t : Table Waiting) → ((list : ℕ) → nodes_of t list ≡ []) → (lines : List Line) → map (entries t) lines ≡ replicate (length lines) []
 shown-none t none [] = refl
-shown-none t none (line ∷ lines) = rw (none line.list, shown-none t none lines) refl
+shown-none t none (line ∷ lines) = rw (nodes_in-none t line none, shown-none t none lines) refl
 
 gone_by : (it : OwnItem) (thread : Thread) (line : List Queued) → (owner_in thread it ≡ Message thread → stands line thread ≡ false) → (owner_in thread it ≡ Unblock thread → unblock_call line thread ≡ None) → no_other it thread line
 gone_by (item.Message process number) thread line message pulse = message refl
@@ -666,7 +650,7 @@ module _ {answered : ℕ} (t : Table Waiting) (lines : List Line) (node_of : Own
   gone_from : (x : ℕ) (xs : List ℕ) (first : Queued) → x ∷ xs ≡ nodes_in t line → AllByRecursion (λ y. nat_eq x y ≡ false) xs → entry_of_node t x ≡ first → IsGone first (map (entry_of_node t) xs)
   gone_from x xs first nodes apart is =
       let inside : (y : ℕ) → Contains (x ∷ xs) y → IsInLine t line y = λ y at. rw (← nodes) at in
-      let own : (owner : Owner) → named owner ≡ owner → node_owner first ≡ owner → node_of owner ≡ Some x = λ owner own_name owns. owners-node t lines node_of kept line.list x (inside x (contains_first x xs)) owner own_name (ap node_owner is ∙ owns) in
+      let own : (owner : Owner) → named owner ≡ owner → node_owner first ≡ owner → node_of owner ≡ Some x = λ owner own_name owns. owners-in t lines node_of kept line x (inside x (contains_first x xs)) owner own_name (ap node_owner is ∙ owns) in
       gone_by first.item (sender first) (map (entry_of_node t) xs)
       (λ message. gone-own as_message (sender first) (Message (sender first)) (reads-message (sender first)) t lines node_of x kept (own (Message (sender first)) refl message) line xs (λ y at. inside y (contains_later x y xs at)) (λ at. differs_from x x xs apart at refl))
       (λ pulse. none_of _ (gone-own pulse_call (sender first) (Unblock (sender first)) (reads-call (sender first)) t lines node_of x kept (own (Unblock (sender first)) refl pulse) line xs (λ y at. inside y (contains_later x y xs at)) (λ at. differs_from x x xs apart at refl)))
@@ -684,7 +668,7 @@ module _ {answered : ℕ} (t : Table Waiting) (lines : List Line) (node_of : Own
       of [] same is = absurd (none_some first None refl is)
       of (x ∷ xs) same is =
           let inside : IsInLine t line x = rw (← same) (contains_first x xs) in
-          (x, owners-node t lines node_of kept line.list x inside owner own_name (ap node_owner (same_Some (entry_of_node t x) first is) ∙ owns))
+          (x, owners-in t lines node_of kept line x inside owner own_name (ap node_owner (same_Some (entry_of_node t x) first is) ∙ owns))
 
   pub gone-if : (first : Option Queued) → IsDistinct nat_eq (nodes_in t line) → first ≡ slice_get (entries t line) 0 → IfSome first (λ taken. IsGone taken (drop 1 (entries t line)))
   gone-if None distinct is = tt

@@ -2,6 +2,8 @@
 pub mod EntryLemmas
 -- What a line tells of threads, as items come and go.
 pub mod LineLemmas
+-- The lists that are a line's own, and the nodes in them.
+pub mod OwnLemmas
 -- What nodes stand for and which lines there are, as one node of the table changes.
 pub mod TableLemmas
 -- The lists that are no line's, as lines and free nodes change.

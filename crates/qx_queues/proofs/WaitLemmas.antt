@@ -25,6 +25,7 @@ use Rattle.qx_queues.proofs.BesideLemmas.{get-waiting_lists, nodes_waiting, pipe
 use Rattle.qx_queues.proofs.CallLemmas.{differs_of, equal_itself, value_of}
 use Rattle.qx_queues.proofs.EntryLemmas.{is_same_thread-same, owned_thread, reads-message}
 use Rattle.qx_queues.proofs.KeptLemmas.{IsFree-own, answered-owner, at_any, gone-own, no_call-message, owners-node, waits-owner}
+use Rattle.qx_queues.proofs.OwnLemmas.{in_no_line}
 use Rattle.qx_queues.proofs.TableLemmas.{nowhere, some_same}
 
 -- one that passes a test, among what nodes stand for
@@ -78,7 +79,7 @@ module _ {answered : ℕ} (t : Table Waiting) (lines : List Line) (node_of : Own
         nowhere t free list (rw is at at)
 
     pub received-idle : (number : ℕ) → stands (line_at (map (entries t) lines) number) thread ≡ false
-    received-idle number = at_any t (λ line. stands line thread ≡ false) refl (λ line. gone-own as_message thread (Message thread) (reads-message thread) t lines node_of node kept has line (nodes_in t line) (λ other at. at) (nowhere t free line.list)) lines number
+    received-idle number = at_any t (λ line. stands line thread ≡ false) refl (λ line. gone-own as_message thread (Message thread) (reads-message thread) t lines node_of node kept has line (nodes_in t line) (λ other at. at) (in_no_line t line (nowhere t free))) lines number
 
     pub received-waits : (list : ℕ) → has_call (unwrap_or (maps.get (waiting_lists t lines answered) list) []) thread ≡ false
     received-waits list = elim (cases_Bool (has_call (unwrap_or (maps.get (waiting_lists t lines answered) list) []) thread)) [

@@ -18,8 +18,8 @@ ghost use Rattle.qx_queues.specs.inner.Waiting.{KeepsRoom, load_of};
 
 use crate::nodes::{Nodes, ThreadNodes};
 use crate::waiting::{Answered, Slot, Waiting};
-use qx_lines::Line;
-use qx_lists::Table;
+use qx_lines::{Line, uncounted as lines};
+use qx_lists::{Table, uncounted as lists};
 use qx_machine::{OwnItem, Queued, ServerName};
 use qx_types::{Limits, Manager, Prio, Proc, Thread};
 use std::alloc::{AllocError, Global};
@@ -192,7 +192,7 @@ impl Queues {
         ensures rest { self.new ≡ record self.old { answered = drop 1 self.old.answered } }
         ensures gone { IfSome result (λ taken. HasNoListedCall self.new taken.thread) }
     {
-        let node = self.table.first(self.answered)?;
+        let node = lists::first(&self.table, self.answered)?;
         self.table.know();
         Some(take_slot(&mut self.table, self.answered, node).into_answered())
     }
@@ -408,7 +408,7 @@ fn put_in(table: &mut Table<Waiting>, line: &mut Line, node: usize, waiting: Wai
     ensures put { PutIn table.old table.new line.old line.new node waiting }
 {
     set_entry(table, node, waiting);
-    line.put(table, node);
+    lines::put(line, table, node);
 }
 
 /// Takes the first node out of a line, with what it stands for.
@@ -420,7 +420,7 @@ fn take_out(table: &mut Table<Waiting>, line: &mut Line) -> Option<(usize, Queue
     ensures entry { IfSome result (λ taken. entry_of_node table.new taken.0 ≡ taken.1) }
     ensures free { IfSome result (λ taken. IsFree table.new taken.0) }
 {
-    let node = line.take(table)?;
+    let node = lines::take(line, table)?;
     Some((node, table.value(node).queued()))
 }
 
@@ -438,7 +438,7 @@ fn remove(table: &mut Table<Waiting>, line: &mut Line, node: usize)
     requires in_line { IsInLine table.old line.old node }
     ensures out { TakenOut table.old table.new line.old line.new (without node) }
 {
-    line.remove(table, node);
+    lines::remove(line, table, node);
 }
 
 /// Takes a node out of a list, with what it carries.
@@ -450,7 +450,7 @@ pub(crate) fn take_slot(table: &mut Table<Waiting>, list: usize, node: usize) ->
     ensures taken { table.new ≡ with_value (with_nodes table.old list (without node (nodes_of table.old list))) node (idle (entry_of_node table.old node)) }
     ensures free { IsFree table.new node }
 {
-    table.unlink(list, node);
+    lists::unlink(table, list, node);
     table.value_mut(node).replace(Slot::Empty)
 }
 
@@ -472,6 +472,6 @@ fn first_of(table: &Table<Waiting>, line: &Line) -> Option<Queued>
     requires there { (list node : ℕ) → IsIn table.now list node → ContainsNode table.now node }
     ensures first { result ≡ slice_get (entries table.now line.now) 0 }
 {
-    let node = line.first(table)?;
+    let node = lines::first(line, table)?;
     Some(table.value(node).queued())
 }

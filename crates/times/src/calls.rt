@@ -6,7 +6,7 @@ ghost use Rattle.qx_lists.specs.Table.{IsFree};
 ghost use Rattle.qx_wire.specs.Table.{in_ranges};
 
 use anyhow::bail;
-use qx_lines::Line;
+use qx_lines::{Line, uncounted};
 use qx_lists::Table;
 use qx_types::{MessageBytes, OFlags, Prio, Ranked};
 use qx_wire::{Meaning, Message, Parsed, Rest, encode, in_ranges};
@@ -32,7 +32,7 @@ fn line_up(table: &mut Table<Item>, line: &mut Line, count: usize) -> Result<(),
 {
     'nodes: for _ in 0..count {
         let node = table.new_node(Item)?;
-        line.put(table, node);
+        uncounted::put(line, table, node);
     }
     Ok(())
 }
@@ -44,8 +44,8 @@ fn put_and_remove(table: &mut Table<Item>, line: &mut Line, node: usize, rounds:
     requires free { IsFree table.old node }
 {
     'rounds: for _ in 0..rounds {
-        line.put(table, node);
-        line.remove(table, node);
+        uncounted::put(line, table, node);
+        uncounted::remove(line, table, node);
     }
 }
 

@@ -7,7 +7,7 @@ use Rattle.qx_types.specs.Managers.{manager_number}
 use Rattle.qx_types.specs.declared.names.Thread.{Thread}
 use Rattle.qx_lists.specs.Table.{Table, ContainsList, ContainsNode, IsIn, nodes_of}
 use Rattle.qx_lines.specs.declared.Line.{Line}
-use Rattle.qx_lines.specs.Line.{IsLineOf, IsOwn, nodes_in}
+use Rattle.qx_lines.specs.Line.{IsLineOf, IsOwn, SameElsewhere, nodes_in}
 use Rattle.qx_machine.specs.declared.rows.OwnItem.{OwnItem}
 use Rattle.qx_machine.specs.declared.rows.OwnItem.TheVariants as item
 use Rattle.qx_machine.specs.declared.rows.Queued.{Queued}
@@ -35,13 +35,17 @@ entry_of_node table node = (waiting_of_node table node).queued
 abbrev pub entries : Table Waiting → Line → List Queued
 entries table line = map (entry_of_node table) (nodes_in table line)
 
--- the list of the line of a number
-abbrev pub list_of_line : List Line → ℕ → Option ℕ
-list_of_line lines number = option_map (λ line. line.list) (slice_get lines number)
+-- the list is one of a line's own
+abbrev pub is_own : ℕ → Line → Bool
+is_own list line = list_any (λ own. list == own) line.lists
 
--- the list is that of a line
+-- the list is one of some line's own
 abbrev pub is_line : List Line → ℕ → Bool
-is_line lines list = list_any (λ line. line.list == list) lines
+is_line lines list = list_any (is_own list) lines
+
+-- the list is one of those of the line of a number
+abbrev pub IsListOf : List Line → ℕ → ℕ → Type 0
+IsListOf lines number list = (line : Line) × (slice_get lines number ≡ Some line) × IsOwn line list
 
 -- the list is a pipe's
 abbrev pub is_pipes : List Line → ℕ → ℕ → Bool
@@ -90,12 +94,12 @@ pub record Carries (is_answered : Bool) (waiting : Waiting) : Type 0 where
   pub own : node_owner waiting.queued ≡ Message (thread_carried waiting)
   pub load : HasLoad is_answered waiting.load
 
--- the lines and the answered nodes are lists of the table, each its own; an owner's node is in the table, is no other's, and stands for an
--- item of that owner; and in the lists stand nodes of messages and of unblock pulses, each its owner's, and of disconnect pulses: all of them
--- in those of the lines, and those of messages that carry calls or answers, as no other node does, in others
+-- the lists of the lines and of the answered nodes are lists of the table, each only one's; an owner's node is in the table, is no other's,
+-- and stands for an item of that owner; and in the lists stand nodes of messages and of unblock pulses, each its owner's, and of disconnect
+-- pulses: all of them in those of the lines, and those of messages that carry calls or answers, as no other node does, in others
 pub record AreListsOfTable (table : Table Waiting) (lines : List Line) (answered : ℕ) (node_of : Owner → Option ℕ) : Type 0 where
   pub line : (number : ℕ) (line : Line) → slice_get lines number ≡ Some line → IsLineOf rank_of table line
-  pub apart : (one other list : ℕ) → list_of_line lines one ≡ Some list → list_of_line lines other ≡ Some list → one ≡ other
+  pub apart : (one other list : ℕ) → IsListOf lines one list → IsListOf lines other list → one ≡ other
   pub answers : ContainsList table answered
   pub off_lines : is_line lines answered ≡ false
   pub there : (owner : Owner) (node : ℕ) → node_of owner ≡ Some node → ContainsNode table node
@@ -121,16 +125,14 @@ pub record PutIn (old new : Table Waiting) (before after : Line) (node : ℕ) (w
   pub room : new.room ≡ old.room
   pub among : (other : ℕ) → Contains (nodes_in new after) other → Contains (nodes_in old before) other ⊎ (other ≡ node)
   pub lists : (list : ℕ) → (IsOwn before list → ⊥) → maps.get new.lists list ≡ maps.get old.lists list
-  pub own : after.list ≡ before.list
+  pub own : after.lists ≡ before.lists
 
 -- nodes left a line
 pub record TakenOut (old new : Table Waiting) (before after : Line) (change : List ℕ → List ℕ) : Type 0 where
   pub line : IsLineOf rank_of new after
   pub nodes : nodes_in new after ≡ change (nodes_in old before)
-  pub values : new.values ≡ old.values
-  pub room : new.room ≡ old.room
-  pub lists : (list : ℕ) → (IsOwn before list → ⊥) → maps.get new.lists list ≡ maps.get old.lists list
-  pub own : after.list ≡ before.list
+  pub elsewhere : SameElsewhere old new before
+  pub own : after.lists ≡ before.lists
 
 -- the node is that of the messages of a thread with these nodes
 abbrev pub is_message_node : ℕ → Option ThreadNodes → Bool

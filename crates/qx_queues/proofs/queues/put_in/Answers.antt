@@ -1,4 +1,3 @@
-use Rattle.std.proofs.Common.{refl, sym}
 use Rattle.qx_queues.proofs.TableLemmas.{IsFree-value, IsLineOf-value, PutIn-of}
 use Rattle.qx_queues.proofs.queues.put_in.Goals as goal
 
@@ -9,4 +8,4 @@ pub put-requires-clause-free : goal.put-requires-clause-free
 put-requires-clause-free c = IsFree-value c.args.table.now _ c.args.node _ c.set_entry.ensures.set c.requires.free
 
 pub returns : goal.returns
-returns c = record { put = PutIn-of c.args.table.now c.set_entry.new.table _ c.args.line.now _ c.args.node _ c.set_entry.ensures.set c.requires.free c.put.ensures.of c.put.ensures.put c.put.ensures.elsewhere (sym ((c.put.ensures.own c.args.line.now.list).1 refl)) }
+returns c = record { put = PutIn-of c.args.table.now c.set_entry.new.table _ c.args.line.now _ c.args.node _ c.set_entry.ensures.set c.requires.free c.put.ensures.of c.put.ensures.put c.put.ensures.elsewhere c.put.ensures.own }

@@ -3,4 +3,4 @@ use Rattle.qx_queues.proofs.TableLemmas.{IsFree-value}
 use Rattle.qx_queues.proofs.queues.take_slot.Goals as goal
 
 pub returns-clause-free : goal.returns-clause-free
-returns-clause-free c = IsFree-value c.unlink.new.self _ c.args.node _ refl c.unlink.ensures.freed
+returns-clause-free c = IsFree-value c.unlink.new.table _ c.args.node _ refl c.unlink.ensures.freed

@@ -3,10 +3,12 @@ use Rattle.std.proofs.lemmas.List.{length-map, length-set}
 use Rattle.std.proofs.lemmas.Option.{same_Some, slice_get_read}
 use Rattle.qx_types.specs.declared.names.TheConstants.Manager.{COUNT}
 use Rattle.qx_types.specs.declared.names.Thread.{Thread}
+use Rattle.qx_lines.proofs.LineFacts.{nodes_in-distinct}
 use Rattle.qx_machine.specs.Lines.{line_at}
 use Rattle.qx_queues.specs.Queues.{IsGone, nodes_freed, nodes_freed_by, pulse_call, sender, sender_of, unblock_call}
 use Rattle.qx_queues.specs.inner.Kept.{entries, entry_of_node, owner_in}
 use Rattle.qx_queues.specs.Nodes.{Unblock}
+use Rattle.qx_queues.specs.Waiting.{rank_of}
 use Rattle.qx_queues.proofs.KeptLemmas.{Kept-first, Kept-freed, Kept-owners, calls-freed, calls-taken, entries-freed, first-owned, gone-if, line_at-shown, nobodys-disconnect, shown-first, shown-kept}
 use Rattle.qx_queues.proofs.LineLemmas.{gone-pulse}
 use Rattle.qx_queues.proofs.PresenceLemmas.{nodes-some, same_queues}
@@ -34,7 +36,7 @@ returns-in_err-node-clause-rest c =
     let is : slice_get c.self.inside.lines.items c.number.result ≡ Some c.index_mut.result.now = slice_get_read c.self.inside.lines.items COUNT c.number.result c.index_mut.result.now (sym c.self.invariant.0) c.number.ensures.few c.index_mut.ensures.value in
     let calls = calls-taken c.self.inside.table _ _ c.number.result _ _ (drop 1) _ c.self.invariant.1 is c.take_out.ensures.out in
     let freed = ap nodes_freed (ap (λ l. slice_get l 0) (line_at-shown c.self.inside.table _ c.number.result _ is) ∙ sym c.in_err-node.ensures.first) in
-    rw (← c.self.view_is, ← c.number.ensures.number) (same_queues (shown-first c.self.inside.table _ _ c.number.result _ _ _ c.self.invariant.1 is c.take_out.ensures.out) refl refl refl (omega (arith, c.take_out.ensures.out.room, freed)) calls.waiting calls.given)
+    rw (← c.self.view_is, ← c.number.ensures.number) (same_queues (shown-first c.self.inside.table _ _ c.number.result _ _ _ c.self.invariant.1 is c.take_out.ensures.out) refl refl refl (omega (arith, c.take_out.ensures.out.elsewhere.room, freed)) calls.waiting calls.given)
 
 pub invariant_of-self-in-Message : goal.invariant_of-self-in-Message
 invariant_of-self-in-Message c =
@@ -46,18 +48,23 @@ invariant_of-self-in-Message c =
       rw (shown-first c.self.inside.table _ _ c.number.result _ _ _ c.self.invariant.1 is c.take_out.ensures.out) (pulses-received _ c.number.result _ within c.self.invariant.2 (λ other at. ap (λ entry. pulse_call entry.item) (same_Some other c.in_ok-node.first (sym at ∙ first)) ∙ ap pulse_call c.in-Message.is)),
     )
 
+pub returns-in-Message-clause-first : goal.returns-in-Message-clause-first
+returns-in-Message-clause-first c =
+    let is : slice_get c.self.inside.lines.items c.number.result ≡ Some c.index_mut.result.now = slice_get_read c.self.inside.lines.items COUNT c.number.result c.index_mut.result.now (sym c.self.invariant.0) c.number.ensures.few c.index_mut.ensures.value in
+    rw (← c.self.view_is, ← c.number.ensures.number, line_at-shown c.self.inside.table _ c.number.result _ is) c.in_ok-node.ensures.first
+
 pub returns-in-Message-clause-rest : goal.returns-in-Message-clause-rest
 returns-in-Message-clause-rest c =
     let is : slice_get c.self.inside.lines.items c.number.result ≡ Some c.index_mut.result.now = slice_get_read c.self.inside.lines.items COUNT c.number.result c.index_mut.result.now (sym c.self.invariant.0) c.number.ensures.few c.index_mut.ensures.value in
     let calls = calls-taken c.self.inside.table _ _ c.number.result _ _ (drop 1) _ c.self.invariant.1 is c.take_out.ensures.out in
     let first : slice_get (line_at (map (entries c.self.inside.table) c.self.inside.lines.items) c.number.result) 0 ≡ Some c.in_ok-node.first = ap (λ l. slice_get l 0) (line_at-shown c.self.inside.table _ c.number.result _ is) ∙ sym c.in_ok-node.ensures.first in
     let freed = ap nodes_freed first ∙ ap nodes_freed_by c.in-Message.is in
-    rw (← c.self.view_is, ← c.number.ensures.number) (same_queues (shown-first c.self.inside.table _ _ c.number.result _ _ _ c.self.invariant.1 is c.take_out.ensures.out) refl refl refl (omega (arith, c.take_out.ensures.out.room, freed)) calls.waiting calls.given)
+    rw (← c.self.view_is, ← c.number.ensures.number) (same_queues (shown-first c.self.inside.table _ _ c.number.result _ _ _ c.self.invariant.1 is c.take_out.ensures.out) refl refl refl (omega (arith, c.take_out.ensures.out.elsewhere.room, freed)) calls.waiting calls.given)
 
 pub returns-in-Message-clause-gone : goal.returns-in-Message-clause-gone
 returns-in-Message-clause-gone c =
     let is : slice_get c.self.inside.lines.items c.number.result ≡ Some c.index_mut.result.now = slice_get_read c.self.inside.lines.items COUNT c.number.result c.index_mut.result.now (sym c.self.invariant.0) c.number.ensures.few c.index_mut.ensures.value in
-    rw (← c.self.view_is, ← c.number.ensures.number, line_at-shown c.self.inside.table _ c.number.result _ is) (gone-if c.self.inside.table _ _ c.index_mut.result.now c.self.invariant.1 (Some c.in_ok-node.first) (c.know.ensures.distinct c.index_mut.result.now.list) c.in_ok-node.ensures.first)
+    rw (← c.self.view_is, ← c.number.ensures.number, line_at-shown c.self.inside.table _ c.number.result _ is) (gone-if c.self.inside.table _ _ c.index_mut.result.now c.self.invariant.1 (Some c.in_ok-node.first) (nodes_in-distinct rank_of _ _ (c.self.invariant.1.line _ _ is) c.know.ensures.distinct) c.in_ok-node.ensures.first)
 
 pub set_asked-requires : goal.set_asked-requires
 set_asked-requires c =
@@ -71,7 +78,7 @@ invariant_of-self-in-Unblock c =
     let within : c.number.result < length (map (entries c.self.inside.table) c.self.inside.lines.items) = omega (arith, length-map c.self.inside.lines.items (entries c.self.inside.table), c.self.invariant.0, c.number.ensures.few) in
     let first : slice_get (line_at (map (entries c.self.inside.table) c.self.inside.lines.items) c.number.result) 0 ≡ Some c.in_ok-node.first = ap (λ l. slice_get l 0) (line_at-shown c.self.inside.table _ c.number.result _ is) ∙ sym c.in_ok-node.ensures.first in
     let pulse : sender c.in_ok-node.first ≡ thread_in c.in_ok-node.first.user.0 c.in-Unblock.process c.in-Unblock.thread = ap (sender_of c.in_ok-node.first.user.0) c.in-Unblock.is in
-    let gone : IsGone c.in_ok-node.first (drop 1 (entries c.self.inside.table c.index_mut.result.now)) = gone-if c.self.inside.table _ _ c.index_mut.result.now c.self.invariant.1 (Some c.in_ok-node.first) (c.know.ensures.distinct c.index_mut.result.now.list) c.in_ok-node.ensures.first in
+    let gone : IsGone c.in_ok-node.first (drop 1 (entries c.self.inside.table c.index_mut.result.now)) = gone-if c.self.inside.table _ _ c.index_mut.result.now c.self.invariant.1 (Some c.in_ok-node.first) (nodes_in-distinct rank_of _ _ (c.self.invariant.1.line _ _ is) c.know.ensures.distinct) c.in_ok-node.ensures.first in
     let none : unblock_call (drop 1 (entries c.self.inside.table c.index_mut.result.now)) (sender c.in_ok-node.first) ≡ None = gone-pulse c.in_ok-node.first.item (sender c.in_ok-node.first) _ _ (ap pulse_call c.in-Unblock.is) gone in (
       length-set c.self.inside.lines.items c.number.result c.take_out.new.line ∙ c.self.invariant.0,
       Kept-owners _ _ _ _ c.set_asked.ensures.asked.nodes (Kept-first c.self.inside.table _ _ c.number.result _ _ _ c.self.invariant.1 is c.take_out.ensures.out),
@@ -86,12 +93,12 @@ returns-in-Unblock-clause-rest c =
     let calls = calls-taken c.self.inside.table _ _ c.number.result _ _ (drop 1) _ c.self.invariant.1 is c.take_out.ensures.out in
     let first : slice_get (line_at (map (entries c.self.inside.table) c.self.inside.lines.items) c.number.result) 0 ≡ Some c.in_ok-node.first = ap (λ l. slice_get l 0) (line_at-shown c.self.inside.table _ c.number.result _ is) ∙ sym c.in_ok-node.ensures.first in
     let freed = ap nodes_freed first ∙ ap nodes_freed_by c.in-Unblock.is in
-    rw (← c.self.view_is, ← c.number.ensures.number) (same_queues (shown-first c.self.inside.table _ _ c.number.result _ _ _ c.self.invariant.1 is c.take_out.ensures.out) c.set_asked.ensures.asked.threads c.set_asked.ensures.asked.servers c.set_asked.ensures.asked.users (omega (arith, c.take_out.ensures.out.room, freed)) calls.waiting calls.given)
+    rw (← c.self.view_is, ← c.number.ensures.number) (same_queues (shown-first c.self.inside.table _ _ c.number.result _ _ _ c.self.invariant.1 is c.take_out.ensures.out) c.set_asked.ensures.asked.threads c.set_asked.ensures.asked.servers c.set_asked.ensures.asked.users (omega (arith, c.take_out.ensures.out.elsewhere.room, freed)) calls.waiting calls.given)
 
 pub returns-in-Unblock-clause-gone : goal.returns-in-Unblock-clause-gone
 returns-in-Unblock-clause-gone c =
     let is : slice_get c.self.inside.lines.items c.number.result ≡ Some c.index_mut.result.now = slice_get_read c.self.inside.lines.items COUNT c.number.result c.index_mut.result.now (sym c.self.invariant.0) c.number.ensures.few c.index_mut.ensures.value in
-    rw (← c.self.view_is, ← c.number.ensures.number, line_at-shown c.self.inside.table _ c.number.result _ is) (gone-if c.self.inside.table _ _ c.index_mut.result.now c.self.invariant.1 (Some c.in_ok-node.first) (c.know.ensures.distinct c.index_mut.result.now.list) c.in_ok-node.ensures.first)
+    rw (← c.self.view_is, ← c.number.ensures.number, line_at-shown c.self.inside.table _ c.number.result _ is) (gone-if c.self.inside.table _ _ c.index_mut.result.now c.self.invariant.1 (Some c.in_ok-node.first) (nodes_in-distinct rank_of _ _ (c.self.invariant.1.line _ _ is) c.know.ensures.distinct) c.in_ok-node.ensures.first)
 
 pub invariant_of-self-in-Disconnect : goal.invariant_of-self-in-Disconnect
 invariant_of-self-in-Disconnect c =
@@ -115,4 +122,4 @@ returns-in-Disconnect-clause-rest c =
     let room = ap (λ t. t.room) c.give_back.ensures.freed in
     let shown = shown-kept c.take_out.new.table c.give_back.new.table _ (entries-freed c.take_out.new.table _ c.in_ok-node.node _ c.give_back.ensures.freed c.in_ok-node.ensures.free) ∙ shown-first c.self.inside.table _ _ c.number.result _ _ _ c.self.invariant.1 is c.take_out.ensures.out in
     let still = calls-freed c.take_out.new.table _ c.in_ok-node.node _ c.give_back.ensures.freed c.in_ok-node.ensures.free _ c.self.inside.answered kept.off_lines in
-    rw (← c.self.view_is, ← c.number.ensures.number) (same_queues shown refl refl refl (omega (arith, c.take_out.ensures.out.room, freed, room)) (still.waiting ∙ calls.waiting) (still.given ∙ calls.given))
+    rw (← c.self.view_is, ← c.number.ensures.number) (same_queues shown refl refl refl (omega (arith, c.take_out.ensures.out.elsewhere.room, freed, room)) (still.waiting ∙ calls.waiting) (still.given ∙ calls.given))

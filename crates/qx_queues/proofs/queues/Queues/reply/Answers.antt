@@ -6,12 +6,14 @@ use Rattle.qx_types.specs.declared.names.TheConstants.Manager.{COUNT}
 use Rattle.qx_lists.proofs.ListLemmas.{absent_without, contains_without}
 use Rattle.qx_lists.specs.Table.{without}
 use Rattle.qx_lines.specs.Line.{nodes_in}
+use Rattle.qx_lines.proofs.LineFacts.{nodes_in-distinct}
 use Rattle.qx_machine.specs.declared.rows.OwnItem.TheVariants as item
 use Rattle.qx_machine.specs.Lines.{line_at, with_line}
 use Rattle.qx_machine.specs.Machine.{line_without}
 use Rattle.qx_queues.specs.Queues.{pulse_call, unblock_call}
 use Rattle.qx_queues.specs.inner.Kept.{entries, entry_of_node, is_line_at}
 use Rattle.qx_queues.specs.Nodes.{Unblock, pulse_line_at, asked_in, node_of}
+use Rattle.qx_queues.specs.Waiting.{rank_of}
 use Rattle.qx_queues.proofs.EntryLemmas.{reads-call, with_line-same}
 use Rattle.qx_queues.proofs.KeptLemmas.{Kept-owners, Kept-taken, calls-taken, gone-own, in_line-own, line_at-shown, other-stays, other-field, pulse-leaves, shown-taken}
 use Rattle.qx_queues.proofs.NodesLemmas.{none_of}
@@ -70,7 +72,7 @@ invariant_of-self c =
     let asked : pulse_line_at c.self.inside.nodes c.args.thread ≡ Some c.number-3.result = ap asked_in (sym c.at.ensures.own ∙ c.in-Some.is) ∙ ap (option_map manager_number) c.in-Some-asked.is ∙ ap Some (sym c.number.ensures.number ∙ c.if-number.false ∙ c.number-2.ensures.number ∙ sym c.number-3.ensures.number) in
     let names : pulse_call (entry_of_node c.self.inside.table c.in-Some.own.unblock).item ≡ Some c.args.call = c.asked_call.ensures.call ∙ ap Some c.if-asked_call-call.false in
     let within : c.number-3.result < length (map (entries c.self.inside.table) c.self.inside.lines.items) = omega (arith, length-map c.self.inside.lines.items (entries c.self.inside.table), c.self.invariant.0, c.number-3.ensures.few) in
-    let left : map (entry_of_node c.self.inside.table) (without c.in-Some.own.unblock (nodes_in c.self.inside.table c.index_mut-line.result.now)) ≡ line_without c.args.thread.proc.user.0 (item.Unblock c.args.thread.proc.num c.args.thread.tid c.args.call) (entries c.self.inside.table c.index_mut-line.result.now) = pulse-leaves c.self.inside.table _ _ c.args.thread c.in-Some.own.unblock c.self.invariant.1 c.index_mut-line.result.now has c.args.call names (c.know.ensures.distinct c.index_mut-line.result.now.list) in
+    let left : map (entry_of_node c.self.inside.table) (without c.in-Some.own.unblock (nodes_in c.self.inside.table c.index_mut-line.result.now)) ≡ line_without c.args.thread.proc.user.0 (item.Unblock c.args.thread.proc.num c.args.thread.tid c.args.call) (entries c.self.inside.table c.index_mut-line.result.now) = pulse-leaves c.self.inside.table _ _ c.args.thread c.in-Some.own.unblock c.self.invariant.1 c.index_mut-line.result.now has c.args.call names (nodes_in-distinct rank_of _ _ (c.self.invariant.1.line _ _ is) c.know.ensures.distinct) in
     let shown : map (entries c.remove.new.table) (slice_set c.self.inside.lines.items c.number-3.result c.remove.new.line) ≡ with_line (map (entries c.self.inside.table) c.self.inside.lines.items) c.number-3.result (line_without c.args.thread.proc.user.0 (item.Unblock c.args.thread.proc.num c.args.thread.tid c.args.call)) = shown-taken c.self.inside.table _ _ c.number-3.result _ _ (without c.in-Some.own.unblock) _ c.self.invariant.1 is c.remove.ensures.out (line_without c.args.thread.proc.user.0 (item.Unblock c.args.thread.proc.num c.args.thread.tid c.args.call)) left in
     let gone : unblock_call (line_without c.args.thread.proc.user.0 (item.Unblock c.args.thread.proc.num c.args.thread.tid c.args.call) (line_at (map (entries c.self.inside.table) c.self.inside.lines.items) c.number-3.result)) c.args.thread ≡ None = rw (line_at-shown c.self.inside.table _ c.number-3.result _ is, ← left) (none_of _ (gone-own pulse_call c.args.thread (Unblock c.args.thread) (reads-call c.args.thread) c.self.inside.table _ _ c.in-Some.own.unblock c.self.invariant.1 has c.index_mut-line.result.now _ (λ x at. contains_without c.in-Some.own.unblock x _ at) (λ at. absent_without c.in-Some.own.unblock _ at))) in (
       length-set c.self.inside.lines.items c.number-3.result c.remove.new.line ∙ c.self.invariant.0,
@@ -83,15 +85,15 @@ returns-clause-replied c =
     let is : slice_get c.self.inside.lines.items c.number-3.result ≡ Some c.index_mut-line.result.now = slice_get_read c.self.inside.lines.items COUNT c.number-3.result c.index_mut-line.result.now (sym c.self.invariant.0) c.number-3.ensures.few c.index_mut-line.ensures.value in
     let has : node_of c.self.inside.nodes (Unblock c.args.thread) ≡ Some c.in-Some.own.unblock = ap (option_map (λ own. own.unblock)) (sym c.at.ensures.own ∙ c.in-Some.is) in
     let names : pulse_call (entry_of_node c.self.inside.table c.in-Some.own.unblock).item ≡ Some c.args.call = c.asked_call.ensures.call ∙ ap Some c.if-asked_call-call.false in
-    let left : map (entry_of_node c.self.inside.table) (without c.in-Some.own.unblock (nodes_in c.self.inside.table c.index_mut-line.result.now)) ≡ line_without c.args.thread.proc.user.0 (item.Unblock c.args.thread.proc.num c.args.thread.tid c.args.call) (entries c.self.inside.table c.index_mut-line.result.now) = pulse-leaves c.self.inside.table _ _ c.args.thread c.in-Some.own.unblock c.self.invariant.1 c.index_mut-line.result.now has c.args.call names (c.know.ensures.distinct c.index_mut-line.result.now.list) in
+    let left : map (entry_of_node c.self.inside.table) (without c.in-Some.own.unblock (nodes_in c.self.inside.table c.index_mut-line.result.now)) ≡ line_without c.args.thread.proc.user.0 (item.Unblock c.args.thread.proc.num c.args.thread.tid c.args.call) (entries c.self.inside.table c.index_mut-line.result.now) = pulse-leaves c.self.inside.table _ _ c.args.thread c.in-Some.own.unblock c.self.invariant.1 c.index_mut-line.result.now has c.args.call names (nodes_in-distinct rank_of _ _ (c.self.invariant.1.line _ _ is) c.know.ensures.distinct) in
     let shown : map (entries c.remove.new.table) (slice_set c.self.inside.lines.items c.number-3.result c.remove.new.line) ≡ with_line (map (entries c.self.inside.table) c.self.inside.lines.items) c.number-3.result (line_without c.args.thread.proc.user.0 (item.Unblock c.args.thread.proc.num c.args.thread.tid c.args.call)) = shown-taken c.self.inside.table _ _ c.number-3.result _ _ (without c.in-Some.own.unblock) _ c.self.invariant.1 is c.remove.ensures.out (line_without c.args.thread.proc.user.0 (item.Unblock c.args.thread.proc.num c.args.thread.tid c.args.call)) left in
     let calls = calls-taken c.self.inside.table _ _ c.number-3.result _ _ (without c.in-Some.own.unblock) _ c.self.invariant.1 is c.remove.ensures.out in
-    rw (← c.self.view_is, ← c.number-3.ensures.number) (same_queues shown c.set_asked.ensures.asked.threads c.set_asked.ensures.asked.servers c.set_asked.ensures.asked.users c.remove.ensures.out.room calls.waiting calls.given)
+    rw (← c.self.view_is, ← c.number-3.ensures.number) (same_queues shown c.set_asked.ensures.asked.threads c.set_asked.ensures.asked.servers c.set_asked.ensures.asked.users c.remove.ensures.out.elsewhere.room calls.waiting calls.given)
 
 pub returns-clause-gone : goal.returns-clause-gone
 returns-clause-gone c = λ stood.
     let is : slice_get c.self.inside.lines.items c.number-3.result ≡ Some c.index_mut-line.result.now = slice_get_read c.self.inside.lines.items COUNT c.number-3.result c.index_mut-line.result.now (sym c.self.invariant.0) c.number-3.ensures.few c.index_mut-line.ensures.value in
     let has : node_of c.self.inside.nodes (Unblock c.args.thread) ≡ Some c.in-Some.own.unblock = ap (option_map (λ own. own.unblock)) (sym c.at.ensures.own ∙ c.in-Some.is) in
     let names : pulse_call (entry_of_node c.self.inside.table c.in-Some.own.unblock).item ≡ Some c.args.call = c.asked_call.ensures.call ∙ ap Some c.if-asked_call-call.false in
-    let left : map (entry_of_node c.self.inside.table) (without c.in-Some.own.unblock (nodes_in c.self.inside.table c.index_mut-line.result.now)) ≡ line_without c.args.thread.proc.user.0 (item.Unblock c.args.thread.proc.num c.args.thread.tid c.args.call) (entries c.self.inside.table c.index_mut-line.result.now) = pulse-leaves c.self.inside.table _ _ c.args.thread c.in-Some.own.unblock c.self.invariant.1 c.index_mut-line.result.now has c.args.call names (c.know.ensures.distinct c.index_mut-line.result.now.list) in
+    let left : map (entry_of_node c.self.inside.table) (without c.in-Some.own.unblock (nodes_in c.self.inside.table c.index_mut-line.result.now)) ≡ line_without c.args.thread.proc.user.0 (item.Unblock c.args.thread.proc.num c.args.thread.tid c.args.call) (entries c.self.inside.table c.index_mut-line.result.now) = pulse-leaves c.self.inside.table _ _ c.args.thread c.in-Some.own.unblock c.self.invariant.1 c.index_mut-line.result.now has c.args.call names (nodes_in-distinct rank_of _ _ (c.self.invariant.1.line _ _ is) c.know.ensures.distinct) in
     rw (← c.self.view_is, ← c.number-3.ensures.number, line_at-shown c.self.inside.table _ c.number-3.result _ is, ← left) (none_of _ (gone-own pulse_call c.args.thread (Unblock c.args.thread) (reads-call c.args.thread) c.self.inside.table _ _ c.in-Some.own.unblock c.self.invariant.1 has c.index_mut-line.result.now _ (λ x at. contains_without c.in-Some.own.unblock x _ at) (λ at. absent_without c.in-Some.own.unblock _ at)))
