@@ -215,10 +215,9 @@ impl Shared {
         ensures written { result ≡ went_in (passed_to count (take 1 (pipe_at self.old user.0 inode).readers) (pipe_at self.old user.0 inode)).answers }
     {
         let readers = list(&self.pipes, user, inode, Side::Reading);
-        let mut bytes = [0; Limits::PIPE];
-        self.pipes[user.0 as usize].take(inode, count, &mut bytes);
+        self.pipes[user.0 as usize].take(inode, count, &mut self.piece);
         self.queues
-            .answer_first(readers, Ok((count as u64, &bytes[..count])))
+            .answer_first(readers, Ok((count as u64, &self.piece[..count])))
     }
 
     /// A call whose message was received gets so many of the first bytes that stand; tells whether that takes bytes that it
@@ -230,10 +229,9 @@ impl Shared {
         ensures passed { self.new ≡ with_pipe_after self.old user.0 inode (passed_to count (call ∷ []) (pipe_at self.old user.0 inode)) }
         ensures written { result ≡ went_in (passed_to count (call ∷ []) (pipe_at self.old user.0 inode)).answers }
     {
-        let mut bytes = [0; Limits::PIPE];
-        self.pipes[user.0 as usize].take(inode, count, &mut bytes);
+        self.pipes[user.0 as usize].take(inode, count, &mut self.piece);
         self.queues
-            .answer(user, call, Ok((count as u64, &bytes[..count])))
+            .answer(user, call, Ok((count as u64, &self.piece[..count])))
     }
 
     /// The bytes of the first writer, which fit, go in last, and it is answered; tells whether there were any.

@@ -58,10 +58,9 @@ impl PipeRow {
         self.bytes.len()
     }
 
-    /// So many of the first bytes that stand go into a slice with room for all.
-    pub(crate) fn take(&mut self, count: usize, into: &mut [u8])
+    /// So many of the first bytes that stand go into an array with room for all.
+    pub(crate) fn take(&mut self, count: usize, into: &mut [u8; Limits::PIPE])
         requires stand { count ≤ length self.old.bytes }
-        requires room { length into.old ≡ PIPE }
         ensures within { count ≤ PIPE }
         ensures taken { take count into.new ≡ take count self.old.bytes }
         ensures rest { self.new ≡ row_with_bytes self.old (drop count self.old.bytes) }
@@ -139,10 +138,9 @@ impl UserPipes {
         places::free(&mut self.rows, inode as usize);
     }
 
-    /// So many of the first bytes that stand in a pipe go into a slice with room for all.
-    pub(crate) fn take(&mut self, inode: u32, count: usize, into: &mut [u8])
+    /// So many of the first bytes that stand in a pipe go into an array with room for all.
+    pub(crate) fn take(&mut self, inode: u32, count: usize, into: &mut [u8; Limits::PIPE])
         requires stand { (row : PipeRow) × (row_at self.old inode ≡ Some row) × (count ≤ length row.bytes) }
-        requires room { length into.old ≡ PIPE }
         ensures within { count ≤ PIPE }
         ensures taken { IfSome (row_at self.old inode) (λ row. take count into.new ≡ take count row.bytes) }
         ensures rest { IfSome (row_at self.old inode) (λ row. self.new ≡ slice_set self.old inode (Some (row_with_bytes row (drop count row.bytes)))) }

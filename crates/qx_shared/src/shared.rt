@@ -15,7 +15,7 @@ ghost use Rattle.qx_shared.specs.Shared.{HasNoCall, HasThread, has_disconnect_no
 use crate::row::UserPipes;
 use qx_machine::{Queued, ServerName};
 use qx_queues::{Answered, Queues};
-use qx_types::{Manager, Prio, Proc, Thread};
+use qx_types::{Limits, Manager, Prio, Proc, Thread};
 use std::alloc::{AllocError, Global};
 use std::marker::Model;
 
@@ -25,6 +25,8 @@ use std::marker::Model;
 pub struct Shared {
     pub(crate) queues: Queues,
     pub(crate) pipes: Vec<UserPipes>,
+    /// Where bytes stand while they leave a pipe, since a ring may have them in two pieces.
+    pub(crate) piece: Box<[u8; Limits::PIPE]>,
 }
 
 impl Model for Shared {
@@ -52,7 +54,12 @@ impl Shared {
             let none = UserPipes::new(alloc)?;
             pipes.push(none)?;
         }
-        Ok(Shared { queues, pipes })
+        let piece = Box::new(alloc, [0; Limits::PIPE])?;
+        Ok(Shared {
+            queues,
+            pipes,
+            piece,
+        })
     }
 
     /// Puts a thread's message, which stands in no line, into a line (C Library Reference: `MsgSend`).

@@ -13,10 +13,10 @@ index_mut-requires c =
     let within : c.args.user.0 < length c.self.inside.pipes.items = (row_of-within c.self.inside.pipes.items c.args.user.0 c.args.inode row.0 row.1).0 in
     search rules
 
-pub take-requires-clause-stand : goal.take-requires-clause-stand
-take-requires-clause-stand c =
+pub take-requires : goal.take-requires
+take-requires c =
     let row = has_row c.self.inside.queues c.self.inside.pipes.items c.args.user.0 c.args.inode (rw (← c.self.view_is) at c.requires.pipe) in
-    stand _ _ c.self.invariant _ _ row.0 row.1 _ c.index_mut.ensures.value c.args.count (rw (← c.self.view_is) at c.requires.count)
+    record { stand = stand _ _ c.self.invariant _ _ row.0 row.1 _ c.index_mut.ensures.value c.args.count (rw (← c.self.view_is) at c.requires.count) }
 
 pub answer-requires-clause-received : goal.answer-requires-clause-received
 answer-requires-clause-received c = received _ _ c.self.invariant _ (rw (← c.self.view_is) at c.requires.received)
@@ -25,10 +25,10 @@ pub invariant_of-self : goal.invariant_of-self
 invariant_of-self c =
     let row = has_row c.self.inside.queues c.self.inside.pipes.items c.args.user.0 c.args.inode (rw (← c.self.view_is) at c.requires.pipe) in
     let taken = taken-of _ _ c.self.invariant _ _ row.0 row.1 _ c.index_mut.ensures.value c.args.count c.take.new.into c.take.ensures.taken in
-    (refilled _ _ c.self.invariant _ _ row.0 row.1 _ ((c.args.call, Reply c.args.count (take c.args.count (pipe_at (shown_shared c.self.inside.queues c.self.inside.pipes.items) c.args.user.0 c.args.inode).bytes)) ∷ []) _ _ (rw taken at c.answer.ensures.answered) (put-bytes _ _ c.self.invariant _ _ row.0 row.1 _ c.index_mut.ensures.value _ (drop c.args.count) c.take.ensures.rest)).all_are
+    (refilled _ _ c.self.invariant _ _ row.0 row.1 _ ((c.args.call, Reply c.args.count (take c.args.count (pipe_at (shown_shared c.self.inside.queues c.self.inside.pipes.items) c.args.user.0 c.args.inode).bytes)) ∷ []) _ _ (rw (c.deref.ensures, taken) at c.answer.ensures.answered) (put-bytes _ _ c.self.invariant _ _ row.0 row.1 _ c.index_mut.ensures.value _ (drop c.args.count) c.take.ensures.rest)).all_are
 
 pub returns-clause-passed : goal.returns-clause-passed
 returns-clause-passed c =
     let row = has_row c.self.inside.queues c.self.inside.pipes.items c.args.user.0 c.args.inode (rw (← c.self.view_is) at c.requires.pipe) in
     let taken = taken-of _ _ c.self.invariant _ _ row.0 row.1 _ c.index_mut.ensures.value c.args.count c.take.new.into c.take.ensures.taken in
-    rw (← c.self.view_is) (refilled _ _ c.self.invariant _ _ row.0 row.1 _ ((c.args.call, Reply c.args.count (take c.args.count (pipe_at (shown_shared c.self.inside.queues c.self.inside.pipes.items) c.args.user.0 c.args.inode).bytes)) ∷ []) _ _ (rw taken at c.answer.ensures.answered) (put-bytes _ _ c.self.invariant _ _ row.0 row.1 _ c.index_mut.ensures.value _ (drop c.args.count) c.take.ensures.rest)).told_is
+    rw (← c.self.view_is) (refilled _ _ c.self.invariant _ _ row.0 row.1 _ ((c.args.call, Reply c.args.count (take c.args.count (pipe_at (shown_shared c.self.inside.queues c.self.inside.pipes.items) c.args.user.0 c.args.inode).bytes)) ∷ []) _ _ (rw (c.deref.ensures, taken) at c.answer.ensures.answered) (put-bytes _ _ c.self.invariant _ _ row.0 row.1 _ c.index_mut.ensures.value _ (drop c.args.count) c.take.ensures.rest)).told_is

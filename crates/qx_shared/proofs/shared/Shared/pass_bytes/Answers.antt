@@ -11,10 +11,10 @@ use Rattle.qx_shared.proofs.shared.Shared.pass_bytes.Goals as goal
 pub list-readers-requires : goal.list-readers-requires
 list-readers-requires c = record { there = rw c.deref.ensures.value (has_row c.self.inside.queues c.self.inside.pipes.items c.args.user.0 c.args.inode (rw (← c.self.view_is) at c.requires.pipe)) }
 
-pub take-requires-clause-stand : goal.take-requires-clause-stand
-take-requires-clause-stand c =
+pub take-requires : goal.take-requires
+take-requires c =
     let row = has_row c.self.inside.queues c.self.inside.pipes.items c.args.user.0 c.args.inode (rw (← c.self.view_is) at c.requires.pipe) in
-    stand _ _ c.self.invariant _ _ row.0 row.1 _ c.index_mut.ensures.value c.args.count (rw (← c.self.view_is) at c.requires.count)
+    record { stand = stand _ _ c.self.invariant _ _ row.0 row.1 _ c.index_mut.ensures.value c.args.count (rw (← c.self.view_is) at c.requires.count) }
 
 pub answer_first-requires-clause-list : goal.answer_first-requires-clause-list
 answer_first-requires-clause-list c = c.self.invariant.there (place c.args.user.0 c.args.inode Reading) _ (rw c.deref.ensures.value at c.list-readers.ensures.list)
@@ -26,13 +26,13 @@ pub invariant_of-self : goal.invariant_of-self
 invariant_of-self c =
     let row = has_row c.self.inside.queues c.self.inside.pipes.items c.args.user.0 c.args.inode (rw (← c.self.view_is) at c.requires.pipe) in
     let taken = taken-of _ _ c.self.invariant _ _ row.0 row.1 _ c.index_mut.ensures.value c.args.count c.take.new.into c.take.ensures.taken in
-    (first_answered _ _ c.self.invariant _ _ Reading _ (rw c.deref.ensures.value at c.list-readers.ensures.list) _ (Reply c.args.count (take c.args.count (pipe_at (shown_shared c.self.inside.queues c.self.inside.pipes.items) c.args.user.0 c.args.inode).bytes)) _ _ (rw taken at c.answer_first.ensures.answered) (put-bytes _ _ c.self.invariant _ _ row.0 row.1 _ c.index_mut.ensures.value _ (drop c.args.count) c.take.ensures.rest)).all_are
+    (first_answered _ _ c.self.invariant _ _ Reading _ (rw c.deref.ensures.value at c.list-readers.ensures.list) _ (Reply c.args.count (take c.args.count (pipe_at (shown_shared c.self.inside.queues c.self.inside.pipes.items) c.args.user.0 c.args.inode).bytes)) _ _ (rw (c.deref-2.ensures, taken) at c.answer_first.ensures.answered) (put-bytes _ _ c.self.invariant _ _ row.0 row.1 _ c.index_mut.ensures.value _ (drop c.args.count) c.take.ensures.rest)).all_are
 
 pub returns-clause-passed : goal.returns-clause-passed
 returns-clause-passed c =
     let row = has_row c.self.inside.queues c.self.inside.pipes.items c.args.user.0 c.args.inode (rw (← c.self.view_is) at c.requires.pipe) in
     let taken = taken-of _ _ c.self.invariant _ _ row.0 row.1 _ c.index_mut.ensures.value c.args.count c.take.new.into c.take.ensures.taken in
-    rw (← c.self.view_is) (first_answered _ _ c.self.invariant _ _ Reading _ (rw c.deref.ensures.value at c.list-readers.ensures.list) _ (Reply c.args.count (take c.args.count (pipe_at (shown_shared c.self.inside.queues c.self.inside.pipes.items) c.args.user.0 c.args.inode).bytes)) _ _ (rw taken at c.answer_first.ensures.answered) (put-bytes _ _ c.self.invariant _ _ row.0 row.1 _ c.index_mut.ensures.value _ (drop c.args.count) c.take.ensures.rest)).told_is
+    rw (← c.self.view_is) (first_answered _ _ c.self.invariant _ _ Reading _ (rw c.deref.ensures.value at c.list-readers.ensures.list) _ (Reply c.args.count (take c.args.count (pipe_at (shown_shared c.self.inside.queues c.self.inside.pipes.items) c.args.user.0 c.args.inode).bytes)) _ _ (rw (c.deref-2.ensures, taken) at c.answer_first.ensures.answered) (put-bytes _ _ c.self.invariant _ _ row.0 row.1 _ c.index_mut.ensures.value _ (drop c.args.count) c.take.ensures.rest)).told_is
 
 pub returns-clause-written : goal.returns-clause-written
 returns-clause-written c = rw (← c.self.view_is) (c.answer_first.ensures.written ∙ first-written _ _ c.self.invariant _ _ Reading _ (rw c.deref.ensures.value at c.list-readers.ensures.list) (Reply c.args.count (take c.args.count (pipe_at (shown_shared c.self.inside.queues c.self.inside.pipes.items) c.args.user.0 c.args.inode).bytes)))
