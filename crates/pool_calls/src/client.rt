@@ -7,30 +7,40 @@ use crate::answers::Told;
 use crate::calls::{next_request, next_step, path_of};
 use plain_machine::steps::Dice;
 use qx_pool::{CallEnd, Client, Seat, Server};
-use qx_types::{Coid, Manager, NoMemory, Outcome, Prio, Proc, Request, Step, Thread, User};
+use qx_types::{Coid, Manager, NoMemory, OFlags, Outcome, Prio, Proc, Request, Step, Thread, User};
 use std::alloc::Global;
 use std::sync::Wait;
 use std::sync::atomic::{AtomicU64, Ordering};
 use std::sync::ledger::Ledger;
 use std::thread;
-use std::time::Duration;
+use std::time::{Clock, Duration, Instant};
 
-/// What a client is to do: which of all clients it is, its user, who has so many, and the number of its calls.
+/// Which calls a client makes.
+#[derive(Clone, Copy)]
+pub enum Calls {
+    /// Pseudo-random ones, with steps of other kinds between them.
+    Any { seed: u64 },
+    /// An open of the user's top, and then that it be told its status.
+    Status,
+}
+
+/// What a client is to do: which of all clients it is, its user, who has so many, and the number and kind of its calls.
 #[derive(Clone, Copy)]
 pub struct Part {
     pub number: u16,
     pub user: User,
     pub clients: u8,
     pub calls: u32,
-    pub seed: u64,
+    pub kind: Calls,
 }
 
-/// A client at the end: its seat, what it was told, and how many calls it made.
+/// A client at the end: its seat, what it was told, how many calls it made, and how many nanoseconds they took.
 #[derive(Drop)]
 pub struct Played<L: Ledger> {
     pub seat: Seat<L>,
     pub told: Told,
     pub calls: u32,
+    pub nanos: u128,
 }
 
 /// What a client knows.
@@ -58,20 +68,25 @@ fn first_thread(user: User, num: u8) -> Thread {
 
 /// Makes the calls of a part. Where a call finds no process, or its thread not ready, the client starts a process anew, and
 /// calls as that one's thread. It makes fewer calls only where memory is short or the server was stopped.
-pub fn play<L: Ledger, R: Wait>(
+pub fn play<L: Ledger, R: Wait + Clock>(
     rt: &R,
     alloc: Global,
     server: &Server<L>,
     seat: Seat<L>,
     part: Part,
 ) -> Played<L> {
+    let start = Instant::now(rt);
+    let seed = match part.kind {
+        Calls::Any { seed } => seed,
+        Calls::Status => 0,
+    };
     let mut player = Player {
         alloc,
         server,
         part,
         thread: first_thread(part.user, 1),
         last: Coid(3),
-        dice: Dice::new(part.seed),
+        dice: Dice::new(seed),
         told: Told::new(),
         calls: 0,
     };
@@ -93,7 +108,13 @@ pub fn play<L: Ledger, R: Wait>(
         seat: client.into_seat(),
         told: player.told,
         calls: player.calls,
+        nanos: start.map_or(0, |start| nanos_since(rt, start)),
     }
+}
+
+/// The nanoseconds since then; 0 where the clock fails.
+fn nanos_since(rt: &impl Clock, start: Instant) -> u128 {
+    start.elapsed(rt).map_or(0, |time| time.as_nanos())
 }
 
 impl<L: Ledger> Player<'_, L> {
@@ -119,14 +140,20 @@ impl<L: Ledger> Player<'_, L> {
         Ok(())
     }
 
-    /// Takes another step now and then, and makes a call. Whether that found its process, and its thread ready.
+    /// Makes a call, and takes another step before it now and then. Whether the call found its process, and its thread ready.
     fn turn<R: Wait>(&mut self, rt: &R, client: &mut Client<L>) -> Result<bool, NoMemory> {
-        let (alloc, part) = (self.alloc, self.part);
-        if self.dice.one_in(8) {
-            let step = next_step(alloc, &mut self.dice, self.thread, part.clients)?;
-            self.take(rt, client, step)?;
-        }
-        let request = next_request(alloc, &mut self.dice, part.user, self.last)?;
+        let request = match self.part.kind {
+            Calls::Any { .. } => {
+                self.step(rt, client)?;
+                next_request(self.alloc, &mut self.dice, self.part.user, self.last)?
+            }
+            Calls::Status if self.calls == 0 => Request::OpenPath {
+                path: path_of(self.alloc, self.part.user, "")?,
+                flags: OFlags::READ,
+                mode: 0,
+            },
+            Calls::Status => Request::Fstat { coid: self.last },
+        };
         let attaches = matches!(request, Request::OpenPath { .. } | Request::Dup { .. });
         let end = client.call(rt, self.server, request);
         self.told.end(&end);
@@ -138,6 +165,16 @@ impl<L: Ledger> Player<'_, L> {
             _ => {}
         }
         Ok(true)
+    }
+
+    /// Takes another step now and then.
+    fn step<R: Wait>(&mut self, rt: &R, client: &mut Client<L>) -> Result<(), NoMemory> {
+        if self.dice.one_in(8) {
+            let clients = self.part.clients;
+            let step = next_step(self.alloc, &mut self.dice, self.thread, clients)?;
+            self.take(rt, client, step)?;
+        }
+        Ok(())
     }
 
     /// Takes a step beside calls, and keeps what it gave.
@@ -157,7 +194,7 @@ impl<L: Ledger> Player<'_, L> {
     }
 }
 
-/// Interrupts the first threads of all processes of all users, over and over, so that no call waits for ever: in each
+/// Interrupts the first threads of all processes of these users, over and over, so that no call waits for ever: in each
 /// millisecond those of one number. It ends once all is over, or stops the server where memory is short.
 pub fn drive<L: Ledger, R: Wait>(
     rt: &R,

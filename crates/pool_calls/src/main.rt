@@ -4,11 +4,15 @@
 //! many as clients or 16, the users, of whom each has at most 16 clients. With no words a small run is made, which the gate
 //! compares. One thread more, the driver, interrupts the calls of all, so that none waits for ever.
 //!
+//! Or the words are `rounds` and their number: so many rounds of two threads and a lock are timed, and then as many calls of
+//! each of 1 to 8 clients, on one worker and on four.
+//!
 //! - `pool.rt`: the server, and its threads from their start to their end
 //! - `client.rt`: what a client does, and what the driver does
 //! - `calls.rt`: which calls and other steps are chosen
 //! - `answers.rt`: what a client was told, and what its notes say that it was told
 //! - `serving.rt`: the workers' gate and their clock
+//! - `rounds.rt`: rounds of two threads and a lock
 //!
 //! What is printed with no words does not hang on which thread comes first. The program ends with status 1 where the trace is
 //! not what all seats noted, where a client was told something else than its notes say, and where a user received something
@@ -19,17 +23,20 @@ mod answers;
 mod calls;
 mod client;
 mod pool;
+mod rounds;
 mod serving;
 
 use anyhow::{bail, ensure};
-use client::Part;
-use pool::run_pool;
+use client::{Calls, Part};
+use pool::{Run, run_pool};
 use qx_machine::Seen;
 use qx_types::{Bytes, Config, User};
 use qx_world::Traced;
 use std::alloc::{AllocError, Global};
 use std::env;
-use std::time::Instant;
+use std::sync::Wait;
+use std::thread::Threads;
+use std::time::Clock;
 
 /// How large a run is.
 #[derive(Clone, Copy)]
@@ -38,7 +45,7 @@ struct Plan {
     users: u8,
     clients: u16,
     calls: u32,
-    seed: u64,
+    kind: Calls,
 }
 
 /// What is run with no words.
@@ -47,25 +54,77 @@ const SMALL: Plan = Plan {
     users: 2,
     clients: 4,
     calls: 400,
-    seed: 1,
+    kind: Calls::Any { seed: 1 },
 };
 
 fn main(rt: HostRuntime) -> anyhow::Result<()> {
     let words: Vec<String> = env::args(&rt)?.collect(rt.alloc())?;
+    if let [_, word, rounds] = words.as_slice() {
+        ensure!(
+            word.as_str() == "rounds",
+            "two words are `rounds` and a number"
+        );
+        return time_rounds(&rt, rt.alloc(), rounds.parse()?);
+    }
     let given = plan_of(&words)?;
     let plan = given.unwrap_or(SMALL);
-    let (config, parts) = (config_of(rt.alloc(), &plan)?, parts_of(rt.alloc(), &plan)?);
-    let start = Instant::now(&rt)?;
-    let (traced, calls) = run_pool(&rt, rt.alloc(), config, &parts)?;
-    let micros = start.elapsed(&rt)?.as_micros().max(1);
-    tell(&rt, &plan, &traced, calls)?;
+    let run = run_plan(&rt, rt.alloc(), &plan)?;
+    tell(&rt, &plan, &run)?;
     if given.is_some() {
-        let steps = traced.entries().len();
-        let rate = u128::from(calls) * 1_000_000 / micros;
+        let steps = run.traced.entries().len();
         println!(rt;
-            "{steps} steps in {} milliseconds, {rate} calls a second",
-            micros / 1000
+            "{steps} steps in {} milliseconds, {} calls a second",
+            run.nanos / 1_000_000,
+            rate_of(&run)
         )?;
+    }
+    Ok(())
+}
+
+/// Runs a pool as it is planned.
+fn run_plan<R: Threads + Wait + Clock + Sync>(
+    rt: &R,
+    alloc: Global,
+    plan: &Plan,
+) -> anyhow::Result<Run> {
+    let (config, parts) = (config_of(alloc, plan)?, parts_of(alloc, plan)?);
+    let interrupted = match plan.kind {
+        Calls::Any { .. } => plan.users,
+        Calls::Status => 0,
+    };
+    run_pool(rt, alloc, config, interrupted, &parts)
+}
+
+/// How many calls a second were answered.
+fn rate_of(run: &Run) -> u128 {
+    u128::from(run.calls) * 1_000_000_000 / run.nanos.max(1)
+}
+
+/// Prints how long a round of two threads and a lock takes, and a call for its status of one client and one worker; and how
+/// many such calls a second are answered where there are more of these.
+fn time_rounds<R: Threads + Wait + Clock + Print + Sync>(
+    rt: &R,
+    alloc: Global,
+    rounds: u32,
+) -> anyhow::Result<()> {
+    let round = rounds::time_two(rt, rounds)? / u128::from(rounds.max(1));
+    println!(rt; "two threads and a lock: {round} nanoseconds a round")?;
+    for workers in [1, 4] {
+        for clients in [1, 2, 4, 8] {
+            let plan = Plan {
+                workers,
+                users: clients,
+                clients: u16::from(clients),
+                calls: rounds.saturating_mul(u32::from(clients)),
+                kind: Calls::Status,
+            };
+            let run = run_plan(rt, alloc, &plan)?;
+            let call = run.nanos / u128::from(rounds.max(1));
+            let rate = rate_of(&run);
+            println!(rt;
+                "clients {clients}, workers {workers}: {call} nanoseconds a call, {rate} calls a second"
+            )?;
+        }
     }
     Ok(())
 }
@@ -93,7 +152,9 @@ fn plan_of(words: &[String]) -> anyhow::Result<Option<Plan>> {
         users,
         clients,
         calls: calls.parse()?,
-        seed: seed.parse()?,
+        kind: Calls::Any {
+            seed: seed.parse()?,
+        },
     }))
 }
 
@@ -123,14 +184,20 @@ fn parts_of(alloc: Global, plan: &Plan) -> Result<Vec<Part>, AllocError> {
             user: User(place as u8 + 1),
             clients: others.min(16) as u8,
             calls: each.saturating_add(u32::from(u32::from(number) < more)),
-            seed: plan.seed.wrapping_add(u64::from(number) << 32),
+            kind: match plan.kind {
+                Calls::Any { seed } => Calls::Any {
+                    seed: seed.wrapping_add(u64::from(number) << 32),
+                },
+                Calls::Status => Calls::Status,
+            },
         })?;
     }
     Ok(parts)
 }
 
 /// Prints what is the same whichever thread came first, once it is known to be so.
-fn tell(rt: &HostRuntime, plan: &Plan, traced: &Traced, calls: u64) -> anyhow::Result<()> {
+fn tell(rt: &HostRuntime, plan: &Plan, run: &Run) -> anyhow::Result<()> {
+    let (traced, calls) = (&run.traced, run.calls);
     let Plan {
         workers,
         users,

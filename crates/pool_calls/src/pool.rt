@@ -16,13 +16,23 @@ use std::sync::atomic::{AtomicU64, Ordering};
 use std::sync::ledger::{Blank, Ledger};
 use std::thread;
 use std::thread::{Builder, JoinHandle, Scope, Threads};
+use std::time::Clock;
+
+/// What a run came to: the trace, how many calls were made, and the nanoseconds that the slowest client took for its own.
+#[derive(Drop)]
+pub struct Run {
+    pub traced: Traced,
+    pub calls: u64,
+    pub nanos: u128,
+}
 
 /// What all threads share.
 #[derive(Drop)]
 struct Pool<L: Ledger> {
     server: Server<L>,
     workers: u8,
-    users: u8,
+    /// Of so many users the calls are interrupted.
+    interrupted: u8,
     gate: Yielding,
     clock: Counting,
     /// 1 once all clients are done.
@@ -37,68 +47,76 @@ struct Crew<L: Ledger> {
 }
 
 /// Runs a server with a thread for each worker, one for the driver and one for each client's part, until all clients are
-/// done. The trace, and how many calls were made.
-pub fn run_pool<R: Threads + Wait + Sync>(
+/// done.
+pub fn run_pool<R: Threads + Wait + Clock + Sync>(
     rt: &R,
     alloc: Global,
     config: Config,
+    interrupted: u8,
     parts: &[Part],
-) -> anyhow::Result<(Traced, u64)> {
+) -> anyhow::Result<Run> {
     // the driver's seat is a client's too
     let clients = parts.len() + 1;
-    let seats = u64::from(config.workers()) + clients as u64;
-    run_branded::<Brand, R>(rt, alloc, Blank::new(seats), config, clients, parts)
+    let seats = Blank::new(u64::from(config.workers()) + clients as u64);
+    run_branded::<Brand, R>(rt, alloc, seats, config, clients, interrupted, parts)
 }
 
 /// The same, with a ledger that has as many parts as there are seats.
-fn run_branded<L: Ledger + Send + Sync, R: Threads + Wait + Sync>(
+fn run_branded<L: Ledger + Send + Sync, R: Threads + Wait + Clock + Sync>(
     rt: &R,
     alloc: Global,
     blank: Blank,
     config: Config,
     clients: usize,
+    interrupted: u8,
     parts: &[Part],
-) -> anyhow::Result<(Traced, u64)>
+) -> anyhow::Result<Run>
     requires name { blank.name ≡ L.name }
     requires parts { blank.parts ≡ L.parts }
     requires seats { blank.parts ≡ config.workers + clients }
 {
-    let (workers, users) = (config.workers(), config.user_count() as u8);
+    let workers = config.workers();
     let Ok((server, seats)) = Server::<L>::new(alloc, blank, config, clients) else {
         bail!("out of memory");
     };
     let pool = Pool {
         server,
         workers,
-        users,
+        interrupted,
         gate: Yielding(AtomicU64::new(0)),
         clock: Counting(AtomicU64::new(1)),
         over: AtomicU64::new(0),
     };
     let (mut seats, played) = run_threads(rt, alloc, &pool, seats, parts)?;
-    let mut calls: u64 = 0;
+    let (mut calls, mut longest): (u64, u128) = (0, 0);
     for Played {
         seat,
         told,
         calls: made,
+        nanos,
     } in played {
         ensure!(
             told == Told::by_notes(seat.notes()),
             "a client was told something else than its notes say"
         );
         calls = calls.saturating_add(u64::from(made));
+        longest = longest.max(nanos);
         seats.push(seat)?;
     }
     let Pool { server, .. } = pool;
     match finish(server, seats) {
-        Ok(traced) => Ok((traced, calls)),
+        Ok(traced) => Ok(Run {
+            traced,
+            calls,
+            nanos: longest,
+        }),
         Err(FinishFault::Missing(..)) => bail!("a seat did not come back"),
         Err(FinishFault::Disagrees(..)) => bail!("what was noted is not what was stored"),
     }
 }
 
 /// Runs all threads. A scope lets them borrow the pool.
-fn run_threads<L: Ledger + Send + Sync, R: Threads + Wait + Sync>(
+fn run_threads<L: Ledger + Send + Sync, R: Threads + Wait + Clock + Sync>(
     rt: &R,
     alloc: Global,
     pool: &Pool<L>,
@@ -112,7 +130,7 @@ fn run_threads<L: Ledger + Send + Sync, R: Threads + Wait + Sync>(
 
 impl<L: Ledger + Send + Sync> Crew<L> {
     /// Starts all threads, waits for the clients, stops the server, and waits for the others.
-    fn run<'s, E, R: Threads + Wait + Sync>(
+    fn run<'s, E, R: Threads + Wait + Clock + Sync>(
         rt: &'s R,
         alloc: Global,
         scope: &Scope<'s, E>,
@@ -135,7 +153,7 @@ impl<L: Ledger + Send + Sync> Crew<L> {
     }
 
     /// Starts the workers and the driver, and then the clients, so that each call that is made is served.
-    fn start<'s, E, R: Threads + Wait + Sync>(
+    fn start<'s, E, R: Threads + Wait + Clock + Sync>(
         &mut self,
         rt: &'s R,
         alloc: Global,
@@ -154,7 +172,7 @@ impl<L: Ledger + Send + Sync> Crew<L> {
             self.servants.push(worker)?;
         }
         let seat = seats.next().context("too few seats")?;
-        let drive = move || drive(rt, server, seat, pool.users, &pool.over);
+        let drive = move || drive(rt, server, seat, pool.interrupted, &pool.over);
         let driver = named(alloc, "driver", 1)?.spawn_scoped(scope, drive)?;
         self.servants.push(driver)?;
         for part in parts {

@@ -9,6 +9,8 @@ ghost use Rattle.qx_pool.specs.inner.Ends.{end_of};
 
 use crate::seat::Seat;
 use crate::server::Server;
+use crate::spinner::Spinner;
+use crate::waits::Awaited;
 use qx_types::{Errno, MessageBytes, Outcome, Request, Step, Thread};
 use qx_world::Unstored;
 use std::sync::Wait;
@@ -36,6 +38,7 @@ pub enum CallEnd {
 pub struct Client<L: Ledger> {
     seat: Seat<L>,
     thread: Thread,
+    spinner: Spinner,
 }
 
 impl<L: Ledger> Client<L> {
@@ -44,14 +47,23 @@ impl<L: Ledger> Client<L> {
         ensures seat { result.seat ≡ seat }
         ensures thread { result.thread ≡ thread }
     {
-        Client { seat, thread }
+        let spinner = Spinner::new();
+        Client {
+            seat,
+            thread,
+            spinner,
+        }
     }
 
     /// Gives the seat back.
     pub fn into_seat(self) -> Seat<L>
         ensures { result ≡ self.seat }
     {
-        let Client { seat, thread: _ } = self;
+        let Client {
+            seat,
+            thread: _,
+            spinner: _,
+        } = self;
         seat
     }
 
@@ -74,7 +86,7 @@ impl<L: Ledger> Client<L> {
             return end_of(outcome);
         }
         server.wake_worker();
-        let mut guard = server.lock_for_answer(rt, thread);
+        let mut guard = server.lock_for(rt, &mut self.spinner, Awaited::Answer(thread));
         if guard.world().blocked(thread) {
             return CallEnd::Stopped;
         }

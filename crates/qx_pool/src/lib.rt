@@ -4,7 +4,8 @@
 //! - `locked.rt`: what lies under the lock, and how a step is taken, stored and noted
 //! - `seat.rt`: `Seat`, a thread's place at the server, with a `Note` of each step that it took
 //! - `copies.rt`: copies of a step's outcome, for its note and for whoever took it
-//! - `waits.rt`: for which threads clients wait
+//! - `waits.rt`: what threads wait for
+//! - `spinner.rt`: how a thread that waits spins before it sleeps
 //! - `worker.rt`: `worker_loop`, with what an author gives it: a `Gate` and a `Clock`
 //! - `client.rt`: `Client`, who calls and takes other steps
 //! - `ending.rt`: the end of a server
@@ -20,6 +21,7 @@ pub mod ending;
 mod locked;
 pub mod seat;
 pub mod server;
+mod spinner;
 mod waits;
 pub mod worker;
 

@@ -1,13 +1,10 @@
 //! What lies under the lock of a server, and the steps that are taken there.
 
-ghost use Rattle.std.specs.Prelude.{◌≡◌, ◌≢◌, ◌≤◌, ◌<◌, ◌+◌, ◌++◌, ◌∷◌, [], true, length, map, sum_by, vec_len, vec_capacity, IfOk, IfErr, OnOk, IsErrOf, MatchBool, is_ok, if◌then◌else◌};
+ghost use Rattle.std.specs.Prelude.{◌≡◌, ◌≢◌, ◌≤◌, ◌<◌, ◌+◌, ◌++◌, ◌∷◌, [], true, length, map, sum_by, vec_len, vec_capacity, IfOk, IfErr, OnOk, IsErrOf, MatchBool, is_ok};
 ghost use Rattle.qx_types.specs.declared.outcome.Outcome.{Outcome};
 ghost use Rattle.qx_types.specs.declared.step.Step.{Step};
-ghost use Rattle.qx_machine.specs.Machine as machine;
 ghost use Rattle.qx_steps.specs.Held.{held_work, IsStale};
-ghost use Rattle.qx_steps.specs.Reads.{row_among_parts};
 ghost use Rattle.qx_steps.specs.declared.work.PerformFault.{PerformFault};
-ghost use Rattle.qx_process.specs.Reads.{is_thread_blocked};
 ghost use Rattle.qx_world.specs.Trace.{IsAfter, IsLast, outcome_now, run_of};
 ghost use Rattle.qx_pool.specs.Notes.{AddsOf, Agrees, notes_after, note};
 ghost use Rattle.qx_pool.specs.inner.Copies.{AreCopies};
@@ -15,7 +12,7 @@ ghost use Rattle.qx_pool.specs.inner.Copies.{AreCopies};
 use crate::agreement::agree;
 use crate::copies::{answers, both};
 use crate::seat::{Note, Seat};
-use crate::waits::{ThreadSet, Waits};
+use crate::waits::{Awaited, ThreadSet, Waits};
 use qx_types::{
     Config, Item, Manager, MessageBytes, NoMemory, Outcome, Step, Thread, User, Worker,
 };
@@ -29,13 +26,13 @@ pub(crate) struct Locked<L: Ledger> {
     traced: Traced,
     book: Book<L>,
     /// A share of no part, into which the seats are taken at the end.
-    hand: Share<L>,
+    remainder: Share<L>,
     /// For each step a place in which the end marks that it was noted.
     marks: Vec<bool>,
     waits: Waits,
     is_stopped: bool,
-    ghost no_parts: { hand.parts ≡ 0 },
-    ghost no_amount: { hand.amount ≡ 0 },
+    ghost no_parts: { remainder.parts ≡ 0 },
+    ghost no_amount: { remainder.amount ≡ 0 },
     ghost counted: { length traced.steps ≡ book.total },
     ghost marked: { vec_len marks ≡ length traced.steps },
 }
@@ -53,11 +50,11 @@ impl<L: Ledger> Locked<L> {
         alloc: Global,
         config: Config,
         book: Book<L>,
-        hand: Share<L>,
+        remainder: Share<L>,
     ) -> Result<Self, NoMemory>
         requires total { book.total ≡ 0 }
-        requires parts { hand.parts ≡ 0 }
-        requires amount { hand.amount ≡ 0 }
+        requires parts { remainder.parts ≡ 0 }
+        requires amount { remainder.amount ≡ 0 }
         ensures config { IfOk result (λ locked. locked.traced.config ≡ config) }
         ensures steps { IfOk result (λ locked. locked.traced.steps ≡ []) }
     {
@@ -65,7 +62,7 @@ impl<L: Ledger> Locked<L> {
         Ok(Locked {
             traced,
             book,
-            hand,
+            remainder,
             marks: Vec::new(alloc),
             waits: Waits::new(),
             is_stopped: false,
@@ -83,7 +80,7 @@ impl<L: Ledger> Locked<L> {
         let Locked {
             traced,
             book,
-            hand: _,
+            remainder: _,
             marks,
             waits: _,
             is_stopped: _,
@@ -118,7 +115,7 @@ impl<L: Ledger> Locked<L> {
         let Locked {
             traced,
             book,
-            hand: _,
+            remainder: _,
             marks,
             waits: _,
             is_stopped: _,
@@ -179,15 +176,23 @@ impl<L: Ledger> Locked<L> {
         self.world().owner(&Step::Perform { worker, moment: 0 })
     }
 
-    /// Whether a client still waits for a thread's answer. If so, its bell has to ring once that may have changed.
-    pub(crate) fn waits(&mut self, thread: Thread) -> bool
+    /// Whether what is awaited has yet to come. If it is an answer, the bell has to ring once that may have changed.
+    pub(crate) fn waits_for(&mut self, awaited: Awaited) -> bool
         ensures { self.new.traced ≡ self.old.traced }
     {
-        if self.is_stopped || !self.world().blocked(thread) {
+        if self.is_stopped {
             return false;
         }
-        self.waits.insert(thread);
-        true
+        match awaited {
+            Awaited::Item => self.next_line().is_none(),
+            Awaited::Answer(thread) => {
+                let is_blocked = self.world().blocked(thread);
+                if is_blocked {
+                    self.waits.insert(thread);
+                }
+                is_blocked
+            }
+        }
     }
 
     /// The threads of a user for which clients wait no longer, as they wait for no answer.
@@ -235,12 +240,12 @@ impl<L: Ledger> Locked<L> {
         let Locked {
             traced,
             mut book,
-            mut hand,
+            mut remainder,
             mut marks,
             waits: _,
             is_stopped: _,
         } = self;
-        audit(&mut book, &mut seats, &mut hand);
+        audit(&mut book, &mut seats, &mut remainder);
         let is_whole = agree(traced.entries(), marks.as_mut_slice(), seats.as_slice());
         (traced, seats, is_whole)
     }
@@ -284,26 +289,26 @@ fn note_last<L: Ledger>(
 }
 
 /// Takes each seat's share in, compares their sum with the book, and gives the shares back.
-fn audit<L: Ledger>(book: &mut Book<L>, seats: &mut Vec<Seat<L>>, hand: &mut Share<L>)
-    requires whole { L.parts ≤ hand.old.parts + vec_len seats.old }
-    requires within { hand.old.parts ≤ L.parts }
-    requires backed { hand.old.parts ≡ 0 → hand.old.amount ≡ 0 }
-    ensures total { book.old.total ≡ hand.old.amount + sum_by (λ s. vec_len s.notes) seats.old.items }
+fn audit<L: Ledger>(book: &mut Book<L>, seats: &mut Vec<Seat<L>>, remainder: &mut Share<L>)
+    requires whole { L.parts ≤ remainder.old.parts + vec_len seats.old }
+    requires within { remainder.old.parts ≤ L.parts }
+    requires backed { remainder.old.parts ≡ 0 → remainder.old.amount ≡ 0 }
+    ensures total { book.old.total ≡ remainder.old.amount + sum_by (λ s. vec_len s.notes) seats.old.items }
     ensures book { book.new.total ≡ book.old.total }
-    ensures parts { hand.new.parts ≡ hand.old.parts }
-    ensures amount { hand.new.amount ≡ hand.old.amount }
+    ensures parts { remainder.new.parts ≡ remainder.old.parts }
+    ensures amount { remainder.new.amount ≡ remainder.old.amount }
     ensures seats { map (λ s. s.notes.items) seats.new.items ≡ map (λ s. s.notes.items) seats.old.items }
     ensures len { vec_len seats.new ≡ vec_len seats.old }
     ensures capacity { vec_capacity seats.new ≡ vec_capacity seats.old }
 {
     let Some(seat) = seats.pop() else {
-        book.audit(hand);
+        book.audit(remainder);
         return;
     };
     let Seat { notes, share } = seat;
     let amount = notes.len() as u64;
-    hand.merge(share);
-    audit(book, seats, hand);
-    let share = hand.split_off(1, amount);
+    remainder.merge(share);
+    audit(book, seats, remainder);
+    let share = remainder.split_off(1, amount);
     seats.push_reserved(Seat { notes, share });
 }

@@ -5,8 +5,9 @@ ghost use Rattle.qx_pool.specs.declared.waits.TheConstants.{THREADS};
 
 use crate::locked::Locked;
 use crate::seat::Seat;
-use crate::waits::{THREADS, ThreadSet, place_of};
-use qx_types::{Config, NoMemory, Thread};
+use crate::spinner::Spinner;
+use crate::waits::{Awaited, THREADS, ThreadSet, place_of};
+use qx_types::{Config, NoMemory};
 use std::alloc::{AllocError, Global};
 use std::marker::Model;
 use std::sync::ledger::{Blank, Ledger, Share};
@@ -83,21 +84,22 @@ impl<L: Ledger> Server<L> {
         self.locked.lock(rt)
     }
 
-    /// Takes the lock once an item stands in a line, or the server was stopped.
-    pub(crate) fn lock_for_item<R: Wait>(&self, rt: &R) -> MutexGuard<'_, Locked<L>> {
-        self.items.wait_while(rt, self.lock(rt), |locked| {
-            locked.next_line().is_none() && !locked.is_stopped()
-        })
-    }
-
-    /// Takes the lock once a thread waits for no answer, or the server was stopped.
-    pub(crate) fn lock_for_answer<R: Wait>(
+    /// Takes the lock once what is awaited came, or the server was stopped. Until then a thread spins, and sleeps then.
+    pub(crate) fn lock_for<R: Wait>(
         &self,
         rt: &R,
-        thread: Thread,
+        spinner: &mut Spinner,
+        awaited: Awaited,
     ) -> MutexGuard<'_, Locked<L>> {
-        self.bell(thread)
-            .wait_while(rt, self.lock(rt), |locked| locked.waits(thread))
+        let bell = self.bell(awaited);
+        let mut guard = self.lock(rt);
+        if guard.waits_for(awaited) {
+            let seen = bell.notifications();
+            drop(guard);
+            spinner.spin(bell, seen);
+            guard = self.lock(rt);
+        }
+        bell.wait_while(rt, guard, |locked| locked.waits_for(awaited))
     }
 
     /// Wakes a worker, where one waits for an item.
@@ -108,13 +110,17 @@ impl<L: Ledger> Server<L> {
     /// Wakes the clients that wait for these threads.
     pub(crate) fn wake_clients(&self, mut threads: ThreadSet) {
         for _ in 0..threads.len() {
-            self.bell(threads.pop()).notify_all();
+            let bell = self.bell(Awaited::Answer(threads.pop()));
+            bell.notify_all();
         }
     }
 
-    /// Where clients wait for a thread.
-    fn bell(&self, thread: Thread) -> &Condvar {
-        &self.answers[place_of(thread)]
+    /// Where threads sleep that wait for this.
+    fn bell(&self, awaited: Awaited) -> &Condvar {
+        match awaited {
+            Awaited::Item => &self.items,
+            Awaited::Answer(thread) => &self.answers[place_of(thread)],
+        }
     }
 }
 

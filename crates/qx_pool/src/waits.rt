@@ -1,4 +1,4 @@
-//! For which threads clients wait.
+//! What threads wait for.
 
 ghost use Rattle.std.specs.Prelude.{◌<◌};
 ghost use Rattle.qx_types.specs.declared.limits.TheConstants.Limits.{USERS};
@@ -11,6 +11,15 @@ const EACH: usize = 64;
 
 /// How many threads all users can have.
 pub(crate) const THREADS: usize = Limits::USERS * EACH;
+
+/// What a worker or a client waits for.
+#[derive(Clone, Copy, Debug, PartialEq, Eq)]
+pub(crate) enum Awaited {
+    /// An item in any line.
+    Item,
+    /// That a thread waits for no answer.
+    Answer(Thread),
+}
 
 /// Some threads of one user.
 #[derive(Clone, Copy, Debug, PartialEq, Eq)]

@@ -5,6 +5,8 @@ ghost use Rattle.qx_pool.specs.Notes.{AddsOf};
 use crate::locked::HeldCopy;
 use crate::seat::Seat;
 use crate::server::Server;
+use crate::spinner::Spinner;
+use crate::waits::Awaited;
 use qx_types::{Item, Outcome, Worker};
 use qx_wire::Parsed;
 use qx_world::{PerformFault, Work};
@@ -35,11 +37,12 @@ pub fn worker_loop<L: Ledger, G: Gate, C: Clock, R: Wait>(
     ensures { AddsOf worker.0 seat.notes.items result.notes.items }
 {
     let mut seat = seat;
+    let mut spinner = Spinner::new();
     if !resume(rt, server, &mut seat, worker, clock) {
         return seat;
     }
     'working: for _ in rt.forever() {
-        let Some((item, held)) = receive(rt, server, &mut seat, worker) else {
+        let Some((item, held)) = receive(rt, server, &mut seat, worker, &mut spinner) else {
             return seat;
         };
         let work = decoded(held);
@@ -85,10 +88,11 @@ fn receive<L: Ledger, R: Wait>(
     server: &Server<L>,
     seat: &mut Seat<L>,
     worker: Worker,
+    spinner: &mut Spinner,
 ) -> Option<(Item, HeldCopy)>
     ensures { AddsOf worker.0 seat.old.notes.items seat.new.notes.items }
 {
-    let mut guard = server.lock_for_item(rt);
+    let mut guard = server.lock_for(rt, spinner, Awaited::Item);
     let manager = guard.next_line()?;
     let received = guard.receive(seat, worker, manager);
     let is_more = guard.next_line().is_some();
