@@ -89,7 +89,7 @@ impl Io<Kept, AllEvents, Told> for Null {
 
     ghost io = { null_io };
 
-    ghost wants = { got_events };
+    ghost wants = { λ bytes. got_events };
 
     ghost ready = { MayArm };
 

@@ -1,3 +1,4 @@
+pub mod Blocks
 pub mod Files
 pub mod Laws
 pub mod inner

@@ -1,6 +1,7 @@
-ghost use Rattle.std.specs.Prelude.{◌≡◌, ◌+◌, [], None, Some, IfOk, replicate, slice_set};
+ghost use Rattle.std.specs.Prelude.{◌≡◌, ◌+◌, None, Some, IfOk, replicate, slice_set};
 ghost use Rattle.std.specs.Option.{option_copied, option_copied_mut};
 ghost use Rattle.std.specs.Borrow.{sem};
+ghost use Rattle.qx_files.specs.Blocks.{nothing};
 ghost use Rattle.qx_machine.specs.Rows.{row_at};
 ghost use Rattle.qx_types.specs.declared.limits.TheConstants.Limits.{INODES};
 ghost use Rattle.qx_files.specs.inner.Lends.{lends_bytes};
@@ -18,9 +19,10 @@ pub struct Contents {
 }
 
 impl Model for Contents {
-    ghost use Rattle.std.specs.Prelude.{List, Option, ℕ};
+    ghost use Rattle.std.specs.Prelude.{List, Option};
+    ghost use Rattle.qx_files.specs.Blocks.{Held};
 
-    ghost Value = { List (Option (List ℕ)) };
+    ghost Value = { List (Option Held) };
 
     ghost view = { λ c. c.places.items };
 }
@@ -44,7 +46,7 @@ impl Contents {
 
     /// Puts a file with no bytes under a number.
     pub fn put(&mut self, inode: u32)
-        ensures put { self.new ≡ slice_set self.old inode (Some []) }
+        ensures put { self.new ≡ slice_set self.old inode (Some nothing) }
     {
         let data = Data::new(*self.places.allocator());
         places::set(&mut self.places, inode as usize, data);

@@ -1,5 +1,5 @@
 -- What contracts see of a user's store.
-use Rattle.std.specs.Prelude.{ℕ, [], ◌∷◌, Some, None, slice_set, if◌then◌else◌}
+use Rattle.std.specs.Prelude.{ℕ, Bool, List, Option, [], ◌∷◌, Some, None, slice_set, if◌then◌else◌}
 use Rattle.std.specs.FinMap.{empty}
 use Rattle.qx_machine.specs.declared.rows.Kind.{Kind}
 use Rattle.qx_machine.specs.declared.rows.Kind.TheVariants.{File}
@@ -17,9 +17,11 @@ pub record Stored : Type 0 where
   pub names : Names
   pub files : Files
 
--- that, and how many more inodes, and as many more open control blocks, can be made with no memory
+-- that, for each block of a file whether it is there, and how many more inodes, and as many more open control blocks, can be made with
+-- no memory
 pub record Store : Type 0 where
   pub stored : Stored
+  pub blocks : List (Option (List Bool))
   pub room : ℕ
 
 -- what the managers keep for the user, with this in it
@@ -46,8 +48,8 @@ with_mount_root root s = record s {
 
 -- ---- what goes
 
--- the bytes of a file go, where a manager keeps such in its inodes
-abbrev pub files_without : Kind → ℕ → Files → Files
+-- the bytes of a file go, or its blocks, where a manager keeps such in its inodes
+abbrev pub files_without : {A : Type 0} → Kind → ℕ → List (Option A) → List (Option A)
 files_without File inode files = slice_set files inode None
 files_without _ inode files = files
 
@@ -61,3 +63,7 @@ unused_gone own inode s =
     if is_unused s.inodes inode (row_at s.inodes.attributes inode)
     then record s { inodes = free_inode s.inodes inode; files = files_without own inode s.files }
     else s
+
+-- and the blocks of a file with it
+abbrev pub blocks_gone : Kind → ℕ → Stored → List (Option (List Bool)) → List (Option (List Bool))
+blocks_gone own inode s blocks = if is_unused s.inodes inode (row_at s.inodes.attributes inode) then files_without own inode blocks else blocks

@@ -3,7 +3,7 @@
 ghost use Rattle.std.specs.Prelude.{◌≡◌, [], Ok, IfOk, OnErr, if◌then◌else◌};
 ghost use Rattle.std.specs.Result.{result_map_both};
 ghost use Rattle.qx_iofunc.specs.Given as given;
-ghost use Rattle.qx_iofunc.specs.Store.{block_gone, unused_gone, with_stored};
+ghost use Rattle.qx_iofunc.specs.Store.{block_gone, blocks_gone, unused_gone, with_stored};
 ghost use Rattle.qx_machine.specs.Defaults as machine;
 ghost use Rattle.qx_machine.specs.Inodes.{close_block, dup_block, is_shared, is_unused, without_use};
 ghost use Rattle.qx_machine.specs.Resources.{Resources};
@@ -115,7 +115,7 @@ impl Store {
     pub fn close(&mut self, own: Kind, number: u16) -> Result<Closed, Errno>
         ensures block { result_map_both (λ c. c.inode) (λ error. error) result ≡ result_map_both (λ block. block.inode) (λ error. error) (machine.own_block self.old.stored.inodes number own) }
         ensures gone { IfOk result (λ c. c.is_gone ≡ is_unused (close_block self.old.stored.inodes number) c.inode (row_at self.old.stored.inodes.attributes c.inode)) }
-        ensures closed { IfOk result (λ c. self.new ≡ record self.old { stored = unused_gone own c.inode (block_gone number self.old.stored) }) }
+        ensures closed { IfOk result (λ c. self.new ≡ record self.old { stored = unused_gone own c.inode (block_gone number self.old.stored); blocks = blocks_gone own c.inode (block_gone number self.old.stored) self.old.blocks }) }
         ensures kept { OnErr result (self.new ≡ self.old) }
     {
         let block = own_block(&self.tables.inodes, number, own)?;

@@ -1,8 +1,9 @@
-ghost use Rattle.std.specs.Prelude.{◌≡◌, ◌+◌, ◌-◌, ◌<◌, ◌≤◌, ℕ, List, Ok, Some, IfOk, IsSome, OnOk, OnErr, length, max};
-ghost use Rattle.qx_files.specs.Files.{pasted};
+ghost use Rattle.std.specs.Prelude.{◌≡◌, ◌+◌, ◌-◌, ◌<◌, ◌≤◌, ℕ, List, Ok, Some, IfOk, IsSome, IsSomeAnd, OnOk, OnErr, length, max};
+ghost use Rattle.qx_files.specs.Blocks.{LacksBlock};
+ghost use Rattle.qx_files.specs.Files.{blocks_pasted, pasted};
 ghost use Rattle.qx_iofunc.specs.Sizes.{sized};
 ghost use Rattle.qx_iofunc.specs.Store.{boot_store, with_mount_root, with_stored};
-ghost use Rattle.qx_machine.specs.Files.{put, size_of, total_size};
+ghost use Rattle.qx_machine.specs.Files.{put, total_size};
 ghost use Rattle.qx_machine.specs.Inodes.{inode_number, with_offset};
 ghost use Rattle.qx_machine.specs.RamManager.{with_bytes};
 ghost use Rattle.qx_machine.specs.Resources.{Resources};
@@ -82,7 +83,7 @@ impl Store {
 
     /// The bytes of files.
     pub fn files(&self) -> &Files
-        ensures { result.now ≡ self.now.stored.files }
+        ensures { result.now ≡ record { files = self.now.stored.files; blocks = self.now.blocks } }
     {
         &self.tables.files
     }
@@ -130,7 +131,7 @@ impl Store {
     }
 
     /// Puts bytes into a file at an offset, with zero bytes in a gap before them, and sets its times. Nothing changes where
-    /// memory is short; it is wanted only where the file gets longer.
+    /// memory is short; it is wanted only where one of the bytes stands in a block that isn't there.
     pub fn write(
         &mut self,
         inode: u32,
@@ -143,7 +144,8 @@ impl Store {
         ensures user { self.new.stored.user ≡ self.old.stored.user }
         ensures ok { OnOk result ((r : Resources) (bytes : List ℕ) → row_at self.old.stored.files inode ≡ Some bytes → with_stored r self.new.stored ≡ with_bytes inode moment (put bytes offset new.now) (with_stored r self.old.stored)) }
         ensures err { OnErr result (self.new ≡ self.old) }
-        ensures longer { OnErr result (size_of (row_at self.old.stored.files inode) < offset + length new.now) }
+        ensures blocks { OnOk result (self.new.blocks ≡ blocks_pasted self.old.blocks inode offset (length new.now)) }
+        ensures lacks { OnErr result (IsSomeAnd (row_at self.old.blocks inode) (λ blocks. LacksBlock blocks offset (length new.now))) }
     {
         let size = self.tables.files.write(inode, offset, new)?;
         self.tables.resize(inode, size as u64, moment);

@@ -1,7 +1,7 @@
 ghost use Rattle.std.specs.Prelude.{◌≡◌, ◌-◌, ◌<◌, None, Ok, IfOk, IsOk, IsSome, OnOk, OnErr};
 ghost use Rattle.std.specs.FinMap.{get};
-ghost use Rattle.qx_iofunc.specs.Store.{unused_gone};
-ghost use Rattle.qx_iofunc.specs.inner.Store.{with_made, with_resized, with_truncated};
+ghost use Rattle.qx_iofunc.specs.Store.{blocks_gone, unused_gone};
+ghost use Rattle.qx_iofunc.specs.inner.Store.{blocks_truncated, files_with, with_made, with_resized, with_truncated};
 ghost use Rattle.qx_machine.specs.Inodes.{inode_number, is_unused};
 ghost use Rattle.qx_machine.specs.Names.{under};
 ghost use Rattle.qx_machine.specs.Rows.{row_at};
@@ -37,7 +37,8 @@ impl Model for Tables {
     ghost coded = { Prim.hlevel (codes, names_code) };
 
     ghost view = { λ t. record {
-      stored = record { user = t.user.0; inodes = t.inodes.inodes; names = t.names; files = t.files };
+      stored = record { user = t.user.0; inodes = t.inodes.inodes; names = t.names; files = t.files.files };
+      blocks = t.files.blocks;
       room = t.inodes.room;
     } };
 }
@@ -60,7 +61,7 @@ impl Tables {
         requires missing { get self.old.stored.names (under (path_of self.old.stored.names at.parent) at.name.now) ≡ None }
         requires unnamed { HasNoPath self.old.stored.names new.inode }
         requires empty { row_at self.old.stored.files new.inode ≡ None }
-        ensures ok { OnOk result (self.new ≡ record { stored = with_made (spot_of self.old.stored.names at.entry) new.inode new.parent kind mode moment self.old.stored; room = self.old.room - 1 }) }
+        ensures ok { OnOk result (self.new ≡ record { stored = with_made (spot_of self.old.stored.names at.entry) new.inode new.parent kind mode moment self.old.stored; blocks = files_with kind new.inode self.old.blocks; room = self.old.room - 1 }) }
         ensures err { OnErr result (self.new ≡ self.old) }
     {
         self.inodes.numbered();
@@ -81,7 +82,7 @@ impl Tables {
     /// inodes, and tells whether that is so.
     pub fn free(&mut self, own: Kind, inode: u32) -> bool
         ensures gone { result ≡ is_unused self.old.stored.inodes inode (row_at self.old.stored.inodes.attributes inode) }
-        ensures freed { self.new ≡ record self.old { stored = unused_gone own inode self.old.stored } }
+        ensures freed { self.new ≡ record self.old { stored = unused_gone own inode self.old.stored; blocks = blocks_gone own inode self.old.stored self.old.blocks } }
     {
         let is_unused = self.inodes.free_inode(inode);
         if is_unused && own == Kind::File {
@@ -92,7 +93,7 @@ impl Tables {
 
     /// Makes a file empty and sets its times, if it is one (C Library Reference: `open`, `O_TRUNC`).
     pub fn truncate(&mut self, inode: u32, moment: u64)
-        ensures { self.new ≡ record self.old { stored = with_truncated inode moment self.old.stored } }
+        ensures { self.new ≡ record self.old { stored = with_truncated inode moment self.old.stored; blocks = blocks_truncated inode self.old.stored self.old.blocks } }
     {
         if self.files.get(inode).is_some() {
             self.files.clear(inode);

@@ -1,5 +1,5 @@
 -- Which steps may be refused for want of memory.
-use Rattle.std.specs.Prelude.{ℕ, ◌||◌, not, Bool, true, false, Option, Result, Ok, Err, nat_lt}
+use Rattle.std.specs.Prelude.{ℕ, ◌||◌, ◌==◌, not, Bool, true, false, List, [], Option, Result, Ok, Err, length, nat_lt}
 use Rattle.qx_types.specs.declared.errno.Errno.{Errno}
 use Rattle.qx_types.specs.declared.names.Manager.{Manager}
 use Rattle.qx_types.specs.declared.names.Manager.TheVariants.{Ram, Pipe}
@@ -14,7 +14,6 @@ use Rattle.qx_wire.specs.Reading.{meaning}
 use Rattle.qx_machine.specs.declared.rows.OwnItem.{OwnItem}
 use Rattle.qx_machine.specs.declared.rows.OwnItem.TheVariants as item
 use Rattle.qx_machine.specs.Events.{event_count}
-use Rattle.qx_machine.specs.Files.{total_size}
 use Rattle.qx_machine.specs.Functions.{Deed}
 use Rattle.qx_machine.specs.Judgements.{◌>>=◌, found, or_false}
 use Rattle.qx_machine.specs.Laws.{is_refusal}
@@ -24,35 +23,36 @@ use Rattle.qx_machine.specs.Performing.{caller_of, context_of, deed_of, taken_in
 use Rattle.qx_machine.specs.Resources.{Resources}
 use Rattle.qx_machine.specs.Rows.{row_at}
 
--- what a message asks for may want memory, where a write or a notification that makes such a difference may or may not
-abbrev pub message_wants_memory : Bool → Message → Bool
-message_wants_memory differs (Open flags mode rest) = true
-message_wants_memory differs (Mknod mode rest) = true
-message_wants_memory differs (Write bytes) = differs
-message_wants_memory differs (Notify action conditions code value) = differs
-message_wants_memory differs _ = false
+-- what a message asks for may want memory, where a write of such bytes, or a notification, which writes none, may or may not
+abbrev pub message_wants_memory : (List ℕ → Bool) → Message → Bool
+message_wants_memory writes (Open flags mode rest) = true
+message_wants_memory writes (Mknod mode rest) = true
+message_wants_memory writes (Write bytes) = writes bytes
+message_wants_memory writes (Notify action conditions code value) = writes []
+message_wants_memory writes _ = false
 
 -- that is done, and makes such a difference to what the functions work on
 abbrev pub is_done_so : {S : Type 0} → (S → S → Bool) → S → Result (Deed S) Errno → Bool
 is_done_so so state (Ok deed) = so state deed.state
 is_done_so so state (Err error) = false
 
--- a message that comes to this may want memory, of a manager of whose writes and notifications those may that make such a difference
-abbrev pub deed_wants_memory : {S : Type 0} → (S → S → Bool) → S → Message → Result (Deed S) Errno → Bool
-deed_wants_memory writes state message deed = is_done_so (λ before after. message_wants_memory (writes before after) message) state deed
+-- a message that comes to this may want memory, of a manager of whose writes and notifications those may that have such bytes and make
+-- such a difference
+abbrev pub deed_wants_memory : {S : Type 0} → (List ℕ → S → S → Bool) → S → Message → Result (Deed S) Errno → Bool
+deed_wants_memory writes state message deed = is_done_so (λ before after. message_wants_memory (λ bytes. writes bytes before after) message) state deed
 
--- the files of a user got longer
-abbrev pub got_longer : Resources → Resources → Bool
-got_longer before after = nat_lt (total_size before.files) (total_size after.files)
+-- some bytes are written: into a file they may go where none were written before, in its middle too, and there is no memory for them yet
+abbrev pub writes_some : List ℕ → Bool
+writes_some bytes = not (length bytes == 0)
 
 -- and there are more events
 abbrev pub got_events : Resources → Resources → Bool
 got_events before after = nat_lt (event_count before.events) (event_count after.events)
 
--- of the writes, those to the RAM manager that make a file longer; of the notifications, those that arm an event where there was none
-abbrev pub difference_wants_memory : Manager → Resources → Resources → Bool
-difference_wants_memory Ram before after = got_longer before after || got_events before after
-difference_wants_memory Pipe before after = got_events before after
+-- of the writes, those of some bytes to the RAM manager; of the notifications, those that arm an event where there was none
+abbrev pub difference_wants_memory : Manager → List ℕ → Resources → Resources → Bool
+difference_wants_memory Ram bytes before after = writes_some bytes || got_events before after
+difference_wants_memory Pipe bytes before after = got_events before after
 
 -- bytes with this meaning that come to this may want memory
 abbrev pub bytes_want_memory : Manager → Resources → Meaning → Result (Deed Resources) Errno → Bool
@@ -76,7 +76,8 @@ item_wants_memory rows (item.Message process thread) moment = thread_wants_memor
 item_wants_memory rows _ moment = false
 
 -- in this world, a step that may be refused for want of memory: a spawn, a call and a mount that are not refused otherwise, and a
--- perform of an open, a mkdir or a write that makes a file longer that is not answered an error
+-- perform of an open, a mkdir, a write of some bytes to the RAM manager or a notification that arms an event where there was none, that is
+-- not answered an error
 abbrev pub wants_memory : World → Step → Bool
 wants_memory w (Spawn user threads prio) = not (is_refusal (step w (Spawn user threads prio)).outcome)
 wants_memory w (Call thread request) = not (is_refusal (step w (Call thread request)).outcome)

@@ -1,20 +1,24 @@
 -- What a write comes to, once it is known what it goes to.
-use Rattle.std.proofs.Common.{◌≡◌, ℕ, ◌+◌, ◌-◌, ◌==◌, ◌<◌, ◌≤◌, false, List, [], length, max, ap, arith, Option, Some, None, Result, Ok, Err, slice_set}
+use Rattle.std.proofs.Common.{◌≡◌, ℕ, ◌+◌, ◌-◌, ◌==◌, ◌≤◌, false, List, [], length, max, ap, arith, Option, Some, None, Result, Ok, Err, slice_set, subst, ◌∙◌}
+use Rattle.std.specs.Prelude.{IsOkAnd, IsSomeAnd}
 use Rattle.qx_types.specs.declared.errno.Errno.{Errno}
 use Rattle.qx_types.specs.declared.flags.TheConstants.OFlags.{WRITE}
 use Rattle.qx_types.specs.declared.limits.TheConstants.Limits.{FILES}
 use Rattle.qx_attr.specs.Flags.{block_for}
+use Rattle.qx_files.specs.Blocks.{LacksBlock}
 use Rattle.qx_files.specs.Files.{pasted}
+use Rattle.qx_iofunc.specs.Store.{Store}
 use Rattle.qx_files.proofs.PutLemmas.{length-put}
 use Rattle.qx_files.proofs.SizeLemmas.{size_within, total_set}
 use Rattle.qx_machine.specs.declared.rows.Ocb.{Ocb}
 use Rattle.qx_machine.specs.declared.rows.Opened.{Opened}
-use Rattle.qx_machine.specs.Files.{Files, put, size_of, total_size, write_offset}
+use Rattle.qx_machine.specs.Files.{Files, put, total_size, write_offset}
 use Rattle.qx_machine.specs.Functions.{Deed}
 use Rattle.qx_machine.specs.Inodes.{Inodes}
 use Rattle.qx_machine.specs.RamManager.{moved, with_bytes, write_file}
 use Rattle.qx_machine.specs.Resources.{Resources}
 use Rattle.qx_machine.specs.Rows.{row_at}
+use Rattle.qx_ram.specs.Writes.{WritesToLacking}
 use Rattle.qx_ram.specs.inner.Given.{write_fault}
 
 -- the sum of the sizes after a write
@@ -29,10 +33,6 @@ total_after files inode offset bytes new is =
 pub few_after : (files : Files) (inode offset : ℕ) (bytes new : List ℕ) → row_at files inode ≡ Some bytes → write_fault (total_size files) (length bytes) offset (length new) ≡ None → total_size (pasted files inode offset new) ≤ FILES
 few_after files inode offset bytes new is none = rw (is, total_after files inode offset bytes new is) (grind arith)
 
--- a longer file makes the sum greater
-pub more_after : (files : Files) (inode offset : ℕ) (bytes new : List ℕ) → row_at files inode ≡ Some bytes → size_of (row_at files inode) < offset + length new → total_size files < total_size (slice_set files inode (Some (put bytes offset new)))
-more_after files inode offset bytes new is longer = omega (arith, total_after files inode offset bytes new is, size_within files inode bytes is, ap size_of is, longer)
-
 -- a fault, or else what is done
 abbrev pub answered : Option Errno → Deed Resources → Result (Deed Resources) Errno
 answered None deed = Ok deed
@@ -41,3 +41,11 @@ answered (Some error) deed = Err error
 -- a write of some bytes is judged by its fault alone
 pub written : (r : Resources) (opened : Opened) (new : List ℕ) {inodes : Inodes} {files : Files} {block : Ocb} {bytes : List ℕ} {offset : ℕ} {fault : Option Errno} → inodes ≡ r.inodes → files ≡ r.files → Ok block ≡ block_for inodes opened.number WRITE → Some bytes ≡ row_at files block.inode → false ≡ (length new == 0) → offset ≡ write_offset block bytes → fault ≡ write_fault (total_size files) (length bytes) offset (length new) → answered fault (moved opened.number (offset + length new) (length new) [] (with_bytes block.inode opened.moment (put bytes offset new) r)) ≡ write_file r opened new
 written r opened new same_inodes same_files is has_bytes some begins faults = grind (arith, total_after)
+
+-- what wants memory, once it is known what the write goes to
+pub lacks_of : (s : Store) (number count : ℕ) (inodes : Inodes) (files : Files) (block : Ocb) (bytes : List ℕ) (offset : ℕ) → inodes ≡ s.stored.inodes → files ≡ s.stored.files → Ok block ≡ block_for inodes number WRITE → Some bytes ≡ row_at files block.inode → offset ≡ write_offset block bytes → IsSomeAnd (row_at s.blocks block.inode) (λ blocks. LacksBlock blocks offset count) → WritesToLacking s number count
+lacks_of s number count inodes files block bytes offset same_inodes same_files is has_bytes begins lacks =
+    let at : IsSomeAnd (row_at s.blocks block.inode) (λ blocks. LacksBlock blocks (write_offset block bytes) count) = subst (λ o. IsSomeAnd (row_at s.blocks block.inode) (λ blocks. LacksBlock blocks o count)) begins lacks in
+    let there : IsSomeAnd (row_at s.stored.files block.inode) (λ bytes. IsSomeAnd (row_at s.blocks block.inode) (λ blocks. LacksBlock blocks (write_offset block bytes) count)) =
+    subst (λ row. IsSomeAnd row (λ bytes. IsSomeAnd (row_at s.blocks block.inode) (λ blocks. LacksBlock blocks (write_offset block bytes) count))) (has_bytes ∙ ap (λ rows. row_at rows block.inode) same_files) at in
+    subst (λ row. IsOkAnd row (λ (block : Ocb). IsSomeAnd (row_at s.stored.files block.inode) (λ bytes. IsSomeAnd (row_at s.blocks block.inode) (λ blocks. LacksBlock blocks (write_offset block bytes) count)))) (is ∙ ap (λ rows. block_for rows number WRITE) same_inodes) there

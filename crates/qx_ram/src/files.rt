@@ -1,10 +1,13 @@
 ghost use Rattle.std.specs.Prelude.{◌≡◌, ◌≤◌, [], None, IfOk, IsTrue, OnErr, length};
 ghost use Rattle.qx_iofunc.specs.Given.{number_replied};
 ghost use Rattle.qx_iofunc.specs.Store.{with_stored};
-ghost use Rattle.qx_machine.specs.Files.{total_size, write_offset};
+ghost use Rattle.qx_files.specs.Blocks.{blocks_for, count_of};
+ghost use Rattle.qx_machine.specs.Files.{size_of, total_size, write_offset};
 ghost use Rattle.qx_machine.specs.RamManager as machine;
 ghost use Rattle.qx_machine.specs.Resources.{Resources};
-ghost use Rattle.qx_machine.specs.Wants.{got_longer, is_done_so};
+ghost use Rattle.qx_machine.specs.Rows.{row_at};
+ghost use Rattle.qx_machine.specs.Wants.{is_done_so, writes_some};
+ghost use Rattle.qx_ram.specs.Writes.{WritesToLacking};
 ghost use Rattle.qx_ram.specs.inner.Given.{moved_offset, write_fault};
 ghost use Rattle.qx_types.specs.declared.limits.TheConstants.Limits.{TRANSFER};
 
@@ -29,9 +32,7 @@ pub fn read(store: &mut Store, opened: Opened, count: u32, reply: &mut Reply) ->
     let Some(data) = store.files().get(block.inode) else {
         return Err(Errno::EISDIR);
     };
-    let bytes = data.read(block.offset as usize, count as usize);
-    let status = bytes.len() as u64;
-    reply.push(bytes);
+    let status = data.read(block.offset as usize, count as usize, reply) as u64;
     store.set_offset(opened.number, block.offset + status);
     Ok(status)
 }
@@ -39,7 +40,7 @@ pub fn read(store: &mut Store, opened: Opened, count: u32, reply: &mut Reply) ->
 /// Writes bytes where an open control block stands, or with APPEND at the end, and gives their number; a gap is filled with
 /// zero bytes (C Library Reference: `write`). EBADF without a block for writing, EFBIG past 65,536 bytes, ENOSPC where the
 /// user's files would have more than 1,048,576 bytes together. Where an error comes or memory is short, nothing changes;
-/// memory is wanted only where no error comes and the file gets longer.
+/// memory is wanted only where no error comes, some bytes are written, and one of them stands in a block that isn't there.
 #[tactic(auto, using(qx_files::proofs::SizeLemmas::size_within, crate::proofs::WriteLemmas::few_after))]
 pub fn write(
     store: &mut Store,
@@ -51,7 +52,8 @@ pub fn write(
     ensures written { IfOk result (λ w. (r : Resources) → number_replied [] (with_stored r store.new.stored) w ≡ machine.write_file (with_stored r store.old.stored) opened new.now) }
     ensures kept { IfOk result (λ w. OnErr w (store.new ≡ store.old)) }
     ensures err { OnErr result (store.new ≡ store.old) }
-    ensures wanted { OnErr result ((r : Resources) → IsTrue (is_done_so got_longer (with_stored r store.old.stored) (machine.write_file (with_stored r store.old.stored) opened new.now))) }
+    ensures lacks { OnErr result (WritesToLacking store.old opened.number (length new.now)) }
+    ensures wanted { OnErr result ((r : Resources) → IsTrue (is_done_so (λ before after. writes_some new.now) (with_stored r store.old.stored) (machine.write_file (with_stored r store.old.stored) opened new.now))) }
 {
     let block = match store.inodes().block_for(opened.number, OFlags::WRITE) {
         Ok(block) => block,
@@ -72,6 +74,15 @@ pub fn write(
     let count = new.len() as u64;
     store.set_offset(opened.number, offset + count);
     Ok(Ok(count))
+}
+
+/// How many blocks of a file are there: no more than its bytes need, and none where there is no such inode or it is no file.
+pub fn blocks(store: &Store, inode: u32) -> usize
+    ensures count { result ≡ count_of (row_at store.now.blocks inode) }
+    ensures few { result ≤ blocks_for (size_of (row_at store.now.stored.files inode)) }
+    ensures none { row_at store.now.stored.files inode ≡ None → result ≡ 0 }
+{
+    store.files().blocks(inode)
 }
 
 /// Moves an open control block to a further offset, which is the status (C Library Reference: `lseek`). EINVAL on a
@@ -99,7 +110,7 @@ pub fn seek(store: &mut Store, opened: Opened, whence: Whence, by: i64) -> Resul
 
 // Where a write begins: with APPEND at the end.
 fn write_offset(block: Ocb, bytes: &Data) -> u64
-    ensures { result ≡ write_offset block bytes.now }
+    ensures { result ≡ write_offset block bytes.now.bytes }
 {
     if block.flags.contains(OFlags::APPEND) {
         bytes.len() as u64
@@ -111,8 +122,8 @@ fn write_offset(block: Ocb, bytes: &Data) -> u64
 // Why so many bytes can't be written at an offset of a file that has these, one of the user's files: EFBIG or ENOSPC.
 fn write_fault(files: &Files, bytes: &Data, offset: u64, count: usize) -> Option<Errno>
     requires count { count ≤ TRANSFER }
-    requires size { length bytes.now ≤ total_size files.now }
-    ensures { result ≡ write_fault (total_size files.now) (length bytes.now) offset count }
+    requires size { length bytes.now.bytes ≤ total_size files.now.files }
+    ensures { result ≡ write_fault (total_size files.now.files) (length bytes.now.bytes) offset count }
 {
     if offset > Limits::FILE as u64 || offset as usize + count > Limits::FILE {
         return Some(Errno::EFBIG);

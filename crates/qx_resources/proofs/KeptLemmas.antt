@@ -20,7 +20,7 @@ use Rattle.qx_machine.specs.Rows.{row_at}
 use Rattle.std.proofs.lemmas.Bool.{cond-false}
 use Rattle.qx_machine.specs.Functions.{Deed, reply_alone}
 use Rattle.qx_machine.specs.Resources.{Resources}
-use Rattle.qx_machine.specs.Wants.{difference_wants_memory, got_events, got_longer, is_done_so}
+use Rattle.qx_machine.specs.Wants.{difference_wants_memory, got_events, is_done_so, writes_some}
 use Rattle.qx_pipes.proofs.PipesLemmas.{given-same}
 use Rattle.qx_pipes.specs.Pipes.{Follows, done_of, seen}
 use Rattle.qx_resmgr.specs.Deeds.{Did, reply_with}
@@ -140,7 +140,7 @@ module _ (k l : Kept) (w v : Tables) (own : Kind) (opened : Opened) (last : is_s
 
 -- ---- what a write wants
 
--- what a longer file wants, it wants of the RAM manager
-pub longer-wanted : (r : Resources) (given : Result (Deed Resources) Errno) → IsTrue (is_done_so got_longer r given) → IsTrue (is_done_so (difference_wants_memory managers.Ram) r given)
-longer-wanted r (Ok deed) longer = ap (λ (test : Bool). test || got_events r deed.state) longer
-longer-wanted r (Err error) longer = longer
+-- what a write of some bytes wants, it wants of the RAM manager
+pub some-wanted : (r : Resources) (bytes : List ℕ) (given : Result (Deed Resources) Errno) → IsTrue (is_done_so (λ before after. writes_some bytes) r given) → IsTrue (is_done_so (difference_wants_memory managers.Ram bytes) r given)
+some-wanted r bytes (Ok deed) some = ap (λ (test : Bool). test || got_events r deed.state) some
+some-wanted r bytes (Err error) some = some

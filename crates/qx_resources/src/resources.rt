@@ -116,8 +116,8 @@ impl Resources {
     }
 
     /// Does what bytes that were sent to a manager ask it for, by what they mean; the bytes of the reply are then in `reply`,
-    /// none after an error, and a call that waits took `room` along. Only an open, a mknod, a write that makes a
-    /// file longer and a notification that arms may want memory, and only where they would be done.
+    /// none after an error, and a call that waits took `room` along. Only an open, a mknod, a write of some bytes to
+    /// a file and a notification that arms may want memory, and only where they would be done.
     pub fn perform(
         &mut self,
         all: &mut Tables,

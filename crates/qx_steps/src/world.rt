@@ -325,8 +325,8 @@ impl World {
     /// what it changes; the user's events that are due by that give their pulses. With a disconnect pulse goes the server
     /// connection that it was made for, and what is open over that still (Writing a Resource Manager:
     /// `_PULSE_CODE_DISCONNECT`). A message whose process has ended does nothing. `WrongState` where there is no such worker,
-    /// `Nothing` where it holds nothing. Only an open, a mkdir, a write that makes a file longer and a notification that
-    /// leaves more events may want memory; one that is answered an error wants none.
+    /// `Nothing` where it holds nothing. Only an open, a mkdir, a write of some bytes to a file and a notification that leaves
+    /// more events may want memory; one that is answered an error wants none.
     pub fn perform_held(&mut self, worker: Worker, moment: u64) -> Result<Outcome, NoMemory>
         ensures outcome { IfOk result (λ outcome. outcome ≡ (machine.step self.old (Step.Perform worker moment)).outcome) }
         ensures world { OnOk result (self.new ≡ (machine.step self.old (Step.Perform worker moment)).world) }

@@ -1,10 +1,29 @@
-use Rattle.std.proofs.Common.{◌+◌, ◌++◌, take, drop, ap, ◌∙◌, length}
+use Rattle.std.proofs.Common.{◌≡◌, ap, arith, length, ◌∙◌}
+use Rattle.qx_files.specs.Blocks.{Held, blocks_after}
+use Rattle.qx_files.specs.inner.Places.{bytes_of, there}
+use Rattle.qx_files.proofs.DataLemmas.{written_bytes, written_few, written_grown, written_zeros}
 use Rattle.qx_machine.specs.Files.{put}
-use Rattle.qx_files.proofs.PutLemmas.{put_is}
 use Rattle.qx_files.proofs.data.Data.write.Goals as goal
+
+pub invariant_of-self-2 : goal.invariant_of-self-2
+invariant_of-self-2 c =
+    let old = c.self.inside.blocks.items in
+    let now = c.write_bytes.new.blocks.items in
+    rw c.max-self-inside.ensures (record {
+      zeros = written_zeros old now c.self.inside.size c.args.offset c.args.new.now c.self.invariant.zeros c.in_ok-write_bytes.ensures.bytes;
+      few = written_few old now c.self.inside.size c.args.offset (length c.args.new.now) c.self.invariant.few c.in_ok-write_bytes.ensures.there;
+      none = λ empty.
+          let grown = written_grown old now c.args.offset (length c.args.new.now) c.in_ok-write_bytes.ensures.there in
+          c.in_ok-write_bytes.ensures.none empty ∙ c.self.invariant.none (omega (arith, empty, grown));
+    })
 
 pub returns-clause-ok : goal.returns-clause-ok
 returns-clause-ok c =
-    let o = c.args.offset in
-    let new = c.args.new.now in
-    c.paste.ensures.pasted ∙ ap (λ x. take o x ++ (new ++ drop (o + length new) x)) c.in_ok-grow.ensures.ok ∙ put_is c.self.inside.bytes.items new o ∙ ap (λ bytes. put bytes o new) c.self.view_is
+    let old = c.self.inside.blocks.items in
+    let now = c.write_bytes.new.blocks.items in
+    let bytes : bytes_of now c.max-self-inside.result ≡ put c.args.self.now.bytes c.args.offset c.args.new.now =
+    ap (bytes_of now) c.max-self-inside.ensures
+    ∙ (written_bytes old now c.self.inside.size c.args.offset c.args.new.now c.self.invariant.zeros c.in_ok-write_bytes.ensures.bytes ∙ ap (λ (held : Held). put held.bytes c.args.offset c.args.new.now) c.self.view_is) in
+    let blocks : there now ≡ blocks_after c.args.self.now.blocks c.args.offset (length c.args.new.now) =
+    c.in_ok-write_bytes.ensures.there ∙ ap (λ (held : Held). blocks_after held.blocks c.args.offset (length c.args.new.now)) c.self.view_is in
+    λ i. record { bytes = bytes i; blocks = blocks i }

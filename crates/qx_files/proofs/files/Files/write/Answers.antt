@@ -1,24 +1,47 @@
-use Rattle.std.proofs.Common.{ap, arith, ◌∙◌}
+use Rattle.std.proofs.Common.{◌≡◌, Bool, List, ap, arith, length, subst, sym, ◌∙◌}
+use Rattle.std.proofs.lemmas.Result.{err_from_is_err_and}
 use Rattle.std.specs.List.{sum_by}
-use Rattle.qx_machine.specs.Files as machine
+use Rattle.std.specs.Prelude.{IsSomeAnd}
+use Rattle.qx_machine.specs.Rows.{row_at}
 use Rattle.qx_machine.specs.Files.{put, size_of, total_size}
-use Rattle.qx_files.specs.Files.{pasted}
+use Rattle.qx_files.specs.Blocks.{LacksBlock}
+use Rattle.qx_files.specs.Files.{Kept, blocks_pasted, pasted}
+use Rattle.qx_files.specs.inner.Kept.{files_of, kept_of}
+use Rattle.qx_files.proofs.KeptLemmas.{blocks-row, files-written, kept-written, some_blocks}
 use Rattle.qx_files.proofs.SizeLemmas.{after_total, size_le}
 use Rattle.qx_files.proofs.files.Files.write.Goals as goal
 
 pub overflow_sub-self : goal.overflow_sub-self
 overflow_sub-self c =
-    let le = size_le c.self.inside.contents c.args.inode in
+    let le = size_le (files_of c.self.inside.contents) c.args.inode in
     omega (arith, le, c.in_ok-before.ensures.before, c.self.invariant.summed)
 
 pub overflow_add-self : goal.overflow_add-self
 overflow_add-self c =
-    let sum = after_total c.self.inside.contents c.paste.new.contents c.args.inode c.self.inside.total c.in_ok-before.before c.in_ok-before.after (λ old. put old c.args.offset c.args.new.now) c.in_ok-before.ensures.ok c.self.invariant.summed c.in_ok-before.ensures.before c.in_ok-before.ensures.after in
-    let same = ap (sum_by size_of) c.in_ok-before.ensures.ok ∙ ap (λ (files : machine.Files). total_size (pasted files c.args.inode c.args.offset c.args.new.now)) c.self.view_is in
+    let old = c.self.inside.contents in
+    let is : files_of c.paste.new.contents ≡ pasted (files_of old) c.args.inode c.args.offset c.args.new.now = ap files_of c.in_ok-before.ensures.ok ∙ files-written old c.args.inode c.args.offset c.args.new.now in
+    let sum = after_total (files_of old) (files_of c.paste.new.contents) c.args.inode c.self.inside.total c.in_ok-before.before c.in_ok-before.after (λ old. put old c.args.offset c.args.new.now) is c.self.invariant.summed c.in_ok-before.ensures.before c.in_ok-before.ensures.after in
+    let same = ap (sum_by size_of) is ∙ ap (λ (kept : Kept). total_size (pasted kept.files c.args.inode c.args.offset c.args.new.now)) c.self.view_is in
     omega (arith, sum, same, c.requires.few)
 
 pub invariant_of-self-2 : goal.invariant_of-self-2
 invariant_of-self-2 c =
-    let sum = after_total c.self.inside.contents c.paste.new.contents c.args.inode c.self.inside.total c.in_ok-before.before c.in_ok-before.after (λ old. put old c.args.offset c.args.new.now) c.in_ok-before.ensures.ok c.self.invariant.summed c.in_ok-before.ensures.before c.in_ok-before.ensures.after in
-    let same = ap (sum_by size_of) c.in_ok-before.ensures.ok ∙ ap (λ (files : machine.Files). total_size (pasted files c.args.inode c.args.offset c.args.new.now)) c.self.view_is in
+    let old = c.self.inside.contents in
+    let is : files_of c.paste.new.contents ≡ pasted (files_of old) c.args.inode c.args.offset c.args.new.now = ap files_of c.in_ok-before.ensures.ok ∙ files-written old c.args.inode c.args.offset c.args.new.now in
+    let sum = after_total (files_of old) (files_of c.paste.new.contents) c.args.inode c.self.inside.total c.in_ok-before.before c.in_ok-before.after (λ old. put old c.args.offset c.args.new.now) is c.self.invariant.summed c.in_ok-before.ensures.before c.in_ok-before.ensures.after in
+    let same = ap (sum_by size_of) is ∙ ap (λ (kept : Kept). total_size (pasted kept.files c.args.inode c.args.offset c.args.new.now)) c.self.view_is in
     record { summed = sum; few = omega (arith, sum, same, c.requires.few) }
+
+pub returns-in_err-before-clause-lacks : goal.returns-in_err-before-clause-lacks
+returns-in_err-before-clause-lacks c =
+    let p = err_from_is_err_and c.from_residual.result c.from_residual.ensures.1 in
+    let lacks = λ (blocks : List Bool). LacksBlock blocks c.args.offset (length c.args.new.now) in
+    let row : row_at (kept_of c.self.inside.contents).blocks c.args.inode ≡ row_at c.args.self.now.blocks c.args.inode = ap (λ (kept : Kept). row_at kept.blocks c.args.inode) c.self.view_is in
+    rw p.1 (subst (λ blocks. IsSomeAnd blocks lacks) (sym (blocks-row c.self.inside.contents c.args.inode) ∙ row) (some_blocks (row_at c.self.inside.contents c.args.inode) lacks c.in_err-before.ensures.lacks))
+
+pub returns-clause-ok : goal.returns-clause-ok
+returns-clause-ok c =
+    let old = c.self.inside.contents in
+    ap kept_of c.in_ok-before.ensures.ok
+    ∙ (kept-written old c.args.inode c.args.offset c.args.new.now
+    ∙ ap (λ (kept : Kept). record { files = pasted kept.files c.args.inode c.args.offset c.args.new.now; blocks = blocks_pasted kept.blocks c.args.inode c.args.offset (length c.args.new.now) }) c.self.view_is)

@@ -7,4 +7,4 @@ pub invariant_of-self : goal.invariant_of-self
 invariant_of-self c =
     let t = c.self-inside.inside.0.0 in
     rw c.set_attribute.ensures.set
-    (kept_fits t.inodes.inodes t.names t.files c.in-Some.block.now.inode c.in-Some-attr.attr.now.attribute _ (sym c.in-Some-attr.ensures.attribute) refl refl (rw (← c.self-inside.view_is) at c.self.invariant))
+    (kept_fits t.inodes.inodes t.names t.files.files c.in-Some.block.now.inode c.in-Some-attr.attr.now.attribute _ (sym c.in-Some-attr.ensures.attribute) refl refl (rw (← c.self-inside.view_is) at c.self.invariant))

@@ -18,7 +18,7 @@ use Rattle.qx_iofunc.proofs.store.Store.open_existing.Goals.{Joined-contains, th
 emptied : (c : Joined-contains) → c.if-contains.self-inside.tables.stored ≡ emptied_in c.args.wish.flags c.args.inode c.args.wish.moment c.args.self.now.stored
 emptied c =
     let inside = c.self-inside.inside.0.0 in
-    let reserved = ap (λ (reserve : Reserved). record { user = inside.user.0; inodes = reserve.inodes; names = inside.names; files = inside.files }) c.in_ok-reserve.ensures.ok
+    let reserved = ap (λ (reserve : Reserved). record { user = inside.user.0; inodes = reserve.inodes; names = inside.names; files = inside.files.files }) c.in_ok-reserve.ensures.ok
     ∙ (ap (λ (inside : Inside). inside.tables.stored) c.self-inside.view_is ∙ ap (λ (store : Store). store.stored) c.self.view_is) in
     let truncates = sym (c.contains.ensures tt) in
     elim c.if-contains.branch [
@@ -54,7 +54,7 @@ invariant_of-self-2 c =
     let inside = c.self-inside-2.inside.0.0 in
     let before = subst (λ (store : Store). StoreFits store.stored) c.self.view_is c.self.invariant in
     let fits = subst StoreFits (sym (emptied (goal.at.invariant_of-self-2 c).Joined-contains)) (emptied_fits c.args.wish.flags c.args.inode c.args.wish.moment c.args.self.now.stored before) in
-    opened_fits inside.inodes.inodes c.opened.new.inodes.inodes c.args.inode c.opened.result c.args.wish.flags c.args.client c.opened.ensures.opened inside.names inside.files (rw (← c.self-inside-2.view_is) at fits)
+    opened_fits inside.inodes.inodes c.opened.new.inodes.inodes c.args.inode c.opened.result c.args.wish.flags c.args.client c.opened.ensures.opened inside.names inside.files.files (rw (← c.self-inside-2.view_is) at fits)
 
 pub returns-clause-opened : goal.returns-clause-opened
 returns-clause-opened c = λ r coid root own.

@@ -33,4 +33,4 @@ invariant_of-self c =
     let kept : (now.links ≡ was.links) × (now.kind ≡ was.kind) = elim c.if-filled.branch [ then-filled w ↦ rw w.attribute-is (refl, refl) | else-filled w ↦ rw w.attribute-is (refl, refl) ] in
     let pipe : is_file was.kind ≡ false = search rules in
     let size : file_size (Some now) ≡ file_size (Some was) = rw (kept.1, pipe) refl in
-    rw c.set_attribute.ensures.set (kept_fits t.inodes.inodes t.names t.files c.args.inode was now (sym c.in-Some.ensures.attribute) kept.0 size (rw (← c.self-inside.view_is) at c.self.invariant))
+    rw c.set_attribute.ensures.set (kept_fits t.inodes.inodes t.names t.files.files c.args.inode was now (sym c.in-Some.ensures.attribute) kept.0 size (rw (← c.self-inside.view_is) at c.self.invariant))

@@ -1,0 +1,51 @@
+ghost use Rattle.std.specs.Prelude.{◌≡◌, ◌+◌, ◌≤◌, ◌++◌, IfOk, drop, length, replicate, take};
+
+use std::alloc::{AllocError, Global};
+use std::marker::Model;
+
+/// How many bytes stand in a block.
+pub const BLOCK: usize = 512;
+
+/// A block of a file's bytes.
+#[derive(Drop)]
+pub struct Block {
+    bytes: Box<[u8; 512]>,
+}
+
+impl Model for Block {
+    ghost use Rattle.std.specs.Prelude.{List, ℕ};
+
+    ghost Value = { List ℕ };
+
+    ghost view = { λ b. b.bytes.value };
+}
+
+impl Block {
+    /// A block of zero bytes.
+    pub fn new(alloc: Global) -> Result<Self, AllocError>
+        ensures zeros { IfOk result (λ block. block ≡ replicate 512 0) }
+    {
+        Ok(Block {
+            bytes: Box::new(alloc, [0; 512])?,
+        })
+    }
+
+    /// Its bytes.
+    pub fn bytes(&self) -> &[u8]
+        ensures bytes { result.now ≡ self.now }
+        ensures whole { length result.now ≡ 512 }
+    {
+        let bytes: &[u8; 512] = &self.bytes;
+        bytes
+    }
+
+    /// Puts bytes at a place in it.
+    pub fn put(&mut self, at: usize, new: &[u8])
+        requires within { at + length new.now ≤ 512 }
+        ensures pasted { self.new ≡ take at self.old ++ (new.now ++ drop (at + length new.now) self.old) }
+        ensures whole { length self.old ≡ 512 }
+    {
+        let end = at + new.len();
+        self.bytes[at..end].copy_from_slice(new);
+    }
+}
