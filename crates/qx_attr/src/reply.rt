@@ -1,7 +1,6 @@
 ghost use Rattle.std.specs.Prelude.{◌≡◌, ◌+◌, ◌≤◌, ◌++◌, [], IfOk, length};
 ghost use Rattle.qx_types.specs.declared.limits.TheConstants.Limits.{BODY};
 
-use arrayvec::ArrayVec;
 use qx_types::Limits;
 use std::alloc::{AllocError, Global};
 use std::marker::Model;
@@ -13,19 +12,21 @@ const PLACES: usize = Limits::BODY;
 /// used for each message (Writing a Resource Manager: the message buffer of `resmgr_context_t`).
 #[derive(Drop)]
 pub struct Reply {
-    bytes: Box<ArrayVec<u8, PLACES>>,
+    /// The bytes stand first; what stands behind them is of earlier messages.
+    places: Box<[u8; PLACES]>,
+    len: usize,
 }
 
 impl Model for Reply {
-    ghost use Rattle.std.specs.Prelude.{◌≡◌, List, ℕ};
+    ghost use Rattle.std.specs.Prelude.{◌≡◌, ◌≤◌, List, ℕ, take};
     ghost use Rattle.qx_attr.specs.declared.reply.TheConstants.{PLACES};
     ghost use Rattle.qx_types.specs.declared.limits.TheConstants.Limits.{BODY};
 
     ghost Value = { List ℕ };
 
-    ghost view = { λ r. r.bytes.value.items };
+    ghost view = { λ r. take r.len r.places.value };
 
-    ghost invariant = { λ r. PLACES ≡ BODY };
+    ghost invariant = { λ r. (PLACES ≡ BODY) × (r.len ≤ BODY) };
 }
 
 impl Reply {
@@ -34,7 +35,8 @@ impl Reply {
         ensures none { IfOk result (λ reply. reply ≡ []) }
     {
         Ok(Reply {
-            bytes: Box::new(alloc, ArrayVec::new())?,
+            places: Box::new(alloc, [0; PLACES])?,
+            len: 0,
         })
     }
 
@@ -42,7 +44,7 @@ impl Reply {
     pub fn clear(&mut self)
         ensures none { self.new ≡ [] }
     {
-        self.bytes.clear();
+        self.len = 0;
     }
 
     /// Bytes behind those that are there, for which there is room.
@@ -50,10 +52,9 @@ impl Reply {
         requires room { length self.old + length bytes.now ≤ BODY }
         ensures behind { self.new ≡ self.old ++ bytes.now }
     {
-        match self.bytes.try_extend_from_slice(bytes) {
-            Ok(()) => {}
-            Err(_) => unreachable!(),
-        }
+        let end = self.len + bytes.len();
+        self.places[self.len..end].copy_from_slice(bytes);
+        self.len = end;
     }
 
     /// The bytes.
@@ -61,6 +62,6 @@ impl Reply {
         ensures bytes { result.now ≡ self.now }
         ensures few { length result.now ≤ BODY }
     {
-        self.bytes.as_slice()
+        &self.places[..self.len]
     }
 }
