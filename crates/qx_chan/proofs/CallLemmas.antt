@@ -2,12 +2,14 @@
 use Rattle.std.proofs.Common.{◌≡◌, ◌⊎◌, inl, inr, eq-eqb, true, false, Option, Some, None, refl, sym, ◌∙◌, ap}
 use Rattle.std.specs.Prelude.{Bool, if◌then◌else◌}
 use Rattle.qx_types.specs.Managers.{manager_number}
+use Rattle.qx_types.specs.declared.outcome.Answer.{Answer}
 use Rattle.qx_machine.specs.declared.rows.Sent.{Sent}
 use Rattle.qx_machine.specs.declared.rows.State.{State}
 use Rattle.qx_machine.specs.declared.rows.State.TheVariants.{Answered, Queued, Ready, Taken, Waiting}
 use Rattle.qx_machine.specs.declared.rows.ThreadRow.{ThreadRow}
 use Rattle.qx_machine.specs.Performing.{taken_in}
-use Rattle.qx_chan.specs.Calls.{sent_call, queued_call, queued_in, unasked_in}
+use Rattle.qx_process.specs.Reads.{queued_in, unanswered_in}
+use Rattle.qx_chan.specs.Calls.{sent_call, queued_call, unasked_in}
 use Rattle.qx_chan.specs.inner.Kept.{stands_at}
 use Rattle.qx_chan.specs.declared.call.Call.{Call}
 use Rattle.qx_chan.proofs.RowReads.{option_cases}
@@ -45,6 +47,21 @@ taken_is (Queued other) sent is = cc
 taken_is (Taken other) sent is = let same : other ≡ sent = cc in rw same refl
 taken_is (Waiting other) sent is = cc
 taken_is (Answered answer) sent is = cc
+
+pub unanswered_is : (s : State) (sent : Sent) → unanswered_in s ≡ Some sent → (s ≡ Taken sent) ⊎ (s ≡ Waiting sent)
+unanswered_is Ready sent is = cc
+unanswered_is (Queued other) sent is = cc
+unanswered_is (Taken other) sent is = let same : other ≡ sent = cc in inl (ap Taken same)
+unanswered_is (Waiting other) sent is = let same : other ≡ sent = cc in inr (ap Waiting same)
+unanswered_is (Answered answer) sent is = cc
+
+-- a thread that waits for nothing
+pub idle_is : (s : State) → queued_in s ≡ None → unanswered_in s ≡ None → (s ≡ Ready) ⊎ ((answer : Answer) × (s ≡ Answered answer))
+idle_is Ready unqueued unheld = inl refl
+idle_is (Queued sent) unqueued unheld = cc
+idle_is (Taken sent) unqueued unheld = cc
+idle_is (Waiting sent) unqueued unheld = cc
+idle_is (Answered answer) unqueued unheld = inr (answer, refl)
 
 unless_asked : (asked : Bool) (other sent : Sent) → other.is_asked ≡ asked → (if asked then None else Some other) ≡ Some sent → (other ≡ sent) × (sent.is_asked ≡ false)
 unless_asked true other sent asked given = cc

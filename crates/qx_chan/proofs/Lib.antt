@@ -7,7 +7,7 @@ pub mod GivenLemmas
 -- a thread is asked to unblock
 mod AskLemmas
 -- the call that a thread waits for
-mod CallLemmas
+pub mod CallLemmas
 -- a thread takes its answer, or gets another priority
 mod PrioLemmas
 -- an unblock pulse is performed

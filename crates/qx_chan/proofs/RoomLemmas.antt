@@ -14,7 +14,8 @@ use Rattle.qx_machine.specs.declared.rows.ThreadRow.{ThreadRow}
 use Rattle.qx_machine.specs.Performing.{taken_in}
 use Rattle.qx_machine.specs.Processes.{keeps_room, served_state, served_thread, with_thread}
 use Rattle.qx_process.specs.Reads.{BringsRoom, BringsRoomIn, has_own_room, is_waiting}
-use Rattle.qx_chan.specs.Calls.{queued_call, queued_in}
+use Rattle.qx_process.specs.Reads.{queued_in}
+use Rattle.qx_chan.specs.Calls.{queued_call}
 use Rattle.qx_chan.specs.inner.Calls.{taken_call}
 use Rattle.qx_chan.specs.Channel.{IsExisting}
 use Rattle.qx_chan.specs.Nodes.{attaches}

@@ -3,16 +3,12 @@ use Rattle.std.specs.Prelude.{Option, Some, None, option_map, if◌then◌else�
 use Rattle.qx_types.specs.declared.outcome.Answer.{Answer}
 use Rattle.qx_machine.specs.declared.rows.Sent.{Sent}
 use Rattle.qx_machine.specs.declared.rows.State.{State}
-use Rattle.qx_machine.specs.declared.rows.State.TheVariants.{Queued, Taken, Waiting}
+use Rattle.qx_machine.specs.declared.rows.State.TheVariants.{Taken, Waiting}
 use Rattle.qx_machine.specs.declared.rows.ThreadRow.{ThreadRow}
 use Rattle.qx_machine.specs.Clients.{answer_in}
 use Rattle.qx_machine.specs.Performing.{taken_in}
+use Rattle.qx_process.specs.Reads.{queued_in}
 use Rattle.qx_chan.specs.declared.call.Call.{Call}
-
--- the message that stands in a line
-abbrev pub queued_in : State → Option Sent
-queued_in (Queued sent) = Some sent
-queued_in _ = None
 
 -- the message that was received, is not answered and is not asked to unblock its thread
 abbrev pub unasked_in : State → Option Sent
@@ -20,8 +16,12 @@ unasked_in (Taken sent) = if sent.is_asked then None else Some sent
 unasked_in (Waiting sent) = if sent.is_asked then None else Some sent
 unasked_in _ = None
 
+-- the call that sent a thread's message
+abbrev pub call_with : ThreadRow → Sent → Call
+call_with row sent = record { target = sent.target; number = row.calls; is_asked = sent.is_asked }
+
 abbrev pub call_by : (State → Option Sent) → ThreadRow → Option Call
-call_by message row = option_map (λ sent. record { target = sent.target; number = row.calls; is_asked = sent.is_asked }) (message row.state)
+call_by message row = option_map (call_with row) (message row.state)
 
 abbrev pub sent_call : (State → Option Sent) → Option ThreadRow → Option Call
 sent_call message None = None

@@ -1,13 +1,13 @@
-//! The call that a thread waits for, its message as it is served, and what that is replied.
+//! The call that a thread waits for, and its message as it is served.
 
 ghost use Rattle.std.specs.Prelude.{◌≡◌, IfSome};
-ghost use Rattle.qx_machine.specs.declared.rows.State.TheVariants as state;
 ghost use Rattle.qx_machine.specs.Performing.{taken_in};
-ghost use Rattle.qx_process.specs.Reads.{IsPriority, IsRanked};
-ghost use Rattle.qx_chan.specs.Calls.{call_by, queued_in, unasked_in};
+ghost use Rattle.qx_process.specs.Reads.{IsPriority, queued_in};
+ghost use Rattle.qx_chan.specs.Calls.{call_by, call_with, unasked_in};
 
-use qx_machine::{Effect, State, Target, ThreadRow};
-use qx_types::{MessageBytes, Thread};
+use qx_machine::{Sent, Target};
+use qx_process::ThreadCell;
+use qx_types::Thread;
 
 /// A call of a thread: where its message went, the call's number, and whether it was asked to unblock its thread.
 #[derive(Clone, Copy, Debug, PartialEq, Eq)]
@@ -25,54 +25,38 @@ pub struct TakenMessage {
     pub moment: u64,
 }
 
-/// What a message is replied: status and bytes, and what becomes of the connection that it came over.
-#[derive(Debug, Drop)]
-pub struct Replied {
-    pub status: u64,
-    pub bytes: MessageBytes,
-    pub effect: Effect,
-}
-
 /// The call whose message stands in a line.
-pub fn queued(row: &ThreadRow) -> Option<Call>
-    ensures call { result ≡ call_by queued_in row.now }
+pub fn queued(thread: &ThreadCell) -> Option<Call>
+    ensures call { result ≡ call_by queued_in thread.now }
 {
-    match &row.state {
-        State::Queued(sent) => Some(Call {
-            target: sent.target,
-            number: row.calls,
-            is_asked: sent.is_asked,
-        }),
-        _ => None,
-    }
+    Some(call_of(thread, thread.queued()?))
 }
 
 /// The call whose message was received and is not served.
-pub fn taken(row: &ThreadRow) -> Option<Call>
-    ensures call { result ≡ call_by taken_in row.now }
+pub fn taken(thread: &ThreadCell) -> Option<Call>
+    ensures call { result ≡ call_by taken_in thread.now }
 {
-    match &row.state {
-        State::Taken(sent) => Some(Call {
-            target: sent.target,
-            number: row.calls,
-            is_asked: sent.is_asked,
-        }),
+    Some(call_of(thread, thread.taken()?))
+}
+
+/// The call whose message was received, is not answered and is not asked to unblock its thread.
+pub fn unasked(thread: &ThreadCell) -> Option<Call>
+    ensures call { result ≡ call_by unasked_in thread.now }
+    ensures priority { IfSome result (λ call. IsPriority call.target.prio.0) }
+{
+    match thread.unanswered() {
+        Some(sent) if !sent.is_asked => Some(call_of(thread, sent)),
         _ => None,
     }
 }
 
-/// The call whose message was received, is not answered and is not asked to unblock its thread.
-pub fn unasked(row: &ThreadRow) -> Option<Call>
-    requires priorities { IsRanked row.now }
-    ensures call { result ≡ call_by unasked_in row.now }
-    ensures priority { IfSome result (λ call. IsPriority call.target.prio.0) }
+/// The call that sent a thread's message.
+fn call_of(thread: &ThreadCell, sent: &Sent) -> Call
+    ensures call { result ≡ call_with thread.now sent.now }
 {
-    match &row.state {
-        State::Taken(sent) | State::Waiting(sent) if !sent.is_asked => Some(Call {
-            target: sent.target,
-            number: row.calls,
-            is_asked: sent.is_asked,
-        }),
-        _ => None,
+    Call {
+        target: sent.target,
+        number: thread.calls(),
+        is_asked: sent.is_asked,
     }
 }

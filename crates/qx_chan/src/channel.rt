@@ -7,7 +7,7 @@ ghost use Rattle.std.specs.Option.{option_copied};
 ghost use Rattle.qx_machine.specs.Events.{first_pulse};
 ghost use Rattle.qx_machine.specs.Processes.{living};
 ghost use Rattle.qx_machine.specs.Rows.{row_at};
-ghost use Rattle.qx_process.specs.Reads.{CanCall, CanGo, IsPriority, IsRanked};
+ghost use Rattle.qx_process.specs.Reads.{CanCall, CanGo, IsPriority};
 ghost use Rattle.qx_procs.specs.Calls.{CanAttachAt, spawn_outcome};
 ghost use Rattle.qx_chan.specs.Calls.{answer_of, queued_call, unasked_call};
 ghost use Rattle.qx_chan.specs.inner.Calls.{taken_call};
@@ -18,8 +18,8 @@ ghost use Rattle.qx_chan.specs.Users.{IsThreadReady, prio_outcome_in, process_of
 use crate::call::{self, Call};
 use crate::servers;
 use crate::users::Users;
-use qx_machine::{OwnItem, Queued, Sent, ThreadRow};
-use qx_process::Process;
+use qx_machine::{OwnItem, Queued, Sent};
+use qx_process::{Process, ThreadCell};
 use qx_procs::Processes;
 use qx_resources::Tables;
 use qx_types::{Answer, Config, Errno, Manager, NoMemory, Outcome, Prio, Proc, Thread, User};
@@ -73,9 +73,8 @@ impl Channel {
     }
 
     /// A thread's row; none where it is not there.
-    pub fn thread(&self, thread: Thread) -> Option<&ThreadRow>
+    pub fn thread(&self, thread: Thread) -> Option<&ThreadCell>
         ensures row { option_copied result ≡ thread_row self.now.users thread }
-        ensures priorities { IfSome result (λ row. IsRanked row.now) }
     {
         self.users.thread(thread)
     }

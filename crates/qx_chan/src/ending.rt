@@ -12,7 +12,7 @@ ghost use Rattle.qx_chan.specs.inner.Ending.{Drops, DropsBelow, StandsFor};
 use crate::channel::Channel;
 use crate::servers;
 use crate::users::Users;
-use qx_machine::{State, ThreadRow};
+use qx_process::ThreadCell;
 use qx_shared::Shared;
 use qx_types::{Outcome, Proc, Thread};
 use std::alloc::Global;
@@ -65,21 +65,19 @@ impl Channel {
     }
 }
 
-/// What a thread of this row has in a line leaves it: its message, or the pulse that asks to unblock it.
-fn drop_items(queues: &mut Shared, thread: Thread, row: Option<&ThreadRow>)
-    requires stands { StandsFor queues.old thread (option_copied row) }
+/// What a thread has in a line leaves it: its message, or the pulse that asks to unblock it.
+fn drop_items(queues: &mut Shared, thread: Thread, cell: Option<&ThreadCell>)
+    requires stands { StandsFor queues.old thread (option_copied cell) }
     requires managers { length queues.old.lines ≡ COUNT }
-    ensures dropped { Drops queues.old queues.new thread (option_copied row.entry) }
+    ensures dropped { Drops queues.old queues.new thread (option_copied cell.entry) }
 {
-    let Some(row) = row else {
+    let Some(cell) = cell else {
         return;
     };
-    match &row.state {
-        State::Queued(sent) => queues.withdraw(sent.target.manager, thread),
-        State::Taken(sent) | State::Waiting(sent) => {
-            queues.reply(sent.target.manager, thread, row.calls)
-        }
-        State::Ready | State::Answered(_) => {}
+    if let Some(sent) = cell.queued() {
+        queues.withdraw(sent.target.manager, thread);
+    } else if let Some(sent) = cell.unanswered() {
+        queues.reply(sent.target.manager, thread, cell.calls());
     }
 }
 

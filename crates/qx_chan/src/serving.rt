@@ -28,14 +28,13 @@ ghost use Rattle.qx_chan.specs.inner.Serving.{Comes, Sends, caller_of_call, deed
 ghost use Rattle.qx_chan.specs.Users.{lives_in, process_of, thread_row, with_thread_row};
 
 use crate::answers::give_answers;
-use crate::call::{Call, Replied, TakenMessage};
+use crate::call::{Call, TakenMessage};
 use crate::channel::Channel;
 use crate::servers;
 use crate::users::Users;
 use qx_attr::Reply;
 use qx_machine::{Caller, Client, ServerName};
-use qx_process::Room;
-use qx_process::room::reply_bytes;
+use qx_process::{Replied, Room};
 use qx_resmgr::Done;
 use qx_resources::{Resources, Tables, context_of};
 use qx_shared::Shared;
@@ -191,7 +190,7 @@ fn answer(
     message: TakenMessage,
     given: Result<Done, Errno>,
     reply: &[u8],
-    mut room: Option<Room>,
+    room: Option<Room>,
 )
     requires fits { length reply.now ≤ BODY }
     requires room { IsReplied given → IsSome room }
@@ -207,10 +206,12 @@ fn answer(
     let lost = match given {
         Ok(Done::NoReply) => return,
         Ok(Done::Reply { status, effect }) => {
-            let bytes = reply_bytes(&mut room, reply);
+            let Some(room) = room else {
+                unreachable!();
+            };
             let replied = Replied {
                 status,
-                bytes,
+                bytes: reply,
                 effect,
             };
             users.reply(thread, over, replied, room)

@@ -1,14 +1,14 @@
 //! The processes of all users, from 1: a place for each number.
 
-ghost use Rattle.std.specs.Prelude.{◌≡◌, ◌≤◌, IfOk, IfSome, IsOk, IsSome, IsTrue, OnOk, OnErr, OnSome, None, Some, slice_set};
+ghost use Rattle.std.specs.Prelude.{◌≡◌, ◌≤◌, IfOk, IfSome, IsOk, IsSome, IsTrue, OnOk, OnErr, OnSome, None, Some, length, slice_set};
 ghost use Rattle.std.specs.Option.{option_copied, option_copied_mut};
 ghost use Rattle.std.specs.Borrow.{sem};
-ghost use Rattle.qx_types.specs.declared.limits.TheConstants.Limits.{PROCESSES};
-ghost use Rattle.qx_types.specs.declared.outcome.Answer.TheVariants.{Failed, Reply};
+ghost use Rattle.qx_types.specs.declared.limits.TheConstants.Limits.{BODY, PROCESSES};
+ghost use Rattle.qx_types.specs.declared.outcome.Answer.TheVariants.{Failed};
 ghost use Rattle.qx_machine.specs.Clients.{spawn_number};
 ghost use Rattle.qx_machine.specs.Processes.{answered_thread, asked_thread, ended, living, served_thread, taken_thread, with_queued, without_server};
 ghost use Rattle.qx_machine.specs.Rows.{row_at, with_row};
-ghost use Rattle.qx_process.specs.Reads.{unserved_thread, BringsRoom, CanCall, CanGo, IsRanked, has_own_room};
+ghost use Rattle.qx_process.specs.Reads.{unserved_thread, AwaitsReply, BringsRoom, CanCall, CanGo, has_own_room};
 ghost use Rattle.qx_procs.specs.Calls.{CanAttachAt, EndsAt, LosesAt, spawned};
 ghost use Rattle.qx_chan.specs.inner.Calls.{taken_bytes};
 ghost use Rattle.qx_chan.specs.Channel.{failed};
@@ -16,9 +16,8 @@ ghost use Rattle.qx_chan.specs.inner.Channel.{process_replied};
 ghost use Rattle.qx_chan.specs.inner.Users.{HasPlace};
 ghost use Rattle.qx_chan.specs.Users.{UsesAt, no_processes, process_of, thread_row, with_process_of, with_thread_row};
 
-use crate::call::Replied;
-use qx_machine::{Over, Sent, ServerName, ThreadRow};
-use qx_process::{LostServers, Process, Room, ThreadCell, places};
+use qx_machine::{Over, Sent, ServerName};
+use qx_process::{LostServers, Process, Replied, Room, ThreadCell, places};
 use qx_procs::Processes;
 use qx_types::{Answer, Errno, MessageBytes, Prio, Proc, Thread, User};
 use std::alloc::{AllocError, Global};
@@ -93,9 +92,8 @@ impl Users {
     }
 
     /// A thread's row.
-    pub fn thread(&self, thread: Thread) -> Option<&ThreadRow>
+    pub fn thread(&self, thread: Thread) -> Option<&ThreadCell>
         ensures row { option_copied result ≡ thread_row self.now thread }
-        ensures priorities { IfSome result (λ row. IsRanked row.now) }
     {
         self.process(thread.proc)?.thread(thread.tid)
     }
@@ -192,28 +190,23 @@ impl Users {
         }
     }
 
-    /// A thread gets a reply, with the room for its replies, unless the reply took that along, and its message does what it does
-    /// to what it came over. Gives the server connection that its process has lost with that.
+    /// A thread whose message was served gets a reply, with the room for its replies, unless the reply takes that along, and the
+    /// message does what it does to what it came over. Gives the server connection that its process has lost with that.
     #[tactic(auto, using(crate::proofs::ProcessLemmas::lends))]
     pub fn reply(
         &mut self,
         thread: Thread,
         over: Over,
-        replied: Replied,
-        room: Option<Room>,
+        replied: Replied<'_>,
+        room: Room,
     ) -> Option<ServerName>
-        requires room { BringsRoom (Reply replied.status replied.bytes) room (thread_row self.old thread) }
-        ensures replied { self.new ≡ with_process_of self.old thread.proc (process_replied thread.tid replied.effect replied.status replied.bytes over) }
+        requires waiting { AwaitsReply (thread_row self.old thread) }
+        requires fits { length replied.bytes.now ≤ BODY }
+        ensures replied { self.new ≡ with_process_of self.old thread.proc (process_replied thread.tid replied.entry.effect replied.entry.status replied.entry.bytes.now over) }
         ensures lost { LosesAt result (process_of self.old thread.proc) (process_of self.new thread.proc) }
     {
-        let Replied {
-            status,
-            bytes,
-            effect,
-        } = replied;
-        let process = self.process_mut(thread.proc)?;
-        process.answer(thread.tid, Answer::Reply(status, bytes), room);
-        process.conclude(thread.tid, over, effect)
+        self.process_mut(thread.proc)?
+            .reply(thread.tid, over, replied, room)
     }
 
     /// A thread gets an error, which gives back what its call attached, with the room for its replies where that had gone.

@@ -1,4 +1,4 @@
-ghost use Rattle.std.specs.Prelude.{◌≡◌, ◌+◌, ◌-◌, ◌<◌, ◌≤◌, ℕ, List, Ok, Some, IfOk, IsSome, IsSomeAnd, OnOk, OnErr, length, max};
+ghost use Rattle.std.specs.Prelude.{◌≡◌, ◌+◌, ◌-◌, ◌<◌, ◌≤◌, ℕ, List, Ok, Some, IfOk, IsSomeAnd, OnOk, OnErr, length, max};
 ghost use Rattle.qx_files.specs.Blocks.{LacksBlock};
 ghost use Rattle.qx_files.specs.Files.{blocks_pasted, pasted};
 ghost use Rattle.qx_iofunc.specs.Sizes.{sized};

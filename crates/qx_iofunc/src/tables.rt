@@ -1,4 +1,4 @@
-ghost use Rattle.std.specs.Prelude.{◌≡◌, ◌-◌, ◌<◌, None, Ok, IfOk, IsOk, IsSome, OnOk, OnErr};
+ghost use Rattle.std.specs.Prelude.{◌≡◌, ◌-◌, ◌<◌, None, Ok, IsSome, OnOk, OnErr};
 ghost use Rattle.std.specs.FinMap.{get};
 ghost use Rattle.qx_iofunc.specs.Store.{blocks_gone, unused_gone};
 ghost use Rattle.qx_iofunc.specs.inner.Store.{blocks_truncated, files_with, with_made, with_resized, with_truncated};

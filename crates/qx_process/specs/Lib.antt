@@ -1,2 +1,3 @@
+pub mod inner
 pub mod Lends
 pub mod Reads

@@ -1,5 +1,5 @@
 -- What rows are asked.
-use Rattle.std.specs.Prelude.{ℕ, ◌≡◌, ◌≢◌, ◌<◌, ◌≤◌, ◌==◌, ◌&&◌, Bool, true, false, not, List, Option, Some, None, IfSome, is_some, ⊤}
+use Rattle.std.specs.Prelude.{ℕ, ◌≡◌, ◌≢◌, ◌<◌, ◌≤◌, ◌==◌, ◌&&◌, Bool, true, false, not, List, Option, Some, None, IfSome, IsTrue, is_some, ⊤}
 use Rattle.std.specs.List.{flat_map, list_any}
 use Rattle.std.specs.Option.{option_to_list}
 use Rattle.qx_types.specs.Managers.{manager_number}
@@ -7,6 +7,7 @@ use Rattle.qx_types.specs.declared.limits.TheConstants.Limits.{CALLS, LAST_CONNE
 use Rattle.qx_types.specs.declared.outcome.Answer.{Answer}
 use Rattle.qx_machine.specs.declared.rows.Over.{Over}
 use Rattle.qx_machine.specs.declared.rows.Over.TheVariants.{New, Existing, Side}
+use Rattle.qx_machine.specs.declared.rows.Sent.{Sent}
 use Rattle.qx_machine.specs.declared.rows.State.{State}
 use Rattle.qx_machine.specs.declared.rows.State.TheVariants.{Queued, Taken, Waiting}
 use Rattle.qx_machine.specs.declared.rows.Target.{Target}
@@ -23,6 +24,17 @@ is_blocked (Queued sent) = true
 is_blocked (Taken sent) = true
 is_blocked (Waiting sent) = true
 is_blocked _ = false
+
+-- the message that stands in a line
+abbrev pub queued_in : State → Option Sent
+queued_in (Queued sent) = Some sent
+queued_in _ = None
+
+-- the message that was received and is not answered
+abbrev pub unanswered_in : State → Option Sent
+unanswered_in (Taken sent) = Some sent
+unanswered_in (Waiting sent) = Some sent
+unanswered_in _ = None
 
 abbrev pub is_thread_blocked : Option ThreadRow → Bool
 is_thread_blocked None = false
@@ -47,6 +59,10 @@ BringsRoomIn answer room _ = (room ≡ None) × (keeps_room answer ≡ true)
 abbrev pub BringsRoom : Answer → Option (List ℕ) → Option ThreadRow → Type 0
 BringsRoom answer room None = ⊤
 BringsRoom answer room (Some row) = BringsRoomIn answer room row.state
+
+-- the thread, if one is in that place, has a message that was served and not yet answered
+abbrev pub AwaitsReply : Option ThreadRow → Type 0
+AwaitsReply row = IfSome row (λ row. IsTrue (is_waiting row.state))
 
 -- the thread is there, and its calls can be counted once more
 abbrev pub CanCall : Option ThreadRow → Type 0

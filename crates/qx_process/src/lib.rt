@@ -21,4 +21,4 @@ mod threads;
 pub use process::Process;
 pub use room::Room;
 pub use servers::LostServers;
-pub use thread::ThreadCell;
+pub use thread::{Replied, ThreadCell};

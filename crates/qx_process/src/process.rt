@@ -1,21 +1,22 @@
 ghost use Rattle.std.specs.Prelude.{◌≡◌, ◌+◌, ◌≤◌, count_by, is_some, length, IfSome, IsOk, IsTrue, OnSome, OnOk, OnErr, Some, None, true};
 ghost use Rattle.std.specs.Option.{option_copied, option_copied_mut};
 ghost use Rattle.std.specs.Borrow.{sem};
-ghost use Rattle.qx_types.specs.declared.limits.TheConstants.Limits.{FIRST_CONNECTION, LAST_CONNECTION, SERVERS, THREADS};
+ghost use Rattle.qx_types.specs.declared.limits.TheConstants.Limits.{BODY, FIRST_CONNECTION, LAST_CONNECTION, SERVERS, THREADS};
+ghost use Rattle.qx_types.specs.declared.outcome.Answer.TheVariants.{Reply};
 ghost use Rattle.qx_machine.specs.Performing.{client_at};
 ghost use Rattle.qx_machine.specs.Processes as machine;
 ghost use Rattle.qx_machine.specs.Processes.{answered_thread, servers_at, with_thread};
 ghost use Rattle.qx_machine.specs.Rows.{row_at, lowest_from};
-ghost use Rattle.qx_process.specs.Reads.{BringsRoom, CanAttach, CanCall, CanGo, HasNumber, HasPlace, IsPriority, IsRanked, Loses, LosesAll, Uses, UsesBy, has_own_room, is_served};
+ghost use Rattle.qx_process.specs.Reads.{AwaitsReply, BringsRoom, CanAttach, CanCall, CanGo, HasNumber, HasPlace, IsPriority, Loses, LosesAll, Uses, UsesBy, has_own_room, is_served};
 
 use crate::connections::{self, Connections};
 use crate::places;
 use crate::room::Room;
 use crate::servers::{self, AllServers, LostServers, Sides};
-use crate::thread::ThreadCell;
+use crate::thread::{Replied, ThreadCell};
 use crate::threads::{self, Held, PLACES, Threads};
 use arrayvec::ArrayVec;
-use qx_machine::{Client, Connection, Effect, Over, Sent, ServerName, ThreadRow};
+use qx_machine::{Client, Connection, Effect, Over, Sent, ServerName};
 use qx_types::{Answer, Coid, Errno, Limits, Manager, MessageBytes, Prio};
 use std::alloc::{AllocError, Global};
 use std::marker::Model;
@@ -62,12 +63,11 @@ impl Process {
         }
     }
 
-    /// A thread's row; none where it is not there.
-    pub fn thread(&self, thread: u8) -> Option<&ThreadRow>
+    /// A thread; none where it is not there.
+    pub fn thread(&self, thread: u8) -> Option<&ThreadCell>
         ensures row { option_copied result ≡ row_at self.now.threads thread }
-        ensures priorities { IfSome result (λ row. IsRanked row.now) }
     {
-        threads::thread_row(&self.threads, thread)
+        places::row(self.threads.as_slice(), thread as usize)
     }
 
     /// A thread, for writing; none where it is not there.
@@ -254,7 +254,7 @@ impl Process {
 
     /// A message of a thread is replied to: what it came over becomes as its effect says, and a side connection goes (C Library
     /// Reference: `MsgReply`). Gives the server connection that the process has lost with that.
-    pub fn conclude(&mut self, thread: u8, over: Over, effect: Effect) -> Option<ServerName>
+    fn conclude(&mut self, thread: u8, over: Over, effect: Effect) -> Option<ServerName>
         ensures process { self.new ≡ machine.after_reply thread over effect self.old }
         ensures lost { Loses result self.old self.new }
     {
@@ -309,6 +309,27 @@ impl Process {
         if let Some(cell) = self.thread_mut(thread) {
             cell.answer(answer, room);
         }
+    }
+
+    /// A thread whose message was served gets a reply, and the message does what it does to what it came over (C Library
+    /// Reference: `MsgReply`). Gives the server connection that the process has lost with that.
+    #[tactic(auto, using(crate::proofs::RowLemmas::thread_absent))]
+    pub fn reply(
+        &mut self,
+        thread: u8,
+        over: Over,
+        replied: Replied<'_>,
+        room: Room,
+    ) -> Option<ServerName>
+        requires waiting { AwaitsReply (row_at self.old.threads thread) }
+        requires fits { length replied.bytes.now ≤ BODY }
+        ensures process { self.new ≡ machine.after_reply thread over replied.entry.effect (with_thread thread (answered_thread (Reply replied.entry.status replied.entry.bytes.now)) self.old) }
+        ensures lost { Loses result self.old self.new }
+    {
+        if let Some(cell) = self.thread_mut(thread) {
+            cell.reply(replied.status, replied.bytes, room);
+        }
+        self.conclude(thread, over, replied.effect)
     }
 
     /// The process ends: its threads go, with their answers and rooms, and its connections, and what workers hold of its messages

@@ -1,22 +1,55 @@
-ghost use Rattle.std.specs.Prelude.{◌≡◌, ◌<◌, IsOk, IsSome, IsTrue, MatchOption, OnOk, OnErr, Some, option_map};
-ghost use Rattle.qx_types.specs.declared.limits.TheConstants.Limits.{CALLS};
+ghost use Rattle.std.specs.Prelude.{◌≡◌, ◌<◌, ◌≤◌, IfSome, IsOk, IsSome, IsTrue, MatchOption, OnOk, OnErr, Some, length, option_map};
+ghost use Rattle.std.specs.Option.{option_copied};
+ghost use Rattle.qx_types.specs.declared.limits.TheConstants.Limits.{BODY, CALLS};
+ghost use Rattle.qx_types.specs.declared.outcome.Answer.TheVariants.{Reply};
+ghost use Rattle.qx_machine.specs.Calls.{is_ready};
 ghost use Rattle.qx_machine.specs.Clients.{answer_in};
 ghost use Rattle.qx_machine.specs.Performing.{taken_in};
 ghost use Rattle.qx_machine.specs.Processes.{asked_thread, new_thread, queued_thread, received_in, served_thread, taken_thread, answered_thread, ready_thread, ranked_thread};
-ghost use Rattle.qx_process.specs.Reads.{BringsRoom, IsPriority, IsRanked, has_own_room, unserved_thread};
+ghost use Rattle.qx_process.specs.Reads.{BringsRoom, IsPriority, has_own_room, is_blocked, is_waiting, queued_in, unanswered_in, unserved_thread};
 
-use crate::room::Room;
-use qx_machine::{Sent, State, ThreadRow};
+use crate::room::{Room, reply_bytes};
+use qx_machine::{Effect, Sent};
 use qx_types::{Answer, MessageBytes, Prio};
 use std::alloc::{AllocError, Global};
 use std::marker::Model;
 use std::mem;
 
+/// What a message is replied: status and bytes, and what becomes of the connection that it came over.
+#[derive(Clone, Copy, Debug, PartialEq, Eq)]
+pub struct Replied<'a> {
+    pub status: u64,
+    pub bytes: &'a [u8],
+    pub effect: Effect,
+}
+
+/// How far the message of a blocked thread is.
+#[derive(Clone, Copy, Debug, PartialEq, Eq)]
+pub(crate) enum Stage {
+    /// It stands in a line.
+    Queued,
+    /// It was received and is not served.
+    Taken,
+    /// It was served and is not answered.
+    Waiting,
+}
+
+/// What a thread is doing. Its message stays where it is, however far it is.
+#[derive(Drop)]
+pub(crate) enum Doing {
+    Ready,
+    Sent(Stage, Sent),
+    Answered(Answer),
+}
+
 /// A thread, with the room for its replies, which is here exactly if the thread's row has it and its message is not served
 /// and unanswered.
 #[derive(Drop)]
 pub struct ThreadCell {
-    row: ThreadRow,
+    doing: Doing,
+    prio: Prio,
+    calls: u64,
+    has_room: bool,
     room: Option<Room>,
 }
 
@@ -24,15 +57,16 @@ impl Model for ThreadCell {
     ghost use Rattle.std.specs.Prelude.{◌≡◌, IsTrue, is_some};
     ghost use Rattle.qx_machine.specs.declared.rows.ThreadRow.{ThreadRow};
     ghost use Rattle.qx_process.specs.Reads.{has_own_room, is_blocked, IsRanked};
+    ghost use Rattle.qx_process.specs.inner.States.{row_of};
 
     ghost Value = { ThreadRow };
 
-    ghost view = { λ c. c.row };
+    ghost view = { λ c. row_of c.doing c.prio c.calls c.has_room };
 
     ghost invariant = { λ c. record {
-      room : is_some c.room ≡ has_own_room c.row;
-      blocked : IsTrue (is_blocked c.row.state) → IsTrue c.row.has_room;
-      ranked : IsRanked c.row;
+      room : is_some c.room ≡ has_own_room (row_of c.doing c.prio c.calls c.has_room);
+      blocked : IsTrue (is_blocked (row_of c.doing c.prio c.calls c.has_room).state) → IsTrue c.has_room;
+      ranked : IsRanked (row_of c.doing c.prio c.calls c.has_room);
     } };
 }
 
@@ -42,21 +76,85 @@ impl ThreadCell {
         requires priority { IsPriority prio.0 }
         ensures row { result ≡ new_thread prio.0 }
     {
-        let row = ThreadRow {
-            state: State::Ready,
+        ThreadCell {
+            doing: Doing::Ready,
             prio,
             calls: 0,
             has_room: false,
-        };
-        ThreadCell { row, room: None }
+            room: None,
+        }
     }
 
-    /// The thread's row.
-    pub fn row(&self) -> &ThreadRow
-        ensures row { result.now ≡ self.now }
-        ensures priorities { IsRanked result.now }
+    /// The thread's priority.
+    pub fn prio(&self) -> Prio
+        ensures priority { result ≡ self.now.prio }
+        ensures in_range { IsPriority result.0 }
     {
-        &self.row
+        self.prio
+    }
+
+    /// How many calls the thread has made.
+    pub fn calls(&self) -> u64
+        ensures calls { result ≡ self.now.calls }
+    {
+        self.calls
+    }
+
+    /// Whether the thread waits for nothing, and has no answer to take.
+    pub fn is_ready(&self) -> bool
+        ensures ready { result ≡ is_ready self.now.state }
+    {
+        matches!(self.doing, Doing::Ready)
+    }
+
+    /// Whether the thread waits for an answer (System Architecture: the SEND-blocked and REPLY-blocked states).
+    pub fn is_blocked(&self) -> bool
+        ensures blocked { result ≡ is_blocked self.now.state }
+    {
+        matches!(self.doing, Doing::Sent(..))
+    }
+
+    /// The thread's message, if it stands in a line.
+    pub fn queued(&self) -> Option<&Sent>
+        ensures message { option_copied result ≡ queued_in self.now.state }
+        ensures priority { IfSome result (λ sent. IsPriority sent.now.target.prio.0) }
+    {
+        match &self.doing {
+            Doing::Sent(Stage::Queued, sent) => Some(sent),
+            _ => None,
+        }
+    }
+
+    /// The thread's message, if it was received and is not served.
+    pub fn taken(&self) -> Option<&Sent>
+        ensures message { option_copied result ≡ taken_in self.now.state }
+        ensures priority { IfSome result (λ sent. IsPriority sent.now.target.prio.0) }
+    {
+        match &self.doing {
+            Doing::Sent(Stage::Taken, sent) => Some(sent),
+            _ => None,
+        }
+    }
+
+    /// The thread's message, if it was received and is not answered.
+    pub fn unanswered(&self) -> Option<&Sent>
+        ensures message { option_copied result ≡ unanswered_in self.now.state }
+        ensures priority { IfSome result (λ sent. IsPriority sent.now.target.prio.0) }
+    {
+        match &self.doing {
+            Doing::Sent(Stage::Taken | Stage::Waiting, sent) => Some(sent),
+            _ => None,
+        }
+    }
+
+    /// The thread's answer, if it has one that it has not taken.
+    pub fn answered(&self) -> Option<&Answer>
+        ensures answer { option_copied result ≡ answer_in self.now.state }
+    {
+        match &self.doing {
+            Doing::Answered(answer) => Some(answer),
+            _ => None,
+        }
     }
 
     /// The thread has sent a message, and is blocked until it is answered; the room for the reply is the one that is there,
@@ -71,9 +169,9 @@ impl ThreadCell {
         if self.room.is_none() {
             self.room = Some(Room::new(alloc)?);
         }
-        self.row.state = State::Queued(sent);
-        self.row.calls += 1;
-        self.row.has_room = true;
+        self.doing = Doing::Sent(Stage::Queued, sent);
+        self.calls += 1;
+        self.has_room = true;
         Ok(())
     }
 
@@ -81,10 +179,11 @@ impl ThreadCell {
     pub fn take(&mut self)
         ensures row { self.new ≡ taken_thread self.old }
     {
-        self.row.state = match mem::replace(&mut self.row.state, State::Ready) {
-            State::Queued(sent) => State::Taken(sent),
-            state => state,
-        };
+        if let Doing::Sent(stage, _) = &mut self.doing {
+            if let Stage::Queued = *stage {
+                *stage = Stage::Taken;
+            }
+        }
     }
 
     /// The thread's message, which was received, is asked to unblock it (C Library Reference: `ChannelCreate`,
@@ -92,10 +191,8 @@ impl ThreadCell {
     pub fn ask_unblock(&mut self)
         ensures row { self.new ≡ asked_thread self.old }
     {
-        match &mut self.row.state {
-            State::Taken(sent) => sent.is_asked = true,
-            State::Waiting(sent) => sent.is_asked = true,
-            _ => {}
+        if let Doing::Sent(Stage::Taken | Stage::Waiting, sent) = &mut self.doing {
+            sent.is_asked = true;
         }
     }
 
@@ -109,22 +206,11 @@ impl ThreadCell {
         let Some(room) = self.room.take() else {
             unreachable!();
         };
-        let State::Taken(
-            Sent {
-                target,
-                is_asked,
-                bytes,
-            },
-        ) = mem::replace(&mut self.row.state, State::Ready)
-        else {
+        let Doing::Sent(stage, sent) = &mut self.doing else {
             unreachable!();
         };
-        let gone = room.inline(&[]);
-        self.row.state = State::Waiting(Sent {
-            target,
-            is_asked,
-            bytes: gone,
-        });
+        *stage = Stage::Waiting;
+        let bytes = mem::replace(&mut sent.bytes, room.inline(&[]));
         (bytes, room)
     }
 
@@ -132,13 +218,13 @@ impl ThreadCell {
     pub fn hand_back(&mut self, bytes: MessageBytes, room: Room)
         ensures row { self.new ≡ unserved_thread bytes self.old }
     {
-        self.row.state = match mem::replace(&mut self.row.state, State::Ready) {
-            State::Waiting(sent) => {
+        if let Doing::Sent(stage, sent) = &mut self.doing {
+            if let Stage::Waiting = *stage {
+                *stage = Stage::Taken;
+                sent.bytes = bytes;
                 self.room = Some(room);
-                State::Taken(Sent { bytes, ..sent })
             }
-            state => state,
-        };
+        }
     }
 
     /// The thread gets an answer, and with it the room for its replies, unless the answer took that along or it never went
@@ -147,11 +233,23 @@ impl ThreadCell {
         requires room { BringsRoom answer room (Some self.old) }
         ensures row { self.new ≡ answered_thread answer self.old }
     {
-        if let State::Waiting(_) = self.row.state {
-            self.row.has_room = room.is_some();
+        if let Doing::Sent(Stage::Waiting, _) = &self.doing {
+            self.has_room = room.is_some();
             self.room = room;
         }
-        self.row.state = State::Answered(answer);
+        self.doing = Doing::Answered(answer);
+    }
+
+    /// The thread, whose message was served, gets a reply. Few bytes leave it the room for its replies, and more take that
+    /// along (C Library Reference: `MsgReply`).
+    pub fn reply(&mut self, status: u64, reply: &[u8], room: Room)
+        requires waiting { IsTrue (is_waiting self.old.state) }
+        requires fits { length reply.now ≤ BODY }
+        ensures row { self.new ≡ answered_thread (Reply status reply.now) self.old }
+    {
+        let mut room = Some(room);
+        let bytes = reply_bytes(&mut room, reply);
+        self.answer(Answer::Reply(status, bytes), room);
     }
 
     /// The thread gets another priority (C Library Reference: `SchedSet`).
@@ -159,7 +257,7 @@ impl ThreadCell {
         requires priority { IsPriority prio.0 }
         ensures row { self.new ≡ ranked_thread prio.0 self.old }
     {
-        self.row.prio = prio;
+        self.prio = prio;
     }
 
     /// The thread's answer, after which it is ready; none where it has none, and then nothing changes.
@@ -167,12 +265,12 @@ impl ThreadCell {
         ensures answer { result ≡ answer_in self.old.state }
         ensures row { MatchOption result (self.new ≡ self.old) (λ _. self.new ≡ ready_thread self.old) }
     {
-        match mem::replace(&mut self.row.state, State::Ready) {
-            State::Answered(answer) => Some(answer),
-            state => {
-                self.row.state = state;
-                None
-            }
+        if !matches!(self.doing, Doing::Answered(_)) {
+            return None;
+        }
+        match mem::replace(&mut self.doing, Doing::Ready) {
+            Doing::Answered(answer) => Some(answer),
+            _ => unreachable!(),
         }
     }
 
@@ -181,9 +279,9 @@ impl ThreadCell {
     pub fn into_received(self, alloc: Global) -> MessageBytes
         ensures bytes { result ≡ received_in self.state }
     {
-        let ThreadCell { row, room: _ } = self;
-        match row.state {
-            State::Taken(sent) => sent.bytes,
+        let ThreadCell { doing, .. } = self;
+        match doing {
+            Doing::Sent(Stage::Taken, sent) => sent.bytes,
             _ => MessageBytes::inline(alloc, &[]),
         }
     }

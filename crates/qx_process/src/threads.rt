@@ -1,16 +1,12 @@
 //! The threads of a process, from 1: a place for each number.
 
-ghost use Rattle.std.specs.Prelude.{◌≡◌, ◌≤◌, [], ◌∷◌, Some, None, map, replicate, IfSome};
-ghost use Rattle.std.specs.Option.{option_copied};
+ghost use Rattle.std.specs.Prelude.{◌≡◌, ◌≤◌, [], ◌∷◌, Some, None, map, replicate};
 ghost use Rattle.qx_types.specs.declared.limits.TheConstants.Limits.{THREADS};
 ghost use Rattle.qx_machine.specs.Processes.{new_thread, received_by};
-ghost use Rattle.qx_machine.specs.Rows.{row_at};
-ghost use Rattle.qx_process.specs.Reads.{IsPriority, IsRanked};
+ghost use Rattle.qx_process.specs.Reads.{IsPriority};
 
-use crate::places;
 use crate::thread::ThreadCell;
 use arrayvec::ArrayVec;
-use qx_machine::ThreadRow;
 use qx_types::{Limits, MessageBytes, Prio};
 use std::alloc::Global;
 
@@ -35,17 +31,6 @@ pub fn new_threads(count: u8, prio: Prio) -> Threads
         threads.push(Some(ThreadCell::new(prio)));
     }
     threads
-}
-
-/// A thread's row.
-pub fn thread_row(threads: &Threads, thread: u8) -> Option<&ThreadRow>
-    ensures row { option_copied result ≡ row_at threads.now.items thread }
-    ensures priorities { IfSome result (λ row. IsRanked row.now) }
-{
-    match places::row(threads.as_slice(), thread as usize) {
-        Some(cell) => Some(cell.row()),
-        None => None,
-    }
 }
 
 /// All threads go, and what workers hold of them is kept.

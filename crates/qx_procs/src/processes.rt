@@ -1,6 +1,6 @@
 //! The processes of a user, from 1: a place for each number.
 
-ghost use Rattle.std.specs.Prelude.{◌≡◌, ◌∷◌, ◌<◌, ◌≤◌, [], None, length, slice_set, IsErr, IsOk, IfSome, IfOk, OnOk, OnErr, OnSome};
+ghost use Rattle.std.specs.Prelude.{◌≡◌, ◌∷◌, ◌<◌, ◌≤◌, [], None, length, slice_set, IsErr, IsOk, IfOk, OnOk, OnErr, OnSome};
 ghost use Rattle.std.specs.Option.{option_copied, option_copied_mut};
 ghost use Rattle.std.specs.Borrow.{sem};
 ghost use Rattle.std.specs.List.{list_any, sum_by};
@@ -11,9 +11,8 @@ ghost use Rattle.qx_machine.specs.Processes.{ended, living, with_connection, wit
 ghost use Rattle.qx_machine.specs.Rows.{row_at, with_row};
 ghost use Rattle.qx_procs.specs.Calls.{has_ended_in, spawn_outcome, spawned, done_or, after_or, with_prio, new_connection_number, with_new_side, EndsAt, LosesAt};
 ghost use Rattle.qx_machine.specs.Parts.{connection_of, thread_of};
-ghost use Rattle.qx_process.specs.Reads.{IsRanked};
 
-use qx_machine::{Connection, ServerName, ThreadRow};
+use qx_machine::{Connection, ServerName};
 use qx_process::{LostServers, Process, ThreadCell, places};
 use qx_types::{Coid, Errno, Limits, Manager, Outcome, Prio};
 use std::alloc::{AllocError, Global};
@@ -89,9 +88,8 @@ impl Processes {
     }
 
     /// A thread's row; none where it is not there.
-    pub fn thread(&self, process: u8, thread: u8) -> Option<&ThreadRow>
+    pub fn thread(&self, process: u8, thread: u8) -> Option<&ThreadCell>
         ensures row { option_copied result ≡ thread_of thread (row_at self.now process) }
-        ensures priorities { IfSome result (λ row. IsRanked row.now) }
     {
         self.process(process)?.thread(thread)
     }

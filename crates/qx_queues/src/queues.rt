@@ -93,9 +93,9 @@ impl Queues {
         let Some(own) = self.nodes.at(thread) else {
             unreachable!();
         };
-        let waiting = Waiting::new(queued_message(thread, prio));
         let line = &mut self.lines[manager.number()];
-        put_in(&mut self.table, line, own.message, waiting);
+        let message = queued_message(thread, prio);
+        put_in(&mut self.table, line, own.message, message);
     }
 
     /// Takes the first item of a line, a message or a pulse (C Library Reference: `MsgReceive`); the node of a disconnect pulse
@@ -139,9 +139,9 @@ impl Queues {
         let Some(own) = self.nodes.at(thread) else {
             unreachable!();
         };
-        let waiting = Waiting::new(queued_unblock(thread, call, prio));
         let line = &mut self.lines[manager.number()];
-        put_in(&mut self.table, line, own.unblock, waiting);
+        let pulse = queued_unblock(thread, call, prio);
+        put_in(&mut self.table, line, own.unblock, pulse);
         self.nodes.set_asked(thread, Some(manager));
     }
 
@@ -331,9 +331,9 @@ impl Queues {
         let Some(node) = self.nodes.disconnect(proc, server.manager) else {
             unreachable!();
         };
-        let waiting = Waiting::new(queued_disconnect(proc, server));
         let line = &mut self.lines[server.manager.number()];
-        put_in(&mut self.table, line, node, waiting);
+        let pulse = queued_disconnect(proc, server);
+        put_in(&mut self.table, line, node, pulse);
         self.nodes.set_disconnect(proc, server.manager, None);
     }
 }
@@ -393,21 +393,25 @@ fn new_node(table: &mut Table<Waiting>, waiting: Waiting) -> usize
     }
 }
 
-/// A node stands for another item from now on.
-fn set_entry(table: &mut Table<Waiting>, node: usize, waiting: Waiting)
+/// A node stands for another item from now on, and carries nothing.
+fn set_entry(table: &mut Table<Waiting>, node: usize, queued: Queued)
     requires there { ContainsNode table.old node }
-    ensures set { table.new ≡ with_value table.old node waiting }
+    requires lowest { 1 ≤ queued.prio.0 }
+    requires highest { queued.prio.0 ≤ PRIORITY }
+    ensures set { table.new ≡ with_value table.old node (idle queued) }
 {
-    *table.value_mut(node) = waiting;
+    table.value_mut(node).stand_for(queued);
 }
 
 /// Puts a free node, which stands for an item from now on, into a line.
-fn put_in(table: &mut Table<Waiting>, line: &mut Line, node: usize, waiting: Waiting)
+fn put_in(table: &mut Table<Waiting>, line: &mut Line, node: usize, queued: Queued)
     requires line { IsLineOf rank_of table.old line.old }
     requires free { IsFree table.old node }
-    ensures put { PutIn table.old table.new line.old line.new node waiting }
+    requires lowest { 1 ≤ queued.prio.0 }
+    requires highest { queued.prio.0 ≤ PRIORITY }
+    ensures put { PutIn table.old table.new line.old line.new node (idle queued) }
 {
-    set_entry(table, node, waiting);
+    set_entry(table, node, queued);
     lines::put(line, table, node);
 }
 

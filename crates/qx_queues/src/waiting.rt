@@ -117,6 +117,19 @@ impl Waiting {
         }
     }
 
+    /// The node stands for another item from now on, and carries nothing.
+    pub(crate) fn stand_for(&mut self, queued: Queued)
+        requires lowest { 1 ≤ queued.prio.0 }
+        requires highest { queued.prio.0 ≤ PRIORITY }
+        ensures entry { self.new ≡ idle queued }
+    {
+        self.queued = queued;
+        // Most carry nothing already, and a whole slot is not written for that.
+        if !matches!(&self.slot, Slot::Empty) {
+            self.slot = Slot::Empty;
+        }
+    }
+
     /// The item with its priority.
     pub fn queued(&self) -> Queued
         ensures entry { result ≡ self.now.queued }

@@ -17,11 +17,12 @@ ghost use Rattle.qx_requests.specs.Targets.{HasRest};
 ghost use Rattle.qx_requests.specs.inner.Targets.{IsConnection};
 
 use crate::content::is_in_ranges;
-use qx_machine::{Addressed, Connection, Over, State, Target, ThreadRow};
+use crate::refusal::Refusal;
+use qx_machine::{Addressed, Connection, Over, Target};
 use qx_paths::{Mounts, Path, Resolved, read_path};
-use qx_process::Process;
+use qx_process::{Process, ThreadCell};
 use qx_procs::Processes;
-use qx_types::{Coid, Config, Errno, Limits, Outcome, Prio, Request, Thread, User};
+use qx_types::{Coid, Config, Errno, Limits, Prio, Request, Thread, User};
 
 /// Where a call of a thread goes, by the mounts and the processes of its user, or the outcome of one that sends nothing:
 /// `WrongState` where the thread is not there or not ready; then EINVAL for fields out of their ranges, EAGAIN where the
@@ -34,7 +35,7 @@ pub fn target_by<'a>(
     processes: &Processes,
     thread: Thread,
     request: &'a Request,
-) -> Result<Addressed<'a>, Outcome>
+) -> Result<Addressed<'a>, Refusal>
     ensures ready { IfOk result (λ _. option_map (λ row. row.state) (thread_of thread.tid (row_at processes.now thread.proc.num)) ≡ Some Ready) }
     ensures countable { IfOk result (λ _. CanCall (thread_of thread.tid (row_at processes.now thread.proc.num))) }
     ensures goes { IfOk result (λ addressed. CanGo addressed.target) }
@@ -44,26 +45,27 @@ pub fn target_by<'a>(
     ensures target { result ≡ clients.target_by config.now thread.proc.user.0 (mounts_of mounts.now thread.proc.user.0) processes.now thread request.now }
 {
     let Some(process) = processes.process(thread.proc.num) else {
-        return Err(Outcome::WrongState);
+        return Err(Refusal::wrong_state());
     };
     let Some(row) = process.thread(thread.tid) else {
-        return Err(Outcome::WrongState);
+        return Err(Refusal::wrong_state());
     };
     may_call(row, request)?;
+    let prio = row.prio();
     match request {
         Request::OpenPath { path, .. } => {
             let place = place_of(config, thread.proc.user, mounts, path.as_slice())?;
             let coid = Coid(free_connection(process)?);
-            to_place(processes, process, place, Over::New(coid), row.prio)
+            to_place(processes, process, place, Over::New(coid), prio)
         }
         Request::StatPath { path } | Request::Unlink { path } | Request::Mkdir { path, .. } => {
             let place = place_of(config, thread.proc.user, mounts, path.as_slice())?;
-            to_place(processes, process, place, Over::Side, row.prio)
+            to_place(processes, process, place, Over::Side, prio)
         }
         Request::Dup { coid } => {
             let connection = connection_at(process, *coid)?;
             let other = Coid(free_connection(process)?);
-            Ok(to_connection(connection, Over::New(other), row.prio))
+            Ok(to_connection(connection, Over::New(other), prio))
         }
         Request::Read { coid, .. }
         | Request::Write { coid, .. }
@@ -75,23 +77,23 @@ pub fn target_by<'a>(
         | Request::Notify { coid, .. }
         | Request::Raw { coid, .. } => {
             let connection = connection_at(process, *coid)?;
-            Ok(to_connection(connection, Over::Existing(*coid), row.prio))
+            Ok(to_connection(connection, Over::Existing(*coid), prio))
         }
     }
 }
 
 /// Whether a thread may make a call with these fields.
-fn may_call(row: &ThreadRow, request: &Request) -> Result<(), Outcome>
-    ensures { result ≡ calls.may_call row.now request.now }
+fn may_call(thread: &ThreadCell, request: &Request) -> Result<(), Refusal>
+    ensures { result ≡ calls.may_call thread.now request.now }
 {
-    let State::Ready = &row.state else {
-        return Err(Outcome::WrongState);
-    };
-    if !is_in_ranges(request) {
-        return Err(Outcome::Refused(Errno::EINVAL));
+    if !thread.is_ready() {
+        return Err(Refusal::wrong_state());
     }
-    if row.calls >= Limits::CALLS {
-        return Err(Outcome::Refused(Errno::EAGAIN));
+    if !is_in_ranges(request) {
+        return Err(Refusal::refused(Errno::EINVAL));
+    }
+    if thread.calls() >= Limits::CALLS {
+        return Err(Refusal::refused(Errno::EAGAIN));
     }
     Ok(())
 }
@@ -102,14 +104,14 @@ fn place_of<'a>(
     user: User,
     mounts: &Mounts,
     path: &'a [u8],
-) -> Result<Resolved<'a>, Outcome>
+) -> Result<Resolved<'a>, Refusal>
     ensures rest { IfOk result (λ place. is_rest place.rest ≡ true) }
     ensures place { result ≡ or_refused (calls.place_of config.now user.0 (mounts_of mounts.now user.0) path.now) }
 {
-    let path = read_path(path).map_err(Outcome::Refused)?;
+    let path = read_path(path).map_err(Refusal::refused)?;
     let place = mounts
         .resolve(config, user, &path)
-        .map_err(Outcome::Refused)?;
+        .map_err(Refusal::refused)?;
     place.rest.know();
     Ok(place)
 }
@@ -121,11 +123,11 @@ fn to_place<'a>(
     place: Resolved<'a>,
     over: Over,
     prio: Prio,
-) -> Result<Addressed<'a>, Outcome>
+) -> Result<Addressed<'a>, Refusal>
     ensures { result ≡ calls.to_place processes.now process.now place.entry over prio }
 {
     if !processes.can_serve(process, place.manager) {
-        return Err(Outcome::Refused(Errno::EAGAIN));
+        return Err(Refusal::refused(Errno::EAGAIN));
     }
     Ok(Addressed {
         target: Target {
@@ -154,30 +156,30 @@ fn to_connection<'a>(connection: Connection, over: Over, prio: Prio) -> Addresse
 }
 
 /// A connection that is there, which has a number from 3 to 66.
-fn connection_at(process: &Process, coid: Coid) -> Result<Connection, Outcome>
+fn connection_at(process: &Process, coid: Coid) -> Result<Connection, Refusal>
     ensures number { IfOk result (λ _. IsConnection coid.0) }
     ensures served { IfOk result (λ connection. is_served connection.manager process.now ≡ true) }
     ensures connection { result ≡ calls.connection_at coid.0 process.now }
 {
     let number = usize::from(coid.0);
     if number < Limits::FIRST_CONNECTION || number > Limits::LAST_CONNECTION {
-        return Err(Outcome::Refused(Errno::EBADF));
+        return Err(Refusal::refused(Errno::EBADF));
     }
     match process.conn_of(coid) {
         Some(connection) => Ok(*connection),
-        None => Err(Outcome::Refused(Errno::EBADF)),
+        None => Err(Refusal::refused(Errno::EBADF)),
     }
 }
 
 /// The number of a connection that is free.
-fn free_connection(process: &Process) -> Result<u8, Outcome>
+fn free_connection(process: &Process) -> Result<u8, Refusal>
     ensures number { IfOk result (λ coid. coid ≤ LAST_CONNECTION) }
     ensures unused { IfOk result (λ coid. row_at process.now.connections coid ≡ None) }
     ensures free { result ≡ calls.free_connection process.now }
 {
     let number = process.free_connection();
     if number > Limits::LAST_CONNECTION {
-        return Err(Outcome::Refused(Errno::EMFILE));
+        return Err(Refusal::refused(Errno::EMFILE));
     }
     Ok(number as u8)
 }

@@ -1,11 +1,14 @@
 //! How a call of a thread is judged, and what its request sends.
 //!
 //! - `judge.rt`: how a call of a thread is judged, by the processes of its user
+//! - `refusal.rt`: why a call sends nothing
 //! - `content.rt`: the message that a request sends, whether that is in its ranges, and its bytes
 #![tactic(auto)]
 
 pub mod content;
 pub mod judge;
+pub mod refusal;
 
 pub use content::encoded;
 pub use judge::target_by;
+pub use refusal::Refusal;

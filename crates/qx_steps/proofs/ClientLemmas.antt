@@ -36,7 +36,8 @@ use Rattle.qx_machine.proofs.Living.{message-keeps}
 use Rattle.qx_process.proofs.RowLemmas.{set-row, with_row-none}
 use Rattle.qx_resources.specs.State.{told, Kept}
 use Rattle.qx_procs.specs.Calls.{after_or, spawn_outcome, spawned, with_prio}
-use Rattle.qx_chan.specs.Calls.{answer_of, queued_in}
+use Rattle.qx_chan.specs.Calls.{answer_of}
+use Rattle.qx_process.specs.Reads.{queued_in}
 use Rattle.qx_chan.specs.Channel.{Channel, IsExisting, after_asking, after_ranking, after_send, after_spawn, after_taking, after_withdrawing, failed, lists}
 use Rattle.qx_chan.specs.Users.{prio_outcome_in, spawn_number_in, thread_row, IsThreadReady}
 use Rattle.qx_requests.specs.Targets.{HasRest}

@@ -23,9 +23,9 @@ use crate::performing::{free_ended, free_one, named_thread, perform};
 use crate::work::{PerformFault, Work, WorkRef};
 use qx_attr::Reply;
 use qx_chan::Channel;
-use qx_machine::{Addressed, Held, OwnItem, Queued, Sent, State};
+use qx_machine::{Addressed, Held, OwnItem, Queued, Sent};
 use qx_process::places;
-use qx_requests::{encoded, target_by};
+use qx_requests::{Refusal, encoded, target_by};
 use qx_resources::{AllResources, NewMount};
 use qx_types::{
     Answer, Bytes, Config, Item, Manager, MessageBytes, NoMemory, Outcome, Prio, Proc, Request,
@@ -160,13 +160,12 @@ impl World {
         ensures outcome { result ≡ (machine.step self.old (Step.Interrupt thread)).outcome }
         ensures world { self.new ≡ (machine.step self.old (Step.Interrupt thread)).world }
     {
-        let Some(row) = self.channel.thread(thread) else {
+        let Some(cell) = self.channel.thread(thread) else {
             return Outcome::WrongState;
         };
-        if let State::Queued(_) = row.state {
-            self.channel.withdraw(thread);
-        } else {
-            self.channel.ask_unblock(thread);
+        match cell.queued() {
+            Some(_) => self.channel.withdraw(thread),
+            None => self.channel.ask_unblock(thread),
         }
         Outcome::Done
     }
@@ -194,12 +193,12 @@ impl World {
                 self.channel.send(self.alloc, thread, sent)?;
                 Ok(Outcome::Sent)
             }
-            Err(outcome) => Ok(outcome),
+            Err(refusal) => Ok(refusal.outcome()),
         }
     }
 
-    /// Where a call goes, or the outcome of one that goes nowhere.
-    fn judge<'a>(&self, thread: Thread, request: &'a Request) -> Result<Addressed<'a>, Outcome>
+    /// Where a call goes, or why it goes nowhere.
+    fn judge<'a>(&self, thread: Thread, request: &'a Request) -> Result<Addressed<'a>, Refusal>
         ensures ready { IfOk result (λ _. IsThreadReady (row_among_parts self.now.parts thread)) }
         ensures countable { IfOk result (λ _. CanCall (row_among_parts self.now.parts thread)) }
         ensures goes { IfOk result (λ addressed. CanGo addressed.target) }
@@ -210,7 +209,7 @@ impl World {
     {
         let user = thread.proc.user;
         let Some(processes) = self.channel.processes(user) else {
-            return Err(Outcome::WrongState);
+            return Err(Refusal::wrong_state());
         };
         let mounts = self.channel.mounts();
         target_by(&self.config, mounts, processes, thread, request)
@@ -269,7 +268,7 @@ impl World {
         ensures { result ≡ is_thread_ready (row_among_parts self.now.parts thread) }
     {
         match self.channel.thread(thread) {
-            Some(row) => matches!(row.state, State::Ready),
+            Some(cell) => cell.is_ready(),
             None => false,
         }
     }
@@ -420,12 +419,12 @@ impl World {
         ensures { option_copied result ≡ received_bytes thread.tid (process_among_parts self.now.parts thread.proc) }
     {
         let process = self.channel.process(thread.proc)?;
-        let Some(row) = process.thread(thread.tid) else {
+        let Some(cell) = process.thread(thread.tid) else {
             return process.held(thread.tid);
         };
-        match &row.state {
-            State::Taken(sent) => Some(&sent.bytes),
-            _ => process.held(thread.tid),
+        match cell.taken() {
+            Some(sent) => Some(&sent.bytes),
+            None => process.held(thread.tid),
         }
     }
 
@@ -440,10 +439,7 @@ impl World {
     pub fn answer(&self, thread: Thread) -> Option<&Answer>
         ensures { option_copied result ≡ answer_of (row_among_parts self.now.parts thread) }
     {
-        match &self.channel.thread(thread)?.state {
-            State::Answered(answer) => Some(answer),
-            _ => None,
-        }
+        self.channel.thread(thread)?.answered()
     }
 
     /// Whether a thread has an answer that it has not yet taken. False for a thread that is not there.
@@ -459,10 +455,7 @@ impl World {
         ensures { result ≡ is_thread_blocked (row_among_parts self.now.parts thread) }
     {
         match self.channel.thread(thread) {
-            Some(row) => matches!(
-                row.state,
-                State::Queued(_) | State::Taken(_) | State::Waiting(_)
-            ),
+            Some(cell) => cell.is_blocked(),
             None => false,
         }
     }

@@ -7,7 +7,7 @@ pub returns-in_ok-free_connection-in-OpenPath-clause-place :
     goal.returns-in_ok-free_connection-in-OpenPath-clause-place
 returns-in_ok-free_connection-in-OpenPath-clause-place c =
     let coid = c.in_ok-free_connection-in-OpenPath.field-0 in
-    place_attaches c.args.processes.now c.in-Some.process.now c.in_ok-place-in-OpenPath.place (New (record { 0 = coid })) c.in-Some-thread.row.now.prio _ c.to_place.ensures c.args.thread.proc.num c.in-Some.ensures.row (λ place. (c.in_ok-free_connection-in-OpenPath.ensures.unused, place))
+    place_attaches c.args.processes.now c.in-Some.process.now c.in_ok-place-in-OpenPath.place (New (record { 0 = coid })) _ _ c.to_place.ensures c.args.thread.proc.num c.in-Some.ensures.row (λ place. (c.in_ok-free_connection-in-OpenPath.ensures.unused, place))
 
 pub returns-in_ok-place-in-StatPath-clause-sendable :
     goal.returns-in_ok-place-in-StatPath-clause-sendable
@@ -15,9 +15,9 @@ returns-in_ok-place-in-StatPath-clause-sendable c =
     let asked = c.args.request.now in
     let valid = valid_call c.in-Some-thread.row.now asked (subst IsOk c.in_ok-may_call.ensures refl) in
     let sends = side_sends asked c.in-StatPath.path c.in-StatPath.is c.in_ok-place-in-StatPath.place.rest valid c.in_ok-place-in-StatPath.ensures.rest in
-    place_sends c.args.processes.now c.in-Some.process.now c.in_ok-place-in-StatPath.place Side c.in-Some-thread.row.now.prio _ c.to_place-in-StatPath.ensures asked sends
+    place_sends c.args.processes.now c.in-Some.process.now c.in_ok-place-in-StatPath.place Side _ _ c.to_place-in-StatPath.ensures asked sends
 
 pub returns-in_ok-place-in-StatPath-clause-place :
     goal.returns-in_ok-place-in-StatPath-clause-place
 returns-in_ok-place-in-StatPath-clause-place c =
-    place_attaches c.args.processes.now c.in-Some.process.now c.in_ok-place-in-StatPath.place Side c.in-Some-thread.row.now.prio _ c.to_place-in-StatPath.ensures c.args.thread.proc.num c.in-Some.ensures.row (λ place. place)
+    place_attaches c.args.processes.now c.in-Some.process.now c.in_ok-place-in-StatPath.place Side _ _ c.to_place-in-StatPath.ensures c.args.thread.proc.num c.in-Some.ensures.row (λ place. place)

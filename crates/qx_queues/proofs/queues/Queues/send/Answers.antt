@@ -27,20 +27,20 @@ put_in-requires-clause-free c =
 
 pub invariant_of-self : goal.invariant_of-self
 invariant_of-self c =
-    let placed : c.new-waiting.result.queued ≡ message_of c.args.thread c.args.prio.0 = ap (λ w. w.queued) c.new-waiting.ensures.entry ∙ c.queued_message.ensures.message in
+    let placed : c.queued_message-message.result ≡ message_of c.args.thread c.args.prio.0 = c.queued_message-message.ensures.message in
     let is : slice_get c.self.inside.lines.items c.number.result ≡ Some c.index_mut-line.result.now = slice_get_read c.self.inside.lines.items COUNT c.number.result c.index_mut-line.result.now (sym c.self.invariant.0) c.number.ensures.few c.index_mut-line.ensures.value in
     let has : node_of c.self.inside.nodes (Message c.args.thread) ≡ Some c.in-Some.own.message = ap (option_map (λ own. own.message)) (sym c.at.ensures.own ∙ c.in-Some.is) in
     let free : IsFree c.self.inside.table c.in-Some.own.message = IsFree-own as_message c.args.thread (Message c.args.thread) (reads-message c.args.thread) c.self.inside.table _ _ _ c.self.invariant.1 has (rw (← c.self.view_is) at c.requires.idle) (no_call-message c.self.inside.table _ _ c.args.thread _ c.self.invariant.1 has (rw (← c.self.view_is) at c.requires.no_call.waiting) (rw (← c.self.view_is) at c.requires.no_call.answered)) in
     let within : c.number.result < length (map (entries c.self.inside.table) c.self.inside.lines.items) = omega (arith, length-map c.self.inside.lines.items (entries c.self.inside.table), c.self.invariant.0, c.number.ensures.few) in
     let shown : map (entries c.put_in.new.table) (slice_set c.self.inside.lines.items c.number.result c.put_in.new.line) ≡ with_line (map (entries c.self.inside.table) c.self.inside.lines.items) c.number.result (λ line. into rank line (message_of c.args.thread c.args.prio.0)) = rw (← placed) (shown-put c.self.inside.table _ _ c.number.result _ _ _ (Message c.args.thread) _ _ c.self.invariant.1 is has free c.put_in.ensures.put) in (
       length-set c.self.inside.lines.items c.number.result c.put_in.new.line ∙ c.self.invariant.0,
-      Kept-put c.self.inside.table _ _ c.number.result _ _ _ (Message c.args.thread) _ _ c.self.invariant.1 is has free c.put_in.ensures.put (rw (c.new-waiting.ensures.entry, c.queued_message.ensures.message) refl) refl (ap (λ w. w.load) c.new-waiting.ensures.entry),
+      Kept-put c.self.inside.table _ _ c.number.result _ _ _ (Message c.args.thread) _ _ c.self.invariant.1 is has free c.put_in.ensures.put (rw c.queued_message-message.ensures.message refl) refl refl,
       rw shown (pulses-sent _ c.number.result _ within c.self.invariant.2 rank c.args.thread c.args.prio.0),
     )
 
 pub returns : goal.returns
 returns c =
-    let placed : c.new-waiting.result.queued ≡ message_of c.args.thread c.args.prio.0 = ap (λ w. w.queued) c.new-waiting.ensures.entry ∙ c.queued_message.ensures.message in
+    let placed : c.queued_message-message.result ≡ message_of c.args.thread c.args.prio.0 = c.queued_message-message.ensures.message in
     let is : slice_get c.self.inside.lines.items c.number.result ≡ Some c.index_mut-line.result.now = slice_get_read c.self.inside.lines.items COUNT c.number.result c.index_mut-line.result.now (sym c.self.invariant.0) c.number.ensures.few c.index_mut-line.ensures.value in
     let has : node_of c.self.inside.nodes (Message c.args.thread) ≡ Some c.in-Some.own.message = ap (option_map (λ own. own.message)) (sym c.at.ensures.own ∙ c.in-Some.is) in
     let free : IsFree c.self.inside.table c.in-Some.own.message = IsFree-own as_message c.args.thread (Message c.args.thread) (reads-message c.args.thread) c.self.inside.table _ _ _ c.self.invariant.1 has (rw (← c.self.view_is) at c.requires.idle) (no_call-message c.self.inside.table _ _ c.args.thread _ c.self.invariant.1 has (rw (← c.self.view_is) at c.requires.no_call.waiting) (rw (← c.self.view_is) at c.requires.no_call.answered)) in

@@ -54,10 +54,10 @@ returns-in_ok-send-in-Ok-clause-world c =
 
 pub returns-in-Err-clause-outcome : goal.returns-in-Err-clause-outcome
 returns-in-Err-clause-outcome c =
-    let refused : target_in (world_of c.self.inside.config c.self.inside.channel c.self.inside.resources c.self.inside.hands.items) c.args.thread c.args.request.now ≡ Err c.in-Err.outcome = rw (← c.self.view_is) at (sym c.in-Err.ensures.target) in
-    rw (← c.self.view_is, call-refused c.self.inside.config c.self.inside.channel c.self.inside.resources c.self.inside.hands.items c.self.invariant c.args.thread c.args.request.now c.in-Err.outcome refused) refl
+    let refused : target_in (world_of c.self.inside.config c.self.inside.channel c.self.inside.resources c.self.inside.hands.items) c.args.thread c.args.request.now ≡ Err c.in-Err.refusal = rw (← c.self.view_is) at (sym c.in-Err.ensures.target) in
+    rw (← c.self.view_is, call-refused c.self.inside.config c.self.inside.channel c.self.inside.resources c.self.inside.hands.items c.self.invariant c.args.thread c.args.request.now c.in-Err.refusal refused) c.outcome.ensures.outcome
 
 pub returns-in-Err-clause-world : goal.returns-in-Err-clause-world
 returns-in-Err-clause-world c =
-    let refused : target_in (world_of c.self.inside.config c.self.inside.channel c.self.inside.resources c.self.inside.hands.items) c.args.thread c.args.request.now ≡ Err c.in-Err.outcome = rw (← c.self.view_is) at (sym c.in-Err.ensures.target) in
-    rw (← c.self.view_is, call-refused c.self.inside.config c.self.inside.channel c.self.inside.resources c.self.inside.hands.items c.self.invariant c.args.thread c.args.request.now c.in-Err.outcome refused) refl
+    let refused : target_in (world_of c.self.inside.config c.self.inside.channel c.self.inside.resources c.self.inside.hands.items) c.args.thread c.args.request.now ≡ Err c.in-Err.refusal = rw (← c.self.view_is) at (sym c.in-Err.ensures.target) in
+    rw (← c.self.view_is, call-refused c.self.inside.config c.self.inside.channel c.self.inside.resources c.self.inside.hands.items c.self.invariant c.args.thread c.args.request.now c.in-Err.refusal refused) refl

@@ -4,7 +4,7 @@ use Rattle.qx_steps.proofs.PartsLemmas.{process-told, thread_row-told}
 use Rattle.qx_steps.proofs.world.World.judge.Goals as goal
 
 pub returns-in_default-clause-target : goal.returns-in_default-clause-target
-returns-in_default-clause-target c = rw (← c.self.view_is) (judged-nobody c.self.inside.config c.self.inside.channel c.self.inside.resources c.self.inside.hands.items c.self.invariant c.args.thread c.args.request.now (sym c.in_default.ensures.row))
+returns-in_default-clause-target c = rw (← c.self.view_is, c.wrong_state.ensures.refusal) (judged-nobody c.self.inside.config c.self.inside.channel c.self.inside.resources c.self.inside.hands.items c.self.invariant c.args.thread c.args.request.now (sym c.in_default.ensures.row))
 
 pub returns-clause-ready : goal.returns-clause-ready
 returns-clause-ready c = rw (← c.self.view_is, thread_row-told c.self.inside.channel c.self.inside.resources c.args.thread c.self.invariant.users, ← c.in-Some.ensures.row) (judged-ready c.target_by.result _ c.target_by.ensures.ready)

@@ -8,8 +8,8 @@ returns-in_err-process c = rw (← c.self.view_is, process-told c.self.inside.ch
 pub returns-in_default : goal.returns-in_default
 returns-in_default c = rw (← c.self.view_is, process-told c.self.inside.channel c.self.inside.resources c.args.thread.proc c.self.invariant.users, ← c.process.ensures.row) (search rules)
 
-pub returns-in-Taken : goal.returns-in-Taken
-returns-in-Taken c = rw (← c.self.view_is, process-told c.self.inside.channel c.self.inside.resources c.args.thread.proc c.self.invariant.users, ← c.process.ensures.row) (search rules)
+pub returns-in-Some-taken : goal.returns-in-Some-taken
+returns-in-Some-taken c = rw (← c.self.view_is, process-told c.self.inside.channel c.self.inside.resources c.args.thread.proc c.self.invariant.users, ← c.process.ensures.row) (search rules)
 
-pub returns-in_default-state : goal.returns-in_default-state
-returns-in_default-state c = rw (← c.self.view_is, process-told c.self.inside.channel c.self.inside.resources c.args.thread.proc c.self.invariant.users, ← c.process.ensures.row) (search rules)
+pub returns-in-None : goal.returns-in-None
+returns-in-None c = rw (← c.self.view_is, process-told c.self.inside.channel c.self.inside.resources c.args.thread.proc c.self.invariant.users, ← c.process.ensures.row) (search rules)
