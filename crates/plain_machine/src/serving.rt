@@ -34,19 +34,29 @@ impl Plain {
         }
     }
 
-    /// Both managers have functions for all messages, but the pipe manager none for mknod.
     fn served(&mut self, thread: Thread, sent: &Sent, moment: u64) -> Result<Option<Reply>, Fault> {
-        let reading = read(sent.bytes.as_slice());
-        match (sent.manager, reading) {
-            (_, Reading::Malformed) => Err(Fault::Refused(Errno::EINVAL)),
-            (_, Reading::Unknown) | (Manager::Pipe, Reading::Known(Kind::Mknod)) => {
-                Err(Fault::Refused(Errno::ENOSYS))
-            }
-            (Manager::Pipe, Reading::Known(kind @ (Kind::Read | Kind::Write))) => {
+        match read(sent.bytes.as_slice()) {
+            Reading::Malformed => Err(Fault::Refused(Errno::EINVAL)),
+            Reading::Unknown => Err(Fault::Refused(Errno::ENOSYS)),
+            Reading::Known(kind) => self.done(thread, sent, moment, kind),
+        }
+    }
+
+    /// Both managers have functions for all messages, but the pipe manager none for mknod.
+    fn done(
+        &mut self,
+        thread: Thread,
+        sent: &Sent,
+        moment: u64,
+        kind: Kind,
+    ) -> Result<Option<Reply>, Fault> {
+        match (sent.manager, kind) {
+            (Manager::Pipe, Kind::Mknod) => Err(Fault::Refused(Errno::ENOSYS)),
+            (Manager::Pipe, Kind::Read | Kind::Write) => {
                 self.in_pipe(thread, sent, moment, kind)?;
                 Ok(None)
             }
-            (_, Reading::Known(kind)) => Ok(Some(self.replied(thread.proc, sent, moment, kind)?)),
+            _ => Ok(Some(self.replied(thread.proc, sent, moment, kind)?)),
         }
     }
 
