@@ -1,8 +1,8 @@
-//! A request, taken from its call to its answer by `calling`.
+//! A request, taken from its call to its answer by `ask`.
 
+use crate::calling::ask;
 use crate::same::first_thread;
 use crate::script::ran;
-use calling::ask;
 use qx_types::{Bytes, MessageBytes, NoMemory, OFlags, Outcome, Request, User};
 
 #[test]

@@ -1,15 +1,16 @@
-//! Tests of a traced world through its public calls.
+//! Tests of a traced world through its public calls, and an example of a caller of one (`docs/CALLING.md`).
 //!
 //! - `script.rt`, `same.rt`: the tests' steps, from lines of a script; two traces compared by all that can be seen of
 //!   them
 //! - `memory.rt`, `served.rt`: the steps whose memory is refused; those that are taken with no memory at all
 //! - `reads.rt`: what a script does not ask a trace and a world for
 //! - `nodes.rt`: a node of `Queues` that comes back
-//! - `asked.rt`: a request that `calling` takes from its call to its answer
+//! - `calling.rt`, `asked.rt`: the example, a request that is taken from its call to its answer; its test
 #![tactic(auto)]
 
 #[cfg(test)]
 mod asked;
+pub mod calling;
 #[cfg(test)]
 mod memory;
 #[cfg(test)]

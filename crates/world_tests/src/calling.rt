@@ -1,11 +1,9 @@
 //! A caller of a traced world: one request of a thread, from its call to its answer.
-#![tactic(auto)]
-
 ghost use Rattle.std.specs.Prelude.{◌≡◌, ◌++◌, ◌∷◌, [], IfErr, OnOk};
 ghost use Rattle.qx_machine.specs.Machine.{step};
 ghost use Rattle.qx_machine.specs.Runs.{run};
 ghost use Rattle.qx_world.specs.Trace.{IsLast};
-ghost use Rattle.calling.specs.Asked.{IsRefusedAt, before_answer};
+ghost use Rattle.world_tests.specs.Asked.{IsRefusedAt, before_answer};
 
 use qx_types::{Manager, Outcome, Request, Step, Thread, Worker};
 use qx_world::{Traced, Unstored};
