@@ -1,4 +1,5 @@
-//! Tests of a traced world through its public calls, and an example of a caller of one (`docs/CALLING.md`).
+//! Tests of a traced world and of worker threads through their public calls, and an example of a caller of a trace
+//! (`docs/CALLING.md`).
 //!
 //! - `script.rt`, `same.rt`: the tests' steps, from lines of a script; two traces compared by all that can be seen of
 //!   them
@@ -6,6 +7,7 @@
 //! - `reads.rt`: what a script does not ask a trace and a world for
 //! - `nodes.rt`: a node of `Queues` that comes back
 //! - `calling.rt`, `asked.rt`: the example, a request that is taken from its call to its answer; its test
+//! - `pool.rt`: worker threads round one lock
 #![tactic(auto)]
 
 #[cfg(test)]
@@ -15,6 +17,8 @@ pub mod calling;
 mod memory;
 #[cfg(test)]
 mod nodes;
+#[cfg(test)]
+mod pool;
 #[cfg(test)]
 mod reads;
 #[cfg(test)]

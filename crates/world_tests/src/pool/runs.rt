@@ -2,7 +2,7 @@
 
 ghost use Rattle.std.specs.Prelude.{◌≡◌, ◌+◌};
 
-use crate::acts::{Act, Signals, read};
+use crate::pool::acts::{Act, Signals, read};
 use qx_machine::{Entry, Seen};
 use qx_play::text::push_transcript;
 use qx_pool::{CallEnd, Client, FinishFault, Note, Seat, Server, finish, worker_loop};

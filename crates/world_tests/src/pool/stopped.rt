@@ -1,6 +1,6 @@
 //! Servers that are stopped while clients wait, and the seats at the end.
 
-use crate::runs::{run, thread};
+use crate::pool::runs::{run, thread};
 use qx_pool::CallEnd;
 use qx_types::{Item, Manager, NoMemory, User};
 

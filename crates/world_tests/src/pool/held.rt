@@ -1,6 +1,6 @@
 //! What becomes of what a worker holds.
 
-use crate::runs::{run, thread};
+use crate::pool::runs::{run, thread};
 use qx_pool::CallEnd;
 use qx_types::{Errno, Item, Manager, NoMemory, User};
 use std::alloc::Global;

@@ -4,17 +4,10 @@
 //! - `runs.rt`: a run of a server with a thread for each text, and what came of it
 //! - `served.rt`, `stopped.rt`, `held.rt`, `memory.rt`: calls that are served; servers that are stopped; what becomes of
 //!   what a worker holds; a run of which each request for memory may be refused
-#![tactic(auto)]
 
-#[cfg(test)]
 mod acts;
-#[cfg(test)]
 mod held;
-#[cfg(test)]
 mod memory;
-#[cfg(test)]
 mod runs;
-#[cfg(test)]
 mod served;
-#[cfg(test)]
 mod stopped;

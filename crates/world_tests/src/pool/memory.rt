@@ -1,6 +1,6 @@
 //! A run of which each request for memory may be refused, by hand: `rt try --test --fail-alloc N -- each_request`.
 
-use crate::runs::run;
+use crate::pool::runs::run;
 use qx_pool::CallEnd;
 use qx_types::NoMemory;
 

@@ -1,4 +1,4 @@
-use Rattle.pool_tests.proofs.runs.run.Given as goal
+use Rattle.world_tests.proofs.pool.runs.run.Given as goal
 
 abbrev pub ghosts-serve : goal.ghosts-serve
 ghosts-serve g a = record { name = a.blank.name; parts = a.blank.parts }

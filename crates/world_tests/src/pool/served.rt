@@ -1,6 +1,6 @@
 //! Calls that are served.
 
-use crate::runs::{run, thread};
+use crate::pool::runs::{run, thread};
 use qx_types::{Item, NoMemory, Step, User};
 
 /// The calls of a script, whose answers tell no moment, and what it shows where each is served before the next.
