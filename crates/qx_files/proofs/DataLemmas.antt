@@ -5,23 +5,22 @@ use Rattle.std.proofs.Math.Seq.{take-add}
 use Rattle.std.proofs.lemmas.List.{drop-drop, drop_min, take_min, ext_get_or, length-append, length-take, length-drop, length-replicate, get_or_past, get_or-replicate, get_or-append_right, get_or_append_left, get_or-take, get_or-drop, length-map}
 use Rattle.std.proofs.lemmas.List.FromFn.{fill_by_all, get_or-map-range_with_len, length-map-range_with_len}
 use Rattle.qx_machine.specs.Files.{get, put}
-use Rattle.qx_machine.specs.Rows.{row_at}
 use Rattle.qx_files.specs.Blocks.{LacksBlock, blocks_after, blocks_for, with_blocks}
-use Rattle.qx_files.specs.inner.Places.{LacksOne, HasAll, byte_after, byte_at, byte_in, bytes_of, there}
+use Rattle.qx_files.specs.inner.Places.{LacksOne, HasAll, byte_after, bytes_of, there}
 use Rattle.qx_files.proofs.BlockLemmas.{in_put, length-with, made-with, not_put}
 use Rattle.qx_files.proofs.PutLemmas.{length-put}
 
-pub length-bytes : (blocks : List (Option (List ℕ))) (size : ℕ) → length (bytes_of blocks size) ≡ size
-length-bytes blocks size = length-map-range_with_len (byte_at blocks) 0 size
+pub length-bytes : (byte : ℕ → ℕ) (size : ℕ) → length (bytes_of byte size) ≡ size
+length-bytes byte size = length-map-range_with_len byte 0 size
 
-get-bytes : (blocks : List (Option (List ℕ))) (size n : ℕ) → n < size → get_or (bytes_of blocks size) n 0 ≡ byte_at blocks n
-get-bytes blocks size n within = get_or-map-range_with_len (byte_at blocks) 0 size n n 0 within (omega arith)
+get-bytes : (byte : ℕ → ℕ) (size n : ℕ) → n < size → get_or (bytes_of byte size) n 0 ≡ byte n
+get-bytes byte size n within = get_or-map-range_with_len byte 0 size n n 0 within (omega arith)
 
 -- a byte at any place: behind the last one stand zero bytes
-get-any : (blocks : List (Option (List ℕ))) (size : ℕ) → ((n : ℕ) → size ≤ n → byte_at blocks n ≡ 0) → (n : ℕ) → get_or (bytes_of blocks size) n 0 ≡ byte_at blocks n
-get-any blocks size zeros n = elim (cases_lt n size) [
-  | inl within ↦ get-bytes blocks size n within
-  | inr past ↦ get_or_past (bytes_of blocks size) n 0 (omega (arith, length-bytes blocks size)) ∙ sym (zeros n past)
+get-any : (byte : ℕ → ℕ) (size : ℕ) → ((n : ℕ) → size ≤ n → byte n ≡ 0) → (n : ℕ) → get_or (bytes_of byte size) n 0 ≡ byte n
+get-any byte size zeros n = elim (cases_lt n size) [
+  | inl within ↦ get-bytes byte size n within
+  | inr past ↦ get_or_past (bytes_of byte size) n 0 (omega (arith, length-bytes byte size)) ∙ sym (zeros n past)
 ]
 
 -- ---- a write
@@ -50,24 +49,20 @@ byte_put bytes new offset n = elim (cases_lt n offset) [
     front_length : length (take offset bytes ++ replicate (offset - length bytes) 0) ≡ offset
     front_length = simp (length-append, length-replicate, length-take) (omega arith)
 
-module _ (old now : List (Option (List ℕ))) (size offset : ℕ) (new : List ℕ) (zeros : (n : ℕ) → size ≤ n → byte_at old n ≡ 0) (is : (n : ℕ) → byte_at now n ≡ byte_after offset new (byte_at old) n) where
+module _ (old now : ℕ → ℕ) (size offset : ℕ) (new : List ℕ) (zeros : (n : ℕ) → size ≤ n → old n ≡ 0) (is : (n : ℕ) → now n ≡ byte_after offset new old n) where
   pub written_bytes : bytes_of now (max size (offset + length new)) ≡ put (bytes_of old size) offset new
-  written_bytes = sym (fill_by_all (byte_at now) (put (bytes_of old size) offset new) (max size (offset + length new)) 0 (length-put (bytes_of old size) new offset ∙ ap (λ k. max k (offset + length new)) (length-bytes old size)) (λ n within.
+  written_bytes = sym (fill_by_all now (put (bytes_of old size) offset new) (max size (offset + length new)) 0 (length-put (bytes_of old size) new offset ∙ ap (λ k. max k (offset + length new)) (length-bytes old size)) (λ n within.
       byte_put (bytes_of old size) new offset n ∙ (ap (λ before. byte_after offset new before n) (λ i k. get-any old size zeros k i) ∙ sym (is n))))
 
-  pub written_zeros : (n : ℕ) → max size (offset + length new) ≤ n → byte_at now n ≡ 0
-  written_zeros n past = is n ∙ (not_put offset new (byte_at old) n (λ low high. omega (arith, past, high)) ∙ zeros n (omega (arith, past)))
-
--- where no byte is put, all stay
-pub none_put : (blocks : List (Option (List ℕ))) (offset : ℕ) (new : List ℕ) → length new ≡ 0 → (n : ℕ) → byte_at blocks n ≡ byte_after offset new (byte_at blocks) n
-none_put blocks offset new none n = sym (not_put offset new (byte_at blocks) n (λ low high. omega (arith, none, low, high)))
+  pub written_zeros : (n : ℕ) → max size (offset + length new) ≤ n → now n ≡ 0
+  written_zeros n past = is n ∙ (not_put offset new old n (λ low high. omega (arith, past, high)) ∙ zeros n (omega (arith, past)))
 
 -- blocks that were made are there
-pub made_all : (old made : List (Option (List ℕ))) (f e : ℕ) → there made ≡ with_blocks (there old) f e → HasAll made f e
+pub made_all : (old made : List (Option ℕ)) (f e : ℕ) → there made ≡ with_blocks (there old) f e → HasAll made f e
 made_all old made f e is n from to none = let clash : true ≡ false = sym (made-with (there old) f e n from to) ∙ (ap (λ b. get_or b n false) (sym is) ∙ none) in cc
 
 -- there are no more than the bytes need
-pub written_few : (old now : List (Option (List ℕ))) (size offset count : ℕ) → length old ≤ blocks_for size → there now ≡ blocks_after (there old) offset count → length now ≤ blocks_for (max size (offset + count))
+pub written_few : (old now : List (Option ℕ)) (size offset count : ℕ) → length old ≤ blocks_for size → there now ≡ blocks_after (there old) offset count → length now ≤ blocks_for (max size (offset + count))
 written_few old now size offset count few is = by_count (cases_eq count 0)
   where
     same : length (there now) ≡ length (blocks_after (there old) offset count)
@@ -82,33 +77,17 @@ written_few old now size offset count few is = by_count (cases_eq count 0)
         let long = length-with (there old) (offset / 512) (blocks_for (offset + count)) (omega (arith, some)) in
         omega (arith, few, some, long, after, length-map now (λ block. is_some block), length-map old (λ block. is_some block))
 
--- and no fewer than before
-pub written_grown : (old now : List (Option (List ℕ))) (offset count : ℕ) → there now ≡ blocks_after (there old) offset count → length old ≤ length now
-written_grown old now offset count is = by_count (cases_eq count 0)
-  where
-    same : length (there now) ≡ length (blocks_after (there old) offset count)
-    same = ap length is
-
-    by_count : (count ≡ 0) ⊎ (count ≢ 0) → length old ≤ length now
-    by_count (inl none) =
-        let after : length (there now) ≡ length (there old) = same ∙ ap (λ k. length (blocks_after (there old) offset k)) none in
-        omega (arith, after, length-map now (λ block. is_some block), length-map old (λ block. is_some block))
-    by_count (inr some) =
-        let after : length (there now) ≡ length (with_blocks (there old) (offset / 512) (blocks_for (offset + count))) = same ∙ grind (arith, some) in
-        let long = length-with (there old) (offset / 512) (blocks_for (offset + count)) (omega (arith, some)) in
-        omega (arith, long, after, length-map now (λ block. is_some block), length-map old (λ block. is_some block))
-
 -- some are there where some were made
-pub made_some : (old mid now : List (Option (List ℕ))) (offset count : ℕ) → 0 < count → there mid ≡ with_blocks (there old) (offset / 512) (blocks_for (offset + count)) → there now ≡ there mid → 0 < length now
-made_some old mid now offset count some made same =
+pub made_some : (old made : List (Option ℕ)) (offset count : ℕ) → 0 < count → there made ≡ with_blocks (there old) (offset / 512) (blocks_for (offset + count)) → 0 < length made
+made_some old made offset count some is =
     let long = length-with (there old) (offset / 512) (blocks_for (offset + count)) (omega (arith, some)) in
-    let after : length (there now) ≡ length (with_blocks (there old) (offset / 512) (blocks_for (offset + count))) = ap length (same ∙ made) in
-    omega (arith, some, long, after, length-map now (λ block. is_some block))
+    omega (arith, some, long, ap length is, length-map made (λ block. is_some block))
 
 -- what is wanted: one of the blocks isn't there
-pub lacks_some : (old : List (Option (List ℕ))) (offset count : ℕ) → 0 < count → (length old < blocks_for (offset + count)) ⊎ LacksOne old (offset / 512) (blocks_for (offset + count)) → LacksBlock (there old) offset count
-lacks_some old offset count some (inl fewer) = (offset + count - 1, omega (arith, some), omega (arith, some), get_or_past (there old) ((offset + count - 1) / 512) false (omega (arith, some, fewer, length-map old (λ block. is_some block))))
-lacks_some old offset count some (inr lacks) =
+pub lacks_some : (old : List (Option ℕ)) (offset count : ℕ) → 0 < count → (0 < 0) ⊎ ((length old < blocks_for (offset + count)) ⊎ LacksOne old (offset / 512) (blocks_for (offset + count))) → LacksBlock (there old) offset count
+lacks_some old offset count some (inl none) = absurd (omega (arith, none))
+lacks_some old offset count some (inr (inl fewer)) = (offset + count - 1, omega (arith, some), omega (arith, some), get_or_past (there old) ((offset + count - 1) / 512) false (omega (arith, some, fewer, length-map old (λ block. is_some block))))
+lacks_some old offset count some (inr (inr lacks)) =
     let from = lacks.1 in
     let to = lacks.2 in
     (max offset (512 * lacks.0), omega arith, omega (arith, some, to), ap (λ n. get_or (there old) n false) (omega (arith, from)) ∙ lacks.3)
@@ -116,24 +95,20 @@ lacks_some old offset count some (inr lacks) =
 -- ---- a read
 
 -- a piece of one block
-pub piece_is : (blocks : List (Option (List ℕ))) (size offset count : ℕ) (block : List ℕ) → length block ≡ 512 → ((n : ℕ) → get_or block n 0 ≡ byte_in (row_at blocks (offset / 512)) n) → count ≤ 512 - offset % 512 → offset + count ≤ size → take count (drop (offset % 512) block) ≡ get (bytes_of blocks size) offset count
-piece_is blocks size offset count block long is short within = ext_get_or 0 _ _ (omega (arith, whole, size_is, long, short, within)) (λ k lt. let less : k < count = omega (arith, lt, whole) in each k less)
+pub piece_is : (byte : ℕ → ℕ) (size offset count : ℕ) (block : List ℕ) → length block ≡ 512 → ((n : ℕ) → n < 512 → get_or block n 0 ≡ byte (512 * (offset / 512) + n)) → count ≤ 512 - offset % 512 → offset + count ≤ size → take count (drop (offset % 512) block) ≡ get (bytes_of byte size) offset count
+piece_is byte size offset count block long is short within = ext_get_or 0 _ _ (omega (arith, whole, size_is, long, short, within)) (λ k lt. let less : k < count = omega (arith, lt, whole) in each k less)
   where
     whole : length (take count (drop (offset % 512) block)) ≡ min count (length block - offset % 512)
     whole = simp (length-take, length-drop) refl
 
-    size_is : length (get (bytes_of blocks size) offset count) ≡ min count (size - offset)
+    size_is : length (get (bytes_of byte size) offset count) ≡ min count (size - offset)
     size_is = simp (length-take, length-drop, length-bytes) refl
 
-    each : (k : ℕ) → k < count → get_or (take count (drop (offset % 512) block)) k 0 ≡ get_or (get (bytes_of blocks size) offset count) k 0
+    each : (k : ℕ) → k < count → get_or (take count (drop (offset % 512) block)) k 0 ≡ get_or (get (bytes_of byte size) offset count) k 0
     each k less =
-        get_or-take count (drop (offset % 512) block) k 0 less ∙ (get_or-drop (offset % 512) block k 0 ∙ (is (offset % 512 + k)
-        ∙ (ap (λ n. byte_in (row_at blocks n) (offset % 512 + k)) (omega (arith, less, short)) ∙ (ap (byte_in (row_at blocks ((offset + k) / 512))) (omega (arith, less, short))
-        ∙ (sym (get-bytes blocks size (offset + k) (omega (arith, less, within))) ∙ (sym (get_or-drop offset (bytes_of blocks size) k 0) ∙ sym (get_or-take count (drop offset (bytes_of blocks size)) k 0 less)))))))
-
--- as long as it is
-pub length-get : (blocks : List (Option (List ℕ))) (size offset count : ℕ) → offset + count ≤ size → length (get (bytes_of blocks size) offset count) ≡ count
-length-get blocks size offset count within = simp (length-take, length-drop, length-bytes) (omega (arith, within))
+        get_or-take count (drop (offset % 512) block) k 0 less ∙ (get_or-drop (offset % 512) block k 0 ∙ (is (offset % 512 + k) (omega (arith, less, short))
+        ∙ (ap byte (omega arith)
+        ∙ (sym (get-bytes byte size (offset + k) (omega (arith, less, within))) ∙ (sym (get_or-drop offset (bytes_of byte size) k 0) ∙ sym (get_or-take count (drop offset (bytes_of byte size)) k 0 less))))))
 
 -- bytes that end with the file, from its end on at the latest
 pub get_within : (bytes : List ℕ) (offset count : ℕ) → get bytes (min offset (length bytes)) (min count (length bytes - min offset (length bytes))) ≡ get bytes offset count

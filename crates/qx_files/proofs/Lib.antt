@@ -4,6 +4,8 @@ pub mod BlockLemmas
 pub mod DataLemmas
 -- the files of a user, by what each one holds
 pub mod KeptLemmas
+-- the blocks that are there, in their places
+pub mod PlaceLemmas
 -- bytes that are put into a file
 pub mod PutLemmas
 -- the sum of the sizes

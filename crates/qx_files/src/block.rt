@@ -1,6 +1,5 @@
-ghost use Rattle.std.specs.Prelude.{◌≡◌, ◌+◌, ◌≤◌, ◌++◌, IfOk, drop, length, replicate, take};
+ghost use Rattle.std.specs.Prelude.{◌≡◌, ◌+◌, ◌≤◌, ◌++◌, drop, length, replicate, take};
 
-use std::alloc::{AllocError, Global};
 use std::marker::Model;
 
 /// How many bytes stand in a block.
@@ -9,7 +8,7 @@ pub const BLOCK: usize = 512;
 /// A block of a file's bytes.
 #[derive(Drop)]
 pub struct Block {
-    bytes: Box<[u8; 512]>,
+    bytes: [u8; 512],
 }
 
 impl Model for Block {
@@ -17,17 +16,15 @@ impl Model for Block {
 
     ghost Value = { List ℕ };
 
-    ghost view = { λ b. b.bytes.value };
+    ghost view = { λ b. b.bytes };
 }
 
 impl Block {
     /// A block of zero bytes.
-    pub fn new(alloc: Global) -> Result<Self, AllocError>
-        ensures zeros { IfOk result (λ block. block ≡ replicate 512 0) }
+    pub fn new() -> Self
+        ensures zeros { result ≡ replicate 512 0 }
     {
-        Ok(Block {
-            bytes: Box::new(alloc, [0; 512])?,
-        })
+        Block { bytes: [0; 512] }
     }
 
     /// Its bytes.
@@ -35,8 +32,7 @@ impl Block {
         ensures bytes { result.now ≡ self.now }
         ensures whole { length result.now ≡ 512 }
     {
-        let bytes: &[u8; 512] = &self.bytes;
-        bytes
+        &self.bytes
     }
 
     /// Puts bytes at a place in it.

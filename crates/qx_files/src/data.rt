@@ -4,32 +4,38 @@ ghost use Rattle.qx_machine.specs.Files.{get};
 ghost use Rattle.qx_types.specs.declared.limits.TheConstants.Limits.{BODY};
 
 use crate::block::{BLOCK, Block};
-use crate::places::{block_bytes, count_blocks, write_bytes};
+use crate::places::{block_bytes, write_bytes};
 use qx_attr::Reply;
 use std::alloc::{AllocError, Global};
 use std::marker::Model;
 
-/// The bytes of a file, in blocks of 512. A block that was never written isn't there, and reads as zero bytes.
+/// The bytes of a file, in blocks of 512. A block that was never written isn't there, and reads as zero bytes. Those that are
+/// there stand one behind another in the order in which they were made, with room for at most as many more.
 #[derive(Drop)]
 pub struct Data {
-    blocks: Vec<Option<Block>>,
+    blocks: Vec<Block>,
+    // For each block of the file the index in `blocks` at which it stands; none where it isn't there.
+    places: Vec<Option<usize>>,
     size: usize,
 }
 
 impl Model for Data {
-    ghost use Rattle.std.specs.Prelude.{◌≡◌, ◌≤◌, ℕ, length, vec_capacity};
+    ghost use Rattle.std.specs.Prelude.{◌≡◌, ◌*◌, ◌≤◌, ℕ, length, vec_capacity};
     ghost use Rattle.qx_files.specs.Blocks.{Held, blocks_for};
-    ghost use Rattle.qx_files.specs.inner.Places.{byte_at, bytes_of, there};
+    ghost use Rattle.qx_files.specs.inner.Places.{Stand, byte_at, bytes_of, there};
 
     ghost Value = { Held };
 
-    ghost view = { λ d. record { bytes = bytes_of d.blocks.items d.size; blocks = there d.blocks.items } };
+    ghost view = { λ d. record { bytes = bytes_of (byte_at d.blocks.items d.places.items) d.size; blocks = there d.places.items } };
 
-    // behind the last byte stand zero bytes; there are no more blocks than the bytes need; no blocks hold no memory
+    // each block has one place, of its own; behind the last byte stand zero bytes; there are no more blocks than the bytes need;
+    // there is room for at most as many more; no blocks hold no memory
     ghost invariant = { λ d. record {
-      zeros : (n : ℕ) → d.size ≤ n → byte_at d.blocks.items n ≡ 0;
-      few : length d.blocks.items ≤ blocks_for d.size;
-      none : length d.blocks.items ≡ 0 → vec_capacity d.blocks ≡ 0;
+      stand : Stand (length d.blocks.items) d.places.items;
+      zeros : (n : ℕ) → d.size ≤ n → byte_at d.blocks.items d.places.items n ≡ 0;
+      few : length d.places.items ≤ blocks_for d.size;
+      room : vec_capacity d.blocks ≤ 2 * length d.blocks.items;
+      none : length d.places.items ≡ 0 → vec_capacity d.places ≡ 0;
     } };
 }
 
@@ -40,6 +46,7 @@ impl Data {
     {
         Data {
             blocks: Vec::new(alloc),
+            places: Vec::new(alloc),
             size: 0,
         }
     }
@@ -56,7 +63,7 @@ impl Data {
         ensures count { result ≡ count_of (Some self.now.blocks) }
         ensures few { result ≤ blocks_for (length self.now.bytes) }
     {
-        count_blocks(self.blocks.as_slice())
+        self.blocks.len()
     }
 
     /// Takes all away, with their memory.
@@ -65,6 +72,8 @@ impl Data {
     {
         self.blocks.clear();
         self.blocks.shrink_to_fit();
+        self.places.clear();
+        self.places.shrink_to_fit();
         self.size = 0;
     }
 
@@ -104,7 +113,11 @@ impl Data {
     {
         let from = offset % BLOCK;
         let end = from + count.min(BLOCK - from);
-        let bytes = block_bytes(self.blocks.as_slice(), offset / BLOCK);
+        let bytes = block_bytes(
+            self.blocks.as_slice(),
+            self.places.as_slice(),
+            offset / BLOCK,
+        );
         &bytes[from..end]
     }
 
@@ -116,7 +129,7 @@ impl Data {
         ensures err { OnErr result (self.new ≡ self.old) }
         ensures lacks { OnErr result (LacksBlock self.old.blocks offset (length new.now)) }
     {
-        write_bytes(&mut self.blocks, offset, new)?;
+        write_bytes(&mut self.blocks, &mut self.places, offset, new)?;
         self.size = self.size.max(offset + new.len());
         Ok(())
     }

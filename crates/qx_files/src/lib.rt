@@ -2,7 +2,7 @@
 //!
 //! - `files.rt`: `Files`, with one call for each way in which files come, change and go; the sum of their sizes
 //! - `data.rt`, `contents.rt`: the bytes of one file, in blocks; those of all
-//! - `block.rt`, `places.rt`: a block; what makes blocks, and what puts bytes into them
+//! - `block.rt`, `places.rt`: a block; where each one stands, what makes blocks, and what puts bytes into them
 //! - `laws.rt`: what was written is read back; what stands before and behind it stays
 #![tactic(auto)]
 

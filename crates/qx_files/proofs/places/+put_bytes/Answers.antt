@@ -1,20 +1,22 @@
-use Rattle.std.proofs.Common.{rules, ◌≡◌, ◌-◌, ◌/◌, ◌<◌, true, arith, is_some, length, ◌∙◌}
-use Rattle.qx_machine.specs.Rows.{row_at}
-use Rattle.qx_files.proofs.BlockLemmas.{has_rest, has_row, pieces_put, there_rest}
+use Rattle.std.proofs.Common.{rules, ◌≡◌, ◌-◌, ◌/◌, ◌<◌, arith, length}
+use Rattle.qx_files.specs.inner.Places.{byte_at}
+use Rattle.qx_files.proofs.BlockLemmas.{has_rest, has_row, pieces_put}
 use Rattle.qx_files.proofs.places.+put_bytes.Goals as goal
+
+pub put_piece-requires-clause-made : goal.put_piece-requires-clause-made
+put_piece-requires-clause-made t c =
+    let some : 0 < length c.args.new.now = grind arith in
+    has_row c.args.places.now (c.args.offset / 512) (c.requires.made (c.args.offset / 512) (omega arith) (omega (arith, some)))
 
 pub put_bytes-requires : goal.put_bytes-requires
 put_bytes-requires t c =
     let some : 0 < length c.args.new.now = grind arith in
     let long : length c.split_at.result.1.now ≡ length c.args.new.now - c.min-count.result = omega (arith, c.split_at.ensures.back_len, c.min-count.ensures) in
     let less : length c.split_at.result.1.now < length c.args.new.now = omega (arith, some, long, c.min-count.ensures) in
-    (search (rules, less), (omega (arith, long, c.min-count.ensures, c.requires.within), has_rest c.args.blocks.now.items c.put_piece.new.blocks.items c.args.offset c.min-count.result c.args.new.now c.split_at.result.0.now c.split_at.result.1.now c.min-count.ensures c.split_at.ensures.front c.split_at.ensures.back c.put_piece.ensures.put c.requires.made))
+    let kept : length c.put_piece.new.blocks ≡ length c.args.blocks.now = search rules in
+    (search (rules, less), (omega (arith, long, c.min-count.ensures, c.requires.within), (rw kept c.requires.stand, has_rest c.args.offset c.min-count.result c.args.new.now c.split_at.result.0.now c.split_at.result.1.now c.min-count.ensures c.split_at.ensures.front c.split_at.ensures.back c.args.places.now c.requires.made)))
 
-pub returns-clause-bytes : goal.returns-clause-bytes
-returns-clause-bytes t c =
-    let some : 0 < length c.args.new.now = grind arith in
-    let has : is_some (row_at c.args.blocks.now.items (c.args.offset / 512)) ≡ true = has_row c.args.blocks.now.items (c.args.offset / 512) (c.requires.made (c.args.offset / 512) (omega arith) (omega (arith, some))) in
-    pieces_put c.args.blocks.now.items c.put_piece.new.blocks.items c.args.offset c.min-count.result c.args.new.now c.split_at.result.0.now c.split_at.result.1.now c.min-count.ensures c.split_at.ensures.front c.split_at.ensures.back c.put_piece.ensures.put c.put_bytes.new.blocks.items c.put_piece.ensures.whole has c.put_bytes.ensures.bytes
-
-pub returns-clause-there : goal.returns-clause-there
-returns-clause-there t c = c.put_bytes.ensures.there ∙ there_rest c.args.blocks.now.items c.put_piece.new.blocks.items c.args.offset c.min-count.result c.args.new.now c.split_at.result.0.now c.split_at.result.1.now c.min-count.ensures c.split_at.ensures.front c.split_at.ensures.back c.put_piece.ensures.put
+pub returns : goal.returns
+returns t c =
+    let places = c.args.places.now in
+    record { bytes = pieces_put c.args.offset c.min-count.result c.args.new.now c.split_at.result.0.now c.split_at.result.1.now c.min-count.ensures c.split_at.ensures.front c.split_at.ensures.back (byte_at c.args.blocks.now places) (byte_at c.put_piece.new.blocks places) (byte_at c.put_bytes.new.blocks places) c.put_piece.ensures.put c.put_bytes.ensures.bytes }
