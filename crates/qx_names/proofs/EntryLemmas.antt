@@ -16,7 +16,7 @@ use Rattle.qx_machine.proofs.Directories.{name_cmp, names-pairs, pairs_in, sorte
 use Rattle.qx_names.specs.inner.Folders.{Folder}
 use Rattle.qx_names.specs.Paths.{HasNoPath, path_of}
 use Rattle.qx_names.specs.inner.Shows.{Shows, key_total, key-IsAntisymmetric}
-use Rattle.qx_names.proofs.FolderLemmas.{names_same}
+use Rattle.qx_names.proofs.RisingLemmas.{names_same}
 use Rattle.qx_names.proofs.MapLemmas.{untied}
 use Rattle.qx_names.proofs.PathLemmas.{is_named}
 use Rattle.qx_names.proofs.ShowsLemmas.{entry_under, no_entries}

@@ -1,5 +1,9 @@
--- a directory's entries as a map
-pub mod FolderLemmas
+-- entries in the order of their names
+pub mod RisingLemmas
+-- nodes by their places
+pub mod IndexLemmas
+-- the child lists of directories, as one changes
+pub mod ChildLemmas
 -- maps, one entry changed
 pub mod MapLemmas
 -- what is left to be listed

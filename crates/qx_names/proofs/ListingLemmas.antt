@@ -1,13 +1,17 @@
 -- What is left to be listed, name by name.
-use Rattle.std.specs.Prelude.{ℕ, Some, ◌+◌, ◌-◌, ◌≤◌, ◌<◌, List, [], ◌∷◌, ◌++◌, length, map as mapped}
+use Rattle.std.specs.Prelude.{ℕ, zero, suc, None, Some, ◌+◌, ◌-◌, ◌≤◌, ◌<◌, List, [], ◌∷◌, ◌++◌, drop, length, map as mapped, option_map, slice_get}
 use Rattle.std.specs.Cmp.Lexicographic.{slice_cmp, slice_partial_cmp}
-use Rattle.std.specs.Global.{Vec}
+use Rattle.std.specs.FinMap as map
 use Rattle.std.specs.Ordering.{as_partial_cmp, is_lt, is_some_and, nat_cmp, ordering_then, partial_ordering_then}
 use Rattle.std.specs.declared.cmp.Ordering.{Ordering}
 use Rattle.std.specs.declared.cmp.Ordering.TheVariants.{Less, Equal, Greater}
-use Rattle.std.proofs.Common.{◌≡◌, Bool, true, false, cond, ap, refl, sym, ◌∙◌, append_assoc}
+use Rattle.std.proofs.Common.{◌≡◌, Bool, cond, ap, refl, sym, ◌∙◌, append_assoc}
 use Rattle.std.proofs.lemmas.Bool.{le-leb, lt-leb}
-use Rattle.qx_machine.specs.Names.{names_behind, fitting, listing}
+use Rattle.std.proofs.lemmas.Option.{slice_get-map}
+use Rattle.qx_lists.specs.Table.{Table}
+use Rattle.qx_machine.specs.Names.{fitting, listing}
+use Rattle.qx_names.specs.inner.Children.{Children, Entry, entries_of, entry_of}
+use Rattle.qx_names.proofs.IndexLemmas.{entry-index}
 
 joined : (r s : Ordering) → partial_ordering_then (Some r) (Some s) ≡ Some (ordering_then r s)
 joined Less s = refl
@@ -25,28 +29,39 @@ partial_is (x ∷ xs) (y ∷ ys) = ap (partial_ordering_then (Some (nat_cmp x y)
 pub test_is : (after slice name : List ℕ) (result b : Bool) → result ≡ is_some_and is_lt (slice_partial_cmp (as_partial_cmp nat_cmp) after slice) → slice ≡ name → result ≡ b → is_lt (slice_cmp nat_cmp after name) ≡ b
 test_is after slice name result b e f g = sym (sym g ∙ e ∙ ap (is_some_and is_lt) (partial_is after slice) ∙ ap (λ n. is_lt (slice_cmp nat_cmp after n)) f)
 
--- the names that a listing has before it, where so many bytes are left
-abbrev pub left : List ℕ → ℕ → List (Vec ℕ) → List (List ℕ)
-left after room names = fitting room (names_behind after (mapped (λ name. name.items) names))
+drop_at : (es : List Entry) (place : ℕ) (entry : Entry) → slice_get es place ≡ Some entry → drop place es ≡ entry ∷ drop (suc place) es
+drop_at [] place entry is = cc
+drop_at (head ∷ es) zero entry is = let same : head ≡ entry = cc in ap (λ e. e ∷ es) same
+drop_at (head ∷ es) (suc place) entry is = drop_at es place entry is
 
-module _ (after : List ℕ) (room : ℕ) (name : Vec ℕ) (names : List (Vec ℕ)) where
-  abbrev is_behind : Bool
-  is_behind = is_lt (slice_cmp nat_cmp after name.items)
+drop_past : (es : List Entry) (place : ℕ) → slice_get es place ≡ None → drop place es ≡ []
+drop_past [] zero none = refl
+drop_past [] (suc place) none = refl
+drop_past (head ∷ es) zero none = cc
+drop_past (head ∷ es) (suc place) none = drop_past es place none
 
-  -- a name that is not behind the one asked for is passed over
-  pub left_out : is_behind ≡ false → left after room (name ∷ names) ≡ left after room names
-  left_out e = ap (λ b. fitting room (cond b (name.items ∷ names_behind after (mapped (λ n. n.items) names)) (names_behind after (mapped (λ n. n.items) names)))) e
+-- the names that a listing has before it at a place, where so many bytes are left
+abbrev pub left : Table Entry → Children → ℕ → ℕ → List (List ℕ)
+left t children place room = fitting room (mapped (λ entry. entry.0) (drop place (entries_of t children)))
 
-  behind_in : is_behind ≡ true → left after room (name ∷ names) ≡ fitting room (name.items ∷ names_behind after (mapped (λ n. n.items) names))
-  behind_in e = ap (λ b. fitting room (cond b (name.items ∷ names_behind after (mapped (λ n. n.items) names)) (names_behind after (mapped (λ n. n.items) names)))) e
+module _ (t : Table Entry) (children : Children) (place node : ℕ) (entry : Entry) (is : slice_get children.nodes place ≡ Some node) (value : map.get t.values node ≡ Some entry) (room : ℕ) where
+  at : slice_get (entries_of t children) place ≡ Some entry
+  at = entry-index t children.nodes place node entry is value
 
-  -- one that does not fit ends the listing
-  pub left_stop : is_behind ≡ true → room < length name.items + 1 → left after room (name ∷ names) ≡ []
-  left_stop e f = behind_in e ∙ ap (λ b. cond b (name.items ∷ fitting (room - (length name.items + 1)) (names_behind after (mapped (λ n. n.items) names))) []) (lt-leb (length name.items + 1) room f)
+  left_at : left t children place room ≡ fitting room (entry.0 ∷ mapped (λ e. e.0) (drop (suc place) (entries_of t children)))
+  left_at = ap (λ es. fitting room (mapped (λ e. e.0) es)) (drop_at (entries_of t children) place entry at)
+
+  -- a name that does not fit ends the listing
+  pub left_stop : room < length entry.0 + 1 → left t children place room ≡ []
+  left_stop e = left_at ∙ ap (λ b. cond b (entry.0 ∷ fitting (room - (length entry.0 + 1)) (mapped (λ e. e.0) (drop (suc place) (entries_of t children)))) []) (lt-leb (length entry.0 + 1) room e)
 
   -- one that fits is listed
-  pub left_on : is_behind ≡ true → length name.items + 1 ≤ room → left after room (name ∷ names) ≡ name.items ∷ left after (room - (length name.items + 1)) names
-  left_on e f = behind_in e ∙ ap (λ b. cond b (name.items ∷ fitting (room - (length name.items + 1)) (names_behind after (mapped (λ n. n.items) names))) []) (le-leb (length name.items + 1) room f)
+  pub left_on : length entry.0 + 1 ≤ room → left t children place room ≡ entry.0 ∷ left t children (suc place) (room - (length entry.0 + 1))
+  left_on e = left_at ∙ ap (λ b. cond b (entry.0 ∷ fitting (room - (length entry.0 + 1)) (mapped (λ e. e.0) (drop (suc place) (entries_of t children)))) []) (le-leb (length entry.0 + 1) room e)
+
+-- behind the last one nothing is left
+pub left_none : (t : Table Entry) (children : Children) (place room : ℕ) → slice_get children.nodes place ≡ None → left t children place room ≡ []
+left_none t children place room none = ap (λ es. fitting room (mapped (λ e. e.0) es)) (drop_past (entries_of t children) place (slice_get-map (entry_of t) children.nodes place ∙ ap (option_map (entry_of t)) none))
 
 pub listing_on : (reply name : List ℕ) (names : List (List ℕ)) → reply ++ listing (name ∷ names) ≡ ((reply ++ name) ++ 0 ∷ []) ++ listing names
 listing_on reply name names = sym (append_assoc reply (name ++ 0 ∷ []) (listing names)) ∙ ap (◌++ listing names) (sym (append_assoc reply name (0 ∷ [])))

@@ -1,26 +1,17 @@
 -- The names that are kept beside the directories, call by call.
-use Rattle.std.specs.Prelude.{ℕ, Result, Ok, Err, OnOk, OnErr, List, [], ◌∷◌, ◌++◌, Option, None, Some, IfSome, if◌then◌else◌, length, map as mapped, nat_eq, slice_get}
+use Rattle.std.specs.Prelude.{ℕ, Result, Ok, Err, OnOk, OnErr, List, [], ◌∷◌, ◌++◌, Option, None, Some, IfSome, if◌then◌else◌, nat_eq}
 use Rattle.std.specs.Cmp.{nat_eq_equiv}
-use Rattle.std.specs.Cmp.Lexicographic.{slice_cmp}
 use Rattle.std.specs.List.{IsDistinct, list_any}
-use Rattle.std.specs.Ordering.{nat_cmp}
 use Rattle.std.specs.FinMap as map
 use Rattle.std.specs.declared.alloc.AllocError.{AllocError}
-use Rattle.std.proofs.Common.{◌≡◌, Bool, true, false, ap, refl, sym, subst, ◌∙◌, arith}
+use Rattle.std.proofs.Common.{◌≡◌, Bool, true, false, ap, refl, sym, subst, ◌∙◌}
 use Rattle.std.proofs.lemmas.Map.Keys.{IsDistinct-push}
 use Rattle.qx_machine.specs.Names.{Key, Names, names_in, root_key, under, with_root}
-use Rattle.qx_names.specs.inner.Folders.{Changes, Folder, entry_at, entry_in}
+use Rattle.qx_names.specs.inner.Folders.{Changes, Folder, entry_at, folder_at}
 use Rattle.qx_names.specs.Paths.{HasPath, HasNoPath, path_of}
 use Rattle.qx_names.specs.inner.Shows.{Shows, is_root, shown_names}
 use Rattle.qx_names.proofs.EntryLemmas.{empty_alone, names_are_keys}
-use Rattle.qx_names.proofs.ShowsLemmas.{Shows-empty, Shows-insert, Shows-push, Shows-remove, names_shown, root_shown, unnamed_now}
-
-no_entries : (es : List (List ℕ × ℕ)) → length es ≡ 0 → es ≡ []
-no_entries [] e = refl
-no_entries (entry ∷ es) e = let nothing : ⊥ = omega (arith, e) in absurd nothing
-
-keys-empty : map.keys (map.empty {X = ℕ} {R = slice_cmp nat_cmp}) ≡ []
-keys-empty = ap (mapped (λ entry. entry.0)) (no_entries (map.entries (map.empty {X = ℕ} {R = slice_cmp nat_cmp})) (sym (map.len-entries map.empty) ∙ map.len-empty (slice_cmp nat_cmp) ℕ))
+use Rattle.qx_names.proofs.ShowsLemmas.{entry_under, Shows-empty, Shows-insert, Shows-push, Shows-remove, names_shown, root_shown, unnamed_now}
 
 looked_for : (roots : List ℕ) (root : ℕ) → list_any (nat_eq root) roots ≡ is_root roots root
 looked_for [] root = refl
@@ -28,7 +19,7 @@ looked_for (first ∷ roots) root = rw (nat_eq_equiv.symm root first, looked_for
 
 -- nothing is named at first
 pub new_shows : (roots : List ℕ) (folders : List Folder) → roots ≡ [] → folders ≡ [] → Shows (is_root roots) (entry_at folders) map.empty
-new_shows roots folders e f = rw (e, f) (Shows-empty (entry_at []) (λ directory name. refl))
+new_shows roots folders e f = rw (e, f) (Shows-empty (entry_at []) (λ directory name. map.get-empty _ name))
 
 module _ (roots : List ℕ) (folders : List Folder) (kept : (names : Names) × Shows (is_root roots) (entry_at folders) names) (now : Names) (view : shown_names (is_root roots) (entry_at folders) kept ≡ now) where
   pub shows_now : Shows (is_root roots) (entry_at folders) now
@@ -73,10 +64,10 @@ module _ (roots : List ℕ) (folders : List Folder) (kept : (names : Names) × S
     pub removed_unnamed : IfSome (map.get now (under (path_of now directory) name)) (HasNoPath (map.remove now (under (path_of now directory) name)))
     removed_unnamed = unnamed_by _ refl
 
-  -- the names in a directory that has a row, and in one that has none
-  pub row_names : (directory : ℕ) (folder : Folder) → Some folder ≡ slice_get folders directory → names_in now directory ≡ map.keys folder
-  row_names directory folder e = names_are_keys (is_root roots) (entry_at folders) now shows_now directory folder (λ name. ap (λ f. entry_in f name) e)
+  -- the names in a directory
+  pub folder_names : (directory : ℕ) → names_in now directory ≡ map.keys (folder_at folders directory)
+  folder_names directory = names_are_keys (is_root roots) (entry_at folders) now shows_now directory (folder_at folders directory) (λ name. refl)
 
-  pub no_row_names : (directory : ℕ) → None ≡ slice_get folders directory → names_in now directory ≡ []
-  no_row_names directory e =
-      names_are_keys (is_root roots) (entry_at folders) now shows_now directory map.empty (λ name. map.get-empty _ name ∙ ap (λ f. entry_in f name) e) ∙ keys-empty
+  -- a directory in which a name is free has no such entry
+  pub free_entry : (directory : ℕ) (name : List ℕ) → HasPath now directory → map.get now (under (path_of now directory) name) ≡ None → entry_at folders directory name ≡ None
+  free_entry directory name named free = sym (entry_under (is_root roots) (entry_at folders) now shows_now (path_of now directory) directory name named) ∙ free

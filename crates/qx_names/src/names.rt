@@ -12,8 +12,7 @@ ghost use Rattle.qx_names.specs.inner.Shows.{shown_once};
 ghost use Rattle.qx_names.specs.Spots.{spot_found};
 ghost use Rattle.qx_types.specs.declared.limits.TheConstants.Limits.{INODES};
 
-use crate::folder::Folder;
-use crate::folders;
+use crate::folders::Folders;
 use crate::spot::{Spot, search};
 use qx_attr::{Inodes, Reply};
 use qx_machine::laws;
@@ -27,14 +26,14 @@ use std::marker::Model;
 pub struct Names {
     // The inodes of the mounts' roots.
     roots: Vec<u32>,
-    // Each directory's entries, under its inode; none where it has never had any.
-    folders: Vec<Folder>,
-    ghost kept: { (names : machine.Names) × Shows (is_root roots.items) (entry_at folders.items) names } by { shown_once (is_root roots.items) (entry_at folders.items) },
+    // The entries of each directory, under its inode.
+    folders: Folders,
+    ghost kept: { (names : machine.Names) × Shows (is_root roots.items) (entry_at folders) names } by { shown_once (is_root roots.items) (entry_at folders) },
 }
 
 impl Model for Names {
     ghost use Rattle.std.specs.List.{IsDistinct};
-    ghost use Rattle.std.specs.Prelude.{◌+◌, ◌*◌, ◌≤◌, length, nat_eq, vec_capacity};
+    ghost use Rattle.std.specs.Prelude.{◌+◌, ◌≤◌, length, nat_eq};
     ghost use Rattle.qx_machine.specs.Names.{Names as Contents};
     ghost use Rattle.qx_names.specs.inner.Folders.{entry_at};
     ghost use Rattle.qx_names.specs.Paths.{names_code};
@@ -45,12 +44,11 @@ impl Model for Names {
 
     ghost coded = { names_code };
 
-    ghost view = { λ n. shown_names (is_root n.roots.items) (entry_at n.folders.items) n.kept };
+    ghost view = { λ n. shown_names (is_root n.roots.items) (entry_at n.folders) n.kept };
 
     ghost invariant = { λ n. record {
       distinct : IsDistinct nat_eq n.roots.items;
-      few : length n.folders.items ≤ INODES + 1;
-      no_more : vec_capacity n.folders ≤ 2 * length n.folders.items;
+      few : length n.folders ≤ INODES + 1;
     } };
 }
 
@@ -61,7 +59,7 @@ impl Names {
     {
         Names {
             roots: Vec::new(alloc),
-            folders: Vec::new(alloc),
+            folders: Folders::new(alloc),
         }
     }
 
@@ -93,7 +91,7 @@ impl Names {
         ensures ok { OnOk result (self.new ≡ map.insert self.old (machine.under (path_of self.old directory) name.now) inode) }
         ensures err { OnErr result (self.new ≡ self.old) }
     {
-        folders::put(&mut self.folders, directory, name, inode)?;
+        self.folders.put(directory, name, inode)?;
         Ok(())
     }
 
@@ -104,17 +102,14 @@ impl Names {
         ensures removed { self.new ≡ map.remove self.old (machine.under (path_of self.old directory) name.now) }
         ensures unnamed { IfSome (map.get self.old (machine.under (path_of self.old directory) name.now)) (HasNoPath self.new) }
     {
-        folders::take(&mut self.folders, directory, name);
+        self.folders.take(directory, name);
     }
 
     /// Whether no names are in a directory.
     pub fn is_empty(&self, directory: u32) -> bool
         ensures empty { result ≡ machine.is_empty (machine.names_in self.now directory) }
     {
-        match folders::folder(self.folders.as_slice(), directory) {
-            Some(folder) => folder.is_empty(),
-            None => true,
-        }
+        self.folders.is_empty(directory)
     }
 
     /// Writes the names in a directory that stand behind one, in the order of their bytes, each followed by a zero byte, as
@@ -125,10 +120,7 @@ impl Names {
         ensures names { reply.new ≡ machine.listing (machine.listed self.now directory after.now) }
         ensures count { result ≡ length (machine.listed self.now directory after.now) }
     {
-        match folders::folder(self.folders.as_slice(), directory) {
-            Some(folder) => folder.list(after, reply),
-            None => 0,
-        }
+        self.folders.list(directory, after, reply)
     }
 
     /// Tells that no two paths lead to one inode.
@@ -239,6 +231,6 @@ impl Names {
         ensures named { IfSome result (λ inode. HasPath self.now inode) }
         ensures path { IfSome result (λ inode. path_of self.now inode ≡ machine.under (path_of self.now directory) name.now) }
     {
-        folders::entry(self.folders.as_slice(), directory, name)
+        self.folders.entry(directory, name)
     }
 }

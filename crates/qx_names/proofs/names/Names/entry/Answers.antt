@@ -9,7 +9,7 @@ use Rattle.qx_names.proofs.names.Names.entry.Goals as goal
 
 pub returns-clause-entry : goal.returns-clause-entry
 returns-clause-entry c =
-    c.entry.ensures.entry ∙ ap (λ f. f) (rw (c.as_slice.ensures.value, ← c.self.view_is) (sym (entry_under _ _ _ (names_shown _ _ c.self.inside.kept) _ c.args.directory c.args.name.now (rw (← c.self.view_is) at c.requires.directory))))
+    c.entry.ensures.entry ∙ ap (λ f. f) (rw (← c.self.view_is) (sym (entry_under _ _ _ (names_shown _ _ c.self.inside.kept) _ c.args.directory c.args.name.now (rw (← c.self.view_is) at c.requires.directory))))
 
 named : (root : ℕ → Bool) (entry : ℕ → List ℕ → Option ℕ) (names : machine.Names) → Shows root entry names → (key : machine.Key) (x : Option ℕ) → map.get names key ≡ x → IfSome x (λ inode. path_of names inode ≡ key)
 named root entry names s key None e = tt

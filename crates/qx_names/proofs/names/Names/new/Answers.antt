@@ -6,11 +6,11 @@ use Rattle.qx_names.proofs.ShowsLemmas.{names_are}
 use Rattle.qx_names.proofs.names.Names.new.Goals as goal
 
 pub invariant_of-result : goal.invariant_of-result
-invariant_of-result c = ((map.empty, new_shows c.new.result.items c.new-2.result.items c.new.ensures.items c.new-2.ensures.items), tt)
+invariant_of-result c = ((map.empty, new_shows c.new.result.items c.new-2.result c.new.ensures.items c.new-2.ensures.none), tt)
 
 pub invariant_of-result-2 : goal.invariant_of-result-2
 unfolding IsDistinct
-invariant_of-result-2 c = record { distinct = rw c.new.ensures.items tt; few = rw c.new-2.ensures.items (omega arith); no_more = omega arith }
+invariant_of-result-2 c = record { distinct = rw c.new.ensures.items tt; few = rw c.new-2.ensures.none (omega arith) }
 
 pub returns : goal.returns
-returns c = record { none = names_are _ _ _ map.empty (new_shows c.new.result.items c.new-2.result.items c.new.ensures.items c.new-2.ensures.items) }
+returns c = record { none = names_are _ _ _ map.empty (new_shows c.new.result.items c.new-2.result c.new.ensures.items c.new-2.ensures.none) }

@@ -1,0 +1,77 @@
+-- How the entries of directories stand in lists of a table. No public clause of another crate cites this module.
+use Rattle.std.specs.Prelude.{ℕ, suc, ◌≡◌, ◌≢◌, ◌<◌, ◌⊎◌, List, [], ◌∷◌, Option, None, Some, get_or, if◌then◌else◌, length, map as mapped, refl, unwrap_or}
+use Rattle.std.specs.Cmp.Lexicographic.{slice_cmp}
+use Rattle.std.specs.Coded.{Coded, code_by, coded×, coded_list, coded_option, coded_ℕ}
+use Rattle.std.specs.FinMap as map
+use Rattle.std.specs.FinMap.Entries.{is_sorted}
+use Rattle.std.specs.Ordering.{is_lt, nat_cmp}
+use Rattle.std.proofs.Common.{T}
+use Rattle.qx_lists.specs.Table.{ContainsList, IsIn, Table}
+use Rattle.qx_names.specs.inner.Folders.{Folder}
+
+-- a name, and the inode that it names
+abbrev pub Entry : Type 0
+Entry = List ℕ × ℕ
+
+abbrev pub entry_code : Coded Entry
+entry_code = coded× (coded_list coded_ℕ) coded_ℕ
+
+-- the names rise
+abbrev pub IsRising : List Entry → Type 0
+IsRising entries = T (is_sorted (slice_cmp nat_cmp) entries)
+
+-- how many entries stand before the first whose name is behind this one
+abbrev pub count_to : List ℕ → List Entry → ℕ
+count_to name [] = 0
+count_to name (entry ∷ entries) = if is_lt (slice_cmp nat_cmp name entry.0) then 0 else suc (count_to name entries)
+
+-- the child list of one directory: the number of the list, none where there is no entry, and the nodes of the index
+pub record Children : Type 0 where
+  pub list : Option ℕ
+  pub nodes : List ℕ
+
+abbrev pub children_code : Coded Children
+children_code = code_by (Option ℕ × List ℕ) (coded× (coded_option coded_ℕ) (coded_list coded_ℕ)) (λ c. (c.list, c.nodes)) (λ p. record { list = p.0; nodes = p.1 }) (λ _. refl)
+
+abbrev pub no_children : Children
+no_children = record { list = None; nodes = [] }
+
+abbrev pub children_at : List Children → ℕ → Children
+children_at all directory = get_or all directory no_children
+
+-- ---- what the lists tell
+
+abbrev pub entry_of : Table Entry → ℕ → Entry
+entry_of t node = unwrap_or (map.get t.values node) ([], 0)
+
+abbrev pub entries_of : Table Entry → Children → List Entry
+entries_of t children = mapped (entry_of t) children.nodes
+
+abbrev pub folder_of : Table Entry → Children → Folder
+folder_of t children = map.from_entries (entries_of t children)
+
+abbrev pub shown_folders : Table Entry → List Children → List Folder
+shown_folders t all = mapped (folder_of t) all
+
+-- ---- what holds of them
+
+-- a directory with entries has a list, of just the nodes of its index, and the names rise
+pub record Keeps (t : Table Entry) (children : Children) : Type 0 where
+  pub listed : (list : ℕ) → children.list ≡ Some list → map.get t.lists list ≡ Some children.nodes
+  pub some : (list : ℕ) → children.list ≡ Some list → 0 < length children.nodes
+  pub none : children.list ≡ None → children.nodes ≡ []
+  pub rising : IsRising (entries_of t children)
+
+-- each directory's list is its own, and each list is some directory's
+pub record KeepsAll (t : Table Entry) (children : ℕ → Children) : Type 0 where
+  pub each : (directory : ℕ) → Keeps t (children directory)
+  pub apart : (one two list : ℕ) → (children one).list ≡ Some list → (children two).list ≡ Some list → one ≡ two
+  pub owned : (list : ℕ) → ContainsList t list → (directory : ℕ) × ((children directory).list ≡ Some list)
+
+-- one directory's children became others, whose list is the same, a new one or none; other lists and their entries are as before
+pub record Turns (t new : Table Entry) (children now : Children) : Type 0 where
+  pub keeps : Keeps new now
+  pub others : (list : ℕ) → children.list ≢ Some list → now.list ≢ Some list → map.get new.lists list ≡ map.get t.lists list
+  pub made : (list : ℕ) → now.list ≡ Some list → (children.list ≡ Some list) ⊎ (map.get t.lists list ≡ None)
+  pub freed : (list : ℕ) → children.list ≡ Some list → (now.list ≡ Some list) ⊎ (map.get new.lists list ≡ None)
+  pub values : (list node : ℕ) → children.list ≢ Some list → IsIn t list node → map.get new.values node ≡ map.get t.values node

@@ -1,0 +1,200 @@
+//! The entries of one directory, in a list of a table that the caller lends.
+
+ghost use Rattle.std.specs.Prelude.{◌≡◌, ◌==◌, ◌⊎◌, ◌≢◌, ◌≤◌, ℕ, [], None, Some, IfOk, IfNone, IfSome, OnErr, OnOk, insert, length, map as mapped, slice_get};
+ghost use Rattle.std.specs.FinMap as map;
+ghost use Rattle.std.specs.FinMap.Entries.{find};
+ghost use Rattle.std.specs.Ordering.{nat_cmp};
+ghost use Rattle.std.specs.Cmp.Lexicographic.{slice_cmp};
+ghost use Rattle.qx_lists.specs.Table.{IsFree, with_nodes};
+ghost use Rattle.qx_machine.specs.Names.{names_behind, fitting, listing};
+ghost use Rattle.qx_names.specs.inner.Children.{Keeps, Turns, entries_of, folder_of, no_children};
+ghost use Rattle.qx_types.specs.declared.limits.TheConstants.Limits.{TRANSFER};
+
+use crate::entry::Entry;
+use crate::search::place_behind;
+use qx_attr::{Reply, growth};
+use qx_lists::{Table, uncounted};
+use qx_types::Limits;
+use std::alloc::{AllocError, Global};
+use std::marker::Model;
+
+/// The entries of one directory: a list of the table, in the order of the names' bytes, and beside it an index, which has the
+/// list's nodes in the list's order. By the index a name is found, by the list the next one.
+#[derive(Drop)]
+pub(crate) struct ChildList {
+    // None where there is no entry.
+    list: Option<usize>,
+    index: Vec<usize>,
+}
+
+impl Model for ChildList {
+    ghost use Rattle.qx_names.specs.inner.Children.{Children, children_code};
+
+    ghost Value = { Children };
+
+    ghost coded = { children_code };
+
+    ghost view = { λ c. record { list = c.list; nodes = c.index.items } };
+}
+
+impl ChildList {
+    /// No entries, which take no memory.
+    pub(crate) fn new(alloc: Global) -> Self
+        ensures none { result ≡ no_children }
+    {
+        ChildList {
+            list: None,
+            index: Vec::new(alloc),
+        }
+    }
+
+    /// Whether there are no entries.
+    pub(crate) fn is_empty(&self) -> bool
+        ensures { result ≡ (length self.now.nodes == 0) }
+    {
+        self.index.is_empty()
+    }
+
+    /// What a name names.
+    pub(crate) fn get(&self, table: &Table<Entry>, name: &[u8]) -> Option<u32>
+        requires keeps { Keeps table.now self.now }
+        ensures entry { result ≡ find (slice_cmp nat_cmp) name.now (entries_of table.now self.now) }
+    {
+        table.know();
+        let place = self.position(table, name)?;
+        Some(table.value(self.index[place]).inode())
+    }
+
+    /// The place of a name's entry.
+    fn position(&self, table: &Table<Entry>, name: &[u8]) -> Option<usize>
+        requires keeps { Keeps table.now self.now }
+        ensures found { IfSome result (λ place. (inode : ℕ) × (slice_get (entries_of table.now self.now) place ≡ Some (name.now, inode))) }
+        ensures missing { IfNone result (find (slice_cmp nat_cmp) name.now (entries_of table.now self.now) ≡ None) }
+    {
+        table.know();
+        let behind = place_behind(table, &self.index, name);
+        if behind == 0 {
+            return None;
+        }
+        if table.value(self.index[behind - 1]).name() == name {
+            Some(behind - 1)
+        } else {
+            None
+        }
+    }
+
+    /// Puts an entry in whose name is new. Where memory is short, nothing changes.
+    pub(crate) fn insert(
+        &mut self,
+        table: &mut Table<Entry>,
+        name: &[u8],
+        inode: u32,
+    ) -> Result<(), AllocError>
+        requires keeps { Keeps table.old self.old }
+        requires new { find (slice_cmp nat_cmp) name.now (entries_of table.old self.old) ≡ None }
+        ensures turns { Turns table.old table.new self.old self.new }
+        ensures ok { OnOk result (folder_of table.new self.new ≡ map.insert (folder_of table.old self.old) name.now inode) }
+        ensures err { OnErr result (folder_of table.new self.new ≡ folder_of table.old self.old) }
+    {
+        table.know();
+        let place = place_behind(table, &self.index, name);
+        let entry = Entry::new(name, inode)?;
+        growth::reserve(&mut self.index, 1)?;
+        table.reserve(1)?;
+        let list = self.own_list(table)?;
+        let node = table.new_node(entry)?;
+        link_at(table, list, &self.index, place, node);
+        self.index.insert(place, node)?;
+        self.list = Some(list);
+        Ok(())
+    }
+
+    /// Takes an entry out, and gives back the list with the last one.
+    pub(crate) fn remove(&mut self, table: &mut Table<Entry>, name: &[u8])
+        requires keeps { Keeps table.old self.old }
+        ensures turns { Turns table.old table.new self.old self.new }
+        ensures removed { folder_of table.new self.new ≡ map.remove (folder_of table.old self.old) name.now }
+    {
+        let Some(list) = self.list else {
+            return;
+        };
+        let Some(place) = self.position(table, name) else {
+            return;
+        };
+        table.know();
+        let node = self.index.remove(place);
+        uncounted::unlink(table, list, node);
+        table.free_node(node);
+        if self.index.is_empty() {
+            table.free_list(list);
+            *self = ChildList::new(*self.index.allocator());
+        }
+    }
+
+    /// The number of the list, or of a new one where there is none.
+    fn own_list(&self, table: &mut Table<Entry>) -> Result<usize, AllocError>
+        requires keeps { Keeps table.old self.now }
+        ensures own { IfOk result (λ list. map.get table.new.lists list ≡ Some self.now.nodes) }
+        ensures made { IfOk result (λ list. (self.now.list ≡ Some list) ⊎ ((self.now.list ≡ None) × (map.get table.old.lists list ≡ None))) }
+        ensures others { IfOk result (λ list. (other : ℕ) → other ≢ list → map.get table.new.lists other ≡ map.get table.old.lists other) }
+        ensures values { table.new.values ≡ table.old.values }
+        ensures room { table.new.room ≡ table.old.room }
+        ensures err { OnErr result (table.new ≡ table.old) }
+    {
+        if let Some(list) = self.list {
+            return Ok(list);
+        }
+        let list = table.add_list()?;
+        Ok(list)
+    }
+
+    /// Writes the names behind one, each followed by a zero byte, as many whole ones as fit a transfer, and tells how many.
+    pub(crate) fn list(&self, table: &Table<Entry>, after: &[u8], reply: &mut Reply) -> u64
+        requires keeps { Keeps table.now self.now }
+        requires empty { reply.old ≡ [] }
+        ensures names { reply.new ≡ listing (fitting TRANSFER (names_behind after.now (mapped (λ entry. entry.0) (entries_of table.now self.now)))) }
+        ensures count { result ≡ length (fitting TRANSFER (names_behind after.now (mapped (λ entry. entry.0) (entries_of table.now self.now)))) }
+    {
+        let Some(list) = self.list else {
+            return 0;
+        };
+        table.know();
+        let place = place_behind(table, &self.index, after);
+        let mut next = node_at(&self.index, place);
+        let mut room = Limits::TRANSFER;
+        let mut count = 0;
+        'nodes: while let Some(node) = next {
+            let name = table.value(node).name();
+            if name.len() + 1 > room {
+                return count;
+            }
+            reply.push(name);
+            reply.push(&[0]);
+            room -= name.len() + 1;
+            count += 1;
+            next = uncounted::next(table, list, node);
+        }
+        count
+    }
+}
+
+/// The node of a place.
+fn node_at(index: &[usize], place: usize) -> Option<usize>
+    ensures { result ≡ slice_get index.now place }
+{
+    index.get(place).copied()
+}
+
+/// Puts a free node into a list, whose nodes the index has, so that it stands at a place.
+fn link_at(table: &mut Table<Entry>, list: usize, index: &[usize], place: usize, node: usize)
+    requires list { map.get table.old.lists list ≡ Some index.now }
+    requires place { place ≤ length index.now }
+    requires free { IsFree table.old node }
+    ensures { table.new ≡ with_nodes table.old list (insert index.now place node) }
+{
+    table.know();
+    match node_at(index, place) {
+        Some(next) => table.insert_before(list, next, node),
+        None => uncounted::push_back(table, list, node),
+    }
+}
