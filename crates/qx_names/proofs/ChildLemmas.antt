@@ -10,13 +10,13 @@ use Rattle.std.proofs.lemmas.Bool.Decides.{eqb_tells}
 use Rattle.std.proofs.lemmas.List.{get_or-set_other, get_or-set_same, get_or_past, get_or_read, length-map}
 use Rattle.std.proofs.lemmas.Option.{get_or_from_slice_get, slice_get_read, slice_get_within, unwrap_or-slice_get}
 use Rattle.qx_lists.specs.Table.{ContainsList, ContainsNode, IsIn, Table, next_after, nodes_of, with_nodes, without}
-use Rattle.qx_lists.proofs.ListLemmas.{absent_without}
+use Rattle.qx_lists.proofs.ListLemmas.{absent_without, without_keeps}
 use Rattle.qx_lists.proofs.MapLemmas.{get-insert_other, get-insert_same, get-remove_other, get-remove_same}
 use Rattle.qx_lists.proofs.WalkLemmas.{contains-index, next_after-index}
 use Rattle.qx_machine.proofs.Directories.{name_cmp}
 use Rattle.qx_names.specs.inner.Children.{Children, Entry, IsRising, Keeps, KeepsAll, Turns, children_at, count_to, entries_of, entry_of, folder_of, no_children, shown_folders}
 use Rattle.qx_names.specs.inner.Folders.{Changes, entry_at, folder_at}
-use Rattle.qx_names.proofs.IndexLemmas.{entry-index, map-agree, map-insert, map-remove, without-index}
+use Rattle.qx_names.proofs.IndexLemmas.{Contains-insert, insert-Contains, entry-index, map-agree, map-insert, map-remove, without-index}
 use Rattle.qx_names.proofs.MapLemmas.{inserted, inserted_apart, removed, removed_apart}
 use Rattle.qx_names.proofs.RisingLemmas.{count_to-within, entries-from, from-put, from-where, insert-put, names_same, not_last, other_than, remove-where}
 
@@ -95,6 +95,35 @@ module _ (t new : Table Entry) (all : ℕ → Children) (kept : KeepsAll t all) 
           let owner = kept.owned list (subst (λ (o : Option (List ℕ)). is_some o ≡ true) (turns.others list q p) there) in
           (owner.0, list_other owner.0 (λ same. q (ap (λ d. (all d).list) (sym same) ∙ owner.1)) ∙ owner.1)
 
+  in_now : (node : ℕ) → Contains now.nodes node → (list : ℕ) × IsIn new list node
+  in_now node at = by now.list refl
+    where
+      by : (x : Option ℕ) → now.list ≡ x → (list : ℕ) × IsIn new list node
+      by None e = absurd (let none : Contains [] node = subst (λ (nodes : List ℕ). Contains nodes node) (turns.keeps.none e) at in omega (arith, none.1))
+      by (Some list) e = (list, subst (λ (nodes : List ℕ). Contains nodes node) (sym (ap (λ o. unwrap_or o []) (turns.keeps.listed list e))) at)
+
+  -- a node of another list stands there still
+  in_other : (list node : ℕ) → (all directory).list ≢ Some list → IsIn t list node → IsIn new list node
+  in_other list node differs at = by (is_or_not now.list list)
+    where
+      by : ((now.list ≡ Some list) ⊎ (now.list ≢ Some list)) → IsIn new list node
+      by (inl p) = elim (turns.made list p) [
+        | inl was ↦ absurd (differs was)
+        | inr none ↦ absurd (let empty : Contains [] node = subst (λ (nodes : List ℕ). Contains nodes node) (ap (λ o. unwrap_or o []) none) at in omega (arith, empty.1))
+      ]
+      by (inr p) = subst (λ (nodes : List ℕ). Contains nodes node) (sym (ap (λ o. unwrap_or o []) (turns.others list differs p))) at
+
+  used_after : (node : ℕ) → ContainsNode new node → (list : ℕ) × IsIn new list node
+  used_after node there = elim (turns.added node there) [
+    | inl at ↦ in_now node at
+    | inr was ↦
+        let before = kept.used node was in
+        elim (is_or_not (all directory).list before.0) [
+          | inl own ↦ in_now node (turns.stays node (subst (λ (nodes : List ℕ). Contains nodes node) (ap (λ o. unwrap_or o []) ((kept.each directory).listed before.0 own)) before.1) there)
+          | inr other ↦ (before.0, in_other before.0 node other before.1)
+        ]
+  ]
+
   pub kept_after : KeepsAll new after
   kept_after = record {
     each = λ other. elim (eqb_tells other directory) [
@@ -112,6 +141,7 @@ module _ (t new : Table Entry) (all : ℕ → Children) (kept : KeepsAll t all) 
       ]
     ];
     owned = owned_after;
+    used = used_after;
   }
 
   pub folder_other : (other : ℕ) → other ≢ directory → folder_of new (after other) ≡ folder_of t (all other)
@@ -240,6 +270,12 @@ module _ (t new : Table Entry) (children : Children) (keeps : Keeps t children) 
       | inr none ↦ inr (ap (map.get t.lists) (sym (same_some list other p)) ∙ none.1)
     ]
 
+    added_by : (other : ℕ) → is_some (map.get (map.insert t.values node (name, inode)) other) ≡ true → Contains (insert children.nodes place node) other ⊎ ContainsNode t other
+    added_by other is = elim (eqb_tells other node) [
+      | inl same ↦ inl (subst (Contains (insert children.nodes place node)) (sym same.1) (insert-Contains children.nodes place node))
+      | inr differs ↦ inr (sym (ap is_some (get-insert_other t.values node (name, inode) other differs.1)) ∙ is)
+    ]
+
     pub put_turns : Turns t new children with_entry
     put_turns = record {
       keeps = record {
@@ -252,6 +288,8 @@ module _ (t new : Table Entry) (children : Children) (keeps : Keeps t children) 
       made = made_by;
       freed = λ other p. inl (freed_by other p);
       values = λ other one p at. value_other one (there other one at);
+      added = λ other is. added_by other (subst (λ (values : map.FinMap nat_cmp Entry). is_some (map.get values other) ≡ true) values is);
+      stays = λ other at is. Contains-insert children.nodes place node other at;
     }
 
   -- ---- an entry is taken out, with its node
@@ -282,6 +320,16 @@ module _ (t new : Table Entry) (children : Children) (keeps : Keeps t children) 
     others_still : (other : ℕ) → children.list ≢ Some other → map.get new.lists other ≡ map.get t.lists other
     others_still other p = lists other (λ same. p (was ∙ ap Some (sym same)))
 
+    is_still : (other : ℕ) → ContainsNode new other → other ≢ node
+    is_still other is same =
+        let clash : is_some {T = Entry} None ≡ true = sym (ap is_some (ap (map.get new.values) same ∙ ap (λ m. map.get m node) values ∙ get-remove_same t.values node)) ∙ is in cc
+
+    added_still : (other : ℕ) → ContainsNode new other → ContainsNode t other
+    added_still other is = sym (ap is_some (value_still other (is_still other is))) ∙ is
+
+    stays_still : (other : ℕ) → Contains children.nodes other → ContainsNode new other → Contains now.nodes other
+    stays_still other stands is = subst (λ xs. Contains xs other) (sym (nodes ∙ one_less)) (without_keeps node other children.nodes stands (is_still other is))
+
     -- others are left
     pub take_turns : now.list ≡ Some list → map.get new.lists list ≡ Some now.nodes → 0 < length now.nodes → Turns t new children now
     take_turns still here some = record {
@@ -295,6 +343,8 @@ module _ (t new : Table Entry) (children : Children) (keeps : Keeps t children) 
       made = λ other p. inl (was ∙ sym still ∙ p);
       freed = λ other p. inl (still ∙ sym was ∙ p);
       values = values_other;
+      added = λ other is. inr (added_still other is);
+      stays = stays_still;
     }
 
     -- it was the last one
@@ -310,6 +360,8 @@ module _ (t new : Table Entry) (children : Children) (keeps : Keeps t children) 
       made = λ other p. absurd (none_some other (sym none ∙ p));
       freed = λ other p. inr (ap (map.get new.lists) (sym (same_some list other (sym was ∙ p))) ∙ gone);
       values = values_other;
+      added = λ other is. inr (added_still other is);
+      stays = stays_still;
     }
 
 -- ---- the calls that take an entry out
@@ -374,6 +426,7 @@ pub no-children-kept : (t : Table Entry) (all : List Children) → t ≡ record 
 no-children-kept t all empty none = record {
   each = λ directory. subst (Keeps t) (sym (ap (λ xs. children_at xs directory) none)) (record { listed = λ list e. absurd (none_some list e); some = λ list e. absurd (none_some list e); none = λ e. refl; rising = tt });
   apart = λ one two list p q. absurd (none_some list (sym (ap (λ xs. (children_at xs one).list) none) ∙ p));
+  used = λ node there. absurd (let clash : is_some {T = Entry} None ≡ true = sym (ap is_some (ap (λ (u : Table Entry). map.get u.values node) empty ∙ map.get-empty nat_cmp node)) ∙ there in cc);
   owned = λ list there. absurd (let clash : is_some {T = List ℕ} None ≡ true = sym (ap is_some (ap (λ (u : Table Entry). map.get u.lists list) empty ∙ map.get-empty nat_cmp list)) ∙ there in cc);
 }
 

@@ -2,11 +2,11 @@
 use Rattle.std.specs.Prelude.{ℕ, zero, suc, List, [], ◌∷◌, Contains, None, Some, insert, map as mapped, nat_eq, option_map, remove, slice_get, unwrap_or}
 use Rattle.std.specs.FinMap as map
 use Rattle.std.specs.List.{IsDistinct}
-use Rattle.std.proofs.Common.{◌≡◌, true, ap, ap₂, arith, refl, ◌∙◌}
+use Rattle.std.proofs.Common.{◌≡◌, inl, inr, true, ap, ap₂, arith, refl, subst, sym, ◌∙◌}
 use Rattle.std.proofs.lemmas.Bool.Decides.{nat_tests}
 use Rattle.std.proofs.lemmas.Option.{slice_get-map}
 use Rattle.qx_lists.specs.Table.{Table, put_before, without}
-use Rattle.qx_lists.proofs.ListLemmas.{contains_first, contains_later}
+use Rattle.qx_lists.proofs.ListLemmas.{contains_cases, contains_first, contains_later}
 use Rattle.qx_lists.proofs.WalkLemmas.{differs_at, without-absent}
 use Rattle.qx_names.specs.inner.Children.{Entry, entry_of}
 
@@ -26,6 +26,20 @@ without-index (x ∷ xs) zero node distinct is =
     let itself : nat_eq node node ≡ true = grind (arith, nat_tests) in
     rw (same, itself) (let gone : without x xs ≡ xs = without-absent x xs distinct.0 in rw same at gone)
 without-index (x ∷ xs) (suc i) node distinct is = rw (differs_at x xs i node distinct.0 is) (ap (λ zs. x ∷ zs) (without-index xs i node distinct.1 is))
+
+-- what a list has with one put in
+pub Contains-insert : (nodes : List ℕ) (i node other : ℕ) → Contains nodes other → Contains (insert nodes i node) other
+Contains-insert nodes zero node other at = contains_later node other nodes at
+Contains-insert [] (suc i) node other at = contains_later node other [] at
+Contains-insert (x ∷ xs) (suc i) node other at = elim (contains_cases x other xs at) [
+  | inl first ↦ subst (Contains (x ∷ insert xs i node)) (sym first) (contains_first x (insert xs i node))
+  | inr later ↦ contains_later x other (insert xs i node) (Contains-insert xs i node other later)
+]
+
+pub insert-Contains : (nodes : List ℕ) (i node : ℕ) → Contains (insert nodes i node) node
+insert-Contains nodes zero node = contains_first node nodes
+insert-Contains [] (suc i) node = contains_first node []
+insert-Contains (x ∷ xs) (suc i) node = contains_later x node (insert xs i node) (insert-Contains xs i node)
 
 -- ---- what nodes stand for
 

@@ -1,12 +1,12 @@
 -- How the entries of directories stand in lists of a table. No public clause of another crate cites this module.
-use Rattle.std.specs.Prelude.{ℕ, suc, ◌≡◌, ◌≢◌, ◌<◌, ◌⊎◌, List, [], ◌∷◌, Option, None, Some, get_or, if◌then◌else◌, length, map as mapped, refl, unwrap_or}
+use Rattle.std.specs.Prelude.{ℕ, suc, ◌≡◌, ◌≢◌, ◌<◌, ◌⊎◌, List, [], ◌∷◌, Contains, Option, None, Some, get_or, if◌then◌else◌, length, map as mapped, refl, unwrap_or}
 use Rattle.std.specs.Cmp.Lexicographic.{slice_cmp}
 use Rattle.std.specs.Coded.{Coded, code_by, coded×, coded_list, coded_option, coded_ℕ}
 use Rattle.std.specs.FinMap as map
 use Rattle.std.specs.FinMap.Entries.{is_sorted}
 use Rattle.std.specs.Ordering.{is_lt, nat_cmp}
 use Rattle.std.proofs.Common.{T}
-use Rattle.qx_lists.specs.Table.{ContainsList, IsIn, Table}
+use Rattle.qx_lists.specs.Table.{ContainsList, ContainsNode, IsIn, Table}
 use Rattle.qx_names.specs.inner.Folders.{Folder}
 
 -- a name, and the inode that it names
@@ -62,16 +62,20 @@ pub record Keeps (t : Table Entry) (children : Children) : Type 0 where
   pub none : children.list ≡ None → children.nodes ≡ []
   pub rising : IsRising (entries_of t children)
 
--- each directory's list is its own, and each list is some directory's
+-- each directory's list is its own, each list is some directory's, and each node stands in a list
 pub record KeepsAll (t : Table Entry) (children : ℕ → Children) : Type 0 where
   pub each : (directory : ℕ) → Keeps t (children directory)
   pub apart : (one two list : ℕ) → (children one).list ≡ Some list → (children two).list ≡ Some list → one ≡ two
   pub owned : (list : ℕ) → ContainsList t list → (directory : ℕ) × ((children directory).list ≡ Some list)
+  pub used : (node : ℕ) → ContainsNode t node → (list : ℕ) × IsIn t list node
 
--- one directory's children became others, whose list is the same, a new one or none; other lists and their entries are as before
+-- one directory's children became others, whose list is the same, a new one or none; other lists and their entries are as before, and
+-- no node is left in no list
 pub record Turns (t new : Table Entry) (children now : Children) : Type 0 where
   pub keeps : Keeps new now
   pub others : (list : ℕ) → children.list ≢ Some list → now.list ≢ Some list → map.get new.lists list ≡ map.get t.lists list
   pub made : (list : ℕ) → now.list ≡ Some list → (children.list ≡ Some list) ⊎ (map.get t.lists list ≡ None)
   pub freed : (list : ℕ) → children.list ≡ Some list → (now.list ≡ Some list) ⊎ (map.get new.lists list ≡ None)
   pub values : (list node : ℕ) → children.list ≢ Some list → IsIn t list node → map.get new.values node ≡ map.get t.values node
+  pub added : (node : ℕ) → ContainsNode new node → Contains now.nodes node ⊎ ContainsNode t node
+  pub stays : (node : ℕ) → Contains children.nodes node → ContainsNode new node → Contains now.nodes node
