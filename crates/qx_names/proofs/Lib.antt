@@ -2,8 +2,10 @@
 pub mod RisingLemmas
 -- nodes by their places
 pub mod IndexLemmas
--- the child lists of directories, as one changes
+-- the child list of one directory
 pub mod ChildLemmas
+-- the entries of all directories
+pub mod FolderLemmas
 -- maps, one entry changed
 pub mod MapLemmas
 -- what is left to be listed

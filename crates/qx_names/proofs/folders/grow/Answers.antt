@@ -1,6 +1,6 @@
 use Rattle.std.proofs.Common.{[], ◌∷◌, ◌++◌, ap, arith, ◌∙◌}
 use Rattle.qx_names.specs.inner.Children.{Children, children_at}
-use Rattle.qx_names.proofs.ChildLemmas.{children_at-push}
+use Rattle.qx_names.proofs.FolderLemmas.{children_at-push}
 use Rattle.qx_names.proofs.folders.grow.Goals as goal
 
 pub loop-preserved : goal.loop-preserved

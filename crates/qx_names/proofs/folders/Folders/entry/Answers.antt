@@ -3,7 +3,7 @@ use Rattle.std.specs.FinMap.Entries.{find}
 use Rattle.qx_machine.proofs.Directories.{name_cmp}
 use Rattle.qx_names.specs.inner.Children.{Children, entries_of}
 use Rattle.qx_names.specs.inner.Folders.{entry_at}
-use Rattle.qx_names.proofs.ChildLemmas.{children-none, children-some, entry-shown}
+use Rattle.qx_names.proofs.FolderLemmas.{children-none, children-some, entry-shown}
 use Rattle.qx_names.proofs.folders.Folders.entry.Goals as goal
 
 pub returns-in_err-children_of : goal.returns-in_err-children_of

@@ -5,7 +5,7 @@ use Rattle.std.proofs.lemmas.List.{length-map}
 use Rattle.qx_machine.specs.Names.{is_empty}
 use Rattle.qx_names.specs.inner.Children.{Children, Entry, entries_of, entry_of}
 use Rattle.qx_names.specs.inner.Folders.{folder_at}
-use Rattle.qx_names.proofs.ChildLemmas.{children-none, children-some, keys-shown}
+use Rattle.qx_names.proofs.FolderLemmas.{children-none, children-some, keys-shown}
 use Rattle.qx_names.proofs.folders.Folders.is_empty.Goals as goal
 
 pub returns-in-Some : goal.returns-in-Some

@@ -5,7 +5,7 @@ use Rattle.qx_machine.specs.Names.{names_behind, fitting, listing}
 use Rattle.qx_types.specs.declared.limits.TheConstants.Limits.{TRANSFER}
 use Rattle.qx_names.specs.inner.Children.{Children, Entry, entries_of}
 use Rattle.qx_names.specs.inner.Folders.{folder_at}
-use Rattle.qx_names.proofs.ChildLemmas.{children-none, children-some, keys-shown}
+use Rattle.qx_names.proofs.FolderLemmas.{children-none, children-some, keys-shown}
 use Rattle.qx_names.proofs.folders.Folders.list.Goals as goal
 
 abbrev listed_of : List ℕ → List (List ℕ) → List (List ℕ)

@@ -1,5 +1,5 @@
 use Rattle.std.proofs.Common.{arith}
-use Rattle.qx_names.proofs.ChildLemmas.{no-children-kept}
+use Rattle.qx_names.proofs.FolderLemmas.{no-children-kept}
 use Rattle.qx_names.proofs.folders.Folders.new.Goals as goal
 
 pub invariant_of-result : goal.invariant_of-result

@@ -2,7 +2,7 @@ use Rattle.std.proofs.Common.{ℕ, List, Option, Some, ap, arith, length-set, sl
 use Rattle.std.proofs.lemmas.Result.{err_from_is_err_and}
 use Rattle.qx_names.specs.inner.Children.{shown_folders}
 use Rattle.qx_names.specs.inner.Folders.{Changes, Folder, entry_at}
-use Rattle.qx_names.proofs.ChildLemmas.{grown-at, grown-keeps, grown-kept, grown-new, same-shown, set-insert, set-kept, set-same}
+use Rattle.qx_names.proofs.FolderLemmas.{grown-at, grown-keeps, grown-kept, grown-new, same-shown, set-insert, set-kept, set-same}
 use Rattle.qx_names.proofs.folders.Folders.put.Goals as goal
 
 pub insert-requires-clause-keeps : goal.insert-requires-clause-keeps

@@ -2,7 +2,7 @@ use Rattle.std.proofs.Common.{◌≡◌, ◌<◌, List, None, arith, length, len
 use Rattle.std.proofs.lemmas.List.{get_or_read}
 use Rattle.qx_names.specs.inner.Children.{children_at, no_children, shown_folders}
 use Rattle.qx_names.specs.inner.Folders.{Changes, Folder, entry_at}
-use Rattle.qx_names.proofs.ChildLemmas.{past-remove, set-kept, set-remove}
+use Rattle.qx_names.proofs.FolderLemmas.{past-remove, set-kept, set-remove}
 use Rattle.qx_names.proofs.folders.Folders.take.Goals as goal
 
 within : (c : goal.After-self-1) → c.args.directory < length c.self.inside.children.items
