@@ -82,7 +82,7 @@ impl Names {
     }
 
     /// Names an inode, to which no path led, in a directory that has no such name (C Library Reference: `open`, `mkdir`).
-    /// Where memory is short, nothing changes.
+    /// Where memory is short, nothing changes; a name longer than any component of a path is answered so too.
     pub fn insert(&mut self, directory: u32, name: &[u8], inode: u32) -> Result<(), AllocError>
         requires few { directory ≤ INODES }
         requires directory { HasPath self.old directory }
