@@ -1,12 +1,13 @@
 //! The bytes of a message or of its answer: few stand in the value itself.
 
-ghost use Rattle.std.specs.Prelude.{◌≡◌, ◌+◌, ◌≤◌, ◌++◌, length, IfOk, IsOk, OnOk, OnErr};
+ghost use Rattle.std.specs.Prelude.{◌≡◌, ◌+◌, ◌≤◌, ◌++◌, [], length, IfOk, IsOk, OnOk, OnErr};
 ghost use Rattle.std.specs.Str.{bytes_eq};
 ghost use Rattle.qx_bytes.specs.declared.message.TheConstants.MessageBytes.{INLINE};
 
 use smallvec::SmallVec;
 use std::alloc::{AllocError, Global};
 use std::marker::Model;
+use std::mem;
 
 /// A place in the value for each of a few bytes.
 const PLACES: usize = MessageBytes::INLINE;
@@ -75,6 +76,17 @@ impl MessageBytes {
     {
         self.items.reserve_exact(bytes.len())?;
         self.items.extend_from_slice(bytes)
+    }
+
+    /// The bytes, after which there are none.
+    pub fn take(&mut self) -> Self
+        ensures bytes { result ≡ self.old }
+        ensures none { self.new ≡ [] }
+    {
+        let none = SmallVec::new(*self.items.allocator());
+        MessageBytes {
+            items: mem::replace(&mut self.items, none),
+        }
     }
 
     /// The bytes as a slice.

@@ -72,7 +72,7 @@ impl Channel {
         self.users.process(proc)
     }
 
-    /// A thread's row; none where it is not there.
+    /// A thread; none where it is not there.
     pub fn thread(&self, thread: Thread) -> Option<&ThreadCell>
         ensures row { option_copied result ≡ thread_row self.now.users thread }
     {

@@ -91,7 +91,7 @@ impl Users {
         self.processes_mut(proc.user)?.process_mut(proc.num)
     }
 
-    /// A thread's row.
+    /// A thread; none where it is not there.
     pub fn thread(&self, thread: Thread) -> Option<&ThreadCell>
         ensures row { option_copied result ≡ thread_row self.now thread }
     {

@@ -5,7 +5,7 @@ ghost use Rattle.std.specs.FinMap.{get};
 ghost use Rattle.qx_iofunc.specs.Given as given;
 ghost use Rattle.qx_iofunc.specs.Lookups.{IsAllowed, open_looked_up, needed, open_found};
 ghost use Rattle.qx_iofunc.specs.Makes.{may_make};
-ghost use Rattle.qx_iofunc.specs.Store.{Stored, with_stored};
+ghost use Rattle.qx_iofunc.specs.Store.{with_stored};
 ghost use Rattle.qx_machine.specs.Defaults as machine;
 ghost use Rattle.qx_machine.specs.Names.{under};
 ghost use Rattle.qx_machine.specs.Resources.{Resources};

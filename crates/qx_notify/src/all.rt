@@ -1,6 +1,6 @@
 //! The armed events and the untaken pulses of all users, in lists over one table.
 
-ghost use Rattle.std.specs.Prelude.{◌≡◌, ◌==◌, ◌+◌, ◌<◌, ◌≤◌, ◌&&◌, not, ℕ, IfOk, IsFalse, IsOk, IsTrue, OnErr, OnOk, length, max};
+ghost use Rattle.std.specs.Prelude.{◌≡◌, ◌==◌, ◌+◌, ◌<◌, ◌≤◌, ◌&&◌, not, ℕ, IfOk, IsFalse, IsOk, OnErr, OnOk, length, max};
 ghost use Rattle.qx_types.specs.declared.limits.TheConstants.Limits.{EVENTS, PROCESSES};
 ghost use Rattle.qx_machine.specs.Events as machine;
 ghost use Rattle.qx_notify.specs.Events.{AreLimited, arms_event, armed_outcome, events_after, events_of, nothing_armed, status_given, notified_after, wants_node, with_events};

@@ -1,6 +1,6 @@
 //! Which conditions are wanted, have come to hold, and are told.
 
-ghost use Rattle.std.specs.Prelude.{◌≡◌, ◌<◌};
+ghost use Rattle.std.specs.Prelude.{◌≡◌};
 ghost use Rattle.qx_machine.specs.Events as machine;
 
 use crate::changes::Change;

@@ -1,6 +1,6 @@
 //! The lists of one user, and the event of a block in a list.
 
-ghost use Rattle.std.specs.Prelude.{◌≡◌, ◌+◌, ◌-◌, ◌<◌, ◌≤◌, [], IfOk, IsOk, OnErr, OnOk, Some, length, filter, slice_get};
+ghost use Rattle.std.specs.Prelude.{◌≡◌, ◌+◌, ◌-◌, ◌<◌, IfOk, IsOk, OnErr, OnOk, Some, length, filter, slice_get};
 ghost use Rattle.std.specs.FinMap as map;
 ghost use Rattle.qx_types.specs.declared.limits.TheConstants.Limits.{PROCESSES};
 ghost use Rattle.qx_lists.specs.Table.{ContainsList, IsIn, nodes_of};

@@ -80,6 +80,7 @@ impl Room {
 }
 
 /// The bytes of a reply: few leave the room where it is, and more take it along.
+#[inline(always)]
 pub fn reply_bytes(room: &mut Option<Room>, reply: &[u8]) -> MessageBytes
     requires room { IsSome room.old }
     requires fits { length reply.now ≤ BODY }

@@ -210,8 +210,7 @@ impl ThreadCell {
             unreachable!();
         };
         *stage = Stage::Waiting;
-        let bytes = mem::replace(&mut sent.bytes, room.inline(&[]));
-        (bytes, room)
+        (sent.bytes.take(), room)
     }
 
     /// The thread's message, which was handed over, is received as before, and not served.
@@ -229,6 +228,7 @@ impl ThreadCell {
 
     /// The thread gets an answer, and with it the room for its replies, unless the answer took that along or it never went
     /// (C Library Reference: `MsgReply`, `MsgError`).
+    #[inline(always)]
     pub fn answer(&mut self, answer: Answer, room: Option<Room>)
         requires room { BringsRoom answer room (Some self.old) }
         ensures row { self.new ≡ answered_thread answer self.old }

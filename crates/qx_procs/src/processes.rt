@@ -87,7 +87,7 @@ impl Processes {
         self.rows.get_mut(process as usize)?.as_mut()
     }
 
-    /// A thread's row; none where it is not there.
+    /// A thread; none where it is not there.
     pub fn thread(&self, process: u8, thread: u8) -> Option<&ThreadCell>
         ensures row { option_copied result ≡ thread_of thread (row_at self.now process) }
     {

@@ -109,6 +109,7 @@ impl Queues {
 
     /// A call whose message was received is answered, with a status and bytes or with an error; tells whether that takes the
     /// bytes that it writes.
+    #[inline(always)]
     pub fn answer(
         &mut self,
         user: User,
@@ -166,6 +167,7 @@ impl Queues {
     }
 
     /// Takes the first of those calls out of a list, with its user: its message was received then, and it waits nowhere.
+    #[inline(always)]
     fn take_first(&mut self, list: usize, which: Leaving) -> Option<(User, PipeCall)>
         requires list { HasList self.old list }
         ensures first { option_map (λ taken. users_call taken.0.0 taken.1) result ≡ slice_get (filter (λ own. leaves which own.call) (waiting_in_list self.old list)) 0 }
@@ -220,6 +222,7 @@ fn abandon_all(table: &mut Table<Waiting>, threads: &[Option<ThreadNodes>])
 }
 
 /// Puts a free node last into a list, and it carries something else from now on.
+#[inline(always)]
 fn put_slot(table: &mut Table<Waiting>, list: usize, node: usize, slot: Slot)
     requires list { ContainsList table.old list }
     requires free { IsFree table.old node }

@@ -26,6 +26,7 @@ pub fn encoded(alloc: Global, request: &Request, rest: &Path<'_>) -> Result<Mess
 }
 
 /// The bytes of what is sent.
+#[inline(always)]
 fn spelled(alloc: Global, content: &Content<'_>) -> Result<MessageBytes, NoMemory>
     requires sendable { IsTrue (can_send content.now) }
     ensures bytes { IfOk result (λ bytes. bytes ≡ bytes_of content.now) }

@@ -47,11 +47,11 @@ pub fn target_by<'a>(
     let Some(process) = processes.process(thread.proc.num) else {
         return Err(Refusal::wrong_state());
     };
-    let Some(row) = process.thread(thread.tid) else {
+    let Some(cell) = process.thread(thread.tid) else {
         return Err(Refusal::wrong_state());
     };
-    may_call(row, request)?;
-    let prio = row.prio();
+    may_call(cell, request)?;
+    let prio = cell.prio();
     match request {
         Request::OpenPath { path, .. } => {
             let place = place_of(config, thread.proc.user, mounts, path.as_slice())?;

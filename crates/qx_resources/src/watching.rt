@@ -81,6 +81,7 @@ impl Resources {
 
     /// Events that are due by what was done to a watched pipe give their pulses (C Library Reference:
     /// `iofunc_notify_trigger`). Where nothing is watched none is due.
+    #[inline(always)]
     pub fn trigger(&self, tables: &mut Tables, processes: &Processes, watched: Option<Watched>)
         requires fits { HasUser self.now tables.old }
         ensures triggered { tables.new ≡ record tables.old { events = with_events tables.old.events self.now.user (watched_settled (is_living processes.now) watched (told self.now tables.old)) } }

@@ -23,6 +23,7 @@ use std::alloc::AllocError;
 
 /// Does an item of a user that a worker holds, at a moment; nothing, where the user is not there. If it is a message, that may
 /// have been read before.
+#[inline(always)]
 pub(crate) fn perform(
     channel: &mut Channel,
     resources: &mut AllResources,

@@ -12,6 +12,7 @@ use std::alloc::Global;
 /// The one spelling of a message whose values are in their ranges. Memory is taken for the last field alone, where the
 /// bytes stand inline no more, and for just so many.
 #[tactic(auto, unfolding(crate::specs::Table::spelling))]
+#[inline(always)]
 pub fn encode(alloc: Global, message: &Message<'_>) -> Result<MessageBytes, NoMemory>
     requires in_ranges { IsTrue (in_ranges message.now) }
     ensures spelling { IfOk result (λ bytes. bytes ≡ spelling message.now) }

@@ -13,7 +13,7 @@ pub returns-in_ok-place-in-StatPath-clause-sendable :
     goal.returns-in_ok-place-in-StatPath-clause-sendable
 returns-in_ok-place-in-StatPath-clause-sendable c =
     let asked = c.args.request.now in
-    let valid = valid_call c.in-Some-thread.row.now asked (subst IsOk c.in_ok-may_call.ensures refl) in
+    let valid = valid_call c.in-Some-thread.cell.now asked (subst IsOk c.in_ok-may_call.ensures refl) in
     let sends = side_sends asked c.in-StatPath.path c.in-StatPath.is c.in_ok-place-in-StatPath.place.rest valid c.in_ok-place-in-StatPath.ensures.rest in
     place_sends c.args.processes.now c.in-Some.process.now c.in_ok-place-in-StatPath.place Side _ _ c.to_place-in-StatPath.ensures asked sends
 
