@@ -1,5 +1,5 @@
-//! Tests of a traced world and of worker threads through their public calls, and an example of a caller of a trace
-//! (`docs/CALLING.md`).
+//! Tests of the crates below the channel, of a traced world and of worker threads through their public calls, and an example
+//! of a caller of a trace (`docs/CALLING.md`).
 //!
 //! - `script.rt`, `same.rt`: the tests' steps, from lines of a script; two traces compared by all that can be seen of
 //!   them
@@ -8,11 +8,14 @@
 //! - `nodes.rt`: a node of `Queues` that comes back
 //! - `calling.rt`, `asked.rt`: the example, a request that is taken from its call to its answer; its test
 //! - `pool.rt`: worker threads round one lock
+//! - `lower_tests.rt`: what is below the channel
 #![tactic(auto)]
 
 #[cfg(test)]
 mod asked;
 pub mod calling;
+#[cfg(test)]
+mod lower_tests;
 #[cfg(test)]
 mod memory;
 #[cfg(test)]

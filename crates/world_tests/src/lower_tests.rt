@@ -7,17 +7,10 @@
 //! - `spellings.rt`: messages as bytes, with what they mean
 //! - `rooms.rt`: a thread's room for its replies
 //! - `null.rt`: the null manager through `serve`
-#![tactic(auto)]
 
-#[cfg(test)]
 mod files;
-#[cfg(test)]
 mod made;
-#[cfg(test)]
 mod memory;
-#[cfg(test)]
 mod null;
-#[cfg(test)]
 mod rooms;
-#[cfg(test)]
 mod spellings;

@@ -1,6 +1,6 @@
 //! Memory that is refused, one request of it after another.
 
-use crate::made::{THINGS, Thing, is_made};
+use crate::lower_tests::made::{THINGS, Thing, is_made};
 use all_memory::take_all_memory;
 use qx_types::NoMemory;
 use qx_wire::{BorrowedBytes, Message, encode, in_ranges};
