@@ -43,8 +43,8 @@ const KINDS: &str = "\
     receive 1 ram\n\
     perform 1 9\n";
 
-/// An open that makes a file, a write that makes it longer, a directory that is made, a mount of RAM, an open that makes a
-/// pipe, and a notification that arms an event.
+/// An open that makes a file, a write that makes it longer, a directory that is made, for whose entry there is room, a mount
+/// of RAM, an open that makes a pipe, a notification that arms an event, and a directory that is made in the first one.
 const GROWTHS: &str = "\
     spawn ann 1 10\n\
     open ann.1.1 /ann/f rwc 644\n\
@@ -67,7 +67,11 @@ const GROWTHS: &str = "\
     reply ann.1.1\n\
     notify ann.1.1 4 pollarm i 5 7\n\
     receive 1 pipe\n\
-    perform 1 8\n";
+    perform 1 8\n\
+    reply ann.1.1\n\
+    mkdir ann.1.1 /ann/d/e 755\n\
+    receive 1 ram\n\
+    perform 1 9\n";
 
 /// A process more.
 const SPAWN: &str = "spawn bob 1 10\n";
@@ -76,9 +80,9 @@ const SPAWN: &str = "spawn bob 1 10\n";
 const NEEDY: [&str; 6] = [
     "perform 1 5",
     "perform 1 6",
-    "perform 1 7",
     "mount ann.1.1 /ann/m ram",
     "perform 1 8",
+    "perform 1 9",
     "spawn bob 1 10",
 ];
 
