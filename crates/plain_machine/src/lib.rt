@@ -246,10 +246,17 @@ impl Plain {
                 let manager = self.manager_of(proc, *coid)?;
                 Ok(at_manager(manager, Over::New(self.free_connection(proc)?)))
             }
-            _ => {
-                let coid = connection_of(request).ok_or(Errno::EBADF)?;
-                let manager = self.manager_of(proc, coid)?;
-                Ok(at_manager(manager, Over::Existing(coid)))
+            Request::Read { coid, .. }
+            | Request::Write { coid, .. }
+            | Request::Close { coid }
+            | Request::Seek { coid, .. }
+            | Request::Fstat { coid }
+            | Request::List { coid, .. }
+            | Request::Chmod { coid, .. }
+            | Request::Notify { coid, .. }
+            | Request::Raw { coid, .. } => {
+                let manager = self.manager_of(proc, *coid)?;
+                Ok(at_manager(manager, Over::Existing(*coid)))
             }
         }
     }
@@ -676,22 +683,6 @@ fn path_of(request: &Request) -> &[u8] {
         | Request::Unlink { path }
         | Request::Mkdir { path, .. } => path.as_slice(),
         _ => &[],
-    }
-}
-
-/// The connection that a request goes over, and none where it names a path or makes one.
-fn connection_of(request: &Request) -> Option<Coid> {
-    match request {
-        Request::Read { coid, .. }
-        | Request::Write { coid, .. }
-        | Request::Close { coid }
-        | Request::Seek { coid, .. }
-        | Request::Fstat { coid }
-        | Request::List { coid, .. }
-        | Request::Chmod { coid, .. }
-        | Request::Notify { coid, .. }
-        | Request::Raw { coid, .. } => Some(*coid),
-        _ => None,
     }
 }
 
