@@ -40,9 +40,10 @@ impl MessageBytes {
         requires few { length bytes.now ≤ INLINE }
         ensures bytes { result ≡ bytes.now }
     {
-        match MessageBytes::from_slice(alloc, bytes) {
-            Ok(copy) => copy,
-            Err(_) => unreachable!(),
+        let mut few = [0; PLACES];
+        few[..bytes.len()].copy_from_slice(bytes);
+        MessageBytes {
+            items: SmallVec::from_buf_and_len(alloc, few, bytes.len()),
         }
     }
 
@@ -51,6 +52,9 @@ impl MessageBytes {
         ensures bytes { IfOk result (λ copy. copy ≡ bytes.now) }
         ensures few { length bytes.now ≤ INLINE → IsOk result }
     {
+        if bytes.len() <= MessageBytes::INLINE {
+            return Ok(MessageBytes::inline(alloc, bytes));
+        }
         Ok(MessageBytes {
             items: SmallVec::from_slice(alloc, bytes)?,
         })
