@@ -1,6 +1,7 @@
 //! The bytes of a message or of its answer: few stand in the value itself.
 
-ghost use Rattle.std.specs.Prelude.{◌≡◌, ◌+◌, ◌≤◌, ◌++◌, [], length, IfOk, IsOk, OnOk, OnErr};
+ghost use Rattle.std.specs.Prelude.{◌≡◌, ◌≤◌, ◌++◌, [], length, IfOk, IsOk};
+ghost use Rattle.std.specs.List.{flat_map};
 ghost use Rattle.std.specs.Str.{bytes_eq};
 ghost use Rattle.qx_bytes.specs.declared.message.TheConstants.MessageBytes.{INLINE};
 
@@ -72,14 +73,37 @@ impl MessageBytes {
         }
     }
 
-    /// A copy of a slice goes behind the bytes. Where they stand inline no more, they get memory for just so many.
-    pub fn extend_from_slice(&mut self, bytes: &[u8]) -> Result<(), AllocError>
-        ensures ok { OnOk result (self.new ≡ self.old ++ bytes.now) }
-        ensures few { length self.old + length bytes.now ≤ INLINE → IsOk result }
-        ensures err { OnErr result (self.new ≡ self.old) }
+    /// The first bytes and behind them all parts, one after the other: `len` bytes. Memory is taken only for more than a
+    /// few, once and for just so many.
+    pub fn joined(
+        alloc: Global,
+        first: &[u8],
+        parts: &[&[u8]],
+        len: usize,
+    ) -> Result<Self, AllocError>
+        requires len { len ≡ length (first.now ++ flat_map (λ p. p.now) parts.now) }
+        ensures bytes { IfOk result (λ joined. joined ≡ first.now ++ flat_map (λ p. p.now) parts.now) }
+        ensures few { len ≤ INLINE → IsOk result }
     {
-        self.items.reserve_exact(bytes.len())?;
-        self.items.extend_from_slice(bytes)
+        if len > MessageBytes::INLINE {
+            let mut many = Vec::with_capacity(alloc, len)?;
+            many.extend_from_slice(first)?;
+            for part in parts {
+                many.extend_from_slice(part)?;
+            }
+            return Ok(MessageBytes::from_vec(many));
+        }
+        let mut few = [0; PLACES];
+        let mut end = first.len();
+        few[..end].copy_from_slice(first);
+        for part in parts {
+            let start = end;
+            end += part.len();
+            few[start..end].copy_from_slice(part);
+        }
+        Ok(MessageBytes {
+            items: SmallVec::from_buf_and_len(alloc, few, len),
+        })
     }
 
     /// The bytes, after which there are none.

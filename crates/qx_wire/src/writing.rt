@@ -9,8 +9,8 @@ use crate::message::Message;
 use qx_types::{MessageBytes, NoMemory, NotifyAction, Whence};
 use std::alloc::Global;
 
-/// The one spelling of a message whose values are in their ranges. Memory is taken for the last field alone, where the
-/// bytes stand inline no more, and for just so many.
+/// The one spelling of a message whose values are in their ranges. Memory is taken only where its bytes do not stand
+/// inline, once and for just so many.
 #[tactic(auto, unfolding(crate::specs::Table::spelling))]
 #[inline(always)]
 pub fn encode(alloc: Global, message: &Message<'_>) -> Result<MessageBytes, NoMemory>
@@ -94,21 +94,20 @@ fn framed(
     ensures framed { IfOk result (λ bytes. bytes ≡ framed kind subtype (flat_map (λ f. f.now) fields.now)) }
     ensures few { length (framed kind subtype (flat_map (λ f. f.now) fields.now)) ≤ INLINE → IsOk result }
 {
-    let mut bytes = header(alloc, kind, subtype, total(fields) as u32);
-    for field in fields {
-        bytes.extend_from_slice(field)?;
-    }
-    Ok(bytes)
+    let total = total(fields);
+    let header = header(kind, subtype, total as u32);
+    let len = header.len() + total;
+    Ok(MessageBytes::joined(alloc, &header, fields, len)?)
 }
 
 /// A header: the type, the subtype and the length of the body.
-fn header(alloc: Global, kind: u16, subtype: u16, len: u32) -> MessageBytes
+fn header(kind: u16, subtype: u16, len: u32) -> [u8; 8]
     ensures header { result ≡ to_le_bytes w16 kind ++ (to_le_bytes w16 subtype ++ to_le_bytes w32 len) }
 {
     let [k0, k1] = kind.to_le_bytes();
     let [s0, s1] = subtype.to_le_bytes();
     let [l0, l1, l2, l3] = len.to_le_bytes();
-    MessageBytes::inline(alloc, &[k0, k1, s0, s1, l0, l1, l2, l3])
+    [k0, k1, s0, s1, l0, l1, l2, l3]
 }
 
 /// How many bytes the fields have.

@@ -68,9 +68,8 @@ fn text(alloc: Global) -> Result<bool, NoMemory> {
 
 /// The bytes of a reply, more than stand in a value, in two parts.
 fn reply(alloc: Global) -> Result<MessageBytes, AllocError> {
-    let mut bytes = MessageBytes::from_vec(vec![in alloc; 7; MessageBytes::INLINE]?);
-    bytes.extend_from_slice(&[7])?;
-    Ok(bytes)
+    let first = [7; MessageBytes::INLINE];
+    MessageBytes::joined(alloc, &first, &[&[7]], MessageBytes::INLINE + 1)
 }
 
 fn received(alloc: Global) -> Result<bool, NoMemory> {
