@@ -75,6 +75,7 @@ impl MessageBytes {
 
     /// The first bytes and behind them all parts, one after the other: `len` bytes. Memory is taken only for more than a
     /// few, once and for just so many.
+    #[inline(always)]
     pub fn joined(
         alloc: Global,
         first: &[u8],

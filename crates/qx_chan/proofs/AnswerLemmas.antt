@@ -18,7 +18,7 @@ use Rattle.qx_machine.specs.declared.rows.ThreadRow.{ThreadRow}
 use Rattle.qx_machine.specs.Lines.{line_at}
 use Rattle.qx_machine.specs.Machine.{line_without}
 use Rattle.qx_machine.specs.Performing.{taken_in}
-use Rattle.qx_machine.specs.Processes.{Process, after_error, after_reply, answered_thread, served_thread, with_thread}
+use Rattle.qx_machine.specs.Processes.{Process, answered_thread, with_thread}
 use Rattle.qx_machine.specs.Rows.{with_row}
 use Rattle.qx_queues.specs.Queues.{stands, unblock_call}
 use Rattle.qx_shared.specs.Shared.{Shared, with_shared_line}
@@ -29,13 +29,12 @@ use Rattle.qx_chan.specs.inner.Calls.{taken_call}
 use Rattle.qx_chan.specs.Channel.{failed}
 use Rattle.qx_chan.specs.inner.Channel.{process_replied}
 use Rattle.qx_chan.specs.inner.Kept.{StandTogether, asked_call, stands_at, waits_for, with_lost}
-use Rattle.qx_chan.specs.Users.{Users, process_of, thread_row, with_process_of, with_thread_row}
+use Rattle.qx_chan.specs.Users.{Users, process_of, thread_row, with_process_of}
 use Rattle.qx_chan.specs.declared.call.Call.{Call}
 use Rattle.qx_chan.proofs.AttachedLemmas.{held-given_back, held-replied, threads-given_back, threads-replied}
 use Rattle.qx_chan.proofs.CallLemmas.{queued-at_target, taken_is, waits}
 use Rattle.qx_chan.proofs.ReceiveLemmas.{queued-unasked, queued-unwaiting, stands_once}
-use Rattle.qx_chan.proofs.ProcessLemmas.{with_process-alike, with_process-twice}
-use Rattle.qx_chan.proofs.RowReads.{option_cases, with_row-twice}
+use Rattle.qx_chan.proofs.RowReads.{option_cases}
 use Rattle.qx_chan.proofs.LostLemmas.{Kept-lost}
 use Rattle.qx_chan.proofs.ThreadLemmas.{OneThread, Own, OwnLine, beside, one_thread, waits-told}
 use Rattle.qx_chan.proofs.WaitLemmas.{no-wait}
@@ -56,20 +55,6 @@ fails thread error over = record {
   threads = λ x. threads-given_back thread over (with_thread thread (answered_thread (Failed error)) x);
   held = λ x. held-given_back thread over (with_thread thread (answered_thread (Failed error)) x);
 }
-
--- a message that is served before its thread gets a reply is replied to all the same
-pub reply_served : (users : Users) (thread : Thread) (effect : Effect) (status : ℕ) (bytes : List ℕ) (over : Over)
-    → with_process_of (with_thread_row users thread served_thread) thread.proc (process_replied thread.tid effect status bytes over) ≡ with_process_of users thread.proc (process_replied thread.tid effect status bytes over)
-reply_served users thread effect status bytes over =
-    with_process-twice users thread.proc (with_thread thread.tid served_thread) (process_replied thread.tid effect status bytes over)
-    ∙ with_process-alike users thread.proc _ _ (λ x. ap (λ threads. after_reply thread.tid over effect (record x { threads = threads })) (with_row-twice x.threads thread.tid served_thread (answered_thread (Reply status bytes))))
-
--- and one that gets an error is answered so all the same
-pub fail_served : (users : Users) (thread : Thread) (error : Errno) (over : Over)
-    → with_process_of (with_thread_row users thread served_thread) thread.proc (failed thread.tid error over) ≡ with_process_of users thread.proc (failed thread.tid error over)
-fail_served users thread error over =
-    with_process-twice users thread.proc (with_thread thread.tid served_thread) (failed thread.tid error over)
-    ∙ with_process-alike users thread.proc _ _ (λ x. ap (λ threads. after_error thread.tid over (record x { threads = threads })) (with_row-twice x.threads thread.tid served_thread (answered_thread (Failed error))))
 
 -- an answered thread stands nowhere and has no pulse
 pub answered_row : (answer : Answer) (row : Option ThreadRow) (number : ℕ) → stands_at number (option_map (answered_thread answer) row) ≡ false

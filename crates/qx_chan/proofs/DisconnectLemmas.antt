@@ -53,7 +53,7 @@ module _ (users : Users) (w : AllTables) (k : state.Kept) (proc : Proc) (of : k.
   pub Serves-gone : process_of users proc ≡ None → Serves (shown users w.shared w.mounts w.events.events) (shown users w.shared w.mounts w.events.events) k k (λ part. settled part (or_kept part (serve_disconnect part (record { process = proc.num; server = server }) moment)))
   Serves-gone none = Serves-nothing users w k served (λ processes there. ap (served_from (part_of processes)) (sym (ap (process_of_user proc.num) (sym (ap (row_at users) of) ∙ there)) ∙ none))
 
-  module _ (kept : AllStandTogether users w) (l : state.Kept) (v : AllTables) (processes : List (Option Process)) (there : row_at users proc.user.0 ≡ Some processes) (process : Process) (here : row_at processes proc.num ≡ Some process)
+  module _ {spare : Option (List ℕ)} (kept : AllStandTogether users w spare) (l : state.Kept) (v : AllTables) (processes : List (Option Process)) (there : row_at users proc.user.0 ≡ Some processes) (process : Process) (here : row_at processes proc.num ≡ Some process)
       (user : l.user ≡ k.user) (told_is : told l v ≡ (disconnected (is_living processes) (told k w) (record { process = proc.num; server = server }) moment).state)
       (shared : v ≡ state.shared k w (disconnected (is_living processes) (told k w) (record { process = proc.num; server = server }) moment).state (disconnected (is_living processes) (told k w) (record { process = proc.num; server = server }) moment).answers) where
     abbrev rows : List (Option Process)

@@ -1,6 +1,6 @@
 -- A received message is performed: what its thread's row and the queues tell before, and what comes of that, as in the machine.
 use Rattle.std.proofs.Common.{◌≡◌, ◌≤◌, inl, inr, ℕ, List, Option, Some, None, Ok, Err, refl, sym, ◌∙◌, ap}
-use Rattle.std.specs.Prelude.{[], IfOk, IsSome, Result, option_map, unwrap_or}
+use Rattle.std.specs.Prelude.{[], IfOk, IsSome, Result}
 use Rattle.std.proofs.lemmas.Option.{same_Some}
 use Rattle.qx_types.specs.Managers.{manager_number}
 use Rattle.qx_types.specs.declared.errno.Errno.{Errno}
@@ -16,13 +16,10 @@ use Rattle.qx_machine.specs.declared.rows.ThreadRow.{ThreadRow}
 use Rattle.qx_machine.specs.Judgements.{◌>>=◌, found, need}
 use Rattle.qx_machine.specs.Parts.{Part, thread_at, thread_of}
 use Rattle.qx_machine.specs.Performing.{caller_of, context_of, deed_of, opened_by, or_kept, serve_message, served_by, taken_in, works_over}
-use Rattle.qx_machine.specs.Processes.{Process, served_state, served_thread, with_thread}
-use Rattle.qx_machine.specs.Rows.{row_at, with_row}
+use Rattle.qx_machine.specs.Processes.{Process}
+use Rattle.qx_machine.specs.Rows.{row_at}
 use Rattle.qx_machine.specs.Servers.{is_numbered}
-use Rattle.qx_machine.specs.Settling.{is_living}
 use Rattle.qx_machine.specs.Wants.{bytes_want_memory, thread_wants_memory}
-use Rattle.qx_machine.proofs.Living.{keeps-thread, lives-changed}
-use Rattle.qx_process.specs.Reads.{unserved_state, unserved_thread}
 use Rattle.qx_queues.specs.Queues.{has_answer_among}
 use Rattle.qx_shared.specs.Shared.{IsReceived, Shared, waiting_in}
 use Rattle.qx_resmgr.specs.Deeds.{HasRoomAfter, IsReplied}
@@ -36,12 +33,11 @@ use Rattle.qx_chan.specs.inner.Calls.{taken_bytes, taken_call}
 use Rattle.qx_chan.specs.inner.Kept.{StandTogether}
 use Rattle.qx_chan.specs.inner.Serving.{Sends, caller_of_call, deed_in}
 use Rattle.qx_chan.specs.Serving.{Serves, part_in, settled}
-use Rattle.qx_chan.specs.Users.{Users, lives_in, process_of_user, process_of, thread_row, with_thread_row}
+use Rattle.qx_chan.specs.Users.{Users, process_of_user, process_of, thread_row}
 use Rattle.qx_chan.specs.declared.call.Call.{Call}
 use Rattle.qx_chan.proofs.AnswerLemmas.{taken-stands, taken-unwaiting}
 use Rattle.qx_chan.proofs.CallLemmas.{taken_is, waits}
-use Rattle.qx_chan.proofs.ProcessLemmas.{process_of-same, with_process-fixed, with_process-twice}
-use Rattle.qx_chan.proofs.RowReads.{option_cases, row_at-with_same, with_row-fixed, with_row-twice}
+use Rattle.qx_chan.proofs.RowReads.{option_cases}
 use Rattle.qx_chan.proofs.ServeLemmas.{Serves-nothing, shown}
 use Rattle.qx_chan.proofs.ThreadLemmas.{nodes-there}
 use Rattle.qx_chan.proofs.WaitLemmas.{no-call}
@@ -119,44 +115,19 @@ pub serves-message : (part : Part) (number thread moment : ℕ) (process : Proce
     → serve_message part number thread moment ≡ Ok (served_by part (caller_of number thread row sent) sent (deed_of part.resources (context_of process (caller_of number thread row sent) sent.target moment (meaning sent.bytes)) (meaning sent.bytes)))
 serves-message part number thread moment process row sent there at is = rw (there, at, is) refl
 
--- ---- the message is handed over
+-- its bytes are those that are read, and it comes to what these mean
+module _ (users : Users) (thread : Thread) (process : Process) (bytes : List ℕ) (of : Sends users thread process bytes) (found : Process) (there : Some found ≡ process_of users thread.proc) (given : List ℕ)
+    (read : Some given ≡ taken_bytes (thread_of thread.tid (Some found))) (means : Meaning) (is : means ≡ meaning given) where
+  found-is : found ≡ process
+  found-is = same_Some found process (there ∙ of.there)
 
--- its bytes are those that it had
-pub meaning-served : (users : Users) (thread : Thread) (process : Process) (bytes given : List ℕ) (means : Meaning) → Sends users thread process bytes → Some given ≡ taken_bytes (thread_row users thread) → means ≡ meaning given → means ≡ meaning bytes
-meaning-served users thread process bytes given means of read is =
-    let same : Some given ≡ Some bytes = read ∙ of.bytes_are in
-    let bytes_are : given ≡ bytes = cc in
-    is ∙ ap meaning bytes_are
+  pub meaning-served : means ≡ meaning bytes
+  meaning-served = is ∙ ap meaning (same_Some given bytes (read ∙ ap (λ place. taken_bytes (thread_of thread.tid place)) there ∙ of.bytes_are))
 
--- it comes to the same as before
-pub deed-served : (k : state.Kept) (w : AllTables) (users new : Users) (thread : Thread) (call : Call) (moment : ℕ) (process found : Process) (bytes given : List ℕ) (means : Meaning) → Sends users thread process bytes
-    → new ≡ with_thread_row users thread served_thread → Some found ≡ process_of new thread.proc → Some given ≡ taken_bytes (thread_row users thread) → means ≡ meaning given
-    → deed_of (told k w) (context_of found (caller_of_call thread call) call.target moment means) means ≡ deed_in k w process (record { thread = thread; call = call; moment = moment }) bytes
-deed-served k w users new thread call moment process found bytes given means of served there read is =
-    let here : process_of (with_thread_row users thread served_thread) thread.proc ≡ Some (with_thread thread.tid served_thread process) = process_of-same users thread.proc (with_thread thread.tid served_thread) ∙ ap (option_map (with_thread thread.tid served_thread)) of.there in
-    let both : Some found ≡ Some (with_thread thread.tid served_thread process) = there ∙ ap (λ users. process_of users thread.proc) served ∙ here in
-    let its : found ≡ with_thread thread.tid served_thread process = cc in
-    ap (λ process. deed_of (told k w) (context_of process (caller_of_call thread call) call.target moment means) means) its
-    ∙ ap (λ means. deed_of (told k w) (context_of process (caller_of_call thread call) call.target moment means) means) (meaning-served users thread process bytes given means of read is)
-
--- ---- memory is refused
-
-back : (row : ThreadRow) (sent : Sent) → row.state ≡ Taken sent → unserved_thread sent.bytes (served_thread row) ≡ row
-back row sent is = ap (λ s. record row { state = s }) (ap (λ s. unserved_state sent.bytes (served_state s)) is ∙ sym is)
-
--- a message that was handed over and is handed back changed nothing
-pub handed_back : (users new : Users) (thread : Thread) (call : Call) (bytes : List ℕ) → Some call ≡ taken_call (thread_row users thread) → Some bytes ≡ taken_bytes (thread_row users thread)
-    → new ≡ with_thread_row users thread served_thread → with_thread_row new thread (unserved_thread bytes) ≡ users
-handed_back users new thread call bytes taken read served =
-    let its = received users thread call taken in
-    let same : Some bytes ≡ Some its.sent.bytes = read ∙ (sends users thread call its).bytes_are in
-    let bytes_are : bytes ≡ its.sent.bytes = cc in
-    ap (λ bytes. with_thread_row new thread (unserved_thread bytes)) bytes_are ∙ ap (λ users. with_thread_row users thread (unserved_thread its.sent.bytes)) served
-    ∙ with_process-twice users thread.proc (with_thread thread.tid served_thread) (with_thread thread.tid (unserved_thread its.sent.bytes))
-    ∙ with_process-fixed users thread.proc (λ x. with_thread thread.tid (unserved_thread its.sent.bytes) (with_thread thread.tid served_thread x)) its.process (sends users thread call its).there
-    (ap (λ threads. record its.process { threads = threads })
-    (with_row-twice its.process.threads thread.tid served_thread (unserved_thread its.sent.bytes)
-    ∙ with_row-fixed its.process.threads thread.tid (λ x. unserved_thread its.sent.bytes (served_thread x)) its.row its.at (back its.row its.sent its.is)))
+  pub deed-served : (k : state.Kept) (w : AllTables) (call : Call) (moment : ℕ) → deed_of (told k w) (context_of found (caller_of_call thread call) call.target moment means) means ≡ deed_in k w process (record { thread = thread; call = call; moment = moment }) bytes
+  deed-served k w call moment =
+      ap (λ process. deed_of (told k w) (context_of process (caller_of_call thread call) call.target moment means) means) found-is
+      ∙ ap (λ means. deed_of (told k w) (context_of process (caller_of_call thread call) call.target moment means) means) meaning-served
 
 -- ---- after
 
@@ -190,24 +161,8 @@ received-wants users w k thread call its of moment =
     rw (ap (row_at users) of ∙ its.user, its.there, its.at, ap taken_in its.is)
     (ap (λ (call : Call). bytes_want_memory call.target.manager (told k w) (meaning its.sent.bytes) (deed_in k w its.process (record { thread = thread; call = call; moment = moment }) its.sent.bytes)) its.call_is)
 
--- the room for a reply is there still, where there is a reply
+-- the spare room is there still, where there is a reply
 pub room-there : {R : Type 0} (before room : Option R) (given : Result Done Errno) → IsSome before → HasRoomAfter before room given → IsReplied given → IsSome room
 room-there before room (Ok NoReply) some left replied = absurd replied
 room-there before room (Ok (Reply status effect)) some left replied = rw left some
 room-there before room (Err error) some left replied = rw left some
-
--- the same processes live once a message is handed over
-pub lives-handed : (users new : Users) (thread : Thread) (processes : List (Option Process)) → new ≡ with_thread_row users thread served_thread → Some processes ≡ row_at new thread.proc.user.0 → is_living processes ≡ lives_in users thread.proc.user.0
-lives-handed users new thread processes served there = by_row (row_at users thread.proc.user.0) refl
-  where
-    change : List (Option Process) → List (Option Process)
-    change rows = with_row rows thread.proc.num (with_thread thread.tid served_thread)
-
-    at : Some processes ≡ option_map change (row_at users thread.proc.user.0)
-    at = there ∙ ap (λ all. row_at all thread.proc.user.0) served ∙ row_at-with_same users thread.proc.user.0 change
-
-    by_row : (row : Option (List (Option Process))) → row_at users thread.proc.user.0 ≡ row → is_living processes ≡ is_living (unwrap_or row [])
-    by_row None none = let clash : Some processes ≡ None = at ∙ ap (option_map change) none in absurd (cc)
-    by_row (Some rows) some =
-        ap is_living (same_Some processes (change rows) (at ∙ ap (option_map change) some))
-        ∙ lives-changed rows thread.proc.num (with_thread thread.tid served_thread) (keeps-thread thread.tid served_thread)

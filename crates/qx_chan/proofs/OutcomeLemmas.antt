@@ -46,14 +46,14 @@ use Rattle.qx_chan.specs.inner.Answers.{answered_queues, answered_users, given_l
 use Rattle.qx_chan.specs.inner.Calls.{taken_call}
 use Rattle.qx_chan.specs.Channel.{failed}
 use Rattle.qx_chan.specs.inner.Channel.{process_replied}
-use Rattle.qx_chan.specs.inner.Kept.{Answering, StandTogether, lost_of, with_lost, asked_call, is_asked_at, is_queued_at, is_waiting_for, stands_at, waits_for}
+use Rattle.qx_chan.specs.inner.Kept.{Answering, StandTogether, with_lost, asked_call, is_asked_at, is_queued_at, is_waiting_for, stands_at, waits_for}
 use Rattle.qx_chan.specs.Serving.{Serves, settled}
 use Rattle.qx_chan.specs.inner.Serving.{Comes, Leaves, caller_of_call, deed_in}
 use Rattle.qx_chan.specs.Users.{Users, lives_in, process_of_user, process_of, thread_row, with_process_of, with_thread_row}
 use Rattle.qx_chan.specs.declared.call.Call.{Call}
-use Rattle.qx_chan.proofs.AnswerLemmas.{IsAnswer, fail_served, fails, replies, reply_served}
+use Rattle.qx_chan.proofs.AnswerLemmas.{IsAnswer, fails, replies}
 use Rattle.qx_chan.proofs.GivenLemmas.{resources-machine}
-use Rattle.qx_chan.proofs.LostLemmas.{loses-with_thread, lost-fields, lost-lines, lost-listed, lost-pulses, none-lost}
+use Rattle.qx_chan.proofs.LostLemmas.{lost-fields, lost-lines, lost-listed, lost-pulses, none-lost}
 use Rattle.qx_chan.proofs.MessageLemmas.{Received, received, serves-message}
 use Rattle.qx_chan.proofs.ServeLemmas.{Answering-left, Serves-given, Waits, given_all, left-same, nothing_done, shown, waits-before}
 use Rattle.qx_chan.proofs.ProcessLemmas.{process_of-same}
@@ -133,27 +133,6 @@ module _ (users : Users) (w : AllTables) (thread : Thread) (call : Call) (taken 
       row_is = (one_thread users thread (with_thread thread.tid served_thread) served_thread (λ x. refl) (λ x. refl)).own
           ∙ ap (option_map served_thread) (ap (λ processes. thread_of thread.tid (process_of_user thread.proc.num processes)) its.user ∙ ap (thread_of thread.tid) its.there ∙ its.at)
           ∙ ap (λ (s : State). Some (record its.row { state = served_state s })) its.is
-
-  -- what its process has lost is told by the row before it was served as well
-  served_process : process_of served_users thread.proc ≡ option_map (with_thread thread.tid served_thread) (process_of users thread.proc)
-  served_process = (one_thread users thread (with_thread thread.tid served_thread) served_thread (λ x. refl) (λ x. refl)).here
-
-  lost_before : (after : Option Process) → lost_of (process_of served_users thread.proc) after ≡ lost_of (process_of users thread.proc) after
-  lost_before after = ap (λ o. lost_of o after) served_process ∙ by_rows (process_of users thread.proc) after
-    where
-      by_rows : (before after : Option Process) → lost_of (option_map (with_thread thread.tid served_thread) before) after ≡ lost_of before after
-      by_rows None after = refl
-      by_rows (Some before) None = refl
-      by_rows (Some before) (Some after) = refl
-
-  loses_before : (lost : Option ServerName) (after : Option Process) → LosesAt lost (process_of served_users thread.proc) after → LosesAt lost (process_of users thread.proc) after
-  loses_before lost after loses = by_rows (process_of users thread.proc) after (subst (λ o. LosesAt lost o after) served_process loses)
-    where
-      by_rows : (before after : Option Process) → LosesAt lost (option_map (with_thread thread.tid served_thread) before) after → LosesAt lost before after
-      by_rows None None loses = loses
-      by_rows (Some before) (Some after) loses = loses-with_thread thread.tid served_thread lost before after loses
-      by_rows None (Some after) loses = loses
-      by_rows (Some before) None loses = loses
 
   -- ---- what it comes to
 
@@ -295,38 +274,26 @@ module _ (users : Users) (w : AllTables) (thread : Thread) (call : Call) (taken 
 
   -- the rows and what is shared once the message is answered, unless it is left without a reply
   abbrev rows_then : List ℕ → Result Done Errno → Users
-  rows_then bytes given = answered_users served_users thread call.target.over bytes given
+  rows_then bytes given = answered_users users thread call.target.over bytes given
 
   abbrev Outcome : state.Kept → state.Kept → AllTables → ℕ → List ℕ → Result Done Errno → Type 0
   Outcome k l v moment bytes given =
-      After (rows_then bytes given) (answered_queues v.shared served_users (rows_then bytes given) thread call given) v.mounts v.events.events k l
+      After (rows_then bytes given) (answered_queues v.shared users (rows_then bytes given) thread call given) v.mounts v.events.events k l
       (λ part. or_kept part (serve_message part thread.proc.num thread.tid moment))
 
   -- its process has lost a server connection by that or none
   abbrev pub HasLost : List ℕ → Result Done Errno → Type 0
-  HasLost bytes given = (lost : Option ServerName) × LosesAt lost (process_of served_users thread.proc) (process_of (rows_then bytes given) thread.proc)
-
-  -- the same, told from the rows before it was served
-  from_before : (k l : state.Kept) (v : AllTables) (done : Part → Served) (f : Process → Process) → with_process_of served_users thread.proc f ≡ with_process_of users thread.proc f
-      → (lost : Option ServerName) → LosesAt lost (process_of served_users thread.proc) (process_of (with_process_of served_users thread.proc f) thread.proc)
-      → (LosesAt lost (process_of users thread.proc) (process_of (with_process_of users thread.proc f) thread.proc) → After (with_process_of users thread.proc f) (without_pulse v.shared users (with_process_of users thread.proc f) thread call) v.mounts v.events.events k l done)
-      → After (with_process_of served_users thread.proc f) (without_pulse v.shared served_users (with_process_of served_users thread.proc f) thread call) v.mounts v.events.events k l done
-  from_before k l v done f same lost loses after =
-      subst (λ rows. After rows (without_pulse v.shared served_users rows thread call) v.mounts v.events.events k l done) (sym same)
-      (subst (λ servers. After (with_process_of users thread.proc f) (with_lost thread.proc servers (with_shared_line v.shared (manager_number manager) drop_pulse)) v.mounts v.events.events k l done) (sym (lost_before (process_of (with_process_of users thread.proc f) thread.proc)))
-      (after (loses_before lost _ (subst (λ rows. LosesAt lost (process_of served_users thread.proc) (process_of rows thread.proc)) same loses))))
+  HasLost bytes given = (lost : Option ServerName) × LosesAt lost (process_of users thread.proc) (process_of (rows_then bytes given) thread.proc)
 
   outcome_by : (k l : state.Kept) (v : AllTables) (of : k.user ≡ thread.proc.user.0) (moment : ℕ) (bytes : List ℕ) (given : Result Done Errno) (r : Result (Deed Resources) Errno) → meant k l v of moment ≡ r
       → Comes (is_living its.processes) k w l v bytes given r → (IsReplied given → Gone v.shared) → (IsReplied given → HasLost bytes given) → Outcome k l v moment bytes given
   outcome_by k l v of moment bytes (Ok (done.Reply status effect)) (Ok deed) is did gone lost =
-      from_before k l v (served k l v of moment) (process_replied thread.tid effect status bytes call.target.over) (reply_served users thread effect status bytes call.target.over) (lost tt).0 (lost tt).1
-      (reply_after k l v of moment deed did.1 is status bytes effect did.0 (gone tt) (lost tt).0)
+      reply_after k l v of moment deed did.1 is status bytes effect did.0 (gone tt) (lost tt).0 (lost tt).1
   outcome_by k l v of moment bytes (Ok done.NoReply) (Ok deed) is did gone lost = waiting_after k l v of moment deed did.1 is did.0
   outcome_by k l v of moment bytes (Err error) (Err refused) is did gone lost =
       subst (λ (l : state.Kept). Outcome k l v moment bytes (Err error)) (sym did.1)
       (subst (λ v. Outcome k k v moment bytes (Err error)) (sym did.2)
-      (from_before k k w (served k k w of moment) (failed thread.tid error call.target.over) (fail_served users thread error call.target.over) (lost tt).0 (lost tt).1
-      (error_after k of moment error (is ∙ ap Err (sym did.0)) (subst (λ (v : AllTables). Gone v.shared) did.2 (gone tt)) (lost tt).0)))
+      (error_after k of moment error (is ∙ ap Err (sym did.0)) (subst (λ (v : AllTables). Gone v.shared) did.2 (gone tt)) (lost tt).0 (lost tt).1))
   outcome_by k l v of moment bytes (Ok (done.Reply status effect)) (Err error) is did gone lost = absurd did
   outcome_by k l v of moment bytes (Ok done.NoReply) (Err error) is did gone lost = absurd did
   outcome_by k l v of moment bytes (Err error) (Ok deed) is did gone lost = absurd did

@@ -31,7 +31,7 @@ use Rattle.qx_chan.proofs.ServeLemmas.{Answering-left, Serves-given, Waits, give
 use Rattle.qx_chan.proofs.SettledLemmas.{Cancelled, cancelled, fits-cancelled, triggered_in}
 
 -- a user who has processes is one of those who share
-pub user-fits : (users : Users) (w : AllTables) (k : state.Kept) (processes : List (Option Process)) → row_at users k.user ≡ Some processes → AllStandTogether users w → HasUser k w
+pub user-fits : {spare : Option (List ℕ)} (users : Users) (w : AllTables) (k : state.Kept) (processes : List (Option Process)) → row_at users k.user ≡ Some processes → AllStandTogether users w spare → HasUser k w
 user-fits users w k processes there kept = record { pipes = few; events = rw kept.events few }
   where
     few : k.user < length w.shared.pipes
@@ -73,7 +73,7 @@ module _ (users : Users) (w : AllTables) (k l : state.Kept) (v : AllTables) (pro
       by_deed (nothing_done (told k w)) (ap served_from is) (record { pipes = waits-before users k.user w.shared kept.waits; answers = tt }) left
 
 -- and once the events that are due by it have given their pulses
-pub performed : (users : Users) (w v now : AllTables) (k l : state.Kept) (processes : List (Option Process)) → row_at users k.user ≡ Some processes → AllStandTogether users w → (process thread call moment : ℕ) (watched : Option Watched)
+pub performed : {spare : Option (List ℕ)} (users : Users) (w v now : AllTables) (k l : state.Kept) (processes : List (Option Process)) → row_at users k.user ≡ Some processes → AllStandTogether users w spare → (process thread call moment : ℕ) (watched : Option Watched)
     → l.user ≡ k.user → told l v ≡ state_after (told k w) (cancel_call (told k w) process thread call moment) → v ≡ record w { shared = shared_after w.shared k.user (cancel_call (told k w) process thread call moment) }
     → watched ≡ watched_call (told k w) process thread call → now ≡ triggered_in (is_living processes) l v watched
     → Answering users now.shared × Serves (shown users w.shared w.mounts w.events.events) (given_all users now.shared now.mounts now.events.events) k l (λ part. settled part (or_kept part (serve_pulse part process thread call moment)))

@@ -17,7 +17,7 @@ use Rattle.qx_chan.proofs.RowReads.{option_cases, row_within}
 use Rattle.qx_chan.proofs.ServeLemmas.{shown}
 
 -- a user who has a process has a place for events
-pub has-events : (users : Users) (w : Tables) (proc : Proc) (process : Process) → Some process ≡ living (process_of users proc) → AllStandTogether users w → proc.user.0 < length w.events.events
+pub has-events : {spare : Option (List ℕ)} (users : Users) (w : Tables) (proc : Proc) (process : Process) → Some process ≡ living (process_of users proc) → AllStandTogether users w spare → proc.user.0 < length w.events.events
 has-events users w proc process is kept = elim (option_cases (row_at users proc.user.0)) [
   | inl none ↦ let clash : Some process ≡ None = rw none at is in absurd (cc)
   | inr rows ↦ rw (kept.events, kept.shared.users) (row_within users proc.user.0 rows.0 rows.1)

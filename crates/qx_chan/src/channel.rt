@@ -19,7 +19,7 @@ use crate::call::{self, Call};
 use crate::servers;
 use crate::users::Users;
 use qx_machine::{OwnItem, Queued, Sent};
-use qx_process::{Process, ThreadCell};
+use qx_process::{Process, Room, ThreadCell};
 use qx_procs::Processes;
 use qx_resources::Tables;
 use qx_types::{Answer, Config, Errno, Manager, NoMemory, Outcome, Prio, Proc, Thread, User};
@@ -32,6 +32,8 @@ use std::marker::Model;
 pub struct Channel {
     pub(crate) users: Users,
     pub(crate) tables: Tables,
+    /// Room for a reply, which a call that is left without one takes along; the room of its thread comes here then.
+    pub(crate) spare: Option<Room>,
 }
 
 impl Model for Channel {
@@ -45,7 +47,7 @@ impl Model for Channel {
 
     ghost view = { λ c. record { users = c.users; lines = c.tables.shared.lines; pipes = c.tables.shared.pipes; events = c.tables.events.events; mounts = c.tables.mounts; room = c.tables.shared.room } };
 
-    ghost invariant = { λ c. AllStandTogether c.users c.tables };
+    ghost invariant = { λ c. AllStandTogether c.users c.tables c.spare };
 }
 
 impl Channel {
@@ -55,7 +57,12 @@ impl Channel {
     {
         let tables = Tables::boot(alloc, config)?;
         let users = Users::new(alloc, config.user_count())?;
-        Ok(Channel { users, tables })
+        let spare = Some(Room::new(alloc)?);
+        Ok(Channel {
+            users,
+            tables,
+            spare,
+        })
     }
 
     /// The processes of a user; none where the user is not there.

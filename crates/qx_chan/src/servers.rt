@@ -70,6 +70,7 @@ fn is_served(users: &Users, proc: Proc, manager: Manager) -> bool
 
 /// The disconnect pulse of a process that has lost a server connection goes into its manager's line (Writing a Resource
 /// Manager: `_PULSE_CODE_DISCONNECT`).
+#[inline(always)]
 pub fn disconnect(queues: &mut Shared, proc: Proc, lost: Option<ServerName>)
     requires there { IfSome lost (λ server. IsTrue (has_disconnect_node queues.old proc (manager_number server.manager))) }
     ensures disconnected { queues.new ≡ with_lost proc (option_to_list lost) queues.old }

@@ -8,24 +8,23 @@ ghost use Rattle.qx_wire.specs.Reading as reading;
 ghost use Rattle.qx_machine.specs.Machine.{line_without};
 ghost use Rattle.qx_machine.specs.Performing.{or_kept, serve_disconnect, serve_message, serve_pulse};
 ghost use Rattle.qx_machine.specs.Processes as machine;
-ghost use Rattle.qx_machine.specs.Processes.{served_thread};
+ghost use Rattle.qx_machine.specs.Rows.{row_at};
 ghost use Rattle.qx_machine.specs.Wants.{bytes_want_memory, thread_wants_memory};
 ghost use Rattle.qx_machine.specs.declared.rows.OwnItem.TheVariants as item;
 ghost use Rattle.qx_machine.specs.declared.rows.ServerName.{ServerName as AnyServer};
-ghost use Rattle.qx_process.specs.Reads.{is_waiting};
 ghost use Rattle.qx_queues.specs.Queues.{unblock_call};
 ghost use Rattle.qx_shared.specs.Shared.{IsReceived, shared_line};
-ghost use Rattle.qx_resmgr.specs.Deeds.{IsReplied};
+ghost use Rattle.qx_resmgr.specs.Deeds.{HasRoomAfter, IsReplied};
 ghost use Rattle.qx_resources.specs.Ranges.{IsInRanges};
 ghost use Rattle.qx_resources.specs.State.{HasUser, told};
 ghost use Rattle.qx_procs.specs.Calls.{LosesAt};
 ghost use Rattle.qx_chan.specs.inner.Answers.{answered_queues, answered_users};
-ghost use Rattle.qx_chan.specs.inner.Calls.{taken_call};
+ghost use Rattle.qx_chan.specs.inner.Calls.{taken_bytes, taken_call};
 ghost use Rattle.qx_chan.specs.Calls.{taken_of};
 ghost use Rattle.qx_chan.specs.Serving.{IsReadOf, Serves, part_in, settled};
 ghost use Rattle.qx_chan.specs.inner.Kept.{HasServerNodes};
 ghost use Rattle.qx_chan.specs.inner.Serving.{Comes, Sends, caller_of_call, deed_in};
-ghost use Rattle.qx_chan.specs.Users.{lives_in, process_of, thread_row, with_thread_row};
+ghost use Rattle.qx_chan.specs.Users.{lives_in, process_of, thread_row};
 
 use crate::answers::give_answers;
 use crate::call::{Call, TakenMessage};
@@ -34,7 +33,7 @@ use crate::servers;
 use crate::users::Users;
 use qx_attr::Reply;
 use qx_machine::{Caller, Client, ServerName};
-use qx_process::{Replied, Room};
+use qx_process::{Process, Replied, Room};
 use qx_resmgr::Done;
 use qx_resources::{Resources, Tables, context_of};
 use qx_shared::Shared;
@@ -71,10 +70,10 @@ impl Channel {
             call,
             moment,
         };
-        let (users, tables) = (&mut self.users, &mut self.tables);
-        let (given, room) = perform(users, tables, resources, message, read, reply)?;
+        let (users, tables, spare) = (&mut self.users, &mut self.tables, &mut self.spare);
+        let given = perform(users, tables, resources, message, read, reply, spare)?;
         let queues = &mut tables.shared;
-        answer(users, queues, message, given, reply.as_slice(), room);
+        answer(users, queues, message, given, reply.as_slice(), spare);
         give_answers(users, queues);
         Ok(())
     }
@@ -129,94 +128,93 @@ impl Channel {
 }
 
 /// Does what a message asks its manager for, which was received and is served by that, and events that are due give their
-/// pulses; the room for the reply goes with a message that is left without one. Where memory is refused, the message is
-/// received as before.
+/// pulses; the spare room goes with a message that is left without a reply.
 fn perform(
-    users: &mut Users,
+    users: &Users,
     tables: &mut Tables,
     resources: &mut Resources,
     message: TakenMessage,
     read: Option<&Parsed>,
     reply: &mut Reply,
-) -> Result<(Result<Done, Errno>, Option<Room>), AllocError>
+    spare: &mut Option<Room>,
+) -> Result<Result<Done, Errno>, AllocError>
     requires user { resources.old.user ≡ message.thread.proc.user.0 }
     requires fits { HasUser resources.old tables.old }
-    requires taken { Some message.call ≡ taken_call (thread_row users.old message.thread) }
+    requires taken { Some message.call ≡ taken_call (thread_row users.now message.thread) }
     requires received { IsReceived tables.old.shared message.thread }
-    requires read { IsReadOf (option_copied read) (taken_of (thread_row users.old message.thread)) }
-    ensures served { OnOk result (users.new ≡ with_thread_row users.old message.thread served_thread) }
-    ensures did { (process : machine.Process) (bytes : List ℕ) → Sends users.old message.thread process bytes → IfOk result (λ given. Comes (lives_in users.old message.thread.proc.user.0) resources.old tables.old resources.new tables.new reply.new given.0 (deed_in resources.old tables.old process message bytes)) }
-    ensures room { IfOk result (λ given. IsReplied given.0 → IsSome given.1) }
-    ensures err { OnErr result ((users.new ≡ users.old) × (tables.new ≡ tables.old) × (resources.new ≡ resources.old)) }
-    ensures wanted { (process : machine.Process) (bytes : List ℕ) → Sends users.old message.thread process bytes → OnErr result (IsTrue (bytes_want_memory message.call.target.manager (told resources.old tables.old) (reading.meaning bytes) (deed_in resources.old tables.old process message bytes))) }
+    requires read { IsReadOf (option_copied read) (taken_of (thread_row users.now message.thread)) }
+    requires spare { IsSome spare.old }
+    ensures did { (process : machine.Process) (bytes : List ℕ) → Sends users.now message.thread process bytes → IfOk result (λ given. Comes (lives_in users.now message.thread.proc.user.0) resources.old tables.old resources.new tables.new reply.new given (deed_in resources.old tables.old process message bytes)) }
+    ensures room { IfOk result (λ given. HasRoomAfter spare.old spare.new given) }
+    ensures err { OnErr result ((tables.new ≡ tables.old) × (resources.new ≡ resources.old) × (spare.new ≡ spare.old)) }
+    ensures wanted { (process : machine.Process) (bytes : List ℕ) → Sends users.now message.thread process bytes → OnErr result (IsTrue (bytes_want_memory message.call.target.manager (told resources.old tables.old) (reading.meaning bytes) (deed_in resources.old tables.old process message bytes))) }
 {
     let TakenMessage {
         thread,
         call,
         moment,
     } = message;
-    let (bytes, room) = users.hand_over(thread);
-    let mut room = Some(room);
-    let Some(process) = users.process(thread.proc) else {
+    let Some(processes) = users.processes(thread.proc.user) else {
         unreachable!();
     };
-    let meaning = meaning_of(&bytes, read);
+    let Some(process) = processes.process(thread.proc.num) else {
+        unreachable!();
+    };
+    let Some(bytes) = received(process, thread.tid) else {
+        unreachable!();
+    };
+    let meaning = meaning_of(bytes, read);
     let context = context_of(process, caller(thread, call), call.target, moment, &meaning);
     let watched = resources.watch_message(tables, &meaning, context.opened);
-    match resources.perform(tables, context, meaning, reply, &mut room) {
-        Ok(given) => {
-            let Some(processes) = users.processes(thread.proc.user) else {
-                unreachable!();
-            };
-            resources.trigger(tables, processes, watched);
-            Ok((given, room))
-        }
-        Err(error) => {
-            let Some(room) = room else {
-                unreachable!();
-            };
-            users.hand_back(thread, bytes, room);
-            Err(error)
-        }
-    }
+    let given = resources.perform(tables, context, meaning, reply, spare)?;
+    resources.trigger(tables, processes, watched);
+    Ok(given)
+}
+
+/// The bytes of a thread's message that was received and is not served.
+fn received(process: &Process, thread: u8) -> Option<&MessageBytes>
+    ensures bytes { option_copied result ≡ taken_bytes (row_at process.now.threads thread) }
+{
+    Some(&process.thread(thread)?.taken()?.bytes)
 }
 
 /// A thread whose message was served is answered with what that came to, unless it is left without a reply: the message does
 /// what it does to the connection that it came over, a side connection goes, a new one goes with an error, and an unblock
-/// pulse of the call is in the line no more.
+/// pulse of the call is in the line no more. There is a spare room again.
 fn answer(
     users: &mut Users,
     queues: &mut Shared,
     message: TakenMessage,
     given: Result<Done, Errno>,
     reply: &[u8],
-    room: Option<Room>,
+    spare: &mut Option<Room>,
 )
     requires fits { length reply.now ≤ BODY }
-    requires room { IsReplied given → IsSome room }
-    requires served { IfSome (thread_row users.old message.thread) (λ row. IsTrue (is_waiting row.state)) }
+    requires taken { Some message.call ≡ taken_call (thread_row users.old message.thread) }
+    requires room { IsReplied given → IsSome spare.old }
     requires nodes { HasServerNodes users.old queues.old message.thread.proc }
     ensures users { users.new ≡ answered_users users.old message.thread message.call.target.over reply.now given }
     ensures queues { queues.new ≡ answered_queues queues.old users.old users.new message.thread message.call given }
     ensures lost { IsReplied given → (lost : Option AnyServer) × LosesAt lost (process_of users.old message.thread.proc) (process_of users.new message.thread.proc) }
     ensures gone { IsReplied given → unblock_call (shared_line queues.old (manager_number message.call.target.manager)) message.thread ≡ Some message.call.number → unblock_call (line_without message.thread.proc.user.0 (item.Unblock message.thread.proc.num message.thread.tid message.call.number) (shared_line queues.old (manager_number message.call.target.manager))) message.thread ≡ None }
+    ensures spare { IsSome spare.new }
 {
     let TakenMessage { thread, call, .. } = message;
     let over = call.target.over;
     let lost = match given {
-        Ok(Done::NoReply) => return,
+        Ok(Done::NoReply) => {
+            *spare = Some(users.wait(thread));
+            return;
+        }
         Ok(Done::Reply { status, effect }) => {
-            let Some(room) = room else {
-                unreachable!();
-            };
             let replied = Replied {
                 status,
                 bytes: reply,
                 effect,
             };
-            users.reply(thread, over, replied, room)
+            users.reply(thread, over, replied)
         }
-        Err(error) => users.fail(thread, over, error, room),
+        Err(error) => users.fail(thread, over, error, None),
     };
     queues.reply(call.target.manager, thread, call.number);
     servers::disconnect(queues, thread.proc, lost);

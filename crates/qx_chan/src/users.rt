@@ -8,7 +8,7 @@ ghost use Rattle.qx_types.specs.declared.outcome.Answer.TheVariants.{Failed};
 ghost use Rattle.qx_machine.specs.Clients.{spawn_number};
 ghost use Rattle.qx_machine.specs.Processes.{answered_thread, asked_thread, ended, living, served_thread, taken_thread, with_queued, without_server};
 ghost use Rattle.qx_machine.specs.Rows.{row_at, with_row};
-ghost use Rattle.qx_process.specs.Reads.{unserved_thread, AwaitsReply, BringsRoom, CanCall, CanGo, has_own_room};
+ghost use Rattle.qx_process.specs.Reads.{AwaitsReply, BringsRoom, CanCall, CanGo, has_own_room};
 ghost use Rattle.qx_procs.specs.Calls.{CanAttachAt, EndsAt, LosesAt, spawned};
 ghost use Rattle.qx_chan.specs.inner.Calls.{taken_bytes};
 ghost use Rattle.qx_chan.specs.Channel.{failed};
@@ -157,25 +157,14 @@ impl Users {
         }
     }
 
-    /// A thread's message, which was received, is served: its bytes and the room for the reply go with that.
-    pub fn hand_over(&mut self, thread: Thread) -> (MessageBytes, Room)
+    /// A thread's message, which was received, is served and left without a reply; gives the room for that.
+    pub fn wait(&mut self, thread: Thread) -> Room
         requires received { IsSome (taken_bytes (thread_row self.old thread)) }
-        ensures bytes { Some result.0 ≡ taken_bytes (thread_row self.old thread) }
         ensures served { self.new ≡ with_thread_row self.old thread served_thread }
     {
         match self.thread_mut(thread) {
-            Some(cell) => cell.hand_over(),
+            Some(cell) => cell.wait(),
             None => unreachable!(),
-        }
-    }
-
-    /// A thread's message, which was handed over, is received as before, and not served.
-    #[tactic(auto, using(crate::proofs::ProcessLemmas::lends))]
-    pub fn hand_back(&mut self, thread: Thread, bytes: MessageBytes, room: Room)
-        ensures received { self.new ≡ with_thread_row self.old thread (unserved_thread bytes) }
-    {
-        if let Some(cell) = self.thread_mut(thread) {
-            cell.hand_back(bytes, room);
         }
     }
 
@@ -190,23 +179,17 @@ impl Users {
         }
     }
 
-    /// A thread whose message was served gets a reply, with the room for its replies, unless the reply takes that along, and the
-    /// message does what it does to what it came over. Gives the server connection that its process has lost with that.
+    /// A thread whose message was received gets a reply, and the message does what it does to what it came over. Gives the server
+    /// connection that its process has lost with that.
     #[tactic(auto, using(crate::proofs::ProcessLemmas::lends))]
-    pub fn reply(
-        &mut self,
-        thread: Thread,
-        over: Over,
-        replied: Replied<'_>,
-        room: Room,
-    ) -> Option<ServerName>
-        requires waiting { AwaitsReply (thread_row self.old thread) }
+    pub fn reply(&mut self, thread: Thread, over: Over, replied: Replied<'_>) -> Option<ServerName>
+        requires received { AwaitsReply (thread_row self.old thread) }
         requires fits { length replied.bytes.now ≤ BODY }
         ensures replied { self.new ≡ with_process_of self.old thread.proc (process_replied thread.tid replied.entry.effect replied.entry.status replied.entry.bytes.now over) }
         ensures lost { LosesAt result (process_of self.old thread.proc) (process_of self.new thread.proc) }
     {
         self.process_mut(thread.proc)?
-            .reply(thread.tid, over, replied, room)
+            .reply(thread.tid, over, replied)
     }
 
     /// A thread gets an error, which gives back what its call attached, with the room for its replies where that had gone.

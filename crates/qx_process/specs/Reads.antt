@@ -1,5 +1,5 @@
 -- What rows are asked.
-use Rattle.std.specs.Prelude.{ℕ, ◌≡◌, ◌≢◌, ◌<◌, ◌≤◌, ◌==◌, ◌&&◌, Bool, true, false, not, List, Option, Some, None, IfSome, IsTrue, is_some, ⊤}
+use Rattle.std.specs.Prelude.{ℕ, ◌≡◌, ◌≢◌, ◌<◌, ◌≤◌, ◌==◌, ◌&&◌, Bool, true, false, not, List, Option, Some, None, IfSome, IsSome, IsTrue, is_some, ⊤}
 use Rattle.std.specs.List.{flat_map, list_any}
 use Rattle.std.specs.Option.{option_to_list}
 use Rattle.qx_types.specs.Managers.{manager_number}
@@ -13,6 +13,7 @@ use Rattle.qx_machine.specs.declared.rows.State.TheVariants.{Queued, Taken, Wait
 use Rattle.qx_machine.specs.declared.rows.Target.{Target}
 use Rattle.qx_machine.specs.declared.rows.ThreadRow.{ThreadRow}
 use Rattle.qx_machine.specs.declared.rows.ServerName.{ServerName}
+use Rattle.qx_machine.specs.Performing.{taken_in}
 use Rattle.qx_machine.specs.Processes.{Process, keeps_room, lost_servers, servers_at}
 use Rattle.qx_machine.specs.Rows.{lowest_from, row_at}
 use Rattle.qx_machine.specs.Servers.{Servers, in_use}
@@ -60,9 +61,9 @@ abbrev pub BringsRoom : Answer → Option (List ℕ) → Option ThreadRow → Ty
 BringsRoom answer room None = ⊤
 BringsRoom answer room (Some row) = BringsRoomIn answer room row.state
 
--- the thread, if one is in that place, has a message that was served and not yet answered
+-- the thread, if one is in that place, has a message that was received and is not served
 abbrev pub AwaitsReply : Option ThreadRow → Type 0
-AwaitsReply row = IfSome row (λ row. IsTrue (is_waiting row.state))
+AwaitsReply row = IfSome row (λ row. IsSome (taken_in row.state))
 
 -- the thread is there, and its calls can be counted once more
 abbrev pub CanCall : Option ThreadRow → Type 0
@@ -92,14 +93,6 @@ HasNumber _ = ⊤
 -- a message may go there: over a number of the table, with a priority
 abbrev pub CanGo : Target → Type 0
 CanGo target = HasNumber target.over × IsPriority target.prio.0
-
--- a message that was served, and is to be served again: its bytes are back
-abbrev pub unserved_state : List ℕ → State → State
-unserved_state bytes (Waiting sent) = Taken (record sent { bytes = bytes })
-unserved_state bytes state = state
-
-abbrev pub unserved_thread : List ℕ → ThreadRow → ThreadRow
-unserved_thread bytes row = record row { state = unserved_state bytes row.state }
 
 -- ---- server connections
 

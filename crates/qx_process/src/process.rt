@@ -311,23 +311,17 @@ impl Process {
         }
     }
 
-    /// A thread whose message was served gets a reply, and the message does what it does to what it came over (C Library
+    /// A thread whose message was received gets a reply, and the message does what it does to what it came over (C Library
     /// Reference: `MsgReply`). Gives the server connection that the process has lost with that.
     #[tactic(auto, using(crate::proofs::RowLemmas::thread_absent))]
-    pub fn reply(
-        &mut self,
-        thread: u8,
-        over: Over,
-        replied: Replied<'_>,
-        room: Room,
-    ) -> Option<ServerName>
-        requires waiting { AwaitsReply (row_at self.old.threads thread) }
+    pub fn reply(&mut self, thread: u8, over: Over, replied: Replied<'_>) -> Option<ServerName>
+        requires received { AwaitsReply (row_at self.old.threads thread) }
         requires fits { length replied.bytes.now ≤ BODY }
         ensures process { self.new ≡ machine.after_reply thread over replied.entry.effect (with_thread thread (answered_thread (Reply replied.entry.status replied.entry.bytes.now)) self.old) }
         ensures lost { Loses result self.old self.new }
     {
         if let Some(cell) = self.thread_mut(thread) {
-            cell.reply(replied.status, replied.bytes, room);
+            cell.reply(replied.status, replied.bytes);
         }
         self.conclude(thread, over, replied.effect)
     }
@@ -346,6 +340,7 @@ impl Process {
     }
 
     /// What a message goes over is attached.
+    #[inline(always)]
     fn connect(&mut self, thread: u8, manager: Manager, over: Over)
         requires number { HasNumber over }
         requires place { CanAttach self.old manager over }

@@ -7,8 +7,8 @@ use qx_types::Limits;
 use std::alloc::{AllocError, Global};
 use std::marker::Model;
 
-/// Memory for the bytes of a reply, of exactly as many as one may have: there before a message is sent, so that no answer
-/// is refused for want of it. Until the reply comes it may keep bytes of the call.
+/// Memory for the bytes of a reply, of as many as one may have: there before a message is sent, so that no answer is refused
+/// for want of it. Until the reply comes it may keep bytes of the call.
 #[derive(Drop)]
 pub struct Room {
     bytes: Vec<u8>,
@@ -22,11 +22,11 @@ impl Model for Room {
 
     ghost view = { λ r. r.bytes.items };
 
-    ghost invariant = { λ r. (vec_len r.bytes ≤ BODY) × (vec_capacity r.bytes ≡ BODY) };
+    ghost invariant = { λ r. (vec_len r.bytes ≤ BODY) × (BODY ≤ vec_capacity r.bytes) };
 }
 
 impl Room {
-    /// Room for the bytes of one reply, and no more, with none in it.
+    /// Room for the bytes of one reply, with none in it.
     pub fn new(alloc: Global) -> Result<Self, AllocError>
         ensures none { IfOk result (λ room. room ≡ []) }
     {
@@ -41,8 +41,9 @@ impl Room {
         ensures kept { self.new ≡ bytes.now }
     {
         self.bytes.clear();
-        for byte in bytes {
-            self.bytes.push_reserved(*byte);
+        match self.bytes.extend_from_slice(bytes) {
+            Ok(()) => {}
+            Err(_) => unreachable!(),
         }
     }
 
@@ -63,19 +64,16 @@ impl Room {
 
     /// The room filled with the bytes of a reply and shrunk to them. Where it can't be shrunk it stays whole, so nothing is
     /// refused.
-    pub fn filled(self, reply: &[u8]) -> MessageBytes
+    pub fn filled(mut self, reply: &[u8]) -> MessageBytes
         requires fits { length reply.now ≤ BODY }
         ensures bytes { result ≡ reply.now }
     {
+        self.keep(reply);
         let Room { mut bytes } = self;
-        bytes.clear();
-        match bytes.extend_from_slice(reply) {
-            Ok(()) => {
-                bytes.shrink_to_fit();
-                MessageBytes::from_vec(bytes)
-            }
-            Err(_) => unreachable!(),
+        if reply.len() < Limits::TRANSFER {
+            bytes.shrink_to_fit();
         }
+        MessageBytes::from_vec(bytes)
     }
 }
 

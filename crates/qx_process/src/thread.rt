@@ -6,7 +6,7 @@ ghost use Rattle.qx_machine.specs.Calls.{is_ready};
 ghost use Rattle.qx_machine.specs.Clients.{answer_in};
 ghost use Rattle.qx_machine.specs.Performing.{taken_in};
 ghost use Rattle.qx_machine.specs.Processes.{asked_thread, new_thread, queued_thread, received_in, served_thread, taken_thread, answered_thread, ready_thread, ranked_thread};
-ghost use Rattle.qx_process.specs.Reads.{BringsRoom, IsPriority, has_own_room, is_blocked, is_waiting, queued_in, unanswered_in, unserved_thread};
+ghost use Rattle.qx_process.specs.Reads.{BringsRoom, IsPriority, has_own_room, is_blocked, queued_in, unanswered_in};
 
 use crate::room::{Room, reply_bytes};
 use qx_machine::{Effect, Sent};
@@ -196,11 +196,11 @@ impl ThreadCell {
         }
     }
 
-    /// The thread's message, which was received, is served: its bytes and the room for the reply go with that (Writing a
-    /// Resource Manager: a client is REPLY-blocked until it is replied to).
-    pub fn hand_over(&mut self) -> (MessageBytes, Room)
+    /// The thread's message, which was received, is served and left without a reply: its bytes go, and the room for the reply
+    /// goes to the caller, since the answer is to bring one (Writing a Resource Manager: a client is REPLY-blocked until it
+    /// is replied to).
+    pub fn wait(&mut self) -> Room
         requires received { IsSome (taken_in self.old.state) }
-        ensures bytes { Some result.0 ≡ option_map (λ sent. sent.bytes) (taken_in self.old.state) }
         ensures row { self.new ≡ served_thread self.old }
     {
         let Some(room) = self.room.take() else {
@@ -210,20 +210,8 @@ impl ThreadCell {
             unreachable!();
         };
         *stage = Stage::Waiting;
-        (sent.bytes.take(), room)
-    }
-
-    /// The thread's message, which was handed over, is received as before, and not served.
-    pub fn hand_back(&mut self, bytes: MessageBytes, room: Room)
-        ensures row { self.new ≡ unserved_thread bytes self.old }
-    {
-        if let Doing::Sent(stage, sent) = &mut self.doing {
-            if let Stage::Waiting = *stage {
-                *stage = Stage::Taken;
-                sent.bytes = bytes;
-                self.room = Some(room);
-            }
-        }
+        sent.bytes.take();
+        room
     }
 
     /// The thread gets an answer, and with it the room for its replies, unless the answer took that along or it never went
@@ -240,16 +228,16 @@ impl ThreadCell {
         self.doing = Doing::Answered(answer);
     }
 
-    /// The thread, whose message was served, gets a reply. Few bytes leave it the room for its replies, and more take that
+    /// The thread, whose message was received, gets a reply. Few bytes leave it the room for its replies, and more take that
     /// along (C Library Reference: `MsgReply`).
-    pub fn reply(&mut self, status: u64, reply: &[u8], room: Room)
-        requires waiting { IsTrue (is_waiting self.old.state) }
+    pub fn reply(&mut self, status: u64, reply: &[u8])
+        requires received { IsSome (taken_in self.old.state) }
         requires fits { length reply.now ≤ BODY }
         ensures row { self.new ≡ answered_thread (Reply status reply.now) self.old }
     {
-        let mut room = Some(room);
-        let bytes = reply_bytes(&mut room, reply);
-        self.answer(Answer::Reply(status, bytes), room);
+        let bytes = reply_bytes(&mut self.room, reply);
+        self.has_room = self.room.is_some();
+        self.doing = Doing::Answered(Answer::Reply(status, bytes));
     }
 
     /// The thread gets another priority (C Library Reference: `SchedSet`).

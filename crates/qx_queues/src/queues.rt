@@ -162,6 +162,7 @@ impl Queues {
 
     /// Takes the pulse that asks to unblock a thread from a call out of the line, if it stands there, as the call is
     /// answered (C Library Reference: `MsgReply`).
+    #[inline(always)]
     pub fn reply(&mut self, manager: Manager, thread: Thread, call: u64)
         ensures replied { self.new ≡ with_queues_line self.old (manager_number manager) (machine.line_without thread.proc.user.0 (item.Unblock thread.proc.num thread.tid call)) }
         ensures gone { unblock_call (queues_line self.old (manager_number manager)) thread ≡ Some call → unblock_call (machine.line_without thread.proc.user.0 (item.Unblock thread.proc.num thread.tid call) (queues_line self.old (manager_number manager))) thread ≡ None }
@@ -404,6 +405,7 @@ fn set_entry(table: &mut Table<Waiting>, node: usize, queued: Queued)
 }
 
 /// Puts a free node, which stands for an item from now on, into a line.
+#[inline(always)]
 fn put_in(table: &mut Table<Waiting>, line: &mut Line, node: usize, queued: Queued)
     requires line { IsLineOf rank_of table.old line.old }
     requires free { IsFree table.old node }

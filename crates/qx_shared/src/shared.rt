@@ -108,6 +108,7 @@ impl Shared {
 
     /// Takes the pulse that asks to unblock a thread from a call out of the line, if it stands there, as the call is
     /// answered (C Library Reference: `MsgReply`).
+    #[inline(always)]
     pub fn reply(&mut self, manager: Manager, thread: Thread, call: u64)
         ensures replied { self.new ≡ with_shared_line self.old (manager_number manager) (machine.line_without thread.proc.user.0 (item.Unblock thread.proc.num thread.tid call)) }
         ensures gone { unblock_call (shared_line self.old (manager_number manager)) thread ≡ Some call → unblock_call (machine.line_without thread.proc.user.0 (item.Unblock thread.proc.num thread.tid call) (shared_line self.old (manager_number manager))) thread ≡ None }

@@ -1,6 +1,6 @@
 -- An item is done for its user, the worker's hand is empty, and processes that have ended are freed: the machine's world then.
-use Rattle.std.proofs.Common.{length, ◌≡◌, inl, inr, ℕ, get_or, List, [], Option, Some, None, is_some, true, refl, sym, ap, ap₂, subst, ◌∙◌}
-use Rattle.std.specs.Prelude.{option_map, slice_set}
+use Rattle.std.proofs.Common.{length, ◌≡◌, inl, inr, ℕ, get_or, List, [], Option, Some, None, is_some, refl, sym, ap, ap₂, subst, ◌∙◌}
+use Rattle.std.specs.Prelude.{Ok, option_map, slice_set}
 use Rattle.std.proofs.lemmas.Bool.{false≢true}
 use Rattle.std.proofs.lemmas.List.{get_or-set_other, set-set}
 use Rattle.std.proofs.lemmas.Option.{same_Some}
@@ -14,7 +14,7 @@ use Rattle.qx_machine.specs.declared.rows.OwnItem.{OwnItem}
 use Rattle.qx_machine.specs.declared.rows.OwnItem.TheVariants as item
 use Rattle.qx_machine.specs.declared.rows.ServerName.{ServerName}
 use Rattle.qx_machine.specs.Events.{no_events}
-use Rattle.qx_machine.specs.Machine.{World, is_worker, lines_after, named_thread, own_held, performed_part, with_empty_hand}
+use Rattle.qx_machine.specs.Machine.{World, item_to_do, lines_after, named_thread, own_held, performed_part, with_empty_hand}
 use Rattle.qx_machine.specs.Parts.{Part}
 use Rattle.qx_machine.specs.Performing.{Served, or_kept, serve_disconnect, serve_message, serve_pulse}
 use Rattle.qx_machine.specs.Processes.{Process}
@@ -197,9 +197,9 @@ module _ (config : Configuration) (c : Channel) (ks : List (Option Kept)) (hands
         ap (λ ls. world_of config (freed d) ls (slice_set hands worker None)) did.1.0 ∙ performed-one ps.0 o d did.0 (subst (λ k. Performs c d k did.0 held moment) same did.1.1)
   ]
 
-  pub performed-sound : (d : Channel) (ls : List (Option Kept)) (k : Option Kept) → is_worker config worker ≡ true → row_at hands worker ≡ Some held → row_at ks user ≡ k → PerformsFor c d ks ls held moment k
+  pub performed-sound : (d : Channel) (ls : List (Option Kept)) (k : Option Kept) → item_to_do w worker ≡ Ok held → row_at ks user ≡ k → PerformsFor c d ks ls held moment k
       → (room : ℕ) → IsSound config (record (freed d) { room = room }) ls (slice_set hands worker None)
-  performed-sound d ls k valid hand there did room =
+  performed-sound d ls k holds there did room =
       sound-step config c ks hands sound (record (freed d) { room = room }) ls (slice_set hands worker None) (Perform (record { 0 = worker }) moment)
       (still-left d ls (still-performing c d ks ls sound.users held moment config k there did) items user room)
-      (performed d ls k there did ∙ sym (ap (λ after. after.world) (perform-handled w (record { 0 = worker }) moment held valid hand)))
+      (performed d ls k there did ∙ sym (ap (λ after. after.world) (perform-handled w (record { 0 = worker }) moment held holds)))

@@ -1,11 +1,12 @@
 -- A worker's step, by what the channel makes of it and what is done for the user.
-use Rattle.std.proofs.Common.{◌≡◌, inl, inr, ℕ, zero, suc, List, [], ◌∷◌, true, false, Option, Some, None, slice_set, is_some, refl, sym, ap, ◌∙◌}
-use Rattle.std.specs.Prelude.{option_map, slice_get}
+use Rattle.std.proofs.Common.{◌≡◌, inl, inr, ℕ, zero, suc, Bool, List, [], ◌∷◌, true, false, Option, Some, None, slice_set, is_some, refl, sym, ap, ◌∙◌}
+use Rattle.std.specs.Prelude.{Ok, Err, option_map, slice_get}
 use Rattle.qx_types.specs.Configuration.{Configuration}
 use Rattle.qx_types.specs.Managers.{manager_number}
 use Rattle.qx_types.specs.declared.names.Manager.{Manager}
 use Rattle.qx_types.specs.declared.names.User.{User}
 use Rattle.qx_types.specs.declared.names.Worker.{Worker}
+use Rattle.qx_types.specs.declared.outcome.Outcome.{Outcome}
 use Rattle.qx_types.specs.declared.outcome.Outcome.TheVariants.{WrongState, Took, Idle, Busy, Handled, Nothing}
 use Rattle.qx_types.specs.declared.step.Step.TheVariants.{Receive, Perform}
 use Rattle.qx_machine.specs.declared.rows.Held.{Held}
@@ -13,8 +14,9 @@ use Rattle.qx_machine.specs.declared.rows.OwnItem.{OwnItem}
 use Rattle.qx_machine.specs.declared.rows.OwnItem.TheVariants as item
 use Rattle.qx_machine.specs.declared.rows.Queued.{Queued}
 use Rattle.qx_machine.specs.declared.rows.Sent.{Sent}
+use Rattle.qx_machine.specs.Judgements.{◌>>=◌, found, need}
 use Rattle.qx_machine.specs.Lines.{line_at}
-use Rattle.qx_machine.specs.Machine.{World, is_worker, named_thread, own_held, performed_part, received_part, shown_item, step, with_empty_hand, with_taken}
+use Rattle.qx_machine.specs.Machine.{World, is_worker, item_to_do, named_thread, own_held, performed_part, received_part, shown_item, step, with_empty_hand, with_taken}
 use Rattle.qx_machine.specs.Resources.{Resources}
 use Rattle.qx_machine.specs.Parts.{thread_of}
 use Rattle.qx_machine.specs.Processes.{Process, taken_thread, with_thread}
@@ -66,33 +68,40 @@ pub receive-busy : (w : World) (worker : Worker) (manager : Manager) → is_work
 unfolding step
 receive-busy w worker manager valid hand = rw (valid, hand)
 
-pub perform-no_worker : (w : World) (worker : Worker) (moment : ℕ) → is_worker w.config worker.0 ≡ false → step w (Perform worker moment) ≡ record { world = w; outcome = WrongState }
+pub perform-nothing : (w : World) (worker : Worker) (moment : ℕ) (outcome : Outcome) → item_to_do w worker.0 ≡ Err outcome → step w (Perform worker moment) ≡ record { world = w; outcome = outcome }
 unfolding step
-perform-no_worker w worker moment invalid = rw invalid
+perform-nothing w worker moment outcome nothing = rw nothing refl
 
-pub perform-nothing : (w : World) (worker : Worker) (moment : ℕ) → is_worker w.config worker.0 ≡ true → row_at w.hands worker.0 ≡ None → step w (Perform worker moment) ≡ record { world = w; outcome = Nothing }
-unfolding step
-perform-nothing w worker moment valid hand = rw (valid, hand)
-
-pub perform-handled : (w : World) (worker : Worker) (moment : ℕ) (held : Held) → is_worker w.config worker.0 ≡ true → row_at w.hands worker.0 ≡ Some held
+pub perform-handled : (w : World) (worker : Worker) (moment : ℕ) (held : Held) → item_to_do w worker.0 ≡ Ok held
     → step w (Perform worker moment) ≡ record { world = performed_part (with_empty_hand w worker.0) held moment (row_at w.parts held.user.0); outcome = Handled }
 unfolding step
-perform-handled w worker moment held valid hand = rw (valid, hand) refl
+perform-handled w worker moment held is = rw is refl
 
 -- doing what is held may want memory, where the item may
-pub perform-wants : (w : World) (worker : Worker) (moment : ℕ) (held : Held) → is_worker w.config worker.0 ≡ true → row_at w.hands worker.0 ≡ Some held
+pub perform-wants : (w : World) (worker : Worker) (moment : ℕ) (held : Held) → item_to_do w worker.0 ≡ Ok held
     → wants_memory w (Perform worker moment) ≡ item_wants_memory (row_at w.parts held.user.0) held.item moment
-perform-wants w worker moment held valid hand = rw (valid, hand) refl
+perform-wants w worker moment held is = rw is refl
 
 pub ruleset receive_steps = (receive-no_worker, receive-busy)
 
-pub ruleset perform_steps = (perform-no_worker, perform-nothing, perform-handled, perform-wants)
+pub ruleset perform_steps = (perform-nothing, perform-handled, perform-wants)
+
+-- ---- what a worker holds
+
+-- who does an item is a worker that holds it
+pub holds : (w : World) (worker : ℕ) (held : Held) → item_to_do w worker ≡ Ok held → (is_worker w.config worker ≡ true) × (row_at w.hands worker ≡ Some held)
+holds w worker held is = by (is_worker w.config worker) (row_at w.hands worker) is
+  where
+    by : (valid : Bool) (hand : Option Held) → (need valid WrongState >>= (λ _. found hand Nothing)) ≡ Ok held → (valid ≡ true) × (hand ≡ Some held)
+    by true None is = cc
+    by true (Some other) is = (refl, cc)
+    by false hand is = cc
 
 -- ---- a message that a worker holds
 
-pub held-message : (w : World) (worker : ℕ) (held : Held) (process thread : ℕ) → is_worker w.config worker ≡ true → row_at w.hands worker ≡ Some held → held.item ≡ item.Message process thread
+pub held-message : (w : World) (worker : ℕ) (held : Held) (process thread : ℕ) → item_to_do w worker ≡ Ok held → held.item ≡ item.Message process thread
     → held_work w worker ≡ option_map (λ bytes. work.Message bytes) (received_bytes thread (process_among_parts w.parts (named_thread held.user.0 process thread).proc))
-held-message w worker held process thread valid hand is = rw (valid, hand, is) refl
+held-message w worker held process thread does is = rw ((holds w worker held does).0, (holds w worker held does).1, is) refl
 
 -- one that was read before is the one that was received
 read_by : (read : Option (List ℕ)) (thread : ℕ) (process : Option Process) → IsReadFor read (option_map (λ bytes. work.Message bytes) (received_bytes thread process)) → IsReadOf read (taken_of (thread_of thread process))
@@ -111,8 +120,10 @@ read_item config c ks of None user _ is = tt
 read_item config c ks of (Some bytes) user _ is = tt
 
 pub held-read : (config : Configuration) (c : Channel) (ks : List (Option Kept)) (hands : List (Option Held)) (of : AreResourcesOf c ks) (read : Option (List ℕ)) (worker : ℕ) (held : Held)
-    → is_worker config worker ≡ true → row_at hands worker ≡ Some held → IsReadFor read (held_work (world_of config c ks hands) worker) → IsReadOf read (taken_item c.users held)
-held-read config c ks hands of read worker held valid hand is = read_item config c ks of read held.user held.item (rw (valid, hand) at is)
+    → item_to_do (world_of config c ks hands) worker ≡ Ok held → IsReadFor read (held_work (world_of config c ks hands) worker) → IsReadOf read (taken_item c.users held)
+held-read config c ks hands of read worker held does is =
+    let its = holds (world_of config c ks hands) worker held does in
+    read_item config c ks of read held.user held.item (rw (its.0, its.1) at is)
 
 module _ (config : Configuration) (c : Channel) (ks : List (Option Kept)) (hands : List (Option Held)) (sound : IsSound config c ks hands) where
   abbrev w : World

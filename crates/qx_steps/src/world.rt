@@ -1,7 +1,8 @@
 //! The rows of all users, the managers' lines and what each worker holds, with one call for each step.
 
-ghost use Rattle.std.specs.Prelude.{◌≡◌, ◌∷◌, ◌↔◌, ◌≢◌, None, Some, Err, IfOk, IsOk, IsTrue, IsFalse, OnOk, OnErr, IsErrOf, length, is_some, option_map, replicate, slice_set};
+ghost use Rattle.std.specs.Prelude.{◌≡◌, ◌∷◌, ◌↔◌, ◌≢◌, None, Some, Ok, Err, IfOk, IsErr, IsOk, IsTrue, IsFalse, OnOk, OnErr, IsErrOf, length, is_some, option_map, replicate, slice_set, MatchOption};
 ghost use Rattle.std.specs.Option.{option_copied};
+ghost use Rattle.qx_types.specs.declared.outcome.Outcome.TheVariants as outcome;
 ghost use Rattle.qx_machine.specs.Clients as clients;
 ghost use Rattle.qx_machine.specs.Laws.{IsSettled, is_refusal};
 ghost use Rattle.qx_machine.specs.Machine as machine;
@@ -183,18 +184,17 @@ impl World {
         ensures had_room { IfOk (target_in self.old thread request.now) (HasMemory (row_among_parts self.old.parts thread) request.now) → IsOk result }
         ensures err { OnErr result (self.new ≡ self.old) }
     {
-        match self.judge(thread, request) {
-            Ok(addressed) => {
-                let sent = Sent {
-                    target: addressed.target,
-                    is_asked: false,
-                    bytes: encoded(self.alloc, request, &addressed.rest)?,
-                };
-                self.channel.send(self.alloc, thread, sent)?;
-                Ok(Outcome::Sent)
-            }
-            Err(refusal) => Ok(refusal.outcome()),
-        }
+        let addressed = match self.judge(thread, request) {
+            Ok(addressed) => addressed,
+            Err(refusal) => return Ok(refusal.outcome()),
+        };
+        let sent = Sent {
+            target: addressed.target,
+            is_asked: false,
+            bytes: encoded(self.alloc, request, &addressed.rest)?,
+        };
+        self.channel.send(self.alloc, thread, sent)?;
+        Ok(Outcome::Sent)
     }
 
     /// Where a call goes, or why it goes nowhere.
@@ -326,17 +326,23 @@ impl World {
     /// `_PULSE_CODE_DISCONNECT`). A message whose process has ended does nothing. `WrongState` where there is no such worker,
     /// `Nothing` where it holds nothing. Only an open, a mkdir, a write of some bytes to a file and a notification that leaves
     /// more events may want memory; one that is answered an error wants none.
+    #[tactic(auto, using(crate::proofs::WorkerLemmas::perform_steps))]
     pub fn perform_held(&mut self, worker: Worker, moment: u64) -> Result<Outcome, NoMemory>
         ensures outcome { IfOk result (λ outcome. outcome ≡ (machine.step self.old (Step.Perform worker moment)).outcome) }
         ensures world { OnOk result (self.new ≡ (machine.step self.old (Step.Perform worker moment)).world) }
         ensures err { OnErr result (self.new ≡ self.old) }
         ensures sure { IsFalse (wants_memory self.old (Step.Perform worker moment)) → IsOk result }
     {
-        self.perform_item(worker, None, moment)
+        let Some(held) = self.item_to_do(worker) else {
+            return Ok(self.nothing_to_do(worker));
+        };
+        self.perform_item(worker, held, None, moment)?;
+        Ok(Outcome::Handled)
     }
 
     /// Does what `perform_held` does, if what the worker holds is the work at hand, else answers `Stale`. For a worker that
     /// read its item before and comes back with it; its bytes are not read again.
+    #[tactic(auto, using(crate::proofs::WorkerLemmas::perform_steps))]
     pub fn perform(
         &mut self,
         worker: Worker,
@@ -352,29 +358,50 @@ impl World {
         if self.is_stale(worker, work) {
             return Err(PerformFault::Stale);
         }
-        Ok(self.perform_item(worker, work.message(), moment)?)
+        let Some(held) = self.item_to_do(worker) else {
+            return Ok(self.nothing_to_do(worker));
+        };
+        self.perform_item(worker, held, work.message(), moment)?;
+        Ok(Outcome::Handled)
     }
 
-    /// Does what a worker holds; if that is a message, it may have been read before.
-    #[tactic(auto, using(crate::proofs::WorkerLemmas::perform_steps))]
+    /// The item that a worker does, which it holds.
+    fn item_to_do(&self, worker: Worker) -> Option<Held>
+        ensures { MatchOption result (IsErr (machine.item_to_do self.now worker.0)) (λ held. machine.item_to_do self.now worker.0 ≡ Ok held) }
+    {
+        if !self.is_worker(worker) {
+            return None;
+        }
+        self.hand(worker)
+    }
+
+    /// What a worker is told that does no item.
+    fn nothing_to_do(&self, worker: Worker) -> Outcome
+        requires nothing { IsErr (machine.item_to_do self.now worker.0) }
+        ensures outcome { machine.item_to_do self.now worker.0 ≡ Err result }
+    {
+        if self.is_worker(worker) {
+            Outcome::Nothing
+        } else {
+            Outcome::WrongState
+        }
+    }
+
+    /// Does the item that a worker holds; if that is a message, it may have been read before.
     fn perform_item(
         &mut self,
         worker: Worker,
+        held: Held,
         read: Option<&Parsed>,
         moment: u64,
-    ) -> Result<Outcome, NoMemory>
+    ) -> Result<(), NoMemory>
+        requires held { machine.item_to_do self.old worker.0 ≡ Ok held }
         requires read { IsReadFor (option_copied read) (held_work self.old worker.0) }
-        ensures outcome { IfOk result (λ outcome. outcome ≡ (machine.step self.old (Step.Perform worker moment)).outcome) }
+        ensures outcome { OnOk result ((machine.step self.old (Step.Perform worker moment)).outcome ≡ outcome.Handled) }
         ensures world { OnOk result (self.new ≡ (machine.step self.old (Step.Perform worker moment)).world) }
         ensures err { OnErr result (self.new ≡ self.old) }
         ensures sure { IsFalse (wants_memory self.old (Step.Perform worker moment)) → IsOk result }
     {
-        if !self.is_worker(worker) {
-            return Ok(Outcome::WrongState);
-        }
-        let Some(held) = self.hand(worker) else {
-            return Ok(Outcome::Nothing);
-        };
         perform(
             &mut self.channel,
             &mut self.resources,
@@ -385,7 +412,7 @@ impl World {
         )?;
         places::free(&mut self.hands, worker.0 as usize);
         free_ended(&mut self.channel, self.hands.as_slice(), held.user);
-        Ok(Outcome::Handled)
+        Ok(())
     }
 
     /// Whether something is held that the work is not.
@@ -403,10 +430,7 @@ impl World {
     pub fn held(&self, worker: Worker) -> Option<WorkRef<'_>>
         ensures { option_map work_now result ≡ held_work self.now worker.0 }
     {
-        if !self.is_worker(worker) {
-            return None;
-        }
-        let held = self.hand(worker)?;
+        let held = self.item_to_do(worker)?;
         let OwnItem::Message { process, thread } = held.item else {
             return Some(WorkRef::Pulse);
         };
@@ -511,10 +535,7 @@ impl World {
     fn perform_owner(&self, worker: Worker) -> Option<User>
         ensures { option_map (λ user. user.0) result ≡ machine.user_of_item (machine.item_to_do self.now worker.0) }
     {
-        if !self.is_worker(worker) {
-            return None;
-        }
-        Some(self.hand(worker)?.user)
+        Some(self.item_to_do(worker)?.user)
     }
 }
 

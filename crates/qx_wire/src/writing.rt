@@ -84,6 +84,7 @@ fn action_number(action: NotifyAction) -> u16
 }
 
 /// A header, and the fields behind it.
+#[inline(always)]
 fn framed(
     alloc: Global,
     kind: u16,

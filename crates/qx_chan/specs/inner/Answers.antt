@@ -9,7 +9,7 @@ use Rattle.qx_machine.specs.declared.rows.OwnItem.TheVariants as item
 use Rattle.qx_machine.specs.declared.rows.Queued.{Queued}
 use Rattle.qx_machine.specs.Lines.{with_line}
 use Rattle.qx_machine.specs.Machine.{line_without}
-use Rattle.qx_machine.specs.Processes.{answered_thread}
+use Rattle.qx_machine.specs.Processes.{answered_thread, served_thread}
 use Rattle.qx_queues.specs.Queues.{UsersAnswer}
 use Rattle.qx_shared.specs.Shared.{Shared, with_shared_line}
 use Rattle.qx_resmgr.specs.declared.functions.Done.{Done}
@@ -20,9 +20,9 @@ use Rattle.qx_chan.specs.inner.Kept.{lost_of, with_lost}
 use Rattle.qx_chan.specs.Users.{Users, process_of, with_process_of, with_thread_row}
 use Rattle.qx_chan.specs.declared.call.Call.{Call}
 
--- the thread of a message that was served is answered with what that came to, unless it is left without a reply
+-- the thread of a message that was received is answered with what that came to, or waits, where it is left without a reply
 abbrev pub answered_users : Users → Thread → Over → List ℕ → Result Done Errno → Users
-answered_users users thread over bytes (Ok NoReply) = users
+answered_users users thread over bytes (Ok NoReply) = with_thread_row users thread served_thread
 answered_users users thread over bytes (Ok (Reply status effect)) = with_process_of users thread.proc (process_replied thread.tid effect status bytes over)
 answered_users users thread over bytes (Err error) = with_process_of users thread.proc (failed thread.tid error over)
 

@@ -1,5 +1,5 @@
 -- How the rows of threads and processes, the lines and the nodes stand together. No public clause of the channel cites this module.
-use Rattle.std.specs.Prelude.{◌≡◌, ℕ, ◌==◌, ◌&&◌, if◌then◌else◌, Bool, true, false, List, [], ◌∷◌, Option, Some, None, length, is_some, max}
+use Rattle.std.specs.Prelude.{◌≡◌, ℕ, ◌==◌, ◌&&◌, if◌then◌else◌, Bool, true, false, List, [], ◌∷◌, IsSome, Option, Some, None, length, is_some, max}
 use Rattle.std.specs.List.{AllByRecursion}
 use Rattle.qx_types.specs.Managers.{manager_number}
 use Rattle.qx_types.specs.declared.names.Manager.{Manager}
@@ -89,10 +89,11 @@ pub record StandTogether (processes : Users) (queues : Shared) : Type 0 where
   pub waits : (user : ℕ) → AllByRecursion (IsWaiting processes) (waiting_in queues user)
   pub answered : queues.answered ≡ []
 
--- and who has a place for pipes has one for events
-pub record AllStandTogether (processes : Users) (waits : Tables) : Type 0 where
+-- and who has a place for pipes has one for events, and there is a spare room for a reply
+pub record AllStandTogether (processes : Users) (waits : Tables) (room : Option (List ℕ)) : Type 0 where
   pub shared : StandTogether processes waits.shared
   pub events : length waits.events.events ≡ length waits.shared.pipes
+  pub spare : IsSome room
 
 -- all of the first, but that answers are on their way: each is to a call whose thread waits for it
 pub record Answering (processes : Users) (queues : Shared) : Type 0 where

@@ -1,14 +1,12 @@
 //! A thread's room for its replies: when it stays, and what of it an answer gives back. No clause says what memory is left.
 
-ghost use Rattle.std.specs.Prelude.{◌≡◌, ◌<◌, ◌≤◌, length, IfOk, IsSome, IsTrue};
-ghost use Rattle.qx_types.specs.declared.limits.TheConstants.Limits.{BODY, CALLS};
+ghost use Rattle.std.specs.Prelude.{◌≡◌, ◌<◌, IfOk, IsSome};
+ghost use Rattle.qx_types.specs.declared.limits.TheConstants.Limits.{CALLS};
 ghost use Rattle.qx_machine.specs.Performing.{taken_in};
-ghost use Rattle.qx_process.specs.Reads.{is_waiting};
 
 use all_memory::take_all_memory;
 use qx_machine::{Over, Sent, Target};
-use qx_process::room::reply_bytes;
-use qx_process::{Room, ThreadCell};
+use qx_process::ThreadCell;
 use qx_types::{Answer, Coid, Errno, Limits, Manager, MessageBytes, Prio};
 use std::alloc::{AllocError, Global};
 use std::test::Fail;
@@ -51,27 +49,18 @@ enum Way {
     Returned,
 }
 
-/// A thread is replied to from its room.
-fn reply(cell: &mut ThreadCell, room: Room, bytes: &[u8])
-    requires served { IsTrue (is_waiting cell.old.state) }
-    requires fits { length bytes.now ≤ BODY }
-    ensures counted { cell.new.calls ≡ cell.old.calls }
-{
-    let mut room = Some(room);
-    let bytes = reply_bytes(&mut room, bytes);
-    cell.answer(Answer::Reply(0, bytes), room);
-}
-
 /// A thread whose message was received is answered.
 fn answer(cell: &mut ThreadCell, way: Way)
     requires received { IsSome (taken_in cell.old.state) }
     ensures counted { cell.new.calls ≡ cell.old.calls }
 {
-    let (_, room) = cell.hand_over();
     match way {
-        Way::Few => reply(cell, room, &[7; MessageBytes::INLINE]),
-        Way::More => reply(cell, room, &[7; MessageBytes::INLINE + 1]),
-        Way::Returned => cell.answer(Answer::Failed(Errno::EINTR), Some(room)),
+        Way::Few => cell.reply(0, &[7; MessageBytes::INLINE]),
+        Way::More => cell.reply(0, &[7; MessageBytes::INLINE + 1]),
+        Way::Returned => {
+            let room = cell.wait();
+            cell.answer(Answer::Failed(Errno::EINTR), Some(room));
+        }
     }
 }
 

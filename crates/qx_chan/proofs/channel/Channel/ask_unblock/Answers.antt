@@ -13,6 +13,7 @@ pub invariant_of-self : goal.invariant_of-self
 invariant_of-self c =
     let unasked : Some c.in-Some.call ≡ unasked_call (thread_row c.self.inside.users c.args.thread) = rw (← c.self.view_is) at c.in-Some.ensures.call in
     record {
+      spare = c.self.invariant.spare;
       shared = rw (c.ask_unblock.ensures.asked, c.ask_unblock-2.ensures.asked) (Kept-asked c.self.inside.users c.self.inside.tables.shared c.args.thread c.in-Some.call unasked c.self.invariant.shared);
       events = rw c.ask_unblock.ensures.asked c.self.invariant.events;
     }

@@ -34,6 +34,7 @@ pub invariant_of-self : goal.invariant_of-self
 invariant_of-self c =
     let there : row_at c.self.inside.users c.args.resources.now.user ≡ Some c.in-Some.processes.now = ap (row_at c.self.inside.users) c.requires.user ∙ sym c.in-Some.ensures.row in
     record {
+      spare = c.self.invariant.spare;
       shared = c.give_answers.ensures.kept;
       events = rw c.give_answers.ensures.queues (places _ _ _ _ _ (performed c.self.inside.users c.self.inside.tables c.cancel.new.all c.trigger.new.tables c.args.resources.now c.cancel.new.self c.in-Some.processes.now there c.self.invariant c.args.thread.proc.num c.args.thread.tid c.args.call c.args.moment c.watch_call-watched.result
           c.cancel.ensures.user c.cancel.ensures.state c.cancel.ensures.shared c.watch_call-watched.ensures.watched c.trigger.ensures.triggered).1 c.self.invariant.events);

@@ -21,6 +21,7 @@ invariant_of-self c =
     let few : length c.in-Some.process.now.threads ≤ c.places.result = omega (arith, c.places.ensures.places) in
     let loses = loses-all c.self.inside.users c.args.proc c.in-Some.process.now its.0 its.1 c.end-lost.new.self c.end-lost.ensures.ended c.end-lost.result c.end-lost.ensures.lost in
     record {
+      spare = c.self.invariant.spare;
       shared = rw (c.disconnect_all.ensures.disconnected, c.abandon.ensures.abandoned, c.end-lost.ensures.ended)
           (Kept-ended c.self.inside.users c.args.proc c.in-Some.process.now its.0 its.1 c.self.inside.tables.shared c.drop_all_items.new.queues c.self.invariant.shared c.places.result few c.drop_all_items.ensures.dropped c.end-lost.result loses);
       events = rw (c.clear.ensures, c.disconnect_all.ensures.disconnected, c.abandon.ensures.abandoned)

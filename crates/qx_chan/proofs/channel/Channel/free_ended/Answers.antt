@@ -33,6 +33,7 @@ invariant_of-self c =
     let there : process_of c.self.inside.users c.args.proc ≡ Some c.in-Some.process.now = sym c.in-Some.ensures.row in
     let removed = process-removed c.self.inside.tables.shared c.remove_process.new.self c.args.proc c.remove_process.ensures.removed c.remove_process.ensures.gone in
     record {
+      spare = c.self.invariant.spare;
       shared = rw c.free_ended.ensures.freed
           (Kept-process-freed c.self.inside.users c.args.proc c.in-Some.process.now there (sym c.if-not-has_ended.ensures) (sym c.if-has_server.ensures) c.self.inside.tables.shared c.remove_process.new.self c.self.invariant.shared (sym c.if-has_waiting.ensures.waits) removed.lines removed.pipes removed.answered removed.own removed.others removed.servers);
       events = rw removed.pipes c.self.invariant.events;

@@ -29,6 +29,7 @@ invariant_of-self-2 c =
     let ready : IsThreadReady (thread_row c.self.inside.users c.args.thread) = rw (← c.self.view_is) at c.requires.ready in
     let uses = rw c.in_ok-send.ensures.ok at c.in_ok-send.ensures.uses in
     record {
+      spare = c.self.invariant.spare;
       shared = rw (c.attach.ensures.attached, c.send-2.ensures.sent, c.in_ok-send.ensures.ok, c.in_ok-reserve.ensures.ok)
           (Kept-sent c.self.inside.users _ c.args.thread c.args.sent ready (Kept-with_room _ _ _ c.self.invariant.shared) uses);
       events = rw (c.attach.ensures.attached, c.send-2.ensures.sent, c.in_ok-send.ensures.ok, c.in_ok-reserve.ensures.ok)

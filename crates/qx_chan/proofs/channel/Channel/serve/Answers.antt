@@ -2,10 +2,9 @@ use Rattle.std.proofs.Common.{◌≡◌, Some, refl, ◌∙◌, sym, ap}
 use Rattle.std.proofs.lemmas.Bool.{false≢true}
 use Rattle.qx_chan.specs.inner.Calls.{taken_call}
 use Rattle.qx_chan.specs.Users.{thread_row}
-use Rattle.qx_chan.proofs.MessageLemmas.{Serves-untaken, received, received-alone, received-wants, sends}
-use Rattle.qx_chan.proofs.OutcomeLemmas.{Kept-served, outcome}
+use Rattle.qx_chan.proofs.MessageLemmas.{Serves-untaken, received, received-alone, received-wants, room-there, sends}
+use Rattle.qx_chan.proofs.OutcomeLemmas.{outcome}
 use Rattle.qx_chan.proofs.PulseLemmas.{user-fits}
-use Rattle.qx_chan.proofs.RoomLemmas.{served-waits}
 use Rattle.qx_chan.proofs.SettledLemmas.{places}
 use Rattle.qx_machine.specs.Rows.{row_at}
 use Rattle.qx_shared.specs.Shared.{Shared, has_disconnect_node}
@@ -33,40 +32,43 @@ returns-in_err-given-clause-sure c = λ no.
     let of = sends c.self.inside.users c.args.thread c.in-Some.call its in
     absurd (false≢true (sym (rw (← c.self.view_is, received-wants c.self.inside.users c.self.inside.tables c.args.resources.now c.args.thread c.in-Some.call its c.requires.user c.args.moment) at no) ∙ c.in_err-given.ensures.wanted its.process its.sent.bytes of))
 
-pub answer-requires-clause-served : goal.answer-requires-clause-served
-answer-requires-clause-served c =
-    rw c.in_ok-given.ensures.served (served-waits c.self.inside.users c.args.thread c.in-Some.call (rw (← c.self.view_is) at c.in-Some.ensures.call))
+pub answer-requires-clause-taken : goal.answer-requires-clause-taken
+answer-requires-clause-taken c = rw (← c.self.view_is) at c.in-Some.ensures.call
+
+pub answer-requires-clause-room : goal.answer-requires-clause-room
+answer-requires-clause-room c = room-there _ _ c.in_ok-given.given c.self.invariant.spare c.in_ok-given.ensures.room
 
 pub give_answers-requires : goal.give_answers-requires
 give_answers-requires c =
     let taken : Some c.in-Some.call ≡ taken_call (thread_row c.self.inside.users c.args.thread) = rw (← c.self.view_is) at c.in-Some.ensures.call in
     let its = received c.self.inside.users c.args.thread c.in-Some.call taken in
     record {
-      answering = rw (c.answer.ensures.queues, c.answer.ensures.users, c.in_ok-given.ensures.served, c.as_slice.ensures.bytes)
+      answering = rw (c.answer.ensures.queues, c.answer.ensures.users, c.as_slice.ensures.bytes)
           (outcome c.self.inside.users c.self.inside.tables c.args.thread c.in-Some.call taken c.self.invariant.shared c.args.resources.now c.perform.new.resources c.perform.new.tables c.requires.user
           c.args.moment c.perform.new.reply c.in_ok-given.given _ refl
-          (c.in_ok-given.ensures.did its.process its.sent.bytes (sends c.self.inside.users c.args.thread c.in-Some.call its)) c.answer.ensures.gone (rw (c.answer.ensures.users, c.in_ok-given.ensures.served, c.as_slice.ensures.bytes) at c.answer.ensures.lost)).0;
+          (c.in_ok-given.ensures.did its.process its.sent.bytes (sends c.self.inside.users c.args.thread c.in-Some.call its)) c.answer.ensures.gone (rw (c.answer.ensures.users, c.as_slice.ensures.bytes) at c.answer.ensures.lost)).0;
     }
 
 pub returns-clause-ok : goal.returns-clause-ok
 returns-clause-ok c =
     let taken : Some c.in-Some.call ≡ taken_call (thread_row c.self.inside.users c.args.thread) = rw (← c.self.view_is) at c.in-Some.ensures.call in
     let its = received c.self.inside.users c.args.thread c.in-Some.call taken in
-    rw (← c.self.view_is, c.give_answers.ensures.queues, c.give_answers.ensures.users, c.answer.ensures.queues, c.answer.ensures.users, c.in_ok-given.ensures.served, c.as_slice.ensures.bytes)
+    rw (← c.self.view_is, c.give_answers.ensures.queues, c.give_answers.ensures.users, c.answer.ensures.queues, c.answer.ensures.users, c.as_slice.ensures.bytes)
     (outcome c.self.inside.users c.self.inside.tables c.args.thread c.in-Some.call taken c.self.invariant.shared c.args.resources.now c.perform.new.resources c.perform.new.tables c.requires.user
     c.args.moment c.perform.new.reply c.in_ok-given.given _ refl
-    (c.in_ok-given.ensures.did its.process its.sent.bytes (sends c.self.inside.users c.args.thread c.in-Some.call its)) c.answer.ensures.gone (rw (c.answer.ensures.users, c.in_ok-given.ensures.served, c.as_slice.ensures.bytes) at c.answer.ensures.lost)).1
+    (c.in_ok-given.ensures.did its.process its.sent.bytes (sends c.self.inside.users c.args.thread c.in-Some.call its)) c.answer.ensures.gone (rw (c.answer.ensures.users, c.as_slice.ensures.bytes) at c.answer.ensures.lost)).1
 
 pub invariant_of-self-2 : goal.invariant_of-self-2
 invariant_of-self-2 c =
     let taken : Some c.in-Some.call ≡ taken_call (thread_row c.self.inside.users c.args.thread) = rw (← c.self.view_is) at c.in-Some.ensures.call in
     let its = received c.self.inside.users c.args.thread c.in-Some.call taken in
     record {
+      spare = c.answer.ensures.spare;
       shared = c.give_answers.ensures.kept;
-      events = rw (c.give_answers.ensures.queues, c.answer.ensures.queues, c.answer.ensures.users, c.in_ok-given.ensures.served, c.as_slice.ensures.bytes)
+      events = rw (c.give_answers.ensures.queues, c.answer.ensures.queues, c.answer.ensures.users, c.as_slice.ensures.bytes)
           (places _ _ _ _ _ (outcome c.self.inside.users c.self.inside.tables c.args.thread c.in-Some.call taken c.self.invariant.shared c.args.resources.now c.perform.new.resources c.perform.new.tables c.requires.user
           c.args.moment c.perform.new.reply c.in_ok-given.given _ refl
-          (c.in_ok-given.ensures.did its.process its.sent.bytes (sends c.self.inside.users c.args.thread c.in-Some.call its)) c.answer.ensures.gone (rw (c.answer.ensures.users, c.in_ok-given.ensures.served, c.as_slice.ensures.bytes) at c.answer.ensures.lost)).1 c.self.invariant.events);
+          (c.in_ok-given.ensures.did its.process its.sent.bytes (sends c.self.inside.users c.args.thread c.in-Some.call its)) c.answer.ensures.gone (rw (c.answer.ensures.users, c.as_slice.ensures.bytes) at c.answer.ensures.lost)).1 c.self.invariant.events);
     }
 
 pub returns-clause-room : goal.returns-clause-room
@@ -74,7 +76,7 @@ returns-clause-room c =
     let taken : Some c.in-Some.call ≡ taken_call (thread_row c.self.inside.users c.args.thread) = rw (← c.self.view_is) at c.in-Some.ensures.call in
     let its = received c.self.inside.users c.args.thread c.in-Some.call taken in
     rw (← c.self.view_is) (ap (λ (q : Shared). q.room) c.give_answers.ensures.queues ∙ ap (λ (q : Shared). q.room) c.answer.ensures.queues
-    ∙ room-answered c.perform.new.tables.shared c.perform.new.users c.answer.new.users c.args.thread c.in-Some.call c.in_ok-given.given
+    ∙ room-answered c.perform.new.tables.shared c.self.inside.users c.answer.new.users c.args.thread c.in-Some.call c.in_ok-given.given
     ∙ did-fields (λ q. q.room) (λ q user pipes answers. refl) _ c.args.resources.now c.perform.new.resources c.self.inside.tables c.perform.new.tables c.perform.new.reply c.in_ok-given.given _ (c.in_ok-given.ensures.did its.process its.sent.bytes (sends c.self.inside.users c.args.thread c.in-Some.call its)))
 
 pub answer-requires-clause-nodes : goal.answer-requires-clause-nodes
@@ -83,4 +85,4 @@ answer-requires-clause-nodes c manager =
     let its = received c.self.inside.users c.args.thread c.in-Some.call taken in
     let same = did-fields (λ q. has_disconnect_node q c.args.thread.proc (manager_number manager)) (λ q user pipes answers. refl)
     _ c.args.resources.now c.perform.new.resources c.self.inside.tables c.perform.new.tables c.perform.new.reply c.in_ok-given.given _ (c.in_ok-given.ensures.did its.process its.sent.bytes (sends c.self.inside.users c.args.thread c.in-Some.call its)) in
-    rw (c.in_ok-given.ensures.served, same) ((Kept-served c.self.inside.users c.self.inside.tables c.args.thread c.in-Some.call taken c.self.invariant.shared).servers c.args.thread.proc manager)
+    rw same (c.self.invariant.shared.servers c.args.thread.proc manager)

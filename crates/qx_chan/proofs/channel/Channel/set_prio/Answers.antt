@@ -12,6 +12,7 @@ returns-in_default-clause-ranked c =
 
 pub invariant_of-self-2 : goal.invariant_of-self-2
 invariant_of-self-2 c = record {
+  spare = c.self.invariant.spare;
   shared = rw c.set_prio.ensures.rows (Kept-ranked c.self.inside.users c.self.inside.tables.shared c.args.thread c.args.prio.0 c.in-Some.processes.now c.in-Some.ensures.row c.self.invariant.shared);
   events = c.self.invariant.events;
 }

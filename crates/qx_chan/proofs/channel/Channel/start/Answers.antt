@@ -25,6 +25,7 @@ invariant_of-self-2 c =
     let number : spawn_number_in c.args.threads c.args.prio.0 (row_at c.self.inside.users c.args.proc.user.0) ≡ Ok c.args.proc.num = rw (← c.self.view_is) at c.requires.number in
     let pipes = ap (λ (q : Shared). q.pipes) c.add_process.ensures.added ∙ pipes-process c.reserve.new.self c.args.proc c.args.threads ∙ ap (λ (q : Shared). q.pipes) c.in_ok-reserve.ensures.ok in
     record {
+      spare = c.self.invariant.spare;
       shared = rw (c.add_process.ensures.added, c.in_ok-reserve.ensures.ok, c.in_ok-spawn.ensures.ok)
           (Kept-started c.self.inside.users c.args.proc c.args.threads c.args.prio.0 (starts c.self.inside.users c.args.proc c.args.threads c.args.prio.0 number) c.in_ok-spawn.ensures.places _ (Kept-room _ _ _ c.self.invariant.shared));
       events = c.self.invariant.events ∙ sym (ap length pipes);

@@ -3,6 +3,7 @@ use Rattle.qx_chan.proofs.channel.Channel.take_reply.Goals as goal
 
 pub invariant_of-self-2 : goal.invariant_of-self-2
 invariant_of-self-2 c = record {
+  spare = c.self.invariant.spare;
   shared = Kept-answer c.self.inside.users c.self.inside.tables.shared c.args.thread c.in-Some.cell.now _ c.in-Some.ensures.row c.self.invariant.shared c.take_answer.result c.take_answer.ensures.answer c.take_answer.ensures.row;
   events = c.self.invariant.events;
 }

@@ -25,6 +25,7 @@ invariant_of-self c =
     let queued : Some c.in-Some.call ≡ queued_call (thread_row c.self.inside.users c.args.thread) = rw (← c.self.view_is) at c.in-Some.ensures.call in
     let f = failed c.args.thread.tid EINTR c.in-Some.call.target.over in
     record {
+      spare = c.self.invariant.spare;
       shared = rw (c.disconnect.ensures.disconnected, c.withdraw.ensures.withdrawn, c.fail-lost.ensures.failed)
           (Kept-withdrawn c.self.inside.users c.self.inside.tables.shared c.args.thread c.in-Some.call queued c.self.invariant.shared f (Failed EINTR) (fails c.args.thread.tid EINTR _) c.withdraw.ensures.gone c.fail-lost.result (rw c.fail-lost.ensures.failed at c.fail-lost.ensures.lost));
       events = c.self.invariant.events

@@ -7,20 +7,20 @@ use Rattle.qx_steps.proofs.ClientLemmas.{call-refused, call-sent, call-sound, no
 use Rattle.qx_steps.proofs.PartsLemmas.{process-told, thread_row-told}
 use Rattle.qx_steps.proofs.world.World.call.Goals as goal
 
-pub returns-in_err-encoded-in-Ok-clause-sure : goal.returns-in_err-encoded-in-Ok-clause-sure
-returns-in_err-encoded-in-Ok-clause-sure c =
+pub returns-in_err-encoded-clause-sure : goal.returns-in_err-encoded-clause-sure
+returns-in_err-encoded-clause-sure c =
     let goes : target_in (world_of c.self.inside.config c.self.inside.channel c.self.inside.resources c.self.inside.hands.items) c.args.thread c.args.request.now ≡ Ok c.in-Ok.addressed = rw (← c.self.view_is) at (sym c.in-Ok.ensures.target) in
     rw (← c.self.view_is, call-sent c.self.inside.config c.self.inside.channel c.self.inside.resources c.self.inside.hands.items c.self.invariant c.args.thread c.args.request.now c.in-Ok.addressed goes) (λ refused. absurd (false≢true refused))
 
-pub returns-in_err-encoded-in-Ok-clause-had_room : goal.returns-in_err-encoded-in-Ok-clause-had_room
-returns-in_err-encoded-in-Ok-clause-had_room c =
+pub returns-in_err-encoded-clause-had_room : goal.returns-in_err-encoded-clause-had_room
+returns-in_err-encoded-clause-had_room c =
     let goes : target_in (world_of c.self.inside.config c.self.inside.channel c.self.inside.resources c.self.inside.hands.items) c.args.thread c.args.request.now ≡ Ok c.in-Ok.addressed = rw (← c.self.view_is) at (sym c.in-Ok.ensures.target) in
-    rw (← c.self.view_is, goes) (λ its. absurd (false≢true (c.in_err-encoded-in-Ok.ensures.few (no-rest c.in-Ok.addressed.target.over c.in-Ok.addressed.rest its.over c.in-Ok.ensures.rest) its.few)))
+    rw (← c.self.view_is, goes) (λ its. absurd (false≢true (c.in_err-encoded.ensures.few (no-rest c.in-Ok.addressed.target.over c.in-Ok.addressed.rest its.over c.in-Ok.ensures.rest) its.few)))
 
-pub returns-in_err-send-in-Ok-clause-had_room : goal.returns-in_err-send-in-Ok-clause-had_room
-returns-in_err-send-in-Ok-clause-had_room c =
+pub returns-in_err-send-clause-had_room : goal.returns-in_err-send-clause-had_room
+returns-in_err-send-clause-had_room c =
     let goes : target_in (world_of c.self.inside.config c.self.inside.channel c.self.inside.resources c.self.inside.hands.items) c.args.thread c.args.request.now ≡ Ok c.in-Ok.addressed = rw (← c.self.view_is) at (sym c.in-Ok.ensures.target) in
-    rw (← c.self.view_is, goes) (λ its. absurd (false≢true (c.in_err-send-in-Ok.ensures.had_room its.over (rw (← thread_row-told c.self.inside.channel c.self.inside.resources c.args.thread c.self.invariant.users) its.room))))
+    rw (← c.self.view_is, goes) (λ its. absurd (false≢true (c.in_err-send.ensures.had_room its.over (rw (← thread_row-told c.self.inside.channel c.self.inside.resources c.args.thread c.self.invariant.users) its.room))))
 
 pub send-requires-clause-ready : goal.send-requires-clause-ready
 send-requires-clause-ready c = rw (← thread_row-told c.self.inside.channel c.self.inside.resources c.args.thread c.self.invariant.users) (rw (← c.self.view_is) at c.in-Ok.ensures.ready)
@@ -31,26 +31,26 @@ send-requires-clause-countable c = rw (← thread_row-told c.self.inside.channel
 pub send-requires-clause-place : goal.send-requires-clause-place
 send-requires-clause-place c = rw (← process-told c.self.inside.channel c.self.inside.resources c.args.thread.proc c.self.invariant.users) (rw (← c.self.view_is) at c.in-Ok.ensures.place)
 
-pub returns-in_err-send-in-Ok-clause-sure : goal.returns-in_err-send-in-Ok-clause-sure
-returns-in_err-send-in-Ok-clause-sure c =
+pub returns-in_err-send-clause-sure : goal.returns-in_err-send-clause-sure
+returns-in_err-send-clause-sure c =
     let goes : target_in (world_of c.self.inside.config c.self.inside.channel c.self.inside.resources c.self.inside.hands.items) c.args.thread c.args.request.now ≡ Ok c.in-Ok.addressed = rw (← c.self.view_is) at (sym c.in-Ok.ensures.target) in
     rw (← c.self.view_is, call-sent c.self.inside.config c.self.inside.channel c.self.inside.resources c.self.inside.hands.items c.self.invariant c.args.thread c.args.request.now c.in-Ok.addressed goes) (λ refused. absurd (false≢true refused))
 
 pub invariant_of-self : goal.invariant_of-self
-invariant_of-self c = rw c.in_err-send-in-Ok.ensures.err (sound-room c.self.inside.config c.self.inside.channel c.self.inside.resources c.self.inside.hands.items c.self.invariant c.send.new.self.room)
+invariant_of-self c = rw c.in_err-send.ensures.err (sound-room c.self.inside.config c.self.inside.channel c.self.inside.resources c.self.inside.hands.items c.self.invariant c.send.new.self.room)
 
-pub invariant_of-self-in-Ok : goal.invariant_of-self-in-Ok
-invariant_of-self-in-Ok c = rw (c.in_ok-send-in-Ok.ensures.ok, c.in_ok-encoded-in-Ok.ensures.bytes) (call-sound c.self.inside.config c.self.inside.channel c.self.inside.resources c.self.inside.hands.items c.self.invariant c.args.thread c.args.request.now c.in-Ok.addressed (rw (← c.self.view_is) at (sym c.in-Ok.ensures.target)))
+pub invariant_of-self-2 : goal.invariant_of-self-2
+invariant_of-self-2 c = rw (c.in_ok-send.ensures.ok, c.in_ok-encoded.ensures.bytes) (call-sound c.self.inside.config c.self.inside.channel c.self.inside.resources c.self.inside.hands.items c.self.invariant c.args.thread c.args.request.now c.in-Ok.addressed (rw (← c.self.view_is) at (sym c.in-Ok.ensures.target)))
 
-pub returns-in_ok-send-in-Ok-clause-outcome : goal.returns-in_ok-send-in-Ok-clause-outcome
-returns-in_ok-send-in-Ok-clause-outcome c =
+pub returns-clause-outcome : goal.returns-clause-outcome
+returns-clause-outcome c =
     let goes : target_in (world_of c.self.inside.config c.self.inside.channel c.self.inside.resources c.self.inside.hands.items) c.args.thread c.args.request.now ≡ Ok c.in-Ok.addressed = rw (← c.self.view_is) at (sym c.in-Ok.ensures.target) in
     rw (← c.self.view_is, call-sent c.self.inside.config c.self.inside.channel c.self.inside.resources c.self.inside.hands.items c.self.invariant c.args.thread c.args.request.now c.in-Ok.addressed goes) refl
 
-pub returns-in_ok-send-in-Ok-clause-world : goal.returns-in_ok-send-in-Ok-clause-world
-returns-in_ok-send-in-Ok-clause-world c =
+pub returns-clause-world : goal.returns-clause-world
+returns-clause-world c =
     let goes : target_in (world_of c.self.inside.config c.self.inside.channel c.self.inside.resources c.self.inside.hands.items) c.args.thread c.args.request.now ≡ Ok c.in-Ok.addressed = rw (← c.self.view_is) at (sym c.in-Ok.ensures.target) in
-    rw (← c.self.view_is, call-sent c.self.inside.config c.self.inside.channel c.self.inside.resources c.self.inside.hands.items c.self.invariant c.args.thread c.args.request.now c.in-Ok.addressed goes, c.in_ok-send-in-Ok.ensures.ok, c.in_ok-encoded-in-Ok.ensures.bytes) refl
+    rw (← c.self.view_is, call-sent c.self.inside.config c.self.inside.channel c.self.inside.resources c.self.inside.hands.items c.self.invariant c.args.thread c.args.request.now c.in-Ok.addressed goes, c.in_ok-send.ensures.ok, c.in_ok-encoded.ensures.bytes) refl
 
 pub returns-in-Err-clause-outcome : goal.returns-in-Err-clause-outcome
 returns-in-Err-clause-outcome c =
