@@ -1,9 +1,8 @@
 ghost use Rattle.bell_manager.specs.Bell.{bell_connect, bell_io};
 
 use crate::bell::{Bell, Bells};
-use qx_attr::Reply;
 use qx_machine::{Effect, NewDup, NewOpen, Ocb, Opened, PulseWish, Wish};
-use qx_process::Room;
+use qx_process::{Reply, Room};
 use qx_queues::{Leaving, PipeCall};
 use qx_resmgr::{Connect, Done, Io, no_function};
 use qx_shared::{Shared, Side};

@@ -1,10 +1,9 @@
 ghost use Rattle.null_manager.specs.Null.{null_connect, null_io};
 
 use crate::kept::{Kept, Told};
-use qx_attr::Reply;
 use qx_machine::{Conditions, Effect, Event, NewDup, NewOpen, Ocb, Opened, PulseWish, Wish};
 use qx_notify::AllEvents;
-use qx_process::Room;
+use qx_process::{Reply, Room};
 use qx_resmgr::{Connect, Done, Io, no_function};
 use qx_types::{Errno, NotifyAction, Whence};
 use qx_wire::Rest;

@@ -5,7 +5,6 @@
 //! - `blocks.rt`: open control blocks under their numbers, in a slab
 //! - `access.rt`: who may do what with an inode
 //! - `status.rt`: the 40 bytes of a status
-//! - `reply.rt`: the bytes of a reply, with room for all that one may have
 #![tactic(auto)]
 
 pub mod access;
@@ -13,12 +12,10 @@ pub mod attr;
 mod blocks;
 pub mod growth;
 pub mod inodes;
-mod reply;
 mod status;
 
 pub use access::check_access;
 pub use attr::Attr;
 pub use inodes::Inodes;
 pub use qx_machine::Ocb;
-pub use reply::Reply;
 pub use status::{Status, stat_bytes};

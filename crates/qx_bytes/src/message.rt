@@ -1,7 +1,6 @@
 //! The bytes of a message or of its answer: few stand in the value itself.
 
-ghost use Rattle.std.specs.Prelude.{◌≡◌, ◌≤◌, ◌++◌, [], length, IfOk, IsOk};
-ghost use Rattle.std.specs.List.{flat_map};
+ghost use Rattle.std.specs.Prelude.{◌≡◌, ◌+◌, ◌<◌, ◌≤◌, ◌^◌, ◌++◌, [], length, take, IfOk, IsOk};
 ghost use Rattle.std.specs.Str.{bytes_eq};
 ghost use Rattle.qx_bytes.specs.declared.message.TheConstants.MessageBytes.{INLINE};
 
@@ -43,8 +42,16 @@ impl MessageBytes {
     {
         let mut few = [0; PLACES];
         few[..bytes.len()].copy_from_slice(bytes);
+        MessageBytes::from_buf_and_len(alloc, few, bytes.len())
+    }
+
+    /// The first bytes of an array of as many as stand in the value, for which no memory is taken.
+    pub fn from_buf_and_len(alloc: Global, few: [u8; PLACES], len: usize) -> Self
+        requires few { len ≤ INLINE }
+        ensures bytes { result ≡ take len few }
+    {
         MessageBytes {
-            items: SmallVec::from_buf_and_len(alloc, few, bytes.len()),
+            items: SmallVec::from_buf_and_len(alloc, few, len),
         }
     }
 
@@ -73,38 +80,38 @@ impl MessageBytes {
         }
     }
 
-    /// The first bytes and behind them all parts, one after the other: `len` bytes. Memory is taken only for more than a
-    /// few, once and for just so many.
+    /// Three pieces, one behind the other. Memory is taken only for more than a few bytes, once and for just so many.
     #[inline(always)]
     pub fn joined(
         alloc: Global,
         first: &[u8],
-        parts: &[&[u8]],
-        len: usize,
+        second: &[u8],
+        third: &[u8],
     ) -> Result<Self, AllocError>
-        requires len { len ≡ length (first.now ++ flat_map (λ p. p.now) parts.now) }
-        ensures bytes { IfOk result (λ joined. joined ≡ first.now ++ flat_map (λ p. p.now) parts.now) }
-        ensures few { len ≤ INLINE → IsOk result }
+        requires fits { length (first.now ++ (second.now ++ third.now)) < 2 ^ 64 }
+        ensures bytes { IfOk result (λ joined. joined ≡ first.now ++ (second.now ++ third.now)) }
+        ensures few { length (first.now ++ (second.now ++ third.now)) ≤ INLINE → IsOk result }
     {
-        if len > MessageBytes::INLINE {
-            let mut many = Vec::with_capacity(alloc, len)?;
-            many.extend_from_slice(first)?;
-            for part in parts {
-                many.extend_from_slice(part)?;
-            }
-            return Ok(MessageBytes::from_vec(many));
+        if first.len() + second.len() + third.len() > MessageBytes::INLINE {
+            return Ok(MessageBytes::many(alloc, first, second, third)?);
         }
         let mut few = [0; PLACES];
-        let mut end = first.len();
-        few[..end].copy_from_slice(first);
-        for part in parts {
-            let start = end;
-            end += part.len();
-            few[start..end].copy_from_slice(part);
-        }
-        Ok(MessageBytes {
-            items: SmallVec::from_buf_and_len(alloc, few, len),
-        })
+        let end = append(&mut few, 0, first);
+        let end = append(&mut few, end, second);
+        let end = append(&mut few, end, third);
+        Ok(MessageBytes::from_buf_and_len(alloc, few, end))
+    }
+
+    /// The same in one vector of just that length.
+    fn many(alloc: Global, first: &[u8], second: &[u8], third: &[u8]) -> Result<Self, AllocError>
+        requires fits { length (first.now ++ (second.now ++ third.now)) < 2 ^ 64 }
+        ensures bytes { IfOk result (λ joined. joined ≡ first.now ++ (second.now ++ third.now)) }
+    {
+        let mut many = Vec::with_capacity(alloc, first.len() + second.len() + third.len())?;
+        many.extend_from_slice(first)?;
+        many.extend_from_slice(second)?;
+        many.extend_from_slice(third)?;
+        Ok(MessageBytes::from_vec(many))
     }
 
     /// The bytes, after which there are none.
@@ -124,6 +131,17 @@ impl MessageBytes {
     {
         self.items.as_slice()
     }
+}
+
+/// Puts a piece behind the first bytes of an array, and gives how many they are then.
+fn append(few: &mut [u8; PLACES], end: usize, piece: &[u8]) -> usize
+    requires fits { end + length piece.now ≤ INLINE }
+    ensures bytes { take result few.new ≡ take end few.old ++ piece.now }
+    ensures end { result ≡ end + length piece.now }
+{
+    let behind = end + piece.len();
+    few[end..behind].copy_from_slice(piece);
+    behind
 }
 
 impl PartialEq for MessageBytes {

@@ -33,7 +33,7 @@ use Rattle.qx_machine.specs.Rows.{row_at, with_row}
 use Rattle.qx_machine.specs.Waiting.{Pipes, is_of_process, no_pipes}
 use Rattle.std.proofs.Math.Bool.{and-not_self}
 use Rattle.qx_machine.proofs.Places.{at-map}
-use Rattle.qx_process.specs.Reads.{LosesAll, is_at, is_served}
+use Rattle.qx_process.specs.Reads.{LosesAll, is_at}
 use Rattle.qx_queues.specs.Queues.{stands, unblock_call}
 use Rattle.qx_queues.proofs.EntryLemmas.{line_at-other, line_at-same}
 use Rattle.qx_queues.proofs.LineLemmas.{call-replied_other, call-withdrawn, replied-none, stands-replied, stands-withdrawn_other}
@@ -196,14 +196,6 @@ module _ (queues : Shared) (thread : Thread) (row : ThreadRow) (stand : StandsFo
 module _ (users : Users) (proc : Proc) where
   abbrev its : ℕ → Thread
   its tid = record { proc = proc; tid = tid }
-
-  pub drops-zero : (queues : Shared) → length queues.lines ≡ COUNT → DropsBelow users queues queues proc 0
-  drops-zero queues managers = record {
-    queues = refl;
-    managers = managers;
-    own = λ tid below. absurd (omega (arith, below));
-    others = λ other above. record { stand = λ number. refl; calls = λ number. refl };
-  }
 
   module _ (old now new : Shared) (count : ℕ) (before : DropsBelow users old now proc count) where
     -- the next thread stands as before
@@ -432,20 +424,6 @@ module _ (users : Users) (proc : Proc) (process : Process) (there : process_of u
 
       pub pipes-ended : length (with_lost proc (flat_map option_to_list lost) left).pipes ≡ length old.pipes
       pipes-ended = ap length (lost-fields proc (λ c. c.pipes) (λ c server. refl) servers left) ∙ length-set now.pipes user _ ∙ ap length pipes_are
-
-      pub have-nodes : AllHaveNodes left proc lost
-      have-nodes = record {
-        there = λ number. node-of number (row_at lost number) refl;
-        apart = λ one other server second differs is there same. differs (sym (at-number one server is) ∙ same ∙ at-number other second there);
-      }
-        where
-          at-number : (number : ℕ) (server : ServerName) → row_at lost number ≡ Some server → manager_number server.manager ≡ number
-          at-number number server is = subst (λ row. IfSome row (λ server. manager_number server.manager ≡ number)) is (loses.places number)
-
-          node-of : (number : ℕ) (row : Option ServerName) → row_at lost number ≡ row → IfSome row (λ server. IsTrue (has_disconnect_node left proc (manager_number server.manager)))
-          node-of number None is = tt
-          node-of number (Some server) is = ap (λ (q : Shared). has_disconnect_node q proc (manager_number server.manager)) dropped_so.queues ∙ kept.servers proc server.manager ∙ ap (served_at server.manager) there
-              ∙ subst (λ row. IfSome row (λ server. is_served server.manager process ≡ true)) is (loses.were_used number)
 
       pub shown-ended : (mounts : List (List MountPoint)) (events after : List Events) → after ≡ slice_set events user (without_pulses proc.num (get_or events user no_events))
           → shown (with_process_of users proc ended) (with_lost proc (flat_map option_to_list lost) left) mounts after ≡ after_exit (shown users old mounts events) proc

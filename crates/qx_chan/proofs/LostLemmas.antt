@@ -15,13 +15,12 @@ use Rattle.qx_types.specs.declared.names.Thread.{Thread}
 use Rattle.qx_paths.specs.Prefixes.{MountPoint}
 use Rattle.qx_machine.specs.declared.rows.Queued.{Queued}
 use Rattle.qx_machine.specs.declared.rows.ServerName.{ServerName}
-use Rattle.qx_machine.specs.declared.rows.ThreadRow.{ThreadRow}
 use Rattle.qx_machine.specs.Lines.{into, line_at}
 use Rattle.qx_machine.specs.Machine.{lines_after, rank}
 use Rattle.qx_machine.specs.Parts.{disconnect, disconnects}
-use Rattle.qx_machine.specs.Processes.{Process, lost_servers, servers_at, with_thread}
+use Rattle.qx_machine.specs.Processes.{Process, lost_servers, servers_at}
 use Rattle.qx_machine.specs.Servers.{in_use, lost_by}
-use Rattle.qx_process.specs.Reads.{Loses, is_at}
+use Rattle.qx_process.specs.Reads.{is_at}
 use Rattle.qx_queues.specs.Queues.{disconnect_of, stands, unblock_call}
 use Rattle.qx_shared.specs.Shared.{Shared, has_disconnect_node, has_thread, waiting_in, with_shared_disconnect}
 use Rattle.qx_procs.specs.Calls.{LosesAt}
@@ -75,14 +74,6 @@ lost-served lost (Some before) (Some after) loses manager = loses.uses manager
 lost-served lost None None none manager = refl
 lost-served lost (Some before) None loses manager = absurd loses
 lost-served lost None (Some after) loses manager = absurd loses
-
--- what a thread is answered loses nothing
-pub loses-with_thread : (tid : ℕ) (g : ThreadRow → ThreadRow) (lost : Option ServerName) (before after : Process) → Loses lost (with_thread tid g before) after → Loses lost before after
-loses-with_thread tid g lost before after loses = record { lost_is = loses.lost_is; was_used = loses.was_used; uses = loses.uses }
-
--- a process that is put in place of the one before
-pub loses-put : (lost : Option ServerName) (users : Users) (proc : Proc) (before after : Process) → Some before ≡ process_of users proc → Loses lost before after → LosesAt lost (process_of users proc) (process_of (with_process_of users proc (λ x. after)) proc)
-loses-put lost users proc before after is loses = rw (process_of-same users proc (λ x. after), ← is) loses
 
 -- ---- what becomes of lines and nodes
 

@@ -1,5 +1,5 @@
 -- One process among those of all users, where it changes.
-use Rattle.std.proofs.Common.{◌≡◌, ◌≢◌, inl, inr, ℕ, List, Option, Some, None, Ok, Err, refl, sym, ◌∙◌, ap}
+use Rattle.std.proofs.Common.{◌≡◌, ◌≢◌, inl, inr, ℕ, List, Option, Some, None, Ok, Err, refl, sym, ap}
 use Rattle.std.specs.Prelude.{OnErr, Result, option_map, slice_set}
 use Rattle.std.proofs.lemmas.Bool.{cases_eq}
 use Rattle.qx_types.specs.declared.names.Proc.{Proc}
@@ -9,7 +9,7 @@ use Rattle.qx_machine.specs.Processes.{Process, with_thread}
 use Rattle.qx_machine.specs.Rows.{row_at, with_row}
 use Rattle.qx_process.proofs.RowLemmas.{set-row, with_row-none}
 use Rattle.qx_chan.specs.Users.{Users, process_of_user, process_of, thread_row, with_process_of, with_thread_row}
-use Rattle.qx_chan.proofs.RowReads.{option_cases, row_at-with_other, row_at-with_same, with_row-alike, with_row-twice}
+use Rattle.qx_chan.proofs.RowReads.{option_cases, row_at-with_other, row_at-with_same}
 
 pub process_of-same : (users : Users) (proc : Proc) (f : Process → Process) → process_of (with_process_of users proc f) proc ≡ option_map f (process_of users proc)
 process_of-same users proc f = rw (row_at-with_same users proc.user.0 (λ rows. with_row rows proc.num f)) (by_user (row_at users proc.user.0))
@@ -32,16 +32,6 @@ module _ (users : Users) (proc : Proc) (h : List (Option Process) → List (Opti
       by_user : (o : Option (List (Option Process))) → row_at users proc.user.0 ≡ o → other.num ≢ proc.num → process_of_user other.num (option_map h o) ≡ process_of_user other.num o
       by_user None there apart = refl
       by_user (Some rows) there apart = others rows there other.num apart
-
--- two changes of a process are one
-
-pub with_process-alike : (users : Users) (proc : Proc) (f g : Process → Process) → ((x : Process) → f x ≡ g x) → with_process_of users proc f ≡ with_process_of users proc g
-with_process-alike users proc f g same = with_row-alike users proc.user.0 _ _ (λ rows. with_row-alike rows proc.num f g same)
-
-pub with_process-twice : (users : Users) (proc : Proc) (f g : Process → Process) → with_process_of (with_process_of users proc f) proc g ≡ with_process_of users proc (λ x. g (f x))
-with_process-twice users proc f g =
-    with_row-twice users proc.user.0 (λ rows. with_row rows proc.num f) (λ rows. with_row rows proc.num g)
-    ∙ with_row-alike users proc.user.0 _ _ (λ rows. with_row-twice rows proc.num f g)
 
 -- a process that is not there, and one that is left as it was
 

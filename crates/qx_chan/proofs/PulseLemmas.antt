@@ -1,5 +1,5 @@
 -- An unblock pulse is performed: who waits is answered, as in the machine.
-use Rattle.std.proofs.Common.{◌≡◌, subst, ℕ, List, Option, Some, Ok, Err, map, refl, ◌∙◌, ap, rules}
+use Rattle.std.proofs.Common.{◌≡◌, subst, ℕ, List, Option, Some, Ok, Err, map, refl, ◌∙◌, ap}
 use Rattle.std.specs.Prelude.{◌<◌, IfOk, Result, length}
 use Rattle.qx_types.specs.declared.names.Manager.TheVariants.{Pipe}
 use Rattle.qx_types.specs.declared.outcome.Outcome.{Outcome}
@@ -36,10 +36,6 @@ user-fits users w k processes there kept = record { pipes = few; events = rw kep
   where
     few : k.user < length w.shared.pipes
     few = rw kept.shared.users (row_within users k.user processes there)
-
--- the resources are the user's still
-cancel-user : (r : Resources) (process thread call moment : ℕ) → IfOk (cancel_call r process thread call moment) (λ deed. deed.state.user ≡ r.user)
-cancel-user r process thread call moment = search rules
 
 module _ (users : Users) (w : AllTables) (k l : state.Kept) (v : AllTables) (processes : List (Option Process)) (there : row_at users k.user ≡ Some processes) (kept : StandTogether users w.shared) (process thread call moment : ℕ) where
   abbrev part : Part

@@ -1,6 +1,6 @@
 -- Rows, lines and nodes stand together still as a line's first item is received.
 use Rattle.std.proofs.Common.{◌≡◌, ◌≢◌, ◌⊎◌, inl, inr, subst, ℕ, ◌∷◌, [], true, false, List, Option, Some, None, drop, slice_get, refl, sym, ◌∙◌, ap}
-use Rattle.std.specs.Prelude.{option_map}
+use Rattle.std.specs.Prelude.{IsSome, option_map}
 use Rattle.std.proofs.lemmas.Bool.{eqb-true}
 use Rattle.qx_types.specs.Managers.{manager_number}
 use Rattle.qx_types.specs.declared.names.Manager.{Manager}
@@ -170,6 +170,24 @@ Kept-taken users queues manager first rest line gone kept = by_item first.item l
     by_item (item.Message process tid) is gone = message-taken users queues manager first.user.0 first.prio.0 rest kept process tid is gone
     by_item (item.Unblock process tid call) is gone = pulse-taken users queues manager first.user.0 first.prio.0 rest kept process tid call is gone
     by_item (item.Disconnect process server) is gone = left-taken users queues manager first.user.0 first.prio.0 rest kept process server is
+
+-- the thread is there whose message stands first in a line
+pub message-there : (users : Users) (queues : Shared) (manager : Manager) (first : Queued) (process tid : ℕ) → first.item ≡ item.Message process tid → Some first ≡ slice_get (line_at queues.lines (manager_number manager)) 0 → StandTogether users queues
+    → IsSome (thread_row users (sender_of first.user.0 (item.Message process tid)))
+message-there users queues manager first process tid is at_front kept = there (thread_row users thread) (stood (drop 1 (line_at queues.lines number)) (first_of-line (line_at queues.lines number) first at_front ∙ ap (λ own. record { user = first.user; item = own; prio = first.prio } ∷ drop 1 (line_at queues.lines number)) is))
+  where
+    number : ℕ
+    number = manager_number manager
+
+    thread : Thread
+    thread = sender_of first.user.0 (item.Message process tid)
+
+    stood : (rest : List Queued) → line_at queues.lines number ≡ record { user = first.user; item = item.Message process tid; prio = first.prio } ∷ rest → stands_at number (thread_row users thread) ≡ true
+    stood rest line = sym (kept.lines thread number) ∙ rw (line, is_same_thread-self thread) refl
+
+    there : (row : Option ThreadRow) → stands_at number row ≡ true → IsSome row
+    there None stands = cc
+    there (Some row) stands = refl
 
 -- by what the first item is
 module _ (users : Users) (queues : Shared) (manager : Manager) (first : Queued) (own : OwnItem) (is : first.item ≡ own)

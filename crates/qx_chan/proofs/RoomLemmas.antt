@@ -1,7 +1,7 @@
 -- Where the room for a thread's reply is, and which answers bring it.
 use Rattle.std.proofs.Common.{◌≡◌, List, ℕ, Bool, true, false, ◌&&◌, Option, Some, None, refl}
 use Rattle.std.proofs.lemmas.Bool.{false≢true}
-use Rattle.std.specs.Prelude.{IfSome, IsFalse, IsSome, IsTrue, is_some}
+use Rattle.std.specs.Prelude.{IfSome, IsFalse, IsTrue, is_some}
 use Rattle.qx_types.specs.declared.errno.Errno.{Errno}
 use Rattle.qx_types.specs.declared.outcome.Answer.{Answer}
 use Rattle.qx_types.specs.declared.outcome.Answer.TheVariants.{Failed}
@@ -15,13 +15,13 @@ use Rattle.qx_machine.specs.Processes.{keeps_room}
 use Rattle.qx_process.specs.Reads.{AwaitsReply, BringsRoom, BringsRoomIn, has_own_room, is_waiting}
 use Rattle.qx_process.specs.Reads.{queued_in}
 use Rattle.qx_chan.specs.Calls.{queued_call}
-use Rattle.qx_chan.specs.inner.Calls.{taken_bytes, taken_call}
+use Rattle.qx_chan.specs.inner.Calls.{taken_call}
 use Rattle.qx_chan.specs.Channel.{IsExisting}
 use Rattle.qx_chan.specs.Nodes.{attaches}
 use Rattle.qx_chan.specs.inner.Kept.{is_waiting_for, waits_for}
 use Rattle.qx_chan.specs.Users.{IsThreadReady}
 use Rattle.qx_chan.specs.declared.call.Call.{Call}
-use Rattle.qx_chan.proofs.CallLemmas.{queued_is, taken_is, waits}
+use Rattle.qx_chan.proofs.CallLemmas.{queued_is, waits}
 
 abbrev Waits : Option ThreadRow → Type 0
 Waits place = IfSome place (λ row. IsTrue (is_waiting row.state))
@@ -65,19 +65,9 @@ awaited-waits call (Some row) is = by_state row.state is
     by_state (state.Waiting sent) is = refl
     by_state (state.Answered given) is = absurd (false≢true is)
 
--- a thread whose message was received awaits a reply, and an error brings it no room
-pub taken-awaits : (place : Option ThreadRow) (call : Call) → Some call ≡ taken_call place → AwaitsReply place
-taken-awaits place call is =
-    let it = waits taken_in place call is in
-    rw (it.there, it.is) refl
-
-pub taken-brings : (error : Errno) (place : Option ThreadRow) (call : Call) → Some call ≡ taken_call place → BringsRoom (Failed error) None place
-taken-brings error place call is =
-    let it = waits taken_in place call is in
-    rw (it.there, taken_is it.row.state it.sent it.is) (refl, refl)
-
-pub taken-bytes : (place : Option ThreadRow) (call : Call) → Some call ≡ taken_call place → IsSome (taken_bytes place)
-taken-bytes place call is =
+-- a thread whose message was received awaits a reply
+pub taken_awaits : (place : Option ThreadRow) (call : Call) → Some call ≡ taken_call place → AwaitsReply place
+taken_awaits place call is =
     let it = waits taken_in place call is in
     rw (it.there, it.is) refl
 

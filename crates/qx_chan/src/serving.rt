@@ -3,7 +3,6 @@
 ghost use Rattle.std.specs.Prelude.{◌≡◌, ◌≤◌, List, ℕ, Option, Some, length, IfOk, IfSome, IsFalse, IsOk, IsSome, IsTrue, None, OnErr, OnOk};
 ghost use Rattle.std.specs.Option.{option_copied};
 ghost use Rattle.qx_types.specs.Managers.{manager_number};
-ghost use Rattle.qx_types.specs.declared.limits.TheConstants.Limits.{BODY};
 ghost use Rattle.qx_wire.specs.Reading as reading;
 ghost use Rattle.qx_machine.specs.Machine.{line_without};
 ghost use Rattle.qx_machine.specs.Performing.{or_kept, serve_disconnect, serve_message, serve_pulse};
@@ -31,9 +30,8 @@ use crate::call::{Call, TakenMessage};
 use crate::channel::Channel;
 use crate::servers;
 use crate::users::Users;
-use qx_attr::Reply;
 use qx_machine::{Caller, Client, ServerName};
-use qx_process::{Process, Replied, Room};
+use qx_process::{Process, Replied, Reply, Room};
 use qx_resmgr::Done;
 use qx_resources::{Resources, Tables, context_of};
 use qx_shared::Shared;
@@ -73,7 +71,7 @@ impl Channel {
         let (users, tables, spare) = (&mut self.users, &mut self.tables, &mut self.spare);
         let given = perform(users, tables, resources, message, read, reply, spare)?;
         let queues = &mut tables.shared;
-        answer(users, queues, message, given, reply.as_slice(), spare);
+        answer(users, queues, message, given, reply, spare);
         give_answers(users, queues);
         Ok(())
     }
@@ -181,15 +179,15 @@ fn received(process: &Process, thread: u8) -> Option<&MessageBytes>
 /// A thread whose message was served is answered with what that came to, unless it is left without a reply: the message does
 /// what it does to the connection that it came over, a side connection goes, a new one goes with an error, and an unblock
 /// pulse of the call is in the line no more. There is a spare room again.
+#[tactic(auto, using(crate::proofs::RoomLemmas::taken_awaits))]
 fn answer(
     users: &mut Users,
     queues: &mut Shared,
     message: TakenMessage,
     given: Result<Done, Errno>,
-    reply: &[u8],
+    reply: &Reply,
     spare: &mut Option<Room>,
 )
-    requires fits { length reply.now ≤ BODY }
     requires taken { Some message.call ≡ taken_call (thread_row users.old message.thread) }
     requires room { IsReplied given → IsSome spare.old }
     requires nodes { HasServerNodes users.old queues.old message.thread.proc }

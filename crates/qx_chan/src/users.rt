@@ -3,7 +3,7 @@
 ghost use Rattle.std.specs.Prelude.{◌≡◌, ◌≤◌, IfOk, IfSome, IsOk, IsSome, IsTrue, OnOk, OnErr, OnSome, None, Some, length, slice_set};
 ghost use Rattle.std.specs.Option.{option_copied, option_copied_mut};
 ghost use Rattle.std.specs.Borrow.{sem};
-ghost use Rattle.qx_types.specs.declared.limits.TheConstants.Limits.{BODY, PROCESSES};
+ghost use Rattle.qx_types.specs.declared.limits.TheConstants.Limits.{PROCESSES};
 ghost use Rattle.qx_types.specs.declared.outcome.Answer.TheVariants.{Failed};
 ghost use Rattle.qx_machine.specs.Clients.{spawn_number};
 ghost use Rattle.qx_machine.specs.Processes.{answered_thread, asked_thread, ended, living, served_thread, taken_thread, with_queued, without_server};
@@ -131,19 +131,21 @@ impl Users {
         ensures had_room { IfSome (thread_row self.old thread) (λ row. IsTrue (has_own_room row)) → IsOk result }
         ensures err { OnErr result (self.new ≡ self.old) }
     {
-        if let Some(process) = self.process_mut(thread.proc) {
-            process.send(alloc, thread.tid, sent)?;
+        match self.process_mut(thread.proc) {
+            Some(process) => process.send(alloc, thread.tid, sent),
+            None => unreachable!(),
         }
-        Ok(())
     }
 
     /// A thread's message is received.
     #[tactic(auto, using(crate::proofs::ProcessLemmas::lends))]
     pub fn take(&mut self, thread: Thread)
+        requires there { IsSome (thread_row self.old thread) }
         ensures taken { self.new ≡ with_thread_row self.old thread taken_thread }
     {
-        if let Some(cell) = self.thread_mut(thread) {
-            cell.take();
+        match self.thread_mut(thread) {
+            Some(cell) => cell.take(),
+            None => unreachable!(),
         }
     }
 
@@ -184,12 +186,13 @@ impl Users {
     #[tactic(auto, using(crate::proofs::ProcessLemmas::lends))]
     pub fn reply(&mut self, thread: Thread, over: Over, replied: Replied<'_>) -> Option<ServerName>
         requires received { AwaitsReply (thread_row self.old thread) }
-        requires fits { length replied.bytes.now ≤ BODY }
         ensures replied { self.new ≡ with_process_of self.old thread.proc (process_replied thread.tid replied.entry.effect replied.entry.status replied.entry.bytes.now over) }
         ensures lost { LosesAt result (process_of self.old thread.proc) (process_of self.new thread.proc) }
     {
-        self.process_mut(thread.proc)?
-            .reply(thread.tid, over, replied)
+        match self.process_mut(thread.proc) {
+            Some(process) => process.reply(thread.tid, over, replied),
+            None => unreachable!(),
+        }
     }
 
     /// A thread gets an error, which gives back what its call attached, with the room for its replies where that had gone.

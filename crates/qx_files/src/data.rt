@@ -5,7 +5,7 @@ ghost use Rattle.qx_types.specs.declared.limits.TheConstants.Limits.{BODY};
 
 use crate::block::{BLOCK, Block};
 use crate::places::{block_bytes, write_bytes};
-use qx_attr::Reply;
+use qx_process::Reply;
 use std::alloc::{AllocError, Global};
 use std::marker::Model;
 

@@ -12,8 +12,9 @@ ghost use Rattle.qx_machine.specs.Rows.{row_at};
 use crate::entries::is_own;
 use crate::found::Closed;
 use crate::store::Store;
-use qx_attr::{Inodes, Ocb, Reply, Status};
+use qx_attr::{Inodes, Ocb, Status};
 use qx_machine::{Attribute, Kind, Opened};
+use qx_process::Reply;
 use qx_types::Errno;
 
 /// The number of the root of a user's top.

@@ -12,8 +12,9 @@ ghost use Rattle.qx_types.specs.declared.limits.TheConstants.Limits.{TRANSFER};
 
 use crate::entry::Entry;
 use crate::search::place_behind;
-use qx_attr::{Reply, growth};
+use qx_attr::growth;
 use qx_lists::{Table, uncounted};
+use qx_process::Reply;
 use qx_types::Limits;
 use std::alloc::{AllocError, Global};
 use std::marker::Model;

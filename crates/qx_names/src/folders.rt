@@ -10,8 +10,9 @@ ghost use Rattle.qx_types.specs.declared.limits.TheConstants.Limits.{TRANSFER};
 
 use crate::child_list::ChildList;
 use crate::entry::Entry;
-use qx_attr::{Reply, growth};
+use qx_attr::growth;
 use qx_lists::Table;
+use qx_process::Reply;
 use std::alloc::{AllocError, Global};
 use std::marker::Model;
 

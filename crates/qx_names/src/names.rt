@@ -14,8 +14,9 @@ ghost use Rattle.qx_types.specs.declared.limits.TheConstants.Limits.{INODES};
 
 use crate::folders::Folders;
 use crate::spot::{Spot, search};
-use qx_attr::{Inodes, Reply};
+use qx_attr::Inodes;
 use qx_machine::laws;
+use qx_process::Reply;
 use qx_types::{Errno, User};
 use qx_wire::{Components, Rest};
 use std::alloc::{AllocError, Global};

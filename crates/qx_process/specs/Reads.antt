@@ -1,5 +1,5 @@
 -- What rows are asked.
-use Rattle.std.specs.Prelude.{ℕ, ◌≡◌, ◌≢◌, ◌<◌, ◌≤◌, ◌==◌, ◌&&◌, Bool, true, false, not, List, Option, Some, None, IfSome, IsSome, IsTrue, is_some, ⊤}
+use Rattle.std.specs.Prelude.{ℕ, ◌≡◌, ◌≢◌, ◌<◌, ◌≤◌, ◌==◌, ◌&&◌, Bool, true, false, not, List, Option, Some, None, IfSome, IsSome, is_some, ⊤}
 use Rattle.std.specs.List.{flat_map, list_any}
 use Rattle.std.specs.Option.{option_to_list}
 use Rattle.qx_types.specs.Managers.{manager_number}
@@ -61,9 +61,10 @@ abbrev pub BringsRoom : Answer → Option (List ℕ) → Option ThreadRow → Ty
 BringsRoom answer room None = ⊤
 BringsRoom answer room (Some row) = BringsRoomIn answer room row.state
 
--- the thread, if one is in that place, has a message that was received and is not served
+-- the thread is there, and its message was received and is not served
 abbrev pub AwaitsReply : Option ThreadRow → Type 0
-AwaitsReply row = IfSome row (λ row. IsSome (taken_in row.state))
+AwaitsReply None = ⊥
+AwaitsReply (Some row) = IsSome (taken_in row.state)
 
 -- the thread is there, and its calls can be counted once more
 abbrev pub CanCall : Option ThreadRow → Type 0

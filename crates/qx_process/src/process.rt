@@ -1,7 +1,7 @@
 ghost use Rattle.std.specs.Prelude.{◌≡◌, ◌+◌, ◌≤◌, count_by, is_some, length, IfSome, IsOk, IsTrue, OnSome, OnOk, OnErr, Some, None, true};
 ghost use Rattle.std.specs.Option.{option_copied, option_copied_mut};
 ghost use Rattle.std.specs.Borrow.{sem};
-ghost use Rattle.qx_types.specs.declared.limits.TheConstants.Limits.{BODY, FIRST_CONNECTION, LAST_CONNECTION, SERVERS, THREADS};
+ghost use Rattle.qx_types.specs.declared.limits.TheConstants.Limits.{FIRST_CONNECTION, LAST_CONNECTION, SERVERS, THREADS};
 ghost use Rattle.qx_types.specs.declared.outcome.Answer.TheVariants.{Reply};
 ghost use Rattle.qx_machine.specs.Performing.{client_at};
 ghost use Rattle.qx_machine.specs.Processes as machine;
@@ -245,9 +245,10 @@ impl Process {
         ensures err { OnErr result (self.new ≡ self.old) }
     {
         let target = sent.target;
-        if let Some(cell) = self.thread_mut(thread) {
-            cell.send(alloc, sent)?;
-        }
+        let Some(cell) = self.thread_mut(thread) else {
+            unreachable!();
+        };
+        cell.send(alloc, sent)?;
         self.connect(thread, target.manager, target.over);
         Ok(())
     }
@@ -316,13 +317,13 @@ impl Process {
     #[tactic(auto, using(crate::proofs::RowLemmas::thread_absent))]
     pub fn reply(&mut self, thread: u8, over: Over, replied: Replied<'_>) -> Option<ServerName>
         requires received { AwaitsReply (row_at self.old.threads thread) }
-        requires fits { length replied.bytes.now ≤ BODY }
         ensures process { self.new ≡ machine.after_reply thread over replied.entry.effect (with_thread thread (answered_thread (Reply replied.entry.status replied.entry.bytes.now)) self.old) }
         ensures lost { Loses result self.old self.new }
     {
-        if let Some(cell) = self.thread_mut(thread) {
-            cell.reply(replied.status, replied.bytes);
-        }
+        let Some(cell) = self.thread_mut(thread) else {
+            unreachable!();
+        };
+        cell.reply(replied.status, replied.bytes);
         self.conclude(thread, over, replied.effect)
     }
 

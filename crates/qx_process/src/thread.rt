@@ -1,14 +1,15 @@
-ghost use Rattle.std.specs.Prelude.{◌≡◌, ◌<◌, ◌≤◌, IfSome, IsOk, IsSome, IsTrue, MatchOption, OnOk, OnErr, Some, length, option_map};
+ghost use Rattle.std.specs.Prelude.{◌≡◌, ◌<◌, ◌≤◌, IfSome, IsOk, IsSome, IsTrue, MatchOption, OnOk, OnErr, Some, option_map};
 ghost use Rattle.std.specs.Option.{option_copied};
-ghost use Rattle.qx_types.specs.declared.limits.TheConstants.Limits.{BODY, CALLS};
-ghost use Rattle.qx_types.specs.declared.outcome.Answer.TheVariants.{Reply};
+ghost use Rattle.qx_types.specs.declared.limits.TheConstants.Limits.{CALLS};
+ghost use Rattle.qx_types.specs.declared.outcome.Answer.TheVariants.{Reply as TheReply};
 ghost use Rattle.qx_machine.specs.Calls.{is_ready};
 ghost use Rattle.qx_machine.specs.Clients.{answer_in};
 ghost use Rattle.qx_machine.specs.Performing.{taken_in};
 ghost use Rattle.qx_machine.specs.Processes.{asked_thread, new_thread, queued_thread, received_in, served_thread, taken_thread, answered_thread, ready_thread, ranked_thread};
 ghost use Rattle.qx_process.specs.Reads.{BringsRoom, IsPriority, has_own_room, is_blocked, queued_in, unanswered_in};
 
-use crate::room::{Room, reply_bytes};
+use crate::reply::Reply;
+use crate::room::Room;
 use qx_machine::{Effect, Sent};
 use qx_types::{Answer, MessageBytes, Prio};
 use std::alloc::{AllocError, Global};
@@ -16,10 +17,10 @@ use std::marker::Model;
 use std::mem;
 
 /// What a message is replied: status and bytes, and what becomes of the connection that it came over.
-#[derive(Clone, Copy, Debug, PartialEq, Eq)]
+#[derive(Clone, Copy)]
 pub struct Replied<'a> {
     pub status: u64,
-    pub bytes: &'a [u8],
+    pub bytes: &'a Reply,
     pub effect: Effect,
 }
 
@@ -230,14 +231,19 @@ impl ThreadCell {
 
     /// The thread, whose message was received, gets a reply. Few bytes leave it the room for its replies, and more take that
     /// along (C Library Reference: `MsgReply`).
-    pub fn reply(&mut self, status: u64, reply: &[u8])
+    pub fn reply(&mut self, status: u64, reply: &Reply)
         requires received { IsSome (taken_in self.old.state) }
-        requires fits { length reply.now ≤ BODY }
-        ensures row { self.new ≡ answered_thread (Reply status reply.now) self.old }
+        ensures row { self.new ≡ answered_thread (TheReply status reply.now) self.old }
     {
-        let bytes = reply_bytes(&mut self.room, reply);
-        self.has_room = self.room.is_some();
-        self.doing = Doing::Answered(Answer::Reply(status, bytes));
+        if let Some(bytes) = reply.inline() {
+            self.doing = Doing::Answered(Answer::Reply(status, bytes));
+            return;
+        }
+        let Some(room) = self.room.take() else {
+            unreachable!();
+        };
+        self.has_room = false;
+        self.doing = Doing::Answered(Answer::Reply(status, room.filled(reply.as_slice())));
     }
 
     /// The thread gets another priority (C Library Reference: `SchedSet`).

@@ -8,6 +8,7 @@ use Rattle.std.proofs.lemmas.Bool.{cases_Bool}
 use Rattle.std.proofs.lemmas.List.{get_or-set_other, get_or-set_same}
 use Rattle.std.proofs.lemmas.Option.{unwrap_or-slice_get}
 use Rattle.std.proofs.lemmas.Bool.Decides.{eqb_tells, nat_tests}
+use Rattle.qx_types.specs.declared.names.Prio.{Prio}
 use Rattle.qx_types.specs.declared.names.Thread.{Thread}
 use Rattle.qx_lists.proofs.ListLemmas.{contains_cases, contains_first, contains_later}
 use Rattle.qx_lists.proofs.MapLemmas.{get-insert_same}
@@ -15,7 +16,8 @@ use Rattle.qx_machine.specs.declared.rows.OwnItem.{OwnItem}
 use Rattle.qx_machine.specs.declared.rows.OwnItem.TheVariants as item
 use Rattle.qx_machine.specs.declared.rows.Queued.{Queued}
 use Rattle.qx_machine.specs.Lines.{into, line_at, with_line}
-use Rattle.qx_queues.specs.Queues.{pulse_call, first_field, is_same_thread, as_message, sender_of, own_field}
+use Rattle.qx_machine.specs.Machine.{queued_item}
+use Rattle.qx_queues.specs.Queues.{pulse_call, first_field, is_same_thread, as_message, message_of, sender_of, own_field}
 use Rattle.qx_queues.specs.inner.Kept.{named, nobodys, owner_in, node_owner}
 use Rattle.qx_queues.specs.Waiting.{Waiting}
 use Rattle.qx_queues.specs.Nodes.{Disconnect, Message, Owner, Unblock}
@@ -116,6 +118,15 @@ abbrev pub owned_thread : Owner → Thread → Thread
 owned_thread (Message thread) other = thread
 owned_thread (Unblock thread) other = thread
 owned_thread (Disconnect proc number) other = other
+
+-- what the node of a thread's messages stands for is the thread's message, whatever its priority
+pub entry-message : (thread : Thread) (prio : Prio) (entry : Queued) → node_owner entry ≡ Message thread → record entry { prio = prio } ≡ message_of thread prio.0
+entry-message thread prio entry is = by_item entry.user.0 entry.item is
+  where
+    by_item : (user : ℕ) (it : OwnItem) → owner_in (sender_of user it) it ≡ Message thread → queued_item user it prio.0 ≡ message_of thread prio.0
+    by_item user (item.Message p n) is = ap (λ owner. message_of (owned_thread owner thread) prio.0) is
+    by_item user (item.Unblock p n call) is = absurd (cc)
+    by_item user (item.Disconnect p server) is = absurd (cc)
 
 module _ {A : Type 0} (one other : Thread) where
   -- what is told of another thread is nothing

@@ -7,6 +7,7 @@ use Rattle.std.proofs.lemmas.Bool.{cases_Bool}
 use Rattle.std.proofs.lemmas.Bool.Decides.{eqb_tells}
 use Rattle.std.proofs.lemmas.Option.{same_Some, slice_get-map}
 use Rattle.qx_types.specs.declared.names.Proc.{Proc}
+use Rattle.qx_types.specs.declared.names.Prio.{Prio}
 use Rattle.qx_types.specs.declared.names.Thread.{Thread}
 use Rattle.qx_lists.specs.Table.{Table, ContainsList, ContainsNode, IsFree, IsIn, nodes_of, without}
 use Rattle.qx_lists.proofs.ListLemmas.{contains_first, contains_later, contains_rest, nowhere_from}
@@ -20,14 +21,14 @@ use Rattle.qx_machine.specs.declared.rows.Queued.{Queued}
 use Rattle.qx_machine.specs.declared.rows.ServerName.{ServerName}
 use Rattle.qx_machine.specs.Machine.{line_without, rank}
 use Rattle.qx_machine.specs.Lines.{into, line_at, with_line}
-use Rattle.qx_queues.specs.Queues.{IsGone, caller, has_call, has_answer_among, pulse_call, first_field, is_same_thread, as_message, no_other, sender, sender_of, stands, own_field, unblock_call}
+use Rattle.qx_queues.specs.Queues.{IsGone, caller, has_call, has_answer_among, message_of, pulse_call, first_field, is_same_thread, as_message, no_other, sender, sender_of, stands, own_field, unblock_call}
 use Rattle.qx_queues.specs.inner.Kept.{Carries, AreListsOfTable, IsListOf, IsOwners, PutIn, TakenOut, answered_calls, call_at, given_at, waiting_lists, entries, entry_of_node, is_line, is_own, named, nobodys, owner_in, node_owner, users_call_carried, waiting_of_node}
 use Rattle.qx_queues.specs.Kept.{HasLoad}
-use Rattle.qx_queues.specs.Waiting.{Answered, Load, Nothing, Waiting, Waits, carried, no_call, rank_of}
-use Rattle.qx_queues.specs.inner.Waiting.{thread_of_load, thread_carried, given_in, given_of}
+use Rattle.qx_queues.specs.Waiting.{Answered, Load, Nothing, Waiting, Waits, carried, idle, no_call, rank_of}
+use Rattle.qx_queues.specs.inner.Waiting.{thread_of_load, thread_carried, given_in, given_of, ranked}
 use Rattle.qx_queues.specs.Nodes.{Disconnect, Message, Owner, Unblock}
 use Rattle.qx_queues.proofs.BesideLemmas.{SameCalls, is_line-more, is_line-numbered, is_line-set, line_of, nodes_waiting, same_calls}
-use Rattle.qx_queues.proofs.EntryLemmas.{Reads, any-there, differs_from, is_same_thread-self, map-drop, owned_thread, reads-call, reads-message, some_of, field-entry, field-find, field-part}
+use Rattle.qx_queues.proofs.EntryLemmas.{Reads, any-there, differs_from, entry-message, is_same_thread-self, map-drop, owned_thread, reads-call, reads-message, some_of, field-entry, field-find, field-part}
 use Rattle.qx_queues.proofs.LineLemmas.{is_this, other-unblock, owner-this, this-message, this-unblock, without-absent, without-map}
 use Rattle.qx_queues.proofs.NodesLemmas.{none_of}
 use Rattle.qx_queues.proofs.OwnLemmas.{in_no_line, in_own, nodes_in-none, not_own, own_in, own_list}
@@ -140,6 +141,10 @@ module _ {answered : ℕ} (t : Table Waiting) (lines : List Line) (node_of : Own
         let clash : true ≡ false = sym stands ∙ waiting list in
         cc
   ]
+
+  -- where it stands in no list, it stands for the thread's message, and carries nothing
+  pub ranked-message : IsFree t node → (prio : Prio) → ranked prio (waiting_of_node t node) ≡ idle (message_of thread prio.0)
+  ranked-message free prio = rw (kept.unlisted node (λ list at apart. nowhere t free list at)) (ap idle (entry-message thread prio (entry_of_node t node) (kept.names (Message thread) node has)))
 
 -- and stays so while it stands for the same
 pub same-owners : (old new : Table Waiting) (node_of : Owner → Option ℕ) (node : ℕ) → entry_of_node new node ≡ entry_of_node old node → IsOwners node_of node (node_owner (entry_of_node old node)) → IsOwners node_of node (node_owner (entry_of_node new node))

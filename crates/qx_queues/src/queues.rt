@@ -14,7 +14,7 @@ ghost use Rattle.qx_queues.specs.Queues.{HasNoListedCall, HasThreadNodes, IsGone
 ghost use Rattle.qx_queues.specs.inner.Kept.{PutIn, TakenOut, entries, entry_of_node, node_owner, waiting_of_node};
 ghost use Rattle.qx_queues.specs.Nodes.{Unblock};
 ghost use Rattle.qx_queues.specs.Waiting.{ComesWithRoom, addressed_by, idle, rank_of};
-ghost use Rattle.qx_queues.specs.inner.Waiting.{KeepsRoom, load_of};
+ghost use Rattle.qx_queues.specs.inner.Waiting.{KeepsRoom, load_of, ranked};
 
 use crate::nodes::{Nodes, ThreadNodes};
 use crate::waiting::{Answered, Slot, Waiting};
@@ -94,8 +94,7 @@ impl Queues {
             unreachable!();
         };
         let line = &mut self.lines[manager.number()];
-        let message = queued_message(thread, prio);
-        put_in(&mut self.table, line, own.message, message);
+        put_again(&mut self.table, line, own.message, prio);
     }
 
     /// Takes the first item of a line, a message or a pulse (C Library Reference: `MsgReceive`); the node of a disconnect pulse
@@ -404,6 +403,16 @@ fn set_entry(table: &mut Table<Waiting>, node: usize, queued: Queued)
     table.value_mut(node).stand_for(queued);
 }
 
+/// What a node stands for has another priority from now on.
+fn set_prio(table: &mut Table<Waiting>, node: usize, prio: Prio)
+    requires there { ContainsNode table.old node }
+    requires lowest { 1 ≤ prio.0 }
+    requires highest { prio.0 ≤ PRIORITY }
+    ensures set { table.new ≡ with_value table.old node (ranked prio (waiting_of_node table.old node)) }
+{
+    table.value_mut(node).set_prio(prio);
+}
+
 /// Puts a free node, which stands for an item from now on, into a line.
 #[inline(always)]
 fn put_in(table: &mut Table<Waiting>, line: &mut Line, node: usize, queued: Queued)
@@ -414,6 +423,20 @@ fn put_in(table: &mut Table<Waiting>, line: &mut Line, node: usize, queued: Queu
     ensures put { PutIn table.old table.new line.old line.new node (idle queued) }
 {
     set_entry(table, node, queued);
+    lines::put(line, table, node);
+}
+
+/// Puts a free node into a line with another priority from now on; it stands for the item that it stood for, and what it
+/// carries stays.
+#[inline(always)]
+fn put_again(table: &mut Table<Waiting>, line: &mut Line, node: usize, prio: Prio)
+    requires line { IsLineOf rank_of table.old line.old }
+    requires free { IsFree table.old node }
+    requires lowest { 1 ≤ prio.0 }
+    requires highest { prio.0 ≤ PRIORITY }
+    ensures put { PutIn table.old table.new line.old line.new node (ranked prio (waiting_of_node table.old node)) }
+{
+    set_prio(table, node, prio);
     lines::put(line, table, node);
 }
 

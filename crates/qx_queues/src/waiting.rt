@@ -6,7 +6,7 @@ ghost use Rattle.qx_types.specs.declared.limits.TheConstants.Limits.{PRIORITY, T
 ghost use Rattle.qx_queues.specs.Kept.{HasLoad};
 ghost use Rattle.qx_queues.specs.Queues.{answer_to};
 ghost use Rattle.qx_queues.specs.Waiting.{Answered as Given, ComesWithRoom, Waits, addressed_by, call_carried, carried, carrying, idle, waits_in};
-ghost use Rattle.qx_queues.specs.inner.Waiting.{KeepsRoom, load_of, with_gone_call};
+ghost use Rattle.qx_queues.specs.inner.Waiting.{KeepsRoom, load_of, ranked, with_gone_call};
 ghost use Rattle.qx_queues.specs.Waits.{handed, users_call};
 
 use crate::calls::PipeCall;
@@ -130,11 +130,28 @@ impl Waiting {
         }
     }
 
+    /// The item has another priority from now on.
+    pub(crate) fn set_prio(&mut self, prio: Prio)
+        requires lowest { 1 ≤ prio.0 }
+        requires highest { prio.0 ≤ PRIORITY }
+        ensures entry { self.new ≡ ranked prio self.old }
+    {
+        self.queued.prio = prio;
+    }
+
     /// The item with its priority.
     pub fn queued(&self) -> Queued
         ensures entry { result ≡ self.now.queued }
     {
         self.queued
+    }
+
+    /// The node carries something else from now on.
+    pub(crate) fn carry(&mut self, slot: Slot)
+        requires room { KeepsRoom slot }
+        ensures after { self.new ≡ carrying self.old.queued (load_of slot) }
+    {
+        self.slot = slot;
     }
 
     /// The node carries something else from now on; gives what it carried.

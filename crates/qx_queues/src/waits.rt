@@ -229,7 +229,7 @@ fn put_slot(table: &mut Table<Waiting>, list: usize, node: usize, slot: Slot)
     requires room { KeepsRoom slot }
     ensures put { table.new ≡ with_value (with_nodes table.old list (nodes_of table.old list ++ node ∷ [])) node (carrying (entry_of_node table.old node) (load_of slot)) }
 {
-    table.value_mut(node).replace(slot);
+    table.value_mut(node).carry(slot);
     lists::push_back(table, list, node);
 }
 

@@ -12,10 +12,10 @@ ghost use Rattle.qx_ram.specs.inner.Given.{moved_offset, write_fault};
 ghost use Rattle.qx_types.specs.declared.limits.TheConstants.Limits.{TRANSFER};
 
 use bitflags::Flags;
-use qx_attr::Reply;
 use qx_files::{Data, Files};
 use qx_iofunc::Store;
 use qx_machine::{Ocb, Opened};
+use qx_process::Reply;
 use qx_types::{Errno, Limits, OFlags, Whence};
 use std::alloc::AllocError;
 

@@ -4,10 +4,12 @@ ghost use Rattle.std.specs.Prelude.{◌≡◌, ◌≤◌, [], length, IsOk, IsTr
 ghost use Rattle.qx_bytes.specs.declared.message.TheConstants.MessageBytes.{INLINE};
 ghost use Rattle.qx_machine.specs.Calls as calls;
 ghost use Rattle.qx_machine.specs.Calls.{bytes_of, can_send, content_of, request_in_ranges};
+ghost use Rattle.qx_wire.specs.Rests.{components_of};
 
 use qx_machine::Content;
 use qx_paths::Path;
-use qx_types::{Limits, MessageBytes, NoMemory, Request};
+use qx_types::{Bytes, Limits, MessageBytes, NoMemory, Request};
+use qx_wire::ranges::{are_conditions, are_flags, is_name, is_offset};
 use qx_wire::{BorrowedBytes, Message, Rest, encode};
 use std::alloc::Global;
 
@@ -18,24 +20,23 @@ pub fn encoded(alloc: Global, request: &Request, rest: &Path<'_>) -> Result<Mess
     ensures bytes { IfOk result (λ bytes. bytes ≡ bytes_of (content_of request.now rest.now)) }
     ensures few { rest.now ≡ [] → length (bytes_of (content_of request.now rest.now)) ≤ INLINE → IsOk result }
 {
-    if rest.is_empty() {
-        return spelled(alloc, &content_of(request, root()));
-    }
-    let joined = rest.joined(alloc)?;
-    spelled(alloc, &content_of(request, Rest::new(joined.as_slice())))
-}
-
-/// The bytes of what is sent.
-#[inline(always)]
-fn spelled(alloc: Global, content: &Content<'_>) -> Result<MessageBytes, NoMemory>
-    requires sendable { IsTrue (can_send content.now) }
-    ensures bytes { IfOk result (λ bytes. bytes ≡ bytes_of content.now) }
-    ensures few { length (bytes_of content.now) ≤ INLINE → IsOk result }
-{
-    match content {
-        Content::Spelled(message) => encode(alloc, message),
+    let joined = joined(alloc, rest)?;
+    match content_of(request, Rest::new(joined.as_slice())) {
+        Content::Spelled(message) => encode(alloc, &message),
         Content::Raw(bytes) => Ok(MessageBytes::from_slice(alloc, bytes.as_slice())?),
     }
+}
+
+/// What a path has behind the mount, as it stands in a message; for nothing no memory is taken.
+#[tactic(auto, unfolding(qx_wire::specs::Rests::components_of))]
+fn joined(alloc: Global, rest: &Path<'_>) -> Result<Bytes, NoMemory>
+    ensures rest { IfOk result (λ bytes. components_of bytes ≡ rest.now) }
+    ensures sure { rest.now ≡ [] → IsOk result }
+{
+    if rest.is_empty() {
+        return Ok(Bytes::new(alloc));
+    }
+    Ok(rest.joined(alloc)?)
 }
 
 /// Whether each field of a request is in its range. A path is judged as a path, and the connection of a dup by whether it
@@ -44,18 +45,26 @@ pub(crate) fn is_in_ranges(request: &Request) -> bool
     ensures ranges { result ≡ request_in_ranges request.now }
 {
     match request {
-        Request::Dup { .. } => true,
-        _ => can_send(&content_of(request, root())),
-    }
-}
-
-/// Whether what is sent can be spelled, and is no longer than a message may be.
-fn can_send(content: &Content<'_>) -> bool
-    ensures { result ≡ can_send content.now }
-{
-    match content {
-        Content::Spelled(message) => qx_wire::in_ranges(message),
-        Content::Raw(bytes) => bytes.as_slice().len() <= Limits::MESSAGE,
+        Request::StatPath { .. }
+        | Request::Unlink { .. }
+        | Request::Close { .. }
+        | Request::Dup { .. }
+        | Request::Fstat { .. } => true,
+        Request::Seek { by, .. } => is_offset(*by),
+        Request::OpenPath { flags, mode, .. } => are_flags(*flags) && *mode <= Limits::MODE,
+        Request::Mkdir { mode, .. } | Request::Chmod { mode, .. } => *mode <= Limits::MODE,
+        Request::Read { count, .. } => *count <= Limits::TRANSFER as u32,
+        Request::Write { bytes, .. } => bytes.as_slice().len() <= Limits::TRANSFER,
+        Request::List { after, .. } => is_name(after.as_slice()),
+        Request::Notify {
+            conds,
+            code,
+            value,
+            ..
+        } => {
+            are_conditions(*conds) && *code <= Limits::PULSE_CODE && *value <= Limits::PULSE_VALUE
+        }
+        Request::Raw { bytes, .. } => bytes.as_slice().len() <= Limits::MESSAGE,
     }
 }
 
@@ -94,12 +103,4 @@ fn content_of<'a>(request: &'a Request, rest: Rest<'a>) -> Content<'a>
         },
         Request::Raw { ref bytes, .. } => return Content::Raw(BorrowedBytes::new(bytes.as_slice())),
     })
-}
-
-/// What the path of a mount's root has behind the mount: nothing.
-#[tactic(auto, unfolding(qx_wire::specs::Rests::components_of))]
-fn root<'a>() -> Rest<'a>
-    ensures { result ≡ [] }
-{
-    Rest::new(b"".as_slice())
 }

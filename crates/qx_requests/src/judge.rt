@@ -56,11 +56,11 @@ pub fn target_by<'a>(
         Request::OpenPath { path, .. } => {
             let place = place_of(config, thread.proc.user, mounts, path.as_slice())?;
             let coid = Coid(free_connection(process)?);
-            to_place(processes, process, place, Over::New(coid), prio)
+            Ok(to_place(processes, process, place, Over::New(coid), prio)?)
         }
         Request::StatPath { path } | Request::Unlink { path } | Request::Mkdir { path, .. } => {
             let place = place_of(config, thread.proc.user, mounts, path.as_slice())?;
-            to_place(processes, process, place, Over::Side, prio)
+            Ok(to_place(processes, process, place, Over::Side, prio)?)
         }
         Request::Dup { coid } => {
             let connection = connection_at(process, *coid)?;

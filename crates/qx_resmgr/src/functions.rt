@@ -8,9 +8,8 @@ ghost use Rattle.qx_machine.specs.Wants.{is_done_so};
 ghost use Rattle.qx_resmgr.specs.Deeds.{Did, HasRoomAfter, IsReplied};
 
 use crate::state::State;
-use qx_attr::Reply;
 use qx_machine::{Effect, NewDup, NewOpen, Opened, PulseWish, Wish};
-use qx_process::Room;
+use qx_process::{Reply, Room};
 use qx_types::{Errno, NotifyAction, Whence};
 use qx_wire::Rest;
 use std::alloc::AllocError;

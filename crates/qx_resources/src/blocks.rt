@@ -15,8 +15,9 @@ ghost use Rattle.qx_resources.specs.declared.tables.Tables.{Tables as AllTables}
 
 use crate::resources::Resources;
 use crate::tables::Tables;
-use qx_attr::{Reply, Status};
+use qx_attr::Status;
 use qx_machine::{Effect, Event, NewDup, Opened, PulseWish};
+use qx_process::Reply;
 use qx_resmgr::Done;
 use qx_types::{Coid, Errno, NotifyAction};
 use qx_wire::Rest;

@@ -13,9 +13,9 @@ ghost use Rattle.qx_steps.specs.inner.Held.{taken_item};
 ghost use Rattle.qx_steps.specs.inner.Parts.{parts_of, told_all, AreResourcesOf};
 ghost use Rattle.qx_steps.specs.inner.Performing.{holds_of, with_left, with_one_left, PerformsFor};
 
-use qx_attr::Reply;
 use qx_chan::Channel;
 use qx_machine::{Held, OwnItem};
+use qx_process::Reply;
 use qx_resources::AllResources;
 use qx_types::{Proc, Thread, User};
 use qx_wire::Parsed;

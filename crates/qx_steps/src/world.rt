@@ -22,10 +22,9 @@ ghost use Rattle.qx_steps.specs.Steps.{target_in, HasMemory};
 
 use crate::performing::{free_ended, free_one, named_thread, perform};
 use crate::work::{PerformFault, Work, WorkRef};
-use qx_attr::Reply;
 use qx_chan::Channel;
 use qx_machine::{Addressed, Held, OwnItem, Queued, Sent};
-use qx_process::places;
+use qx_process::{Reply, places};
 use qx_requests::{Refusal, encoded, target_by};
 use qx_resources::{AllResources, NewMount};
 use qx_types::{
@@ -194,7 +193,7 @@ impl World {
             bytes: encoded(self.alloc, request, &addressed.rest)?,
         };
         self.channel.send(self.alloc, thread, sent)?;
-        Ok(Outcome::Sent)
+        sent_outcome()
     }
 
     /// Where a call goes, or why it goes nowhere.
@@ -337,7 +336,7 @@ impl World {
             return Ok(self.nothing_to_do(worker));
         };
         self.perform_item(worker, held, None, moment)?;
-        Ok(Outcome::Handled)
+        handled_outcome()
     }
 
     /// Does what `perform_held` does, if what the worker holds is the work at hand, else answers `Stale`. For a worker that
@@ -559,6 +558,23 @@ fn hold_in(hands: &mut Vec<Option<Held>>, worker: Worker, first: Queued)
         item: first.item,
     };
     places::set(hands, worker.0 as usize, held);
+}
+
+// Functions of their own for these two: where a large function makes a large value of few bytes, the compiler clears a place
+// for all of it at the function's beginning.
+
+/// What a thread is told whose message was sent.
+fn sent_outcome() -> Result<Outcome, NoMemory>
+    ensures { result ≡ Ok outcome.Sent }
+{
+    Ok(Outcome::Sent)
+}
+
+/// What a worker is told that did its item.
+fn handled_outcome() -> Result<Outcome, NoMemory>
+    ensures { result ≡ Ok outcome.Handled }
+{
+    Ok(Outcome::Handled)
 }
 
 /// What a thread that takes its answer is told.

@@ -36,9 +36,9 @@ pub fn in_ranges(message: &Message<'_>) -> bool
     }
 }
 
-/// Whether they are some of the seven flags, READ or WRITE among them.
-fn are_flags(flags: OFlags) -> bool
-    ensures { result ≡ (nat_lt flags.0 128 && nat_lt 0 (flags.0 % 4)) }
+/// Whether they are some of the seven flags, READ or WRITE among them (C Library Reference: `open`).
+pub fn are_flags(flags: OFlags) -> bool
+    ensures flags { result ≡ (nat_lt flags.0 128 && nat_lt 0 (flags.0 % 4)) }
 {
     flags.0 < 128 && 0 < flags.0 % 4
 }
@@ -51,23 +51,23 @@ fn is_connection(coid: Coid) -> bool
         && usize::from(coid.0) <= Limits::LAST_CONNECTION
 }
 
-/// Every offset is in its range.
-fn is_offset(_offset: i64) -> bool
-    ensures { result ≡ is_i64 _offset }
+/// Every offset is in its range (C Library Reference: `lseek`).
+pub fn is_offset(_offset: i64) -> bool
+    ensures offset { result ≡ is_i64 _offset }
 {
     true
 }
 
-/// Whether they are INPUT, OUTPUT or both.
-fn are_conditions(conditions: Conds) -> bool
-    ensures { result ≡ (nat_le 1 conditions.0 && nat_le conditions.0 3) }
+/// Whether they are INPUT, OUTPUT or both (this profile).
+pub fn are_conditions(conditions: Conds) -> bool
+    ensures conditions { result ≡ (nat_le 1 conditions.0 && nat_le conditions.0 3) }
 {
     1 <= conditions.0 && conditions.0 <= 3
 }
 
-/// Whether the bytes are one component, or none.
-fn is_name(bytes: &[u8]) -> bool
-    ensures { result ≡ (length bytes.now == 0 || is_component bytes.now) }
+/// Whether the bytes are one component, or none (this profile).
+pub fn is_name(bytes: &[u8]) -> bool
+    ensures name { result ≡ (length bytes.now == 0 || is_component bytes.now) }
 {
     bytes.is_empty() || is_component(bytes)
 }

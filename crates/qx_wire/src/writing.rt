@@ -1,6 +1,5 @@
 ghost use Rattle.std.specs.Prelude.{◌≡◌, ◌≤◌, ◌++◌, IsTrue, IfOk, IsOk, length};
-ghost use Rattle.std.specs.Int.{w16, w32, to_le_bytes};
-ghost use Rattle.std.specs.List.{flat_map};
+ghost use Rattle.std.specs.Int.{w8, w16, w32, to_le_bytes};
 ghost use Rattle.qx_bytes.specs.declared.message.TheConstants.MessageBytes.{INLINE};
 ghost use Rattle.qx_types.specs.declared.limits.TheConstants.Limits.{BODY};
 ghost use Rattle.qx_wire.specs.Table.{action_number, framed, in_ranges, spelling, whence_number};
@@ -19,30 +18,28 @@ pub fn encode(alloc: Global, message: &Message<'_>) -> Result<MessageBytes, NoMe
     ensures few { length (spelling message.now) ≤ INLINE → IsOk result }
 {
     match message {
-        Message::Open { flags, mode, rest } => framed(
-            alloc,
-            256,
-            1,
-            &[&flags.0.to_le_bytes(), &mode.to_le_bytes(), rest.as_slice()],
-        ),
-        Message::Stat { rest } => framed(alloc, 256, 2, &[rest.as_slice()]),
-        Message::Unlink { rest } => framed(alloc, 256, 3, &[rest.as_slice()]),
-        Message::Mknod { mode, rest } => framed(
-            alloc,
-            256,
-            4,
-            &[&2u16.to_le_bytes(), &mode.to_le_bytes(), rest.as_slice()],
-        ),
-        Message::Read { count } => framed(alloc, 257, 0, &[&count.to_le_bytes()]),
-        Message::Write { bytes } => framed(alloc, 258, 0, &[bytes.as_slice()]),
-        Message::Close => framed(alloc, 259, 0, &[]),
-        Message::Dup { old } => framed(alloc, 260, 0, &[&u16::from(old.0).to_le_bytes()]),
-        Message::Lseek { whence, offset } => {
-            framed(alloc, 261, whence_number(*whence), &[&offset.to_le_bytes()])
+        Message::Open { flags, mode, rest } => {
+            framed(alloc, 256, 1, &words(flags.0, *mode), rest.as_slice())
         }
-        Message::Fstat => framed(alloc, 262, 0, &[]),
-        Message::List { after } => framed(alloc, 263, 0, &[after.as_slice()]),
-        Message::Chmod { mode } => framed(alloc, 264, 0, &[&mode.to_le_bytes()]),
+        Message::Stat { rest } => framed(alloc, 256, 2, &[], rest.as_slice()),
+        Message::Unlink { rest } => framed(alloc, 256, 3, &[], rest.as_slice()),
+        Message::Mknod { mode, rest } => framed(alloc, 256, 4, &words(2, *mode), rest.as_slice()),
+        Message::Read { count } => framed(alloc, 257, 0, &count.to_le_bytes(), &[]),
+        Message::Write { bytes } => framed(alloc, 258, 0, &[], bytes.as_slice()),
+        Message::Close => framed(alloc, 259, 0, &[], &[]),
+        Message::Dup { old } => framed(alloc, 260, 0, &u16::from(old.0).to_le_bytes(), &[]),
+        Message::Lseek { whence, offset } => {
+            framed(
+                alloc,
+                261,
+                whence_number(*whence),
+                &offset.to_le_bytes(),
+                &[],
+            )
+        }
+        Message::Fstat => framed(alloc, 262, 0, &[], &[]),
+        Message::List { after } => framed(alloc, 263, 0, &[], after.as_slice()),
+        Message::Chmod { mode } => framed(alloc, 264, 0, &mode.to_le_bytes(), &[]),
         Message::Notify {
             action,
             conditions,
@@ -52,13 +49,27 @@ pub fn encode(alloc: Global, message: &Message<'_>) -> Result<MessageBytes, NoMe
             alloc,
             265,
             action_number(*action),
-            &[
-                &conditions.0.to_le_bytes(),
-                &code.to_le_bytes(),
-                &value.to_le_bytes(),
-            ],
+            &notification(conditions.0, *code, *value),
+            &[],
         ),
     }
+}
+
+/// Two numbers of 16 bits.
+fn words(first: u16, second: u16) -> [u8; 4]
+    ensures words { result ≡ to_le_bytes w16 first ++ to_le_bytes w16 second }
+{
+    let [f0, f1] = first.to_le_bytes();
+    let [s0, s1] = second.to_le_bytes();
+    [f0, f1, s0, s1]
+}
+
+/// What a notification has: conditions, code and value.
+fn notification(conditions: u8, code: u8, value: u32) -> [u8; 6]
+    ensures notification { result ≡ to_le_bytes w8 conditions ++ (to_le_bytes w8 code ++ to_le_bytes w32 value) }
+{
+    let [v0, v1, v2, v3] = value.to_le_bytes();
+    [conditions, code, v0, v1, v2, v3]
 }
 
 /// The subtype of a seek.
@@ -83,22 +94,22 @@ fn action_number(action: NotifyAction) -> u16
     }
 }
 
-/// A header, and the fields behind it.
+/// A header, and behind it numbers and a text.
 #[inline(always)]
 fn framed(
     alloc: Global,
     kind: u16,
     subtype: u16,
-    fields: &[&[u8]],
+    numbers: &[u8],
+    text: &[u8],
 ) -> Result<MessageBytes, NoMemory>
-    requires fits { length (flat_map (λ f. f.now) fields.now) ≤ BODY }
-    ensures framed { IfOk result (λ bytes. bytes ≡ framed kind subtype (flat_map (λ f. f.now) fields.now)) }
-    ensures few { length (framed kind subtype (flat_map (λ f. f.now) fields.now)) ≤ INLINE → IsOk result }
+    requires fits { length (numbers.now ++ text.now) ≤ BODY }
+    ensures framed { IfOk result (λ bytes. bytes ≡ framed kind subtype (numbers.now ++ text.now)) }
+    ensures few { length (framed kind subtype (numbers.now ++ text.now)) ≤ INLINE → IsOk result }
 {
-    let total = total(fields);
-    let header = header(kind, subtype, total as u32);
-    let len = header.len() + total;
-    Ok(MessageBytes::joined(alloc, &header, fields, len)?)
+    let len = numbers.len() + text.len();
+    let header = header(kind, subtype, len as u32);
+    Ok(MessageBytes::joined(alloc, &header, numbers, text)?)
 }
 
 /// A header: the type, the subtype and the length of the body.
@@ -109,16 +120,4 @@ fn header(kind: u16, subtype: u16, len: u32) -> [u8; 8]
     let [s0, s1] = subtype.to_le_bytes();
     let [l0, l1, l2, l3] = len.to_le_bytes();
     [k0, k1, s0, s1, l0, l1, l2, l3]
-}
-
-/// How many bytes the fields have.
-fn total(fields: &[&[u8]]) -> usize
-    requires fits { length (flat_map (λ f. f.now) fields.now) ≤ BODY }
-    ensures total { result ≡ length (flat_map (λ f. f.now) fields.now) }
-{
-    let mut total = 0;
-    for field in fields {
-        total += field.len();
-    }
-    total
 }

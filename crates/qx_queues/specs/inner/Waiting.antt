@@ -1,6 +1,7 @@
 -- What only the proofs need of Waiting.
 use Rattle.std.specs.Prelude.{⊤, ℕ, true, []}
 use Rattle.qx_types.specs.declared.names.Thread.{Thread}
+use Rattle.qx_types.specs.declared.names.Prio.{Prio}
 use Rattle.qx_types.specs.declared.outcome.Answer.TheVariants.{Reply}
 use Rattle.qx_queues.specs.Queues.{UsersAnswer, caller}
 use Rattle.qx_queues.specs.declared.waiting.Slot.{Slot}
@@ -38,6 +39,10 @@ abbrev pub load_of : Slot → Load
 load_of slot.Empty = Nothing
 load_of (slot.Waits call) = Waits call
 load_of (slot.Answered taken) = Answered (addressed_by taken)
+
+-- the same item with another priority
+abbrev pub ranked : Prio → Waiting → Waiting
+ranked prio waiting = record waiting { queued = record waiting.queued { prio = prio } }
 
 -- the call that waits is one of a process that has ended
 abbrev pub gone_load : Load → Load

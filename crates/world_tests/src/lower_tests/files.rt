@@ -2,9 +2,9 @@
 //! that isn't there wants memory.
 
 use all_memory::take_all_memory;
-use qx_attr::Reply;
 use qx_iofunc::Store;
 use qx_machine::{Caller, Client, Kind, Opened, ServerName, Wish};
+use qx_process::Reply;
 use qx_types::{Coid, Errno, Limits, Manager, OFlags, User, Whence};
 use qx_wire::Rest;
 use std::alloc::{AllocError, Global};

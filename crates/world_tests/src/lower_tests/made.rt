@@ -69,7 +69,7 @@ fn text(alloc: Global) -> Result<bool, NoMemory> {
 /// The bytes of a reply, more than stand in a value, in two parts.
 fn reply(alloc: Global) -> Result<MessageBytes, AllocError> {
     let first = [7; MessageBytes::INLINE];
-    MessageBytes::joined(alloc, &first, &[&[7]], MessageBytes::INLINE + 1)
+    MessageBytes::joined(alloc, &first, &[7], &[])
 }
 
 fn received(alloc: Global) -> Result<bool, NoMemory> {

@@ -3,10 +3,9 @@
 
 use all_memory::take_all_memory;
 use null_manager::{Kept, Null, Told};
-use qx_attr::Reply;
 use qx_machine::{Caller, Client, Context, Effect, Over, ServerName, Target};
 use qx_notify::AllEvents;
-use qx_process::Room;
+use qx_process::{Reply, Room};
 use qx_resmgr::{Done, serve};
 use qx_types::{Coid, Conds, Errno, Manager, NoMemory, NotifyAction, OFlags, Prio, User};
 use qx_wire::{BorrowedBytes, Message, Rest, in_ranges};

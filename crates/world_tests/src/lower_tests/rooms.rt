@@ -6,7 +6,7 @@ ghost use Rattle.qx_machine.specs.Performing.{taken_in};
 
 use all_memory::take_all_memory;
 use qx_machine::{Over, Sent, Target};
-use qx_process::ThreadCell;
+use qx_process::{Reply, ThreadCell};
 use qx_types::{Answer, Coid, Errno, Limits, Manager, MessageBytes, Prio};
 use std::alloc::{AllocError, Global};
 use std::test::Fail;
@@ -49,14 +49,23 @@ enum Way {
     Returned,
 }
 
+/// The reply that a thread gets so.
+fn reply(alloc: Global, way: Way) -> Result<Reply, AllocError> {
+    let mut reply = Reply::new(alloc)?;
+    reply.push(&[7; MessageBytes::INLINE]);
+    if let Way::More = way {
+        reply.push(&[7]);
+    }
+    Ok(reply)
+}
+
 /// A thread whose message was received is answered.
-fn answer(cell: &mut ThreadCell, way: Way)
+fn answer(cell: &mut ThreadCell, way: Way, reply: &Reply)
     requires received { IsSome (taken_in cell.old.state) }
     ensures counted { cell.new.calls ≡ cell.old.calls }
 {
     match way {
-        Way::Few => cell.reply(0, &[7; MessageBytes::INLINE]),
-        Way::More => cell.reply(0, &[7; MessageBytes::INLINE + 1]),
+        Way::Few | Way::More => cell.reply(0, reply),
         Way::Returned => {
             let room = cell.wait();
             cell.answer(Answer::Failed(Errno::EINTR), Some(room));
@@ -77,7 +86,7 @@ fn calls_without_memory(alloc: Global, cell: &mut ThreadCell) -> Result<bool, Al
 /// Whether a thread that was answered so calls again with all memory taken.
 fn calls_again(alloc: Global, way: Way) -> Result<bool, AllocError> {
     let mut cell = received(alloc)?;
-    answer(&mut cell, way);
+    answer(&mut cell, way, &reply(alloc, way)?);
     calls_without_memory(alloc, &mut cell)
 }
 
@@ -93,8 +102,9 @@ fn a_room_stays_with_its_thread_or_goes(rt: HostRuntime) -> Result<(), Fail> {
 fn frees_half(alloc: Global, cell: &mut ThreadCell, way: Way) -> Result<bool, AllocError>
     requires received { IsSome (taken_in cell.old.state) }
 {
+    let reply = reply(alloc, way)?;
     let pieces = take_all_memory(alloc)?;
-    answer(cell, way);
+    answer(cell, way, &reply);
     let piece: Result<Vec<u8>, AllocError> = Vec::with_capacity(alloc, Limits::BODY / 2);
     drop(pieces);
     Ok(piece.is_ok())

@@ -1,6 +1,9 @@
 use Rattle.qx_machine.specs.declared.rows.OwnItem.TheVariants as item
-use Rattle.qx_chan.proofs.ReceiveLemmas.{Kept-pulse, Kept-received}
+use Rattle.qx_chan.proofs.ReceiveLemmas.{Kept-pulse, Kept-received, message-there}
 use Rattle.qx_chan.proofs.channel.Channel.receive.Goals as goal
+
+pub take-requires : goal.take-requires
+take-requires c = record { there = message-there c.self.inside.users c.self.inside.tables.shared c.args.manager c.in_ok-first.first c.in-Message.process c.in-Message.thread c.in-Message.is c.in_ok-first.ensures.first c.self.invariant.shared }
 
 pub invariant_of-self-in-Message : goal.invariant_of-self-in-Message
 invariant_of-self-in-Message c =

@@ -43,20 +43,20 @@ give_answers-requires c =
     let taken : Some c.in-Some.call ≡ taken_call (thread_row c.self.inside.users c.args.thread) = rw (← c.self.view_is) at c.in-Some.ensures.call in
     let its = received c.self.inside.users c.args.thread c.in-Some.call taken in
     record {
-      answering = rw (c.answer.ensures.queues, c.answer.ensures.users, c.as_slice.ensures.bytes)
+      answering = rw (c.answer.ensures.queues, c.answer.ensures.users)
           (outcome c.self.inside.users c.self.inside.tables c.args.thread c.in-Some.call taken c.self.invariant.shared c.args.resources.now c.perform.new.resources c.perform.new.tables c.requires.user
           c.args.moment c.perform.new.reply c.in_ok-given.given _ refl
-          (c.in_ok-given.ensures.did its.process its.sent.bytes (sends c.self.inside.users c.args.thread c.in-Some.call its)) c.answer.ensures.gone (rw (c.answer.ensures.users, c.as_slice.ensures.bytes) at c.answer.ensures.lost)).0;
+          (c.in_ok-given.ensures.did its.process its.sent.bytes (sends c.self.inside.users c.args.thread c.in-Some.call its)) c.answer.ensures.gone (rw c.answer.ensures.users at c.answer.ensures.lost)).0;
     }
 
 pub returns-clause-ok : goal.returns-clause-ok
 returns-clause-ok c =
     let taken : Some c.in-Some.call ≡ taken_call (thread_row c.self.inside.users c.args.thread) = rw (← c.self.view_is) at c.in-Some.ensures.call in
     let its = received c.self.inside.users c.args.thread c.in-Some.call taken in
-    rw (← c.self.view_is, c.give_answers.ensures.queues, c.give_answers.ensures.users, c.answer.ensures.queues, c.answer.ensures.users, c.as_slice.ensures.bytes)
+    rw (← c.self.view_is, c.give_answers.ensures.queues, c.give_answers.ensures.users, c.answer.ensures.queues, c.answer.ensures.users)
     (outcome c.self.inside.users c.self.inside.tables c.args.thread c.in-Some.call taken c.self.invariant.shared c.args.resources.now c.perform.new.resources c.perform.new.tables c.requires.user
     c.args.moment c.perform.new.reply c.in_ok-given.given _ refl
-    (c.in_ok-given.ensures.did its.process its.sent.bytes (sends c.self.inside.users c.args.thread c.in-Some.call its)) c.answer.ensures.gone (rw (c.answer.ensures.users, c.as_slice.ensures.bytes) at c.answer.ensures.lost)).1
+    (c.in_ok-given.ensures.did its.process its.sent.bytes (sends c.self.inside.users c.args.thread c.in-Some.call its)) c.answer.ensures.gone (rw c.answer.ensures.users at c.answer.ensures.lost)).1
 
 pub invariant_of-self-2 : goal.invariant_of-self-2
 invariant_of-self-2 c =
@@ -65,10 +65,10 @@ invariant_of-self-2 c =
     record {
       spare = c.answer.ensures.spare;
       shared = c.give_answers.ensures.kept;
-      events = rw (c.give_answers.ensures.queues, c.answer.ensures.queues, c.answer.ensures.users, c.as_slice.ensures.bytes)
+      events = rw (c.give_answers.ensures.queues, c.answer.ensures.queues, c.answer.ensures.users)
           (places _ _ _ _ _ (outcome c.self.inside.users c.self.inside.tables c.args.thread c.in-Some.call taken c.self.invariant.shared c.args.resources.now c.perform.new.resources c.perform.new.tables c.requires.user
           c.args.moment c.perform.new.reply c.in_ok-given.given _ refl
-          (c.in_ok-given.ensures.did its.process its.sent.bytes (sends c.self.inside.users c.args.thread c.in-Some.call its)) c.answer.ensures.gone (rw (c.answer.ensures.users, c.as_slice.ensures.bytes) at c.answer.ensures.lost)).1 c.self.invariant.events);
+          (c.in_ok-given.ensures.did its.process its.sent.bytes (sends c.self.inside.users c.args.thread c.in-Some.call its)) c.answer.ensures.gone (rw c.answer.ensures.users at c.answer.ensures.lost)).1 c.self.invariant.events);
     }
 
 pub returns-clause-room : goal.returns-clause-room

@@ -45,12 +45,12 @@ invariant_of-self-2 c = rw (c.in_ok-send.ensures.ok, c.in_ok-encoded.ensures.byt
 pub returns-clause-outcome : goal.returns-clause-outcome
 returns-clause-outcome c =
     let goes : target_in (world_of c.self.inside.config c.self.inside.channel c.self.inside.resources c.self.inside.hands.items) c.args.thread c.args.request.now ≡ Ok c.in-Ok.addressed = rw (← c.self.view_is) at (sym c.in-Ok.ensures.target) in
-    rw (← c.self.view_is, call-sent c.self.inside.config c.self.inside.channel c.self.inside.resources c.self.inside.hands.items c.self.invariant c.args.thread c.args.request.now c.in-Ok.addressed goes) refl
+    rw (← c.self.view_is, call-sent c.self.inside.config c.self.inside.channel c.self.inside.resources c.self.inside.hands.items c.self.invariant c.args.thread c.args.request.now c.in-Ok.addressed goes, c.sent_outcome.ensures) refl
 
 pub returns-clause-world : goal.returns-clause-world
 returns-clause-world c =
     let goes : target_in (world_of c.self.inside.config c.self.inside.channel c.self.inside.resources c.self.inside.hands.items) c.args.thread c.args.request.now ≡ Ok c.in-Ok.addressed = rw (← c.self.view_is) at (sym c.in-Ok.ensures.target) in
-    rw (← c.self.view_is, call-sent c.self.inside.config c.self.inside.channel c.self.inside.resources c.self.inside.hands.items c.self.invariant c.args.thread c.args.request.now c.in-Ok.addressed goes, c.in_ok-send.ensures.ok, c.in_ok-encoded.ensures.bytes) refl
+    rw (← c.self.view_is, call-sent c.self.inside.config c.self.inside.channel c.self.inside.resources c.self.inside.hands.items c.self.invariant c.args.thread c.args.request.now c.in-Ok.addressed goes, c.in_ok-send.ensures.ok, c.in_ok-encoded.ensures.bytes, c.sent_outcome.ensures) refl
 
 pub returns-in-Err-clause-outcome : goal.returns-in-Err-clause-outcome
 returns-in-Err-clause-outcome c =

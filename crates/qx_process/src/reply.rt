@@ -1,7 +1,8 @@
-ghost use Rattle.std.specs.Prelude.{◌≡◌, ◌+◌, ◌≤◌, ◌++◌, [], IfOk, length};
+ghost use Rattle.std.specs.Prelude.{◌≡◌, ◌+◌, ◌≤◌, ◌++◌, [], IfOk, IfSome, is_some, length, nat_le};
+ghost use Rattle.qx_bytes.specs.declared.message.TheConstants.MessageBytes.{INLINE};
 ghost use Rattle.qx_types.specs.declared.limits.TheConstants.Limits.{BODY};
 
-use qx_types::Limits;
+use qx_types::{Limits, MessageBytes};
 use std::alloc::{AllocError, Global};
 use std::marker::Model;
 
@@ -19,7 +20,7 @@ pub struct Reply {
 
 impl Model for Reply {
     ghost use Rattle.std.specs.Prelude.{◌≡◌, ◌≤◌, List, ℕ, take};
-    ghost use Rattle.qx_attr.specs.declared.reply.TheConstants.{PLACES};
+    ghost use Rattle.qx_process.specs.declared.reply.TheConstants.{PLACES};
     ghost use Rattle.qx_types.specs.declared.limits.TheConstants.Limits.{BODY};
 
     ghost Value = { List ℕ };
@@ -55,6 +56,24 @@ impl Reply {
         let end = self.len + bytes.len();
         self.places[self.len..end].copy_from_slice(bytes);
         self.len = end;
+    }
+
+    /// A copy of few bytes, for which no memory is taken; none of more.
+    pub fn inline(&self) -> Option<MessageBytes>
+        ensures few { is_some result ≡ nat_le (length self.now) INLINE }
+        ensures bytes { IfSome result (λ bytes. bytes ≡ self.now) }
+    {
+        let len = self.as_slice().len();
+        if len > MessageBytes::INLINE {
+            return None;
+        }
+        match self.places.first_chunk() {
+            Some(few) => {
+                let alloc = *Box::allocator(&self.places);
+                Some(MessageBytes::from_buf_and_len(alloc, *few, len))
+            }
+            None => unreachable!(),
+        }
     }
 
     /// The bytes.
