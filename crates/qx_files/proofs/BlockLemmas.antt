@@ -1,10 +1,10 @@
 -- Blocks in their places: which are there, and which bytes stand in them.
-use Rattle.std.proofs.Common.{◌≡◌, ℕ, zero, suc, ◌+◌, ◌-◌, ◌*◌, ◌/◌, ◌%◌, ◌<◌, ◌≤◌, Bool, true, false, List, [], ◌∷◌, ◌++◌, length, take, drop, replicate, get_or, set, slice_set, refl, sym, ap, ◌∙◌, inl, inr, arith, Option, Some, None, is_some, max, min, ◌⊎◌}
+use Rattle.std.proofs.Common.{◌≡◌, ℕ, zero, suc, ◌+◌, ◌-◌, ◌/◌, ◌<◌, ◌≤◌, Bool, true, false, List, [], ◌∷◌, ◌++◌, length, take, drop, replicate, get_or, set, slice_set, refl, sym, ap, ◌∙◌, inl, inr, arith, Option, Some, None, is_some, max, ◌⊎◌}
 use Rattle.std.proofs.lemmas.Bool.{cases_lt, cases_eq}
 use Rattle.std.proofs.lemmas.List.{ext_get_or, length-append, length-take, length-drop, length-replicate, get_or-set_same, get_or-set_other, get_or_past, length-set, get_or-replicate, get_or-append_right, get_or_append_left, get_or-take, get_or-drop, length-map}
 use Rattle.qx_machine.specs.Rows.{row_at}
 use Rattle.qx_files.specs.Blocks.{blocks_for, with_blocks}
-use Rattle.qx_files.specs.inner.Places.{HasAll, LacksOne, there, byte_after, pasted}
+use Rattle.qx_files.specs.inner.Places.{HasAll, LacksOne, byte_after, padded, pasted, there}
 
 -- ---- which are there
 
@@ -56,36 +56,58 @@ is_with b now f e order long made other = ext_get_or false _ _ (long ∙ sym (le
 ])
 
 -- what is there already needs not be made
-pub with-there : (b : List Bool) (f e : ℕ) → f < e → get_or b f false ≡ true → with_blocks b (f + 1) e ≡ with_blocks b f e
-with-there b f e less is = is_with b (with_blocks b (f + 1) e) f e (omega arith) (length-with b (f + 1) e (omega arith)) (λ n from to. elim (cases_eq n f) [
-  | inl same ↦ before-with b (f + 1) e n (omega arith) ∙ (ap (λ k. get_or b k false) same ∙ is)
-  | inr differ ↦ made-with b (f + 1) e n (omega arith) to
-]) (λ n out. other-with b (f + 1) e n (omega arith) (λ from to. out (omega arith) to))
+with-there : (b : List Bool) (f e : ℕ) → f < e → e ≤ length b → get_or b (e - 1) false ≡ true → with_blocks b f (e - 1) ≡ with_blocks b f e
+with-there b f e less within is = is_with b (with_blocks b f (e - 1)) f e (omega arith) (length-with b f (e - 1) (omega (arith, less)) ∙ omega (arith, less, within)) (λ n from to. elim (cases_eq n (e - 1)) [
+  | inl same ↦ behind-with b f (e - 1) n (omega (arith, less)) (omega (arith, same)) ∙ (ap (λ k. get_or b k false) same ∙ is)
+  | inr differ ↦ made-with b f (e - 1) n from (omega (arith, to, differ))
+]) (λ n out. other-with b f (e - 1) n (omega (arith, less)) (λ from to. out from (omega (arith, to))))
 
--- the first is made last
-pub with-made : (b : List Bool) (f e : ℕ) → f < e → set (with_blocks b (f + 1) e) f true ≡ with_blocks b f e
-with-made b f e less = is_with b (set rest f true) f e (omega arith) (length-set rest f true ∙ long) (λ n from to. elim (cases_eq n f) [
-  | inl same ↦ ap (λ k. get_or (set rest f true) k false) same ∙ get_or-set_same rest f true false (omega (arith, long))
-  | inr differ ↦ get_or-set_other rest f n true false differ ∙ made-with b (f + 1) e n (omega arith) to
-]) (λ n out. get_or-set_other rest f n true false (λ same. out (omega arith) (omega arith)) ∙ other-with b (f + 1) e n (omega arith) (λ from to. out (omega arith) to))
+-- the last one is made last
+with-made : (b : List Bool) (f e : ℕ) → f < e → e ≤ length b → set (with_blocks b f (e - 1)) (e - 1) true ≡ with_blocks b f e
+with-made b f e less within = is_with b (set rest (e - 1) true) f e (omega arith) (length-set rest (e - 1) true ∙ long) (λ n from to. elim (cases_eq n (e - 1)) [
+  | inl same ↦ ap (λ k. get_or (set rest (e - 1) true) k false) same ∙ get_or-set_same rest (e - 1) true false (omega (arith, long, less))
+  | inr differ ↦ get_or-set_other rest (e - 1) n true false differ ∙ made-with b f (e - 1) n from (omega (arith, to, differ))
+]) (λ n out. get_or-set_other rest (e - 1) n true false (λ same. out (omega (arith, same, less)) (omega (arith, same, less))) ∙ other-with b f (e - 1) n (omega (arith, less)) (λ from to. out from (omega (arith, to))))
   where
     rest : List Bool
-    rest = with_blocks b (f + 1) e
+    rest = with_blocks b f (e - 1)
 
     long : length rest ≡ max (length b) e
-    long = length-with b (f + 1) e (omega arith)
+    long = length-with b f (e - 1) (omega (arith, less)) ∙ omega (arith, less, within)
 
--- places alone
-pub with-none : (b : List Bool) (e : ℕ) → b ++ replicate (e - length b) false ≡ with_blocks b e e
-with-none b e = is_with b (b ++ replicate (e - length b) false) e e (omega arith) (simp (length-append, length-replicate) (omega arith)) (λ n from to. absurd (omega (arith, from, to))) (λ n out. elim (cases_lt n (length b)) [
-  | inl within ↦ get_or_append_left b (replicate (e - length b) false) false n within
-  | inr past ↦ get_or-append_right b (replicate (e - length b) false) (length b) n false refl past ∙ (none (e - length b) (n - length b) ∙ sym (get_or_past b n false past))
-])
+-- none is made
+with-none : (b : List Bool) (f : ℕ) → f ≤ length b → b ≡ with_blocks b f f
+with-none b f within = is_with b b f f (omega arith) (omega (arith, within)) (λ n from to. absurd (omega (arith, from, to))) (λ n out. refl)
+
+-- ---- places behind those that are there
+
+length-padded : (b : List Bool) (t : ℕ) → length (padded b t) ≡ max (length b) t
+length-padded b t = simp (length-append, length-replicate) (omega arith)
+
+padded_at : (b : List Bool) (t n : ℕ) → get_or (padded b t) n false ≡ get_or b n false
+padded_at b t n = elim (cases_lt n (length b)) [
+  | inl within ↦ get_or_append_left b (replicate (t - length b) false) false n within
+  | inr past ↦ get_or-append_right b (replicate (t - length b) false) (length b) n false refl past ∙ (none (t - length b) (n - length b) ∙ sym (get_or_past b n false past))
+]
   where
     none : (z k : ℕ) → get_or (replicate z false) k false ≡ false
     none zero k = refl
     none (suc z) zero = refl
     none (suc z) (suc k) = none z k
+
+-- they are those of the blocks that are made
+pub with-padded : (b : List Bool) (f t : ℕ) → f ≤ t → with_blocks (padded b t) f t ≡ with_blocks b f t
+with-padded b f t order = is_with b (with_blocks (padded b t) f t) f t order (length-with (padded b t) f t order ∙ omega (arith, length-padded b t)) (λ n from to. made-with (padded b t) f t n from to) (λ n out. other-with (padded b t) f t n order out ∙ padded_at b t n)
+
+-- all are there
+pub with-all : (places : List (Option ℕ)) (f e : ℕ) → f ≤ e → ((n : ℕ) → n < e → is_some (row_at places n) ≡ true) → there places ≡ with_blocks (there places) f e
+with-all places f e order all = is_with (there places) (there places) f e order long (λ n from to. there_at places n ∙ all n to) (λ n out. refl)
+  where
+    long : length (there places) ≡ max (length (there places)) e
+    long = elim (cases_lt (length (there places)) e) [
+      | inl less ↦ absurd (let clash : true ≡ false = sym (all (e - 1) (omega (arith, less))) ∙ (sym (there_at places (e - 1)) ∙ get_or_past (there places) (e - 1) false (omega (arith, less))) in cc)
+      | inr within ↦ omega (arith, within)
+    ]
 
 pub there-none : (blocks : List (Option ℕ)) (z : ℕ) → there (blocks ++ replicate z None) ≡ there blocks ++ replicate z false
 there-none [] zero = refl
@@ -99,37 +121,44 @@ there-set (x ∷ places) (suc n) place = ap (λ l. is_some x ∷ l) (there-set p
 
 -- ---- what making them comes to
 
-pub made_none : (old now : List (Option ℕ)) (f e : ℕ) → f ≡ e → now ≡ old ++ replicate (e - length old) None → there now ≡ with_blocks (there old) f e
-made_none old now f e same is =
-    ap there is ∙ (there-none old (e - length old)
-    ∙ (ap (λ k. there old ++ replicate (e - k) false) (sym (length-map old (λ block. is_some block)))
-    ∙ (with-none (there old) e ∙ ap (λ k. with_blocks (there old) k e) (sym same))))
+module _ (old now : List (Option ℕ)) (f e t : ℕ) (within : e ≤ t) where
+  abbrev Made : ℕ → Type 0
+  Made last = there now ≡ with_blocks (padded (there old) t) f last
 
-pub made_there : (old now : List (Option ℕ)) (f e : ℕ) → f < e → is_some (row_at old f) ≡ true → there now ≡ with_blocks (there old) (f + 1) e → there now ≡ with_blocks (there old) f e
-made_there old now f e less is made = made ∙ with-there (there old) f e less (there_at old f ∙ is)
+  long : e ≤ length (padded (there old) t)
+  long = omega (arith, within, length-padded (there old) t)
 
-pub made_last : (old mid now : List (Option ℕ)) (f e : ℕ) → f < e → there mid ≡ with_blocks (there old) (f + 1) e → there now ≡ set (there mid) f true → there now ≡ with_blocks (there old) f e
-made_last old mid now f e less made is = is ∙ (ap (λ b. set b f true) made ∙ with-made (there old) f e less)
+  pub made_none : f ≡ e → now ≡ old ++ replicate (t - length old) None → Made e
+  made_none same is =
+      ap there is ∙ (there-none old (t - length old)
+      ∙ (ap (λ k. there old ++ replicate (t - k) false) (sym (length-map old (λ block. is_some block)))
+      ∙ (with-none (padded (there old) t) e long ∙ ap (λ k. with_blocks (padded (there old) t) k e) (sym same))))
+
+  pub made_there : f < e → is_some (row_at old (e - 1)) ≡ true → Made (e - 1) → Made e
+  made_there less is made = made ∙ with-there (padded (there old) t) f e less long (padded_at (there old) t (e - 1) ∙ (there_at old (e - 1) ∙ is))
+
+  pub made_last : (mid : List (Option ℕ)) → f < e → there mid ≡ with_blocks (padded (there old) t) f (e - 1) → there now ≡ set (there mid) (e - 1) true → Made e
+  made_last mid less made is = is ∙ (ap (λ b. set b (e - 1) true) made ∙ with-made (padded (there old) t) f e less long)
 
 -- it has a place, and none yet in which it stands
-module _ (old mid : List (Option ℕ)) (f e : ℕ) (made : there mid ≡ with_blocks (there old) (f + 1) e) where
-  pub place_within : f < e → f < length mid
-  place_within less = omega (arith, less, ap length made, length-with (there old) (f + 1) e (omega (arith, less)), length-map mid (λ place. is_some place))
+module _ (old mid : List (Option ℕ)) (f e t : ℕ) (less : f < e) (within : e ≤ t) (made : there mid ≡ with_blocks (padded (there old) t) f (e - 1)) where
+  pub place_within : e - 1 < length mid
+  place_within = omega (arith, less, within, ap length made, length-with (padded (there old) t) f (e - 1) (omega (arith, less)), length-padded (there old) t, length-map mid (λ place. is_some place))
 
-  pub place_lacking : is_some (row_at old f) ≡ false → row_at mid f ≡ None
-  place_lacking none = by_row (row_at mid f) (sym (there_at mid f) ∙ (ap (λ b. get_or b f false) made ∙ (before-with (there old) (f + 1) e f (omega arith) ∙ (there_at old f ∙ none))))
+  pub place_lacking : is_some (row_at old (e - 1)) ≡ false → row_at mid (e - 1) ≡ None
+  place_lacking none = by_row (row_at mid (e - 1)) (sym (there_at mid (e - 1)) ∙ (ap (λ b. get_or b (e - 1) false) made ∙ (behind-with (padded (there old) t) f (e - 1) (e - 1) (omega (arith, less)) (omega arith) ∙ (padded_at (there old) t (e - 1) ∙ (there_at old (e - 1) ∙ none)))))
     where
       by_row : (row : Option ℕ) → is_some row ≡ false → row ≡ None
       by_row None is = refl
       by_row (Some place) is = absurd (cc)
 
-pub lacks_this : (old : List (Option ℕ)) (f e : ℕ) → f < e → is_some (row_at old f) ≡ false → LacksOne old f e
-lacks_this old f e less none = (f, omega arith, less, there_at old f ∙ none)
+pub lacks_this : (old : List (Option ℕ)) (f e : ℕ) → f < e → is_some (row_at old (e - 1)) ≡ false → LacksOne old f e
+lacks_this old f e less none = (e - 1, omega (arith, less), omega (arith, less), there_at old (e - 1) ∙ none)
 
-pub lacks_further : (old : List (Option ℕ)) (f e more : ℕ) → (0 < more) ⊎ ((length old < e) ⊎ LacksOne old (f + 1) e) → (0 < more) ⊎ ((length old < e) ⊎ LacksOne old f e)
-lacks_further old f e more (inl some) = inl some
-lacks_further old f e more (inr (inl fewer)) = inr (inl fewer)
-lacks_further old f e more (inr (inr lacks)) = inr (inr (let from = lacks.1 in (lacks.0, omega (arith, from), lacks.2, lacks.3)))
+pub lacks_further : (old : List (Option ℕ)) (f e t more : ℕ) → (0 < more) ⊎ ((length old < t) ⊎ LacksOne old f (e - 1)) → (0 < more) ⊎ ((length old < t) ⊎ LacksOne old f e)
+lacks_further old f e t more (inl some) = inl some
+lacks_further old f e t more (inr (inl fewer)) = inr (inl fewer)
+lacks_further old f e t more (inr (inr lacks)) = inr (inr (let to = lacks.2 in (lacks.0, lacks.1, omega (arith, to), lacks.3)))
 
 -- ---- bytes are put
 
@@ -186,15 +215,14 @@ has_row blocks n has = by_test (is_some (row_at blocks n)) refl
     by_test true is = is
     by_test false is = absurd (has (there_at blocks n ∙ is))
 
-module _ (offset c : ℕ) (new front back : List ℕ) (least : c ≡ min (length new) (512 - offset % 512)) (front_is : front ≡ take c new) (back_is : back ≡ drop c new) where
-  -- the first piece, and what was put behind it
-  pub pieces_put : (old mid now : ℕ → ℕ) → ((n : ℕ) → mid n ≡ byte_after (512 * (offset / 512) + offset % 512) front old n) → ((n : ℕ) → now n ≡ byte_after (offset + c) back mid n) → (n : ℕ) → now n ≡ byte_after offset new old n
-  pieces_put old mid now first rest n =
-      let at : 512 * (offset / 512) + offset % 512 ≡ offset = omega arith in
-      let one : (k : ℕ) → mid k ≡ byte_after offset (take c new) old k = λ k. first k ∙ (λ i. byte_after (at i) (front_is i) old k) in
-      rest n ∙ (ap (λ piece. byte_after (offset + c) piece mid n) back_is ∙ (ap (λ before. byte_after (offset + c) (drop c new) before n) (λ i k. one k i) ∙ put_twice offset c new old n (omega (arith, least))))
+module _ (offset c : ℕ) (new front back : List ℕ) (le : c ≤ length new) (front_is : front ≡ take c new) (back_is : back ≡ drop c new) where
+  -- the first run, and what was put behind it
+  pub runs_put : (old mid now : ℕ → ℕ) → ((n : ℕ) → mid n ≡ byte_after offset front old n) → ((n : ℕ) → now n ≡ byte_after (offset + c) back mid n) → (n : ℕ) → now n ≡ byte_after offset new old n
+  runs_put old mid now first rest n =
+      let one : (k : ℕ) → mid k ≡ byte_after offset (take c new) old k = λ k. first k ∙ (λ i. byte_after offset (front_is i) old k) in
+      rest n ∙ (ap (λ piece. byte_after (offset + c) piece mid n) back_is ∙ (ap (λ before. byte_after (offset + c) (drop c new) before n) (λ i k. one k i) ∙ put_twice offset c new old n le))
 
   pub has_rest : (places : List (Option ℕ)) → HasAll places (offset / 512) (blocks_for (offset + length new)) → HasAll places ((offset + c) / 512) (blocks_for (offset + c + length back))
   has_rest places has n from to =
       let long : length back ≡ length new - c = ap length back_is ∙ length-drop c new in
-      has n (omega (arith, from)) (omega (arith, to, least, long))
+      has n (omega (arith, from)) (omega (arith, to, le, long))

@@ -1,5 +1,5 @@
 -- The bytes of a file, by the blocks in which they stand.
-use Rattle.std.proofs.Common.{◌≡◌, ◌≢◌, ℕ, ◌+◌, ◌-◌, ◌*◌, ◌/◌, ◌%◌, ◌<◌, ◌≤◌, true, false, List, ◌++◌, length, take, drop, replicate, get_or, refl, sym, ap, ◌∙◌, inl, inr, arith, Option, is_some, max, min, ◌⊎◌}
+use Rattle.std.proofs.Common.{◌≡◌, ◌≢◌, ℕ, ◌+◌, ◌-◌, ◌*◌, ◌/◌, ◌<◌, ◌≤◌, true, false, List, ◌++◌, length, take, drop, replicate, get_or, refl, sym, ap, ◌∙◌, inl, inr, arith, Option, is_some, max, min, ◌⊎◌}
 use Rattle.std.proofs.lemmas.Bool.{cases_eq, cases_lt}
 use Rattle.std.proofs.Math.Seq.{take-add}
 use Rattle.std.proofs.lemmas.List.{drop-drop, drop_min, take_min, ext_get_or, length-append, length-take, length-drop, length-replicate, get_or_past, get_or-replicate, get_or-append_right, get_or_append_left, get_or-take, get_or-drop, length-map}
@@ -84,31 +84,22 @@ made_some old made offset count some is =
     omega (arith, some, long, ap length is, length-map made (λ block. is_some block))
 
 -- what is wanted: one of the blocks isn't there
-pub lacks_some : (old : List (Option ℕ)) (offset count : ℕ) → 0 < count → (0 < 0) ⊎ ((length old < blocks_for (offset + count)) ⊎ LacksOne old (offset / 512) (blocks_for (offset + count))) → LacksBlock (there old) offset count
-lacks_some old offset count some (inl none) = absurd (omega (arith, none))
-lacks_some old offset count some (inr (inl fewer)) = (offset + count - 1, omega (arith, some), omega (arith, some), get_or_past (there old) ((offset + count - 1) / 512) false (omega (arith, some, fewer, length-map old (λ block. is_some block))))
-lacks_some old offset count some (inr (inr lacks)) =
+pub lacks_some : (old : List (Option ℕ)) (offset count : ℕ) → 0 < count → (length old < blocks_for (offset + count)) ⊎ LacksOne old (offset / 512) (blocks_for (offset + count)) → LacksBlock (there old) offset count
+lacks_some old offset count some (inl fewer) = (offset + count - 1, omega (arith, some), omega (arith, some), get_or_past (there old) ((offset + count - 1) / 512) false (omega (arith, some, fewer, length-map old (λ block. is_some block))))
+lacks_some old offset count some (inr lacks) =
     let from = lacks.1 in
     let to = lacks.2 in
     (max offset (512 * lacks.0), omega arith, omega (arith, some, to), ap (λ n. get_or (there old) n false) (omega (arith, from)) ∙ lacks.3)
 
 -- ---- a read
 
--- a piece of one block
-pub piece_is : (byte : ℕ → ℕ) (size offset count : ℕ) (block : List ℕ) → length block ≡ 512 → ((n : ℕ) → n < 512 → get_or block n 0 ≡ byte (512 * (offset / 512) + n)) → count ≤ 512 - offset % 512 → offset + count ≤ size → take count (drop (offset % 512) block) ≡ get (bytes_of byte size) offset count
-piece_is byte size offset count block long is short within = ext_get_or 0 _ _ (omega (arith, whole, size_is, long, short, within)) (λ k lt. let less : k < count = omega (arith, lt, whole) in each k less)
+-- a run
+pub run_is : (byte : ℕ → ℕ) (size offset : ℕ) (run : List ℕ) → ((n : ℕ) → n < length run → get_or run n 0 ≡ byte (offset + n)) → offset + length run ≤ size → run ≡ get (bytes_of byte size) offset (length run)
+run_is byte size offset run is within = ext_get_or 0 _ _ (omega (arith, size_is, within)) (λ k less.
+    is k less ∙ (sym (get-bytes byte size (offset + k) (omega (arith, less, within))) ∙ (sym (get_or-drop offset (bytes_of byte size) k 0) ∙ sym (get_or-take (length run) (drop offset (bytes_of byte size)) k 0 less))))
   where
-    whole : length (take count (drop (offset % 512) block)) ≡ min count (length block - offset % 512)
-    whole = simp (length-take, length-drop) refl
-
-    size_is : length (get (bytes_of byte size) offset count) ≡ min count (size - offset)
+    size_is : length (get (bytes_of byte size) offset (length run)) ≡ min (length run) (size - offset)
     size_is = simp (length-take, length-drop, length-bytes) refl
-
-    each : (k : ℕ) → k < count → get_or (take count (drop (offset % 512) block)) k 0 ≡ get_or (get (bytes_of byte size) offset count) k 0
-    each k less =
-        get_or-take count (drop (offset % 512) block) k 0 less ∙ (get_or-drop (offset % 512) block k 0 ∙ (is (offset % 512 + k) (omega (arith, less, short))
-        ∙ (ap byte (omega arith)
-        ∙ (sym (get-bytes byte size (offset + k) (omega (arith, less, within))) ∙ (sym (get_or-drop offset (bytes_of byte size) k 0) ∙ sym (get_or-take count (drop offset (bytes_of byte size)) k 0 less))))))
 
 -- bytes that end with the file, from its end on at the latest
 pub get_within : (bytes : List ℕ) (offset count : ℕ) → get bytes (min offset (length bytes)) (min count (length bytes - min offset (length bytes))) ≡ get bytes offset count

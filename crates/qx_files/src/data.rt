@@ -1,10 +1,9 @@
-ghost use Rattle.std.specs.Prelude.{◌≡◌, ◌+◌, ◌-◌, ◌%◌, ◌<◌, ◌≤◌, ◌^◌, ◌++◌, Some, OnOk, OnErr, length, min};
+ghost use Rattle.std.specs.Prelude.{◌≡◌, ◌+◌, ◌<◌, ◌≤◌, ◌^◌, ◌++◌, Some, OnOk, OnErr, length};
 ghost use Rattle.qx_files.specs.Blocks.{LacksBlock, after_write, blocks_for, count_of, nothing};
 ghost use Rattle.qx_machine.specs.Files.{get};
 ghost use Rattle.qx_types.specs.declared.limits.TheConstants.Limits.{BODY};
 
-use crate::block::{BLOCK, Block};
-use crate::places::{block_bytes, write_bytes};
+use crate::places::{BLOCK, first_run, write_bytes};
 use qx_process::Reply;
 use std::alloc::{AllocError, Global};
 use std::marker::Model;
@@ -13,28 +12,32 @@ use std::marker::Model;
 /// there stand one behind another in the order in which they were made, with room for at most as many more.
 #[derive(Drop)]
 pub struct Data {
-    blocks: Vec<Block>,
-    // For each block of the file the index in `blocks` at which it stands; none where it isn't there.
+    // The bytes of the blocks that are there.
+    bytes: Vec<u8>,
+    // For each block of the file which one of these it is; none where it isn't there.
     places: Vec<Option<usize>>,
+    // So many blocks at the file's begin stand at its begin in `bytes` too, in the same order.
+    in_order: usize,
     size: usize,
 }
 
 impl Model for Data {
     ghost use Rattle.std.specs.Prelude.{◌≡◌, ◌*◌, ◌≤◌, ℕ, length, vec_capacity};
     ghost use Rattle.qx_files.specs.Blocks.{Held, blocks_for};
-    ghost use Rattle.qx_files.specs.inner.Places.{Stand, byte_at, bytes_of, there};
+    ghost use Rattle.qx_files.specs.inner.Places.{InOrder, Stand, byte_at, bytes_of, there};
 
     ghost Value = { Held };
 
-    ghost view = { λ d. record { bytes = bytes_of (byte_at d.blocks.items d.places.items) d.size; blocks = there d.places.items } };
+    ghost view = { λ d. record { bytes = bytes_of (byte_at d.bytes.items d.places.items) d.size; blocks = there d.places.items } };
 
-    // each block has one place, of its own; behind the last byte stand zero bytes; there are no more blocks than the bytes need;
-    // there is room for at most as many more; no blocks hold no memory
+    // each block has one place, of its own; the first ones stand in order; behind the last byte stand zero bytes; there are no
+    // more blocks than the bytes need; there is room for at most as many more; no blocks hold no memory
     ghost invariant = { λ d. record {
-      stand : Stand (length d.blocks.items) d.places.items;
-      zeros : (n : ℕ) → d.size ≤ n → byte_at d.blocks.items d.places.items n ≡ 0;
+      stand : Stand (length d.bytes.items) d.places.items;
+      ordered : InOrder d.places.items d.in_order;
+      zeros : (n : ℕ) → d.size ≤ n → byte_at d.bytes.items d.places.items n ≡ 0;
       few : length d.places.items ≤ blocks_for d.size;
-      room : vec_capacity d.blocks ≤ 2 * length d.blocks.items;
+      room : vec_capacity d.bytes ≤ 2 * length d.bytes.items;
       none : length d.places.items ≡ 0 → vec_capacity d.places ≡ 0;
     } };
 }
@@ -45,8 +48,9 @@ impl Data {
         ensures { result ≡ nothing }
     {
         Data {
-            blocks: Vec::new(alloc),
+            bytes: Vec::new(alloc),
             places: Vec::new(alloc),
+            in_order: 0,
             size: 0,
         }
     }
@@ -63,17 +67,18 @@ impl Data {
         ensures count { result ≡ count_of (Some self.now.blocks) }
         ensures few { result ≤ blocks_for (length self.now.bytes) }
     {
-        self.blocks.len()
+        self.bytes.len() / BLOCK
     }
 
     /// Takes all away, with their memory.
     pub fn clear(&mut self)
         ensures { self.new ≡ nothing }
     {
-        self.blocks.clear();
-        self.blocks.shrink_to_fit();
+        self.bytes.clear();
+        self.bytes.shrink_to_fit();
         self.places.clear();
         self.places.shrink_to_fit();
+        self.in_order = 0;
         self.size = 0;
     }
 
@@ -90,7 +95,7 @@ impl Data {
         count
     }
 
-    // Writes these bytes into a reply, block by block.
+    // Writes these bytes into a reply, run by run.
     fn push(&self, offset: usize, count: usize, reply: &mut Reply)
         requires room { length reply.old + count ≤ BODY }
         requires within { offset + count ≤ length self.now.bytes }
@@ -100,25 +105,25 @@ impl Data {
         if count == 0 {
             return;
         }
-        let piece = self.piece(offset, count);
-        reply.push(piece);
-        self.push(offset + piece.len(), count - piece.len(), reply);
+        let run = self.run(offset, count);
+        reply.push(run);
+        self.push(offset + run.len(), count - run.len(), reply);
     }
 
-    // The first of these bytes, up to the end of their block.
-    fn piece(&self, offset: usize, count: usize) -> &[u8]
+    // The first of these bytes, as far as they stand one behind another.
+    fn run(&self, offset: usize, count: usize) -> &[u8]
         requires within { offset + count ≤ length self.now.bytes }
         ensures got { result.now ≡ get self.now.bytes offset (length result.now) }
-        ensures count { length result.now ≡ min count (512 - offset % 512) }
+        ensures most { length result.now ≤ count }
+        ensures some { 0 < count → 0 < length result.now }
     {
-        let from = offset % BLOCK;
-        let end = from + count.min(BLOCK - from);
-        let bytes = block_bytes(
-            self.blocks.as_slice(),
+        first_run(
+            self.bytes.as_slice(),
             self.places.as_slice(),
-            offset / BLOCK,
-        );
-        &bytes[from..end]
+            self.in_order,
+            offset,
+            count,
+        )
     }
 
     /// Puts bytes at an offset; a gap before them has zero bytes. The blocks in which they stand are made first, and where
@@ -129,7 +134,13 @@ impl Data {
         ensures err { OnErr result (self.new ≡ self.old) }
         ensures lacks { OnErr result (LacksBlock self.old.blocks offset (length new.now)) }
     {
-        write_bytes(&mut self.blocks, &mut self.places, offset, new)?;
+        write_bytes(
+            &mut self.bytes,
+            &mut self.places,
+            &mut self.in_order,
+            offset,
+            new,
+        )?;
         self.size = self.size.max(offset + new.len());
         Ok(())
     }

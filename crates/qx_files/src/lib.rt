@@ -2,11 +2,10 @@
 //!
 //! - `files.rt`: `Files`, with one call for each way in which files come, change and go; the sum of their sizes
 //! - `data.rt`, `contents.rt`: the bytes of one file, in blocks; those of all
-//! - `block.rt`, `places.rt`: a block; where each one stands, what makes blocks, and what puts bytes into them
+//! - `places.rt`: where each block stands, what makes blocks, and what puts bytes into them
 //! - `laws.rt`: what was written is read back; what stands before and behind it stays
 #![tactic(auto)]
 
-mod block;
 mod contents;
 mod data;
 pub mod files;

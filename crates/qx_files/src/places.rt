@@ -1,48 +1,98 @@
 //! The blocks of a file: where each one stands, what makes them, and what puts bytes into them.
 
-ghost use Rattle.std.specs.Prelude.{◌≡◌, ◌+◌, ◌-◌, ◌*◌, ◌/◌, ◌<◌, ◌≤◌, ◌^◌, ◌++◌, ◌⊎◌, ℕ, None, OnOk, OnErr, is_some, length, replicate, slice_index, slice_set, true, vec_capacity, max};
+ghost use Rattle.std.specs.Prelude.{◌≡◌, ◌+◌, ◌-◌, ◌*◌, ◌/◌, ◌<◌, ◌≤◌, ◌^◌, ◌++◌, ◌⊎◌, ℕ, None, Some, OnOk, OnErr, is_some, length, replicate, slice_index, slice_set, true, vec_capacity, max};
 ghost use Rattle.qx_files.specs.Blocks.{LacksBlock, blocks_after, blocks_for, with_blocks};
-ghost use Rattle.qx_files.specs.inner.Places.{HasAll, LacksOne, Stand, byte_after, byte_at, there};
+ghost use Rattle.qx_files.specs.inner.Places.{HasAll, InOrder, InRun, LacksOne, Stand, Stay, byte_after, byte_at, padded, there};
 ghost use Rattle.qx_machine.specs.Rows.{row_at};
 
-use crate::block::{BLOCK, Block};
 use qx_attr::growth;
 use qx_process::places;
 use std::alloc::AllocError;
+use std::mem::replace;
+
+/// How many bytes stand in a block.
+pub const BLOCK: usize = 512;
 
 /// The bytes of a block that isn't there.
 static ZEROS: [u8; 512] = [0; 512];
 
-/// The bytes of a block; those of one that isn't there are zero.
-pub fn block_bytes<'a>(blocks: &'a [Block], places: &[Option<usize>], number: usize) -> &'a [u8]
-    requires stand { Stand (length blocks.now) places.now }
-    ensures bytes { (n : ℕ) → n < 512 → slice_index result.now n ≡ byte_at blocks.now places.now (512 * number + n) }
-    ensures whole { length result.now ≡ 512 }
+/// The first of so many bytes from an offset on, as far as they stand one behind another. Those of a block that isn't there
+/// are zero.
+pub fn first_run<'a>(
+    bytes: &'a [u8],
+    places: &[Option<usize>],
+    in_order: usize,
+    offset: usize,
+    count: usize,
+) -> &'a [u8]
+    requires stand { Stand (length bytes.now) places.now }
+    requires ordered { InOrder places.now in_order }
+    ensures bytes { (n : ℕ) → n < length result.now → slice_index result.now n ≡ byte_at bytes.now places.now (offset + n) }
+    ensures most { length result.now ≤ count }
+    ensures some { 0 < count → 0 < length result.now }
 {
-    match places::row(places, number) {
-        Some(index) => blocks[*index].bytes(),
-        None => &ZEROS,
+    if offset / BLOCK < in_order {
+        let count = count.min(BLOCK * in_order - offset);
+        return &bytes[offset..offset + count];
+    }
+    let from = offset % BLOCK;
+    let count = count.min(BLOCK - from);
+    match places::row(places, offset / BLOCK) {
+        Some(index) => {
+            let at = BLOCK * *index + from;
+            &bytes[at..at + count]
+        }
+        None => &ZEROS[..count],
+    }
+}
+
+/// How many of so many bytes from an offset on stand one behind another: those up to the end of the blocks that stand in
+/// order, or of one block.
+fn run_length(in_order: usize, offset: usize, count: usize) -> usize
+    requires fits { 512 * in_order < 2 ^ 64 }
+    ensures run { InRun in_order offset result }
+    ensures most { result ≤ count }
+    ensures some { 0 < count → 0 < result }
+{
+    if offset / BLOCK < in_order {
+        count.min(BLOCK * in_order - offset)
+    } else {
+        count.min(BLOCK - offset % BLOCK)
+    }
+}
+
+/// How many blocks stand in order, where it is known that so many do.
+fn blocks_in_order(places: &[Option<usize>], known: usize) -> usize
+    requires ordered { InOrder places.now known }
+    ensures ordered { InOrder places.now result }
+{
+    match places::row(places, known) {
+        Some(index) if *index == known => blocks_in_order(places, known + 1),
+        _ => known,
     }
 }
 
 /// Puts bytes at an offset. The blocks in which they stand are made first, and where memory is short nothing changes: it is
 /// wanted only where one of these isn't there.
 pub fn write_bytes(
-    blocks: &mut Vec<Block>,
+    bytes: &mut Vec<u8>,
     places: &mut Vec<Option<usize>>,
+    in_order: &mut usize,
     offset: usize,
     new: &[u8],
 ) -> Result<(), AllocError>
     requires within { offset + length new.now < 2 ^ 63 }
-    requires stand { Stand (length blocks.old.items) places.old.items }
-    requires room { vec_capacity blocks.old ≤ 2 * length blocks.old.items }
+    requires stand { Stand (length bytes.old.items) places.old.items }
+    requires ordered { InOrder places.old.items in_order.old }
+    requires room { vec_capacity bytes.old ≤ 2 * length bytes.old.items }
     requires none { length places.old.items ≡ 0 → vec_capacity places.old ≡ 0 }
-    ensures bytes { OnOk result ((n : ℕ) → byte_at blocks.new.items places.new.items n ≡ byte_after offset new.now (byte_at blocks.old.items places.old.items) n) }
+    ensures bytes { OnOk result ((n : ℕ) → byte_at bytes.new.items places.new.items n ≡ byte_after offset new.now (byte_at bytes.old.items places.old.items) n) }
     ensures there { OnOk result (there places.new.items ≡ blocks_after (there places.old.items) offset (length new.now)) }
-    ensures stand { Stand (length blocks.new.items) places.new.items }
-    ensures room { vec_capacity blocks.new ≤ 2 * length blocks.new.items }
+    ensures stand { Stand (length bytes.new.items) places.new.items }
+    ensures ordered { InOrder places.new.items in_order.new }
+    ensures room { vec_capacity bytes.new ≤ 2 * length bytes.new.items }
     ensures none { length places.new.items ≡ 0 → vec_capacity places.new ≡ 0 }
-    ensures err_blocks { OnErr result (blocks.new.items ≡ blocks.old.items) }
+    ensures err_bytes { OnErr result (bytes.new.items ≡ bytes.old.items) }
     ensures err_places { OnErr result (places.new.items ≡ places.old.items) }
     ensures lacks { OnErr result (LacksBlock (there places.old.items) offset (length new.now)) }
 {
@@ -50,43 +100,83 @@ pub fn write_bytes(
         return Ok(());
     }
     let end = (offset + new.len() + 511) / BLOCK;
-    make_blocks(blocks, places, offset / BLOCK, end, 0)?;
-    put_bytes(blocks.as_mut_slice(), places.as_slice(), offset, new);
+    make_lacking(bytes, places, in_order, offset / BLOCK, end)?;
+    put_bytes(
+        bytes.as_mut_slice(),
+        places.as_slice(),
+        *in_order,
+        offset,
+        new,
+    );
     Ok(())
 }
 
-/// Makes the blocks from one on, up to another, that aren't there, and room for so many more. Where memory is short, nothing
-/// changes.
+/// Makes the blocks from one on, up to another, that aren't there. Where memory is short, nothing changes.
+fn make_lacking(
+    bytes: &mut Vec<u8>,
+    places: &mut Vec<Option<usize>>,
+    in_order: &mut usize,
+    first: usize,
+    end: usize,
+) -> Result<(), AllocError>
+    requires order { first ≤ end }
+    requires fits { 512 * (end - first) < 2 ^ 64 }
+    requires stand { Stand (length bytes.old.items) places.old.items }
+    requires ordered { InOrder places.old.items in_order.old }
+    requires room { vec_capacity bytes.old ≤ 2 * length bytes.old.items }
+    ensures bytes { OnOk result ((n : ℕ) → byte_at bytes.new.items places.new.items n ≡ byte_at bytes.old.items places.old.items n) }
+    ensures made { OnOk result (there places.new.items ≡ with_blocks (there places.old.items) first end) }
+    ensures stand { Stand (length bytes.new.items) places.new.items }
+    ensures ordered { InOrder places.new.items in_order.new }
+    ensures room { vec_capacity bytes.new ≤ 2 * length bytes.new.items }
+    ensures err_bytes { OnErr result (bytes.new.items ≡ bytes.old.items) }
+    ensures err_places { OnErr result (places.new.items ≡ places.old.items) }
+    ensures none { OnErr result (length places.new.items ≡ 0 → vec_capacity places.new ≤ vec_capacity places.old) }
+    ensures lacks { OnErr result ((length places.old.items < end) ⊎ LacksOne places.old.items first end) }
+{
+    if end <= *in_order {
+        return Ok(());
+    }
+    make_blocks(bytes, places, first, end, end, 0)?;
+    *in_order = blocks_in_order(places.as_slice(), *in_order);
+    Ok(())
+}
+
+/// Makes the blocks from one on, up to another, that aren't there, the first one first; places for so many in all, and room
+/// for so many more blocks. Where memory is short, nothing changes.
 fn make_blocks(
-    blocks: &mut Vec<Block>,
+    bytes: &mut Vec<u8>,
     places: &mut Vec<Option<usize>>,
     first: usize,
     end: usize,
+    total: usize,
     more: usize,
 ) -> Result<(), AllocError>
     requires order { first ≤ end }
-    requires fits { more + (end - first) < 2 ^ 64 }
-    requires stand { Stand (length blocks.old.items) places.old.items }
-    requires room { vec_capacity blocks.old ≤ 2 * length blocks.old.items }
-    ensures bytes { OnOk result ((n : ℕ) → byte_at blocks.new.items places.new.items n ≡ byte_at blocks.old.items places.old.items n) }
-    ensures made { OnOk result (there places.new.items ≡ with_blocks (there places.old.items) first end) }
-    ensures stand { Stand (length blocks.new.items) places.new.items }
-    ensures room { OnOk result (length blocks.new.items + more ≤ vec_capacity blocks.new) }
-    ensures most { OnOk result (vec_capacity blocks.new ≤ 2 * (length blocks.new.items + more)) }
-    ensures err_blocks { OnErr result (blocks.new.items ≡ blocks.old.items) }
+    requires within { end ≤ total }
+    requires fits { 512 * (more + (end - first)) < 2 ^ 64 }
+    requires stand { Stand (length bytes.old.items) places.old.items }
+    requires room { vec_capacity bytes.old ≤ 2 * length bytes.old.items }
+    ensures bytes { OnOk result ((n : ℕ) → byte_at bytes.new.items places.new.items n ≡ byte_at bytes.old.items places.old.items n) }
+    ensures made { OnOk result (there places.new.items ≡ with_blocks (padded (there places.old.items) total) first end) }
+    ensures stay { OnOk result (Stay places.old.items places.new.items) }
+    ensures stand { Stand (length bytes.new.items) places.new.items }
+    ensures room { OnOk result (length bytes.new.items + 512 * more ≤ vec_capacity bytes.new) }
+    ensures most { OnOk result (vec_capacity bytes.new ≤ 2 * (length bytes.new.items + 512 * more)) }
+    ensures err_bytes { OnErr result (bytes.new.items ≡ bytes.old.items) }
     ensures err_places { OnErr result (places.new.items ≡ places.old.items) }
-    ensures capacity { OnErr result (vec_capacity blocks.new ≤ 2 * length blocks.new.items) }
+    ensures capacity { OnErr result (vec_capacity bytes.new ≤ 2 * length bytes.new.items) }
     ensures none { OnErr result (length places.new.items ≡ 0 → vec_capacity places.new ≤ vec_capacity places.old) }
-    ensures lacks { OnErr result ((0 < more) ⊎ ((length places.old.items < end) ⊎ LacksOne places.old.items first end)) }
+    ensures lacks { OnErr result ((0 < more) ⊎ ((length places.old.items < total) ⊎ LacksOne places.old.items first end)) }
 {
     if first == end {
-        return make_places(blocks, places, end, more);
+        return make_places(bytes, places, total, more);
     }
-    if has_block(places.as_slice(), first) {
-        return make_blocks(blocks, places, first + 1, end, more);
+    if has_block(places.as_slice(), end - 1) {
+        return make_blocks(bytes, places, first, end - 1, total, more);
     }
-    make_blocks(blocks, places, first + 1, end, more + 1)?;
-    make_block(blocks, places, first);
+    make_blocks(bytes, places, first, end - 1, total, more + 1)?;
+    make_block(bytes, places, end - 1);
     Ok(())
 }
 
@@ -98,43 +188,58 @@ fn has_block(places: &[Option<usize>], number: usize) -> bool
 }
 
 /// Makes a block of zero bytes that isn't there, for which there is room.
-fn make_block(blocks: &mut Vec<Block>, places: &mut Vec<Option<usize>>, number: usize)
-    requires room { length blocks.old.items < vec_capacity blocks.old }
+fn make_block(bytes: &mut Vec<u8>, places: &mut Vec<Option<usize>>, number: usize)
+    requires room { length bytes.old.items + 512 ≤ vec_capacity bytes.old }
     requires within { number < length places.old.items }
     requires lacking { row_at places.old.items number ≡ None }
-    requires stand { Stand (length blocks.old.items) places.old.items }
-    ensures bytes { (n : ℕ) → byte_at blocks.new.items places.new.items n ≡ byte_at blocks.old.items places.old.items n }
+    requires stand { Stand (length bytes.old.items) places.old.items }
+    ensures bytes { (n : ℕ) → byte_at bytes.new.items places.new.items n ≡ byte_at bytes.old.items places.old.items n }
     ensures made { there places.new.items ≡ slice_set (there places.old.items) number true }
-    ensures count { length blocks.new.items ≡ length blocks.old.items + 1 }
-    ensures capacity { vec_capacity blocks.new ≡ vec_capacity blocks.old }
-    ensures stand { Stand (length blocks.new.items) places.new.items }
+    ensures stay { Stay places.old.items places.new.items }
+    ensures count { length bytes.new.items ≡ length bytes.old.items + 512 }
+    ensures capacity { vec_capacity bytes.new ≡ vec_capacity bytes.old }
+    ensures stand { Stand (length bytes.new.items) places.new.items }
 {
-    let index = blocks.len();
-    blocks.push_reserved(Block::new());
+    let index = bytes.len() / BLOCK;
+    let alloc = *bytes.allocator();
+    *bytes = with_zeros(replace(bytes, Vec::new(alloc)));
     places::set(places, number, index);
+}
+
+/// These bytes, and one more block of zero bytes, for which there is room. A vector that is owned is filled by one `memset`.
+fn with_zeros(mut bytes: Vec<u8>) -> Vec<u8>
+    requires room { length bytes.items + 512 ≤ vec_capacity bytes }
+    ensures zeros { result.items ≡ bytes.items ++ replicate 512 0 }
+    ensures capacity { vec_capacity result ≡ vec_capacity bytes }
+{
+    for _ in 0..BLOCK {
+        bytes.push_reserved(0);
+    }
+    bytes
 }
 
 /// Makes places up to one, with no blocks, and room for so many blocks. Where memory is short, nothing changes.
 fn make_places(
-    blocks: &mut Vec<Block>,
+    bytes: &mut Vec<u8>,
     places: &mut Vec<Option<usize>>,
     end: usize,
     count: usize,
 ) -> Result<(), AllocError>
-    requires stand { Stand (length blocks.old.items) places.old.items }
-    ensures stand { Stand (length blocks.new.items) places.new.items }
-    ensures blocks { blocks.new.items ≡ blocks.old.items }
+    requires fits { 512 * count < 2 ^ 64 }
+    requires stand { Stand (length bytes.old.items) places.old.items }
+    ensures stand { Stand (length bytes.new.items) places.new.items }
+    ensures bytes { bytes.new.items ≡ bytes.old.items }
     ensures ok { OnOk result (places.new.items ≡ places.old.items ++ replicate (end - length places.old.items) None) }
     ensures err { OnErr result (places.new.items ≡ places.old.items) }
-    ensures room { OnOk result (length blocks.new.items + count ≤ vec_capacity blocks.new) }
-    ensures most { vec_capacity blocks.new ≤ max (vec_capacity blocks.old) (2 * (length blocks.old.items + count)) }
-    ensures capacity { OnErr result (vec_capacity blocks.new ≡ vec_capacity blocks.old) }
+    ensures room { OnOk result (length bytes.new.items + 512 * count ≤ vec_capacity bytes.new) }
+    ensures most { vec_capacity bytes.new ≤ max (vec_capacity bytes.old) (2 * (length bytes.old.items + 512 * count)) }
+    ensures capacity { OnErr result (vec_capacity bytes.new ≡ vec_capacity bytes.old) }
     ensures none { OnErr result (length places.new.items ≡ 0 → vec_capacity places.new ≤ vec_capacity places.old) }
     ensures lacks { OnErr result ((0 < count) ⊎ (length places.old.items < end)) }
 {
     let more = end.saturating_sub(places.len());
     reserve_places(places, more)?;
-    if let Err(refused) = growth::reserve(blocks, count) {
+    if let Err(refused) = growth::reserve(bytes, BLOCK * count) {
         places.shrink_to_fit();
         return Err(refused);
     }
@@ -158,31 +263,33 @@ fn reserve_places(places: &mut Vec<Option<usize>>, more: usize) -> Result<(), Al
     places.reserve(more.max(24))
 }
 
-/// Puts bytes at an offset into blocks that are there.
-fn put_bytes(blocks: &mut [Block], places: &[Option<usize>], offset: usize, new: &[u8])
+/// Puts bytes at an offset into blocks that are there, run by run.
+fn put_bytes(bytes: &mut [u8], places: &[Option<usize>], in_order: usize, offset: usize, new: &[u8])
     requires within { offset + length new.now < 2 ^ 63 }
-    requires stand { Stand (length blocks.old) places.now }
+    requires stand { Stand (length bytes.old) places.now }
+    requires ordered { InOrder places.now in_order }
     requires made { HasAll places.now (offset / 512) (blocks_for (offset + length new.now)) }
-    ensures bytes { (n : ℕ) → byte_at blocks.new places.now n ≡ byte_after offset new.now (byte_at blocks.old places.now) n }
+    ensures bytes { (n : ℕ) → byte_at bytes.new places.now n ≡ byte_after offset new.now (byte_at bytes.old places.now) n }
 {
     if new.is_empty() {
         return;
     }
-    let from = offset % BLOCK;
-    let count = new.len().min(BLOCK - from);
-    let (piece, rest) = new.split_at(count);
-    put_piece(blocks, places, offset / BLOCK, from, piece);
-    put_bytes(blocks, places, offset + count, rest);
+    let count = run_length(in_order, offset, new.len());
+    let (run, rest) = new.split_at(count);
+    put_run(bytes, places, in_order, offset, run);
+    put_bytes(bytes, places, in_order, offset + count, rest);
 }
 
-/// Puts bytes at a place in a block that is there.
-fn put_piece(blocks: &mut [Block], places: &[Option<usize>], number: usize, at: usize, new: &[u8])
-    requires within { at + length new.now ≤ 512 }
-    requires stand { Stand (length blocks.old) places.now }
-    requires made { is_some (row_at places.now number) ≡ true }
-    ensures put { (n : ℕ) → byte_at blocks.new places.now n ≡ byte_after (512 * number + at) new.now (byte_at blocks.old places.now) n }
+/// Puts bytes at an offset into blocks that are there, in which they stand one behind another.
+fn put_run(bytes: &mut [u8], places: &[Option<usize>], in_order: usize, offset: usize, new: &[u8])
+    requires run { InRun in_order offset (length new.now) }
+    requires stand { Stand (length bytes.old) places.now }
+    requires ordered { InOrder places.now in_order }
+    requires made { is_some (row_at places.now (offset / 512)) ≡ true }
+    ensures put { (n : ℕ) → byte_at bytes.new places.now n ≡ byte_after offset new.now (byte_at bytes.old places.now) n }
 {
-    if let Some(index) = places::row(places, number) {
-        blocks[*index].put(at, new);
+    if let Some(index) = places::row(places, offset / BLOCK) {
+        let at = BLOCK * *index + offset % BLOCK;
+        bytes[at..at + new.len()].copy_from_slice(new);
     }
 }

@@ -1,22 +1,22 @@
 use Rattle.std.proofs.Common.{rules, ◌≡◌, ◌-◌, ◌/◌, ◌<◌, arith, length}
 use Rattle.qx_files.specs.inner.Places.{byte_at}
-use Rattle.qx_files.proofs.BlockLemmas.{has_rest, has_row, pieces_put}
+use Rattle.qx_files.proofs.BlockLemmas.{has_rest, has_row, runs_put}
 use Rattle.qx_files.proofs.places.+put_bytes.Goals as goal
 
-pub put_piece-requires-clause-made : goal.put_piece-requires-clause-made
-put_piece-requires-clause-made t c =
+pub put_run-requires-clause-made : goal.put_run-requires-clause-made
+put_run-requires-clause-made t c =
     let some : 0 < length c.args.new.now = grind arith in
     has_row c.args.places.now (c.args.offset / 512) (c.requires.made (c.args.offset / 512) (omega arith) (omega (arith, some)))
 
 pub put_bytes-requires : goal.put_bytes-requires
 put_bytes-requires t c =
     let some : 0 < length c.args.new.now = grind arith in
-    let long : length c.split_at.result.1.now ≡ length c.args.new.now - c.min-count.result = omega (arith, c.split_at.ensures.back_len, c.min-count.ensures) in
-    let less : length c.split_at.result.1.now < length c.args.new.now = omega (arith, some, long, c.min-count.ensures) in
-    let kept : length c.put_piece.new.blocks ≡ length c.args.blocks.now = search rules in
-    (search (rules, less), (omega (arith, long, c.min-count.ensures, c.requires.within), (rw kept c.requires.stand, has_rest c.args.offset c.min-count.result c.args.new.now c.split_at.result.0.now c.split_at.result.1.now c.min-count.ensures c.split_at.ensures.front c.split_at.ensures.back c.args.places.now c.requires.made)))
+    let long : length c.split_at.result.1.now ≡ length c.args.new.now - c.run_length-count.result = omega (arith, c.split_at.ensures.back_len, c.run_length-count.ensures.most) in
+    let less : length c.split_at.result.1.now < length c.args.new.now = omega (arith, some, long, c.run_length-count.ensures.some) in
+    let kept : length c.put_run.new.bytes ≡ length c.args.bytes.now = search rules in
+    (search (rules, less), (omega (arith, long, c.run_length-count.ensures.most, c.requires.within), (rw kept c.requires.stand, (c.requires.ordered, has_rest c.args.offset c.run_length-count.result c.args.new.now c.split_at.result.0.now c.split_at.result.1.now c.run_length-count.ensures.most c.split_at.ensures.front c.split_at.ensures.back c.args.places.now c.requires.made))))
 
 pub returns : goal.returns
 returns t c =
     let places = c.args.places.now in
-    record { bytes = pieces_put c.args.offset c.min-count.result c.args.new.now c.split_at.result.0.now c.split_at.result.1.now c.min-count.ensures c.split_at.ensures.front c.split_at.ensures.back (byte_at c.args.blocks.now places) (byte_at c.put_piece.new.blocks places) (byte_at c.put_bytes.new.blocks places) c.put_piece.ensures.put c.put_bytes.ensures.bytes }
+    record { bytes = runs_put c.args.offset c.run_length-count.result c.args.new.now c.split_at.result.0.now c.split_at.result.1.now c.run_length-count.ensures.most c.split_at.ensures.front c.split_at.ensures.back (byte_at c.args.bytes.now places) (byte_at c.put_run.new.bytes places) (byte_at c.put_bytes.new.bytes places) c.put_run.ensures.put c.put_bytes.ensures.bytes }

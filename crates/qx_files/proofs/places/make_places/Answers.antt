@@ -4,4 +4,4 @@ use Rattle.qx_files.proofs.places.make_places.Goals as goal
 
 pub returns-clause-stand : goal.returns-clause-stand
 returns-clause-stand c =
-    rw (c.loop.invariant.added, c.reserve.ensures.items, c.reserve_places.ensures.items) (stand-none (length c.args.blocks.now.items) c.loop.counter c.args.places.now.items c.requires.stand)
+    rw (c.loop.invariant.added, c.reserve.ensures.items, c.reserve_places.ensures.items) (stand-none (length c.args.bytes.now.items) c.loop.counter c.args.places.now.items c.requires.stand)

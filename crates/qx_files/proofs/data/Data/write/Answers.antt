@@ -7,10 +7,11 @@ use Rattle.qx_files.proofs.data.Data.write.Goals as goal
 
 pub invariant_of-self-2 : goal.invariant_of-self-2
 invariant_of-self-2 c =
-    let old = byte_at c.self.inside.blocks.items c.self.inside.places.items in
-    let now = byte_at c.write_bytes.new.blocks.items c.write_bytes.new.places.items in
+    let old = byte_at c.self.inside.bytes.items c.self.inside.places.items in
+    let now = byte_at c.write_bytes.new.bytes.items c.write_bytes.new.places.items in
     rw c.max-self-inside.ensures (record {
       stand = c.in_ok-write_bytes.ensures.stand;
+      ordered = c.in_ok-write_bytes.ensures.ordered;
       zeros = written_zeros old now c.self.inside.size c.args.offset c.args.new.now c.self.invariant.zeros c.in_ok-write_bytes.ensures.bytes;
       few = written_few c.self.inside.places.items c.write_bytes.new.places.items c.self.inside.size c.args.offset (length c.args.new.now) c.self.invariant.few c.in_ok-write_bytes.ensures.there;
       room = c.in_ok-write_bytes.ensures.room;
@@ -19,8 +20,8 @@ invariant_of-self-2 c =
 
 pub returns-clause-ok : goal.returns-clause-ok
 returns-clause-ok c =
-    let old = byte_at c.self.inside.blocks.items c.self.inside.places.items in
-    let now = byte_at c.write_bytes.new.blocks.items c.write_bytes.new.places.items in
+    let old = byte_at c.self.inside.bytes.items c.self.inside.places.items in
+    let now = byte_at c.write_bytes.new.bytes.items c.write_bytes.new.places.items in
     let bytes : bytes_of now c.max-self-inside.result ≡ put c.args.self.now.bytes c.args.offset c.args.new.now =
     ap (bytes_of now) c.max-self-inside.ensures
     ∙ (written_bytes old now c.self.inside.size c.args.offset c.args.new.now c.self.invariant.zeros c.in_ok-write_bytes.ensures.bytes ∙ ap (λ (held : Held). put held.bytes c.args.offset c.args.new.now) c.self.view_is) in
