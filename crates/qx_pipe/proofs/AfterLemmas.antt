@@ -12,10 +12,11 @@ use Rattle.qx_types.specs.declared.outcome.Answer.TheVariants.{Failed, Reply}
 use Rattle.qx_machine.specs.declared.rows.Sides.{Sides}
 use Rattle.qx_machine.specs.declared.rows.WaitingCall.{WaitingCall}
 use Rattle.qx_machine.specs.Waiting.{Pipes, is_written, no_pipes}
-use Rattle.qx_machine.specs.Pipes.{PipeAfter, Pipe, all_answered, and_then, dismissed, nobody_answered, one_answered, readers_ended, writers_ended}
+use Rattle.qx_machine.specs.Pipes.{PipeAfter, Pipe, all_answered, and_then, dismissed, nobody_answered, one_answered, pipe_of, readers_ended, writers_ended}
 use Rattle.qx_machine.specs.Rows.{row_at}
 use Rattle.qx_machine.proofs.Places.{set-row_at}
 use Rattle.qx_shared.specs.Shared.{HasPipe, Shared, pipe_at, pipes_of, users_given, went_in, with_pipe_after, with_answer_to}
+use Rattle.qx_pipe.specs.inner.Turns.{NobodyWaits}
 
 -- ---- no bytes go in with these answers
 
@@ -87,6 +88,17 @@ module _ (c : Shared) (user inode : ℕ) (has : HasPipe c user inode) where
       ap (λ row. slice_set c.pipes user (slice_set (pipes_of c user) inode row)) (the-row _ (row_at (pipes_of c user) inode) has)
       ∙ ap (slice_set c.pipes user) (set-row_at (pipes_of c user) inode) ∙ set-get_or c.pipes user no_pipes in
       λ i. record c { pipes = pipes i; answered = append-nil c.answered i }
+
+  -- nothing was done to it
+  module _ (after : PipeAfter WaitingCall) (is : after ≡ nobody_answered (pipe_at c user inode)) where
+    pub nothing-done : c ≡ with_pipe_after c user inode after
+    nothing-done = sym (ap (with_pipe_after c user inode) is ∙ with_after-nobody)
+
+    pub nothing-went : false ≡ went_in after.answers
+    nothing-went = sym (ap (λ a. went_in a.answers) is)
+
+  pub alone-after : (after : PipeAfter WaitingCall) (now : Shared) → now ≡ with_pipe_after c user inode after → NobodyWaits after.pipe → NobodyWaits (pipe_at now user inode)
+  alone-after after now is nobody = subst NobodyWaits (sym (ap (λ s. pipe_at s user inode) is ∙ ap (λ o. unwrap_or o (pipe_of [] [] [])) (row_at-with_row c.pipes user inode has after.pipe))) nobody
 
   -- a call that is answered alone leaves the pipe
   pub with_answer_to-after : (call : WaitingCall) (answer : Answer) → with_answer_to c user call answer ≡ with_pipe_after c user inode (one_answered call answer (pipe_at c user inode))

@@ -1,16 +1,17 @@
 -- One turn of settling, and then the next.
-use Rattle.std.proofs.Common.{◌≡◌, ℕ, ◌+◌, ◌≤◌, ◌<◌, Bool, false, true, List, [], ◌∷◌, length, take, drop, slice_get, Option, Some, None, is_some, refl, append-nil, arith}
+use Rattle.std.proofs.Common.{◌≡◌, ◌==◌, inl, inr, ℕ, ◌+◌, ◌≤◌, ◌<◌, Bool, false, true, List, [], ◌∷◌, length, take, drop, slice_get, Option, Some, None, is_some, refl, sym, ap, ◌∙◌, append-nil, arith}
 use Rattle.std.specs.Borrow.{Bor}
 use Rattle.std.specs.Option.{option_copied}
 use Rattle.std.specs.Prelude.{min, nat_le}
 use Rattle.std.proofs.lemmas.Bool.{le-leb, lt-leb}
+use Rattle.std.proofs.lemmas.Bool.Decides.{eqb_tells}
 use Rattle.qx_types.specs.declared.limits.TheConstants.Limits.{PIPE}
 use Rattle.qx_machine.specs.declared.rows.Manner.{Manner}
 use Rattle.qx_machine.specs.declared.rows.WaitingCall.{WaitingCall}
-use Rattle.qx_machine.specs.Waiting.{offered, wanted}
-use Rattle.qx_machine.specs.Pipes.{PipeAfter, Pipe, and_then, clean_read, clean_write, nobody_answered, pipe_of, settle}
+use Rattle.qx_machine.specs.Waiting.{is_gone, offered, wanted}
+use Rattle.qx_machine.specs.Pipes.{PipeAfter, Pipe, and_then, clean, clean_read, clean_write, nobody_answered, pipe_of, removed, settle, staying}
 use Rattle.qx_shared.specs.Shared.{HasPipe, Shared, passed_to, pipe_at, taken_from, went_in, with_pipe_after}
-use Rattle.qx_pipe.specs.inner.Turns.{Turning, settling, waiting_count}
+use Rattle.qx_pipe.specs.inner.Turns.{NobodyWaits, Turning, settling, waiting_count}
 use Rattle.qx_pipe.proofs.CallLemmas.{not_zero}
 use Rattle.qx_pipe.proofs.AfterLemmas.{steps}
 
@@ -53,6 +54,17 @@ settle-nobody (b ∷ bs) (r ∷ readers) writers none full = absurd (none-reads 
 settle-nobody [] readers (writer ∷ writers) none full = let test : nat_le (0 + length writer.bytes) PIPE ≡ false = lt-leb _ _ (full writer refl) in rw test refl
 settle-nobody (b ∷ bs) [] (writer ∷ writers) none full = let test : nat_le (length (b ∷ bs) + length writer.bytes) PIPE ≡ false = lt-leb _ _ (full writer refl) in rw test refl
 
+-- nobody waits
+module _ (p : Pipe WaitingCall) (nobody : NobodyWaits p) where
+  pub settle-alone : settle wanted offered p ≡ nobody_answered p
+  settle-alone = settle-nobody p.bytes p.readers p.writers (λ stand. ap (λ calls. slice_get calls 0) nobody.0) (λ writer first. let clash : None ≡ Some writer = sym (ap (λ calls. slice_get calls 0) nobody.1) ∙ first in absurd (cc))
+
+  removed-alone : removed is_gone p ≡ p
+  removed-alone = λ i. record p { readers = (ap (staying is_gone) nobody.0 ∙ sym nobody.0) i; writers = (ap (staying is_gone) nobody.1 ∙ sym nobody.1) i }
+
+  pub clean-alone : clean wanted offered is_gone p ≡ nobody_answered p
+  clean-alone = ap (settle wanted offered) removed-alone ∙ settle-alone
+
 -- ---- turns
 
 module _ (old new : Shared) (user inode : ℕ) (has : HasPipe old user inode) (first : PipeAfter WaitingCall) (is : new ≡ with_pipe_after old user inode first) where
@@ -68,7 +80,13 @@ some-first (y ∷ xs) x first = omega arith
 
 -- ---- a READ and a WRITE that are served at once
 
-pub none-waits : {A : Type 0} (first : Option (Bor A)) (xs : List A) → option_copied first ≡ slice_get xs 0 → is_some first ≡ false → length xs ≡ 0
+pub is_zero : (n : ℕ) → (n == 0) ≡ true → n ≡ 0
+is_zero n is = elim (eqb_tells n 0) [
+  | inl same ↦ same.1
+  | inr differs ↦ let clash : true ≡ false = sym is ∙ differs.0 in absurd (cc)
+]
+
+pub none-waits : {A : Type 0} (first : Option (Bor A)) (xs : List A) → option_copied first ≡ slice_get xs 0 → is_some first ≡ false → xs ≡ []
 none-waits first [] is none = refl
 none-waits None (x ∷ xs) is none = absurd (cc)
 none-waits (Some borrowed) (x ∷ xs) is none = absurd (cc)

@@ -1,16 +1,18 @@
 //! What is done to one pipe, under the number of an inode of a user. Each call tells whether bytes went in.
 #![tactic(auto, using(crate::proofs::AfterLemmas::steps))]
 
-ghost use Rattle.std.specs.Prelude.{◌≡◌, ◌==◌, ◌<◌, IfNone, IfSome};
-ghost use Rattle.qx_machine.specs.Waiting.{is_call, is_gone, offered, wanted};
+ghost use Rattle.std.specs.Prelude.{◌≡◌, ◌==◌, ◌<◌, ◌≤◌, IfNone, IfSome, IsFalse, length};
+ghost use Rattle.qx_machine.specs.Waiting.{is_call, is_gone, offered, waiting_call, wanted};
 ghost use Rattle.qx_machine.specs.Pipes as machine;
 ghost use Rattle.qx_machine.specs.Pipes.{clean_read, clean_write, dismissed, nobody_answered, readers_ended, without_bytes, writers_ended};
-ghost use Rattle.qx_pipe.specs.inner.Turns.{Turning, settling, unless_served, waiting_count};
+ghost use Rattle.qx_pipe.specs.inner.Turns.{NobodyWaits, Turning, settling, unless_served, waiting_count};
 ghost use Rattle.qx_queues.specs.Waits.{leaves};
 ghost use Rattle.qx_shared.specs.Shared.{HasPipe, IsCallReceived, pipe_at, went_in, with_pipe_after};
+ghost use Rattle.qx_types.specs.declared.limits.TheConstants.Limits.{BODY};
 ghost use Rattle.qx_types.specs.declared.outcome.Answer.TheVariants.{Failed};
 
-use qx_machine::{Manner, Sides};
+use qx_machine::{Manner, Opened, Sides};
+use qx_process::Room;
 use qx_queues::{Leaving, PipeCall};
 use qx_shared::{Shared, Side};
 use qx_types::{Errno, Limits, User};
@@ -46,22 +48,33 @@ pub fn read(shared: &mut Shared, user: User, inode: u32, call: PipeCall, manner:
     ensures after { shared.new ≡ with_pipe_after shared.old user.0 inode (machine.read wanted offered is_gone manner call (pipe_at shared.old user.0 inode)) }
     ensures filled { result ≡ went_in (machine.read wanted offered is_gone manner call (pipe_at shared.old user.0 inode)).answers }
 {
-    let others = clean(shared, user, inode);
-    let own = read_clean(shared, user, inode, call, manner);
-    others | own
+    let others = anyone_waits(shared, user, inode);
+    let before = clean_others(shared, user, inode, others);
+    let own = read_clean(shared, user, inode, call, manner, others);
+    before | own
 }
 
-/// A WRITE of a call whose message was received: cleans the pipe, and then the call is answered or waits (C Library
-/// Reference: `write`).
-pub fn write(shared: &mut Shared, user: User, inode: u32, call: PipeCall, manner: Manner) -> bool
+/// A WRITE of a call whose message was received: cleans the pipe, and then the call is answered or waits with a copy of
+/// the bytes in the room for its reply (C Library Reference: `write`).
+pub fn write(
+    shared: &mut Shared,
+    user: User,
+    inode: u32,
+    opened: Opened,
+    bytes: &[u8],
+    room: Room,
+    manner: Manner,
+) -> bool
     requires pipe { HasPipe shared.old user.0 inode }
-    requires received { IsCallReceived shared.old user.0 call }
-    ensures after { shared.new ≡ with_pipe_after shared.old user.0 inode (machine.write wanted offered is_gone manner call (pipe_at shared.old user.0 inode)) }
-    ensures filled { result ≡ went_in (machine.write wanted offered is_gone manner call (pipe_at shared.old user.0 inode)).answers }
+    requires received { IsCallReceived shared.old user.0 (waiting_call opened 0 bytes.now) }
+    requires few { length bytes.now ≤ BODY }
+    ensures after { shared.new ≡ with_pipe_after shared.old user.0 inode (machine.write wanted offered is_gone manner (waiting_call opened 0 bytes.now) (pipe_at shared.old user.0 inode)) }
+    ensures filled { result ≡ went_in (machine.write wanted offered is_gone manner (waiting_call opened 0 bytes.now) (pipe_at shared.old user.0 inode)).answers }
 {
-    let others = clean(shared, user, inode);
-    let own = write_clean(shared, user, inode, call, manner);
-    others | own
+    let others = anyone_waits(shared, user, inode);
+    let before = clean_others(shared, user, inode, others);
+    let own = write_clean(shared, user, inode, opened, bytes, room, manner, others);
+    before | own
 }
 
 /// An unblock of a call of a thread: the pipe is cleaned; if the call waits then, it is answered EINTR, and others may be
@@ -128,10 +141,47 @@ fn turn(shared: &mut Shared, user: User, inode: u32) -> Option<bool>
     Some(shared.take_bytes(user, inode))
 }
 
-// A READ, once the pipe is clean.
-fn read_clean(shared: &mut Shared, user: User, inode: u32, call: PipeCall, manner: Manner) -> bool
+// Whether a call waits in a pipe. Where none does, there is nobody to take out or to serve.
+fn anyone_waits(shared: &Shared, user: User, inode: u32) -> bool
+    ensures alone { IsFalse result → NobodyWaits (pipe_at shared.now user.0 inode) }
+{
+    shared.first_waiting(user, inode, Side::Reading).is_some()
+        || shared.first_waiting(user, inode, Side::Writing).is_some()
+}
+
+// Cleans a pipe, if others may wait there.
+fn clean_others(shared: &mut Shared, user: User, inode: u32, others: bool) -> bool
+    requires pipe { HasPipe shared.old user.0 inode }
+    requires alone { IsFalse others → NobodyWaits (pipe_at shared.old user.0 inode) }
+    ensures after { shared.new ≡ with_pipe_after shared.old user.0 inode (machine.clean wanted offered is_gone (pipe_at shared.old user.0 inode)) }
+    ensures filled { result ≡ went_in (machine.clean wanted offered is_gone (pipe_at shared.old user.0 inode)).answers }
+    ensures same { IsFalse others → shared.new ≡ shared.old }
+{
+    others && clean(shared, user, inode)
+}
+
+// Settles a pipe, if others may wait there.
+fn settle_others(shared: &mut Shared, user: User, inode: u32, others: bool) -> bool
+    requires pipe { HasPipe shared.old user.0 inode }
+    requires alone { IsFalse others → NobodyWaits (pipe_at shared.old user.0 inode) }
+    ensures after { shared.new ≡ with_pipe_after shared.old user.0 inode (machine.settle wanted offered (pipe_at shared.old user.0 inode)) }
+    ensures filled { result ≡ went_in (machine.settle wanted offered (pipe_at shared.old user.0 inode)).answers }
+{
+    others && settle(shared, user, inode)
+}
+
+// A READ, once the pipe is clean; others may wait there.
+fn read_clean(
+    shared: &mut Shared,
+    user: User,
+    inode: u32,
+    call: PipeCall,
+    manner: Manner,
+    others: bool,
+) -> bool
     requires pipe { HasPipe shared.old user.0 inode }
     requires received { IsCallReceived shared.old user.0 call }
+    requires alone { IsFalse others → NobodyWaits (pipe_at shared.old user.0 inode) }
     ensures after { shared.new ≡ with_pipe_after shared.old user.0 inode (clean_read wanted offered manner call (pipe_at shared.old user.0 inode)) }
     ensures filled { result ≡ went_in (clean_read wanted offered manner call (pipe_at shared.old user.0 inode)).answers }
 {
@@ -141,8 +191,8 @@ fn read_clean(shared: &mut Shared, user: User, inode: u32, call: PipeCall, manne
         shared.answer(user, call, Ok((0, &[])))
     } else if len != 0 {
         let own = shared.hand_bytes(user, inode, call, wanted.min(len));
-        let others = settle(shared, user, inode);
-        own | others
+        let after = settle_others(shared, user, inode, others);
+        own | after
     } else if !manner.has_other_side {
         shared.answer(user, call, Ok((0, &[])))
     } else {
@@ -150,26 +200,49 @@ fn read_clean(shared: &mut Shared, user: User, inode: u32, call: PipeCall, manne
     }
 }
 
-// A WRITE, once the pipe is clean.
-fn write_clean(shared: &mut Shared, user: User, inode: u32, call: PipeCall, manner: Manner) -> bool
-    requires pipe { HasPipe shared.old user.0 inode }
-    requires received { IsCallReceived shared.old user.0 call }
-    ensures after { shared.new ≡ with_pipe_after shared.old user.0 inode (clean_write wanted offered manner call (pipe_at shared.old user.0 inode)) }
-    ensures filled { result ≡ went_in (clean_write wanted offered manner call (pipe_at shared.old user.0 inode)).answers }
+// Whether a WRITE would be the first in a pipe.
+fn is_first(shared: &Shared, user: User, inode: u32, others: bool) -> bool
+    requires alone { IsFalse others → NobodyWaits (pipe_at shared.now user.0 inode) }
+    ensures first { result ≡ (length (pipe_at shared.now user.0 inode).writers == 0) }
 {
-    let len = call.bytes().len();
+    !others || shared.first_waiting(user, inode, Side::Writing).is_none()
+}
+
+// A WRITE, once the pipe is clean; others may wait there.
+fn write_clean(
+    shared: &mut Shared,
+    user: User,
+    inode: u32,
+    opened: Opened,
+    bytes: &[u8],
+    mut room: Room,
+    manner: Manner,
+    others: bool,
+) -> bool
+    requires pipe { HasPipe shared.old user.0 inode }
+    requires received { IsCallReceived shared.old user.0 (waiting_call opened 0 bytes.now) }
+    requires few { length bytes.now ≤ BODY }
+    requires alone { IsFalse others → NobodyWaits (pipe_at shared.old user.0 inode) }
+    ensures after { shared.new ≡ with_pipe_after shared.old user.0 inode (clean_write wanted offered manner (waiting_call opened 0 bytes.now) (pipe_at shared.old user.0 inode)) }
+    ensures filled { result ≡ went_in (clean_write wanted offered manner (waiting_call opened 0 bytes.now) (pipe_at shared.old user.0 inode)).answers }
+{
+    let len = bytes.len();
     if len == 0 {
-        return shared.answer(user, call, Ok((0, &[])));
+        return shared.answer(user, PipeCall::writing(opened, room), Ok((0, &[])));
     }
     if !manner.has_other_side {
+        let call = PipeCall::writing(opened, room);
         return shared.answer(user, call, Err(Errno::EPIPE));
     }
-    let nobody_waits = shared.first_waiting(user, inode, Side::Writing).is_none();
-    if nobody_waits && len <= Limits::PIPE - shared.pipe_len(user, inode) {
-        let own = shared.put_bytes(user, inode, call);
-        let others = settle(shared, user, inode);
-        own | others
+    let is_first = is_first(shared, user, inode, others);
+    if is_first && len <= Limits::PIPE - shared.pipe_len(user, inode) {
+        let call = PipeCall::writing(opened, room);
+        let own = shared.put_bytes(user, inode, call, bytes);
+        let after = settle_others(shared, user, inode, others);
+        own | after
     } else {
+        room.keep(bytes);
+        let call = PipeCall::writing(opened, room);
         wait_unless(shared, user, inode, Side::Writing, call, manner)
     }
 }

@@ -60,7 +60,7 @@ pub fn read(
 }
 
 /// A WRITE of a call whose message was received: it waits with the room for its reply, in which a copy of the bytes is
-/// kept, or is answered, and so are others that can be then (C Library Reference: `write`). EBADF without a block for
+/// kept then, or is answered, and so are others that can be then (C Library Reference: `write`). EBADF without a block for
 /// writing; the room is left then.
 pub fn write(
     shared: &mut Shared,
@@ -83,15 +83,14 @@ pub fn write(
     if !shared.has_pipe(user, block.inode) {
         return Err(Errno::EBADF);
     }
-    let Some(mut own_room) = room.take() else {
+    let Some(own_room) = room.take() else {
         unreachable!();
     };
-    own_room.keep(bytes);
     let sides = store.inodes().sides(block.inode);
     let manner = manner(sides.for_reading, &block, opened.caller.is_asked);
-    let call = PipeCall::writing(opened, own_room);
-    let filled = qx_pipe::pipe::write(shared, user, block.inode, call, manner);
-    set_size(shared, store, block.inode, filled, opened.moment);
+    let inode = block.inode;
+    let filled = qx_pipe::pipe::write(shared, user, inode, opened, bytes, own_room, manner);
+    set_size(shared, store, inode, filled, opened.moment);
     Ok(())
 }
 

@@ -184,6 +184,13 @@ impl Queues {
         self.nodes.set_asked(thread, None);
     }
 
+    /// Whether anyone was answered.
+    pub fn has_answered(&self) -> bool
+        ensures answered { result ≡ is_some (slice_get self.now.answered 0) }
+    {
+        lists::first(&self.table, self.answered).is_some()
+    }
+
     /// Takes out the first of those who were answered, with the answer, and with the room for the thread's replies, unless the
     /// answer took that along.
     pub fn take_answered(&mut self) -> Option<Answered>

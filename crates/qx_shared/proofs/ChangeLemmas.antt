@@ -270,6 +270,13 @@ module _ (c : Queues) (all : List Rows) (are : AreAllPipes c all) (user inode : 
       let readers : list_of_place all (place user inode Reading) ≡ Some row.readers = ap (option_map (list_on Reading)) is in
       changed c all are user inode Reading row.readers readers bytes (waiting c all are user inode Reading row.readers readers) answers d new (queues ∙ ap (λ q. with_more_answers q (map (users_given user) answers)) (sym (same-calls c all are user inode Reading row.readers readers))) rows
 
+  -- the first of its bytes
+  pub stand : (count : ℕ) → count ≤ length (pipe_at (shown_shared c all) user inode).bytes → count ≤ length row.bytes
+  stand count within = rw (pipe_at-told c all user inode row is) at within
+
+  pub first-of : (count : ℕ) (bytes : List ℕ) → IfSome (row_of all user inode) (λ row. bytes ≡ take count row.bytes) → bytes ≡ take count (pipe_at (shown_shared c all) user inode).bytes
+  first-of count bytes first = let first_is : bytes ≡ take count row.bytes = rw is at first in first_is ∙ ap (λ p. take count p.bytes) (sym (pipe_at-told c all user inode row is))
+
   -- as a change of the user's pipes gives them
   module _ (own : Rows) (read : own ≡ get_or all user own) where
     own-is : own ≡ get_or all user []
@@ -278,8 +285,8 @@ module _ (c : Queues) (all : List Rows) (are : AreAllPipes c all) (user inode : 
     pub own-row : row_at own inode ≡ Some row
     own-row = ap (λ (p : Rows). row_at p inode) own-is ∙ is
 
-    pub stand : (count : ℕ) → count ≤ length (pipe_at (shown_shared c all) user inode).bytes → (row : PipeRow) × (row_at own inode ≡ Some row) × (count ≤ length row.bytes)
-    stand count within = (row, own-row, rw (pipe_at-told c all user inode row is) at within)
+    pub stand-own : (count : ℕ) → count ≤ length (pipe_at (shown_shared c all) user inode).bytes → IfSome (row_at own inode) (λ row. count ≤ length row.bytes)
+    stand-own count within = rw own-row (stand count within)
 
     pub fits : (more : ℕ) → length (pipe_at (shown_shared c all) user inode).bytes + more ≤ PIPE → IfSome (row_at own inode) (λ row. length row.bytes + more ≤ PIPE)
     fits more within = rw own-row (rw (pipe_at-told c all user inode row is) at within)
@@ -290,10 +297,6 @@ module _ (c : Queues) (all : List Rows) (are : AreAllPipes c all) (user inode : 
         ap (slice_set all user) (put_is ∙ ap (λ (p : Rows). slice_set p inode (Some (row_with_bytes row (change row.bytes)))) own-is)
         ∙ ap (λ (p : Pipe WaitingCall). with_row_of all user inode (Some (row_with_bytes row (change p.bytes)))) (sym (pipe_at-told c all user inode row is))
         ∙ ap (λ o. with_row_of all user inode (option_map (λ row. row_with_bytes row (change (pipe_at (shown_shared c all) user inode).bytes)) o)) (sym is)
-
-    -- what was taken of the bytes
-    pub taken-of : (count : ℕ) (into : List ℕ) → IfSome (row_at own inode) (λ row. take count into ≡ take count row.bytes) → take count into ≡ take count (pipe_at (shown_shared c all) user inode).bytes
-    taken-of count into taken = let taken_is : take count into ≡ take count row.bytes = rw own-row at taken in taken_is ∙ ap (λ p. take count p.bytes) (sym (pipe_at-told c all user inode row is))
 
 -- ---- both sides
 

@@ -1,7 +1,7 @@
 //! The pipes of all users, one at a time but where a process ends: each call makes of one pipe what it says, and leaves all
 //! others.
 
-ghost use Rattle.std.specs.Prelude.{◌≡◌, ◌<◌, ◌≤◌, ◌+◌, ◌++◌, ◌∷◌, [], None, Some, IfNone, IsTrue, OnErr, OnOk, false, ℕ, drop, is_some, length, map, slice_get, take};
+ghost use Rattle.std.specs.Prelude.{◌≡◌, ◌<◌, ◌≤◌, ◌+◌, ◌++◌, ◌∷◌, [], None, Some, IfNone, IfSome, IsTrue, OnErr, OnOk, false, ℕ, drop, is_some, length, map, slice_get, take};
 ghost use Rattle.std.specs.List.{flat_map};
 ghost use Rattle.std.specs.Option.{option_copied};
 ghost use Rattle.std.specs.Result.{ForOk};
@@ -17,7 +17,6 @@ ghost use Rattle.qx_types.specs.declared.limits.TheConstants.Limits.{INODES, PIP
 use crate::row::{PipeRow, UserPipes};
 use crate::shared::Shared;
 use crate::side::Side;
-use circular_buffer::HeapCircularBuffer;
 use qx_queues::{Leaving, PipeCall};
 use qx_types::{Errno, Limits, Proc, Thread, User};
 use std::alloc::AllocError;
@@ -39,15 +38,11 @@ impl Shared {
         ensures ok { OnOk result (self.new ≡ with_row_at self.old user.0 inode (Some (pipe_of [] [] []))) }
         ensures err { OnErr result (self.new ≡ self.old) }
     {
-        let bytes = HeapCircularBuffer::with_capacity(*self.pipes.allocator(), Limits::PIPE)?;
+        let bytes = Vec::with_capacity(*self.pipes.allocator(), PipeRow::ROOM)?;
         let readers = self.queues.add_list()?;
         match self.queues.add_list() {
             Ok(writers) => {
-                let row = PipeRow {
-                    bytes,
-                    readers,
-                    writers,
-                };
+                let row = PipeRow::new(bytes, readers, writers);
                 self.pipes[user.0 as usize].set(inode, row);
                 Ok(())
             }
@@ -215,9 +210,10 @@ impl Shared {
         ensures written { result ≡ went_in (passed_to count (take 1 (pipe_at self.old user.0 inode).readers) (pipe_at self.old user.0 inode)).answers }
     {
         let readers = list(&self.pipes, user, inode, Side::Reading);
-        self.pipes[user.0 as usize].take(inode, count, &mut self.piece);
-        self.queues
-            .answer_first(readers, Ok((count as u64, &self.piece[..count])))
+        let bytes = first_bytes(&self.pipes, user, inode, count);
+        let written = self.queues.answer_first(readers, Ok((count as u64, bytes)));
+        self.pipes[user.0 as usize].drop_front(inode, count);
+        written
     }
 
     /// A call whose message was received gets so many of the first bytes that stand; tells whether that takes bytes that it
@@ -229,9 +225,10 @@ impl Shared {
         ensures passed { self.new ≡ with_pipe_after self.old user.0 inode (passed_to count (call ∷ []) (pipe_at self.old user.0 inode)) }
         ensures written { result ≡ went_in (passed_to count (call ∷ []) (pipe_at self.old user.0 inode)).answers }
     {
-        self.pipes[user.0 as usize].take(inode, count, &mut self.piece);
-        self.queues
-            .answer(user, call, Ok((count as u64, &self.piece[..count])))
+        let bytes = first_bytes(&self.pipes, user, inode, count);
+        let written = self.queues.answer(user, call, Ok((count as u64, bytes)));
+        self.pipes[user.0 as usize].drop_front(inode, count);
+        written
     }
 
     /// The bytes of the first writer, which fit, go in last, and it is answered; tells whether there were any.
@@ -252,18 +249,19 @@ impl Shared {
         self.queues.answer_first(writers, Ok((count as u64, &[])))
     }
 
-    /// The bytes of a call whose message was received, which fit, go in last, and it is answered; tells whether there were any.
-    pub fn put_bytes(&mut self, user: User, inode: u32, call: PipeCall) -> bool
+    /// Bytes that a call whose message was received writes, and that fit, go in last, and it is answered; tells whether there
+    /// were any. What the call's room keeps is not looked at.
+    pub fn put_bytes(&mut self, user: User, inode: u32, call: PipeCall, bytes: &[u8]) -> bool
         requires pipe { HasPipe self.old user.0 inode }
         requires received { IsCallReceived self.old user.0 call }
-        requires fits { length (pipe_at self.old user.0 inode).bytes + length call.bytes ≤ PIPE }
-        ensures taken { self.new ≡ with_pipe_after self.old user.0 inode (taken_from (call ∷ []) (pipe_at self.old user.0 inode)) }
-        ensures written { result ≡ went_in (taken_from (call ∷ []) (pipe_at self.old user.0 inode)).answers }
+        requires fits { length (pipe_at self.old user.0 inode).bytes + length bytes.now ≤ PIPE }
+        ensures taken { self.new ≡ with_pipe_after self.old user.0 inode (taken_from (record call { bytes = bytes.now } ∷ []) (pipe_at self.old user.0 inode)) }
+        ensures written { result ≡ went_in (taken_from (record call { bytes = bytes.now } ∷ []) (pipe_at self.old user.0 inode)).answers }
     {
-        let bytes = call.bytes();
         let count = bytes.len();
         self.pipes[user.0 as usize].append(inode, bytes);
-        self.queues.answer(user, call, Ok((count as u64, &[])))
+        self.queues.answer(user, call, Ok((count as u64, &[])));
+        count != 0
     }
 
     /// The bytes that stand in a pipe go.
@@ -280,6 +278,18 @@ fn row(pipes: &[UserPipes], user: User, inode: u32) -> Option<&PipeRow>
     ensures row { option_copied result ≡ row_of pipes.now user.0 inode }
 {
     pipes.get(user.0 as usize)?.row(inode)
+}
+
+/// So many of the first bytes that stand in a pipe.
+fn first_bytes(pipes: &[UserPipes], user: User, inode: u32, count: usize) -> &[u8]
+    requires stand { (row : PipeRow) × (row_of pipes.now user.0 inode ≡ Some row) × (count ≤ length row.bytes) }
+    ensures bytes { IfSome (row_of pipes.now user.0 inode) (λ row. result.now ≡ take count row.bytes) }
+    ensures within { length result.now ≤ PIPE }
+{
+    let Some(row) = row(pipes, user, inode) else {
+        unreachable!();
+    };
+    row.first_bytes(count)
 }
 
 /// In which list calls wait on a side of a pipe.

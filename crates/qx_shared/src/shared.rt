@@ -1,7 +1,7 @@
 //! The managers' lines, the nodes of all users' threads and server connections, and the pipes of all users, in which calls
 //! wait.
 
-ghost use Rattle.std.specs.Prelude.{◌≡◌, ℕ, ◌+◌, ◌-◌, ◌*◌, ◌<◌, ◌≤◌, [], false, option_map, length, drop, slice_get, max, IfOk, IsOk, OnOk, OnErr, IfSome, IsTrue, None, Some, Ok};
+ghost use Rattle.std.specs.Prelude.{◌≡◌, ℕ, ◌+◌, ◌-◌, ◌*◌, ◌<◌, ◌≤◌, [], false, option_map, length, drop, slice_get, is_some, max, IfOk, IsOk, OnOk, OnErr, IfSome, IsTrue, None, Some, Ok};
 ghost use Rattle.qx_types.specs.Managers.{manager_number};
 ghost use Rattle.qx_types.specs.declared.limits.TheConstants.Limits.{PRIORITY, PROCESSES, THREADS};
 ghost use Rattle.qx_machine.specs.Lines.{into};
@@ -25,8 +25,6 @@ use std::marker::Model;
 pub struct Shared {
     pub(crate) queues: Queues,
     pub(crate) pipes: Vec<UserPipes>,
-    /// Where bytes stand while they leave a pipe, since a ring may have them in two pieces.
-    pub(crate) piece: Box<[u8; Limits::PIPE]>,
 }
 
 impl Model for Shared {
@@ -54,12 +52,7 @@ impl Shared {
             let none = UserPipes::new(alloc)?;
             pipes.push(none)?;
         }
-        let piece = Box::new(alloc, [0; Limits::PIPE])?;
-        Ok(Shared {
-            queues,
-            pipes,
-            piece,
-        })
+        Ok(Shared { queues, pipes })
     }
 
     /// Puts a thread's message, which stands in no line, into a line (C Library Reference: `MsgSend`).
@@ -114,6 +107,13 @@ impl Shared {
         ensures gone { unblock_call (shared_line self.old (manager_number manager)) thread ≡ Some call → unblock_call (machine.line_without thread.proc.user.0 (item.Unblock thread.proc.num thread.tid call) (shared_line self.old (manager_number manager))) thread ≡ None }
     {
         self.queues.reply(manager, thread, call);
+    }
+
+    /// Whether anyone was answered.
+    pub fn has_answered(&self) -> bool
+        ensures answered { result ≡ is_some (slice_get self.now.answered 0) }
+    {
+        self.queues.has_answered()
     }
 
     /// Takes out the first of those who were answered, with the answer, and with the room for the thread's replies, unless the

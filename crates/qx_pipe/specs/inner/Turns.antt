@@ -14,6 +14,10 @@ settling c user inode = settle wanted offered (pipe_at c user inode)
 abbrev pub pipe_settled : Shared → ℕ → ℕ → Shared
 pipe_settled c user inode = with_pipe_after c user inode (settling c user inode)
 
+-- nobody waits in a pipe
+abbrev pub NobodyWaits : Pipe WaitingCall → Type 0
+NobodyWaits p = (p.readers ≡ []) × (p.writers ≡ [])
+
 -- how many wait in a pipe
 abbrev pub waiting_count : Pipe WaitingCall → ℕ
 waiting_count p = length p.readers + length p.writers

@@ -14,7 +14,7 @@ index_mut-requires c =
 pub append-requires : goal.append-requires
 append-requires c =
     let row = has_row c.self.inside.queues c.self.inside.pipes.items c.args.user.0 c.args.inode (rw (← c.self.view_is) at c.requires.pipe) in
-    record { fits = rw c.bytes-bytes.ensures.bytes (fits _ _ c.self.invariant _ _ row.0 row.1 _ c.index_mut.ensures.value (length c.args.call.bytes) (rw (← c.self.view_is) at c.requires.fits)) }
+    record { fits = fits _ _ c.self.invariant _ _ row.0 row.1 _ c.index_mut.ensures.value (length c.args.bytes.now) (rw (← c.self.view_is) at c.requires.fits) }
 
 pub answer-requires-clause-received : goal.answer-requires-clause-received
 answer-requires-clause-received c = received _ _ c.self.invariant _ (rw (← c.self.view_is) at c.requires.received)
@@ -22,9 +22,9 @@ answer-requires-clause-received c = received _ _ c.self.invariant _ (rw (← c.s
 pub invariant_of-self : goal.invariant_of-self
 invariant_of-self c =
     let row = has_row c.self.inside.queues c.self.inside.pipes.items c.args.user.0 c.args.inode (rw (← c.self.view_is) at c.requires.pipe) in
-    (refilled _ _ c.self.invariant _ _ row.0 row.1 _ ((c.args.call, Reply (length c.args.call.bytes) []) ∷ []) _ _ (rw c.bytes-bytes.ensures.bytes at c.answer.ensures.answered) (put-bytes _ _ c.self.invariant _ _ row.0 row.1 _ c.index_mut.ensures.value _ (λ bytes. bytes ++ c.args.call.bytes) (rw c.bytes-bytes.ensures.bytes at c.append.ensures.appended))).all_are
+    (refilled _ _ c.self.invariant _ _ row.0 row.1 _ ((record c.args.call { bytes = c.args.bytes.now }, Reply (length c.args.bytes.now) []) ∷ []) _ _ c.answer.ensures.answered (put-bytes _ _ c.self.invariant _ _ row.0 row.1 _ c.index_mut.ensures.value _ (λ bytes. bytes ++ c.args.bytes.now) c.append.ensures.appended)).all_are
 
 pub returns-clause-taken : goal.returns-clause-taken
 returns-clause-taken c =
     let row = has_row c.self.inside.queues c.self.inside.pipes.items c.args.user.0 c.args.inode (rw (← c.self.view_is) at c.requires.pipe) in
-    rw (← c.self.view_is, append-nil c.args.call.bytes) (refilled _ _ c.self.invariant _ _ row.0 row.1 _ ((c.args.call, Reply (length c.args.call.bytes) []) ∷ []) _ _ (rw c.bytes-bytes.ensures.bytes at c.answer.ensures.answered) (put-bytes _ _ c.self.invariant _ _ row.0 row.1 _ c.index_mut.ensures.value _ (λ bytes. bytes ++ c.args.call.bytes) (rw c.bytes-bytes.ensures.bytes at c.append.ensures.appended))).told_is
+    rw (← c.self.view_is, append-nil c.args.bytes.now) (refilled _ _ c.self.invariant _ _ row.0 row.1 _ ((record c.args.call { bytes = c.args.bytes.now }, Reply (length c.args.bytes.now) []) ∷ []) _ _ c.answer.ensures.answered (put-bytes _ _ c.self.invariant _ _ row.0 row.1 _ c.index_mut.ensures.value _ (λ bytes. bytes ++ c.args.bytes.now) c.append.ensures.appended)).told_is
