@@ -10,7 +10,20 @@ use qx_types::Manager;
 
 /// Gives each thread whose call waited and was answered its answer, with the room for its replies, unless the answer took
 /// that along; an unblock pulse of the call is in the pipe manager's line no more (C Library Reference: `MsgReply`).
+#[inline(always)]
 pub fn give_answers(users: &mut Users, queues: &mut Shared)
+    requires answering { Answering users.old queues.old }
+    ensures users { users.new ≡ given_users users.old queues.old.answered }
+    ensures queues { queues.new ≡ record queues.old { lines = given_lines queues.old.lines queues.old.answered; answered = [] } }
+    ensures kept { StandTogether users.new queues.new }
+{
+    if queues.has_answered() {
+        give_all(users, queues);
+    }
+}
+
+/// The same, where anyone was answered.
+fn give_all(users: &mut Users, queues: &mut Shared)
     requires answering { Answering users.old queues.old }
     ensures users { users.new ≡ given_users users.old queues.old.answered }
     ensures queues { queues.new ≡ record queues.old { lines = given_lines queues.old.lines queues.old.answered; answered = [] } }

@@ -45,6 +45,7 @@ impl Channel {
     /// Reference: `MsgReply`, `MsgError`). An unblock pulse of a call that is answered is in its line no more, and the user's
     /// events that are due give their pulses (`iofunc_notify_trigger`). Nothing happens to a thread with no such message. The
     /// bytes may have been read before.
+    #[inline(always)]
     pub fn serve(
         &mut self,
         resources: &mut Resources,
@@ -185,13 +186,13 @@ fn answer(
     queues: &mut Shared,
     message: TakenMessage,
     given: Result<Done, Errno>,
-    reply: &Reply,
+    reply: &mut Reply,
     spare: &mut Option<Room>,
 )
     requires taken { Some message.call ≡ taken_call (thread_row users.old message.thread) }
     requires room { IsReplied given → IsSome spare.old }
     requires nodes { HasServerNodes users.old queues.old message.thread.proc }
-    ensures users { users.new ≡ answered_users users.old message.thread message.call.target.over reply.now given }
+    ensures users { users.new ≡ answered_users users.old message.thread message.call.target.over reply.old given }
     ensures queues { queues.new ≡ answered_queues queues.old users.old users.new message.thread message.call given }
     ensures lost { IsReplied given → (lost : Option AnyServer) × LosesAt lost (process_of users.old message.thread.proc) (process_of users.new message.thread.proc) }
     ensures gone { IsReplied given → unblock_call (shared_line queues.old (manager_number message.call.target.manager)) message.thread ≡ Some message.call.number → unblock_call (line_without message.thread.proc.user.0 (item.Unblock message.thread.proc.num message.thread.tid message.call.number) (shared_line queues.old (manager_number message.call.target.manager))) message.thread ≡ None }
@@ -205,12 +206,8 @@ fn answer(
             return;
         }
         Ok(Done::Reply { status, effect }) => {
-            let replied = Replied {
-                status,
-                bytes: reply,
-                effect,
-            };
-            users.reply(thread, over, replied)
+            let replied = Replied { status, effect };
+            users.reply(thread, over, replied, reply)
         }
         Err(error) => users.fail(thread, over, error, None),
     };

@@ -17,7 +17,7 @@ ghost use Rattle.qx_chan.specs.inner.Users.{HasPlace};
 ghost use Rattle.qx_chan.specs.Users.{UsesAt, no_processes, process_of, thread_row, with_process_of, with_thread_row};
 
 use qx_machine::{Over, Sent, ServerName};
-use qx_process::{LostServers, Process, Replied, Room, ThreadCell, places};
+use qx_process::{LostServers, Process, Replied, Reply, Room, ThreadCell, places};
 use qx_procs::Processes;
 use qx_types::{Answer, Errno, MessageBytes, Prio, Proc, Thread, User};
 use std::alloc::{AllocError, Global};
@@ -184,13 +184,19 @@ impl Users {
     /// A thread whose message was received gets a reply, and the message does what it does to what it came over. Gives the server
     /// connection that its process has lost with that.
     #[tactic(auto, using(crate::proofs::ProcessLemmas::lends))]
-    pub fn reply(&mut self, thread: Thread, over: Over, replied: Replied<'_>) -> Option<ServerName>
+    pub fn reply(
+        &mut self,
+        thread: Thread,
+        over: Over,
+        replied: Replied,
+        reply: &mut Reply,
+    ) -> Option<ServerName>
         requires received { AwaitsReply (thread_row self.old thread) }
-        ensures replied { self.new ≡ with_process_of self.old thread.proc (process_replied thread.tid replied.entry.effect replied.entry.status replied.entry.bytes.now over) }
+        ensures replied { self.new ≡ with_process_of self.old thread.proc (process_replied thread.tid replied.effect replied.status reply.old over) }
         ensures lost { LosesAt result (process_of self.old thread.proc) (process_of self.new thread.proc) }
     {
         match self.process_mut(thread.proc) {
-            Some(process) => process.reply(thread.tid, over, replied),
+            Some(process) => process.reply(thread.tid, over, replied, reply),
             None => unreachable!(),
         }
     }

@@ -2,7 +2,7 @@ ghost use Rattle.std.specs.Prelude.{◌≡◌, ◌+◌, ◌≤◌, count_by, is_
 ghost use Rattle.std.specs.Option.{option_copied, option_copied_mut};
 ghost use Rattle.std.specs.Borrow.{sem};
 ghost use Rattle.qx_types.specs.declared.limits.TheConstants.Limits.{FIRST_CONNECTION, LAST_CONNECTION, SERVERS, THREADS};
-ghost use Rattle.qx_types.specs.declared.outcome.Answer.TheVariants.{Reply};
+ghost use Rattle.qx_types.specs.declared.outcome.Answer.TheVariants.{Reply as TheReply};
 ghost use Rattle.qx_machine.specs.Performing.{client_at};
 ghost use Rattle.qx_machine.specs.Processes as machine;
 ghost use Rattle.qx_machine.specs.Processes.{answered_thread, servers_at, with_thread};
@@ -11,6 +11,7 @@ ghost use Rattle.qx_process.specs.Reads.{AwaitsReply, BringsRoom, CanAttach, Can
 
 use crate::connections::{self, Connections};
 use crate::places;
+use crate::reply::Reply;
 use crate::room::Room;
 use crate::servers::{self, AllServers, LostServers, Sides};
 use crate::thread::{Replied, ThreadCell};
@@ -315,15 +316,21 @@ impl Process {
     /// A thread whose message was received gets a reply, and the message does what it does to what it came over (C Library
     /// Reference: `MsgReply`). Gives the server connection that the process has lost with that.
     #[tactic(auto, using(crate::proofs::RowLemmas::thread_absent))]
-    pub fn reply(&mut self, thread: u8, over: Over, replied: Replied<'_>) -> Option<ServerName>
+    pub fn reply(
+        &mut self,
+        thread: u8,
+        over: Over,
+        replied: Replied,
+        reply: &mut Reply,
+    ) -> Option<ServerName>
         requires received { AwaitsReply (row_at self.old.threads thread) }
-        ensures process { self.new ≡ machine.after_reply thread over replied.entry.effect (with_thread thread (answered_thread (Reply replied.entry.status replied.entry.bytes.now)) self.old) }
+        ensures process { self.new ≡ machine.after_reply thread over replied.effect (with_thread thread (answered_thread (TheReply replied.status reply.old)) self.old) }
         ensures lost { Loses result self.old self.new }
     {
         let Some(cell) = self.thread_mut(thread) else {
             unreachable!();
         };
-        cell.reply(replied.status, replied.bytes);
+        cell.reply(replied.status, reply);
         self.conclude(thread, over, replied.effect)
     }
 

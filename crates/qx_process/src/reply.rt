@@ -1,33 +1,38 @@
-ghost use Rattle.std.specs.Prelude.{◌≡◌, ◌+◌, ◌≤◌, ◌++◌, [], IfOk, IfSome, is_some, length, nat_le};
+ghost use Rattle.std.specs.Prelude.{◌≡◌, ◌+◌, ◌<◌, ◌≤◌, ◌++◌, [], IfOk, IfSome, is_some, length, nat_le};
 ghost use Rattle.qx_bytes.specs.declared.message.TheConstants.MessageBytes.{INLINE};
 ghost use Rattle.qx_types.specs.declared.limits.TheConstants.Limits.{BODY};
 
-use qx_types::{Limits, MessageBytes};
+use crate::room::Room;
+use qx_types::MessageBytes;
 use std::alloc::{AllocError, Global};
 use std::marker::Model;
+use std::mem;
 
-/// A place for each byte that a reply may have.
-const PLACES: usize = Limits::BODY;
+/// A place in the value for each of a few bytes.
+const PLACES: usize = MessageBytes::INLINE;
 
-/// The bytes of a reply while a function writes them, with room for as many as a reply may have: made once, and then
-/// used for each message (Writing a Resource Manager: the message buffer of `resmgr_context_t`).
+/// The bytes of a reply while a function writes them: few stand in the value, as in an answer, and more in a room. It is made
+/// once, and then used for each message (Writing a Resource Manager: the message buffer of `resmgr_context_t`).
 #[derive(Drop)]
 pub struct Reply {
-    /// The bytes stand first; what stands behind them is of earlier messages.
-    places: Box<[u8; PLACES]>,
+    alloc: Global,
+    /// How many bytes there are.
     len: usize,
+    /// Where they stand if they are few.
+    few: [u8; PLACES],
+    /// Where they stand if they are more.
+    many: Room,
 }
 
 impl Model for Reply {
-    ghost use Rattle.std.specs.Prelude.{◌≡◌, ◌≤◌, List, ℕ, take};
-    ghost use Rattle.qx_process.specs.declared.reply.TheConstants.{PLACES};
-    ghost use Rattle.qx_types.specs.declared.limits.TheConstants.Limits.{BODY};
+    ghost use Rattle.std.specs.Prelude.{◌≡◌, ◌<◌, List, ℕ, if◌then◌else◌, length, nat_le, take};
+    ghost use Rattle.qx_bytes.specs.declared.message.TheConstants.MessageBytes.{INLINE};
 
     ghost Value = { List ℕ };
 
-    ghost view = { λ r. take r.len r.places.value };
+    ghost view = { λ r. if nat_le r.len INLINE then take r.len r.few else r.many };
 
-    ghost invariant = { λ r. (PLACES ≡ BODY) × (r.len ≤ BODY) };
+    ghost invariant = { λ r. INLINE < r.len → length r.many ≡ r.len };
 }
 
 impl Reply {
@@ -36,8 +41,10 @@ impl Reply {
         ensures none { IfOk result (λ reply. reply ≡ []) }
     {
         Ok(Reply {
-            places: Box::new(alloc, [0; PLACES])?,
+            alloc,
             len: 0,
+            few: [0; PLACES],
+            many: Room::new(alloc)?,
         })
     }
 
@@ -54,8 +61,25 @@ impl Reply {
         ensures behind { self.new ≡ self.old ++ bytes.now }
     {
         let end = self.len + bytes.len();
-        self.places[self.len..end].copy_from_slice(bytes);
+        if end > MessageBytes::INLINE {
+            return self.push_many(bytes);
+        }
+        self.few[self.len..end].copy_from_slice(bytes);
         self.len = end;
+    }
+
+    /// The same where they are more than a few then: in the room, to which the few move first.
+    #[inline(never)]
+    fn push_many(&mut self, bytes: &[u8])
+        requires room { length self.old + length bytes.now ≤ BODY }
+        requires many { INLINE < length self.old + length bytes.now }
+        ensures behind { self.new ≡ self.old ++ bytes.now }
+    {
+        if self.len <= MessageBytes::INLINE {
+            self.many.keep(&self.few[..self.len]);
+        }
+        self.many.push(bytes);
+        self.len += bytes.len();
     }
 
     /// A copy of few bytes, for which no memory is taken; none of more.
@@ -63,17 +87,21 @@ impl Reply {
         ensures few { is_some result ≡ nat_le (length self.now) INLINE }
         ensures bytes { IfSome result (λ bytes. bytes ≡ self.now) }
     {
-        let len = self.as_slice().len();
-        if len > MessageBytes::INLINE {
+        if self.len > MessageBytes::INLINE {
             return None;
         }
-        match self.places.first_chunk() {
-            Some(few) => {
-                let alloc = *Box::allocator(&self.places);
-                Some(MessageBytes::from_buf_and_len(alloc, *few, len))
-            }
-            None => unreachable!(),
-        }
+        Some(MessageBytes::from_buf_and_len(self.alloc, self.few, self.len))
+    }
+
+    /// More than a few bytes, which go with the room that they stand in; another comes in its place.
+    #[inline(never)]
+    pub fn take_many(&mut self, other: Room) -> MessageBytes
+        requires many { INLINE < length self.old }
+        ensures bytes { result ≡ self.old }
+        ensures none { self.new ≡ [] }
+    {
+        self.len = 0;
+        mem::replace(&mut self.many, other).into_bytes()
     }
 
     /// The bytes.
@@ -81,6 +109,10 @@ impl Reply {
         ensures bytes { result.now ≡ self.now }
         ensures few { length result.now ≤ BODY }
     {
-        &self.places[..self.len]
+        if self.len > MessageBytes::INLINE {
+            self.many.as_slice()
+        } else {
+            &self.few[..self.len]
+        }
     }
 }

@@ -1,4 +1,4 @@
-ghost use Rattle.std.specs.Prelude.{◌≡◌, ◌≤◌, [], length, is_some, nat_le, IsSome, IfOk};
+ghost use Rattle.std.specs.Prelude.{◌≡◌, ◌+◌, ◌≤◌, ◌++◌, [], length, is_some, nat_le, IsSome, IfOk};
 ghost use Rattle.qx_bytes.specs.declared.message.TheConstants.MessageBytes.{INLINE};
 ghost use Rattle.qx_types.specs.declared.limits.TheConstants.Limits.{BODY};
 
@@ -35,21 +35,30 @@ impl Room {
         })
     }
 
-    /// Keeps a copy of these bytes in place of what was in it.
-    pub fn keep(&mut self, bytes: &[u8])
-        requires fits { length bytes.now ≤ BODY }
-        ensures kept { self.new ≡ bytes.now }
+    /// Puts bytes behind those that are in it.
+    pub fn push(&mut self, bytes: &[u8])
+        requires fits { length self.old + length bytes.now ≤ BODY }
+        ensures behind { self.new ≡ self.old ++ bytes.now }
     {
-        self.bytes.clear();
         match self.bytes.extend_from_slice(bytes) {
             Ok(()) => {}
             Err(_) => unreachable!(),
         }
     }
 
+    /// Keeps a copy of these bytes in place of what was in it.
+    pub fn keep(&mut self, bytes: &[u8])
+        requires fits { length bytes.now ≤ BODY }
+        ensures kept { self.new ≡ bytes.now }
+    {
+        self.bytes.clear();
+        self.push(bytes);
+    }
+
     /// The bytes in it.
     pub fn as_slice(&self) -> &[u8]
         ensures bytes { result.now ≡ self.now }
+        ensures few { length result.now ≤ BODY }
     {
         self.bytes.as_slice()
     }
@@ -62,15 +71,23 @@ impl Room {
         MessageBytes::inline(*self.bytes.allocator(), reply)
     }
 
-    /// The room filled with the bytes of a reply and shrunk to them. Where it can't be shrunk it stays whole, so nothing is
-    /// refused.
+    /// The room filled with the bytes of a reply, as it goes with them.
+    #[inline(never)]
     pub fn filled(mut self, reply: &[u8]) -> MessageBytes
         requires fits { length reply.now ≤ BODY }
         ensures bytes { result ≡ reply.now }
     {
         self.keep(reply);
+        self.into_bytes()
+    }
+
+    /// The bytes in it, as the room goes with them, shrunk to them where more than a few places are empty. Where it can't be
+    /// shrunk it stays whole, so nothing is refused.
+    pub fn into_bytes(self) -> MessageBytes
+        ensures bytes { result ≡ self }
+    {
         let Room { mut bytes } = self;
-        if reply.len() < Limits::TRANSFER {
+        if bytes.len() < Limits::TRANSFER {
             bytes.shrink_to_fit();
         }
         MessageBytes::from_vec(bytes)

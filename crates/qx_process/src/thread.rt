@@ -16,11 +16,10 @@ use std::alloc::{AllocError, Global};
 use std::marker::Model;
 use std::mem;
 
-/// What a message is replied: status and bytes, and what becomes of the connection that it came over.
+/// What a message is replied beside its bytes: its status, and what becomes of the connection that it came over.
 #[derive(Clone, Copy)]
-pub struct Replied<'a> {
+pub struct Replied {
     pub status: u64,
-    pub bytes: &'a Reply,
     pub effect: Effect,
 }
 
@@ -229,11 +228,11 @@ impl ThreadCell {
         self.doing = Doing::Answered(answer);
     }
 
-    /// The thread, whose message was received, gets a reply. Few bytes leave it the room for its replies, and more take that
-    /// along (C Library Reference: `MsgReply`).
-    pub fn reply(&mut self, status: u64, reply: &Reply)
+    /// The thread, whose message was received, gets a reply. Few bytes leave it the room for its replies; with more that comes
+    /// in the place of theirs (C Library Reference: `MsgReply`).
+    pub fn reply(&mut self, status: u64, reply: &mut Reply)
         requires received { IsSome (taken_in self.old.state) }
-        ensures row { self.new ≡ answered_thread (TheReply status reply.now) self.old }
+        ensures row { self.new ≡ answered_thread (TheReply status reply.old) self.old }
     {
         if let Some(bytes) = reply.inline() {
             self.doing = Doing::Answered(Answer::Reply(status, bytes));
@@ -243,7 +242,7 @@ impl ThreadCell {
             unreachable!();
         };
         self.has_room = false;
-        self.doing = Doing::Answered(Answer::Reply(status, room.filled(reply.as_slice())));
+        self.doing = Doing::Answered(Answer::Reply(status, reply.take_many(room)));
     }
 
     /// The thread gets another priority (C Library Reference: `SchedSet`).

@@ -1,17 +1,17 @@
 //! How a call of a thread is judged, by the mounts and the processes of its user.
 
-ghost use Rattle.std.specs.Prelude.{◌≡◌, ◌<◌, ◌≤◌, IsTrue, IfOk, None, Some, option_map, true};
+ghost use Rattle.std.specs.Prelude.{◌≡◌, ◌<◌, ◌≤◌, IsTrue, IfOk, None, Some, if◌then◌else◌, option_map, true};
 ghost use Rattle.qx_types.specs.declared.limits.TheConstants.Limits.{LAST_CONNECTION};
 ghost use Rattle.qx_wire.specs.Rests.{is_rest};
 ghost use Rattle.qx_paths.specs.Mounts.{mounts_of};
 ghost use Rattle.qx_machine.specs.declared.rows.State.TheVariants.{Ready};
 ghost use Rattle.qx_machine.specs.Calls as calls;
-ghost use Rattle.qx_machine.specs.Calls.{can_send, content_of};
+ghost use Rattle.qx_machine.specs.Calls.{Connects, Opens, can_send, content_of};
 ghost use Rattle.qx_machine.specs.Clients as clients;
 ghost use Rattle.qx_machine.specs.Judgements.{or_refused};
 ghost use Rattle.qx_machine.specs.Parts.{thread_of};
 ghost use Rattle.qx_machine.specs.Rows.{row_at};
-ghost use Rattle.qx_process.specs.Reads.{CanCall, CanGo, is_served};
+ghost use Rattle.qx_process.specs.Reads.{CanCall, CanGo, IsPriority, is_served};
 ghost use Rattle.qx_procs.specs.Calls.{CanAttachAt};
 ghost use Rattle.qx_requests.specs.Targets.{HasRest};
 ghost use Rattle.qx_requests.specs.inner.Targets.{IsConnection};
@@ -53,14 +53,15 @@ pub fn target_by<'a>(
     may_call(cell, request)?;
     let prio = cell.prio();
     match request {
-        Request::OpenPath { path, .. } => {
-            let place = place_of(config, thread.proc.user, mounts, path.as_slice())?;
-            let coid = Coid(free_connection(process)?);
-            Ok(to_place(processes, process, place, Over::New(coid), prio)?)
-        }
-        Request::StatPath { path } | Request::Unlink { path } | Request::Mkdir { path, .. } => {
-            let place = place_of(config, thread.proc.user, mounts, path.as_slice())?;
-            Ok(to_place(processes, process, place, Over::Side, prio)?)
+        Request::OpenPath { path, .. }
+        | Request::StatPath { path }
+        | Request::Unlink { path }
+        | Request::Mkdir { path, .. } => {
+            let is_opened = matches!(request, Request::OpenPath { .. });
+            let path = path.as_slice();
+            Ok(by_path(
+                config, mounts, processes, process, thread, path, is_opened, prio,
+            )?)
         }
         Request::Dup { coid } => {
             let connection = connection_at(process, *coid)?;
@@ -80,6 +81,36 @@ pub fn target_by<'a>(
             Ok(to_connection(connection, Over::Existing(*coid), prio))
         }
     }
+}
+
+/// A message of a thread to where a path leads: over a new connection where the path is opened, and else over a side
+/// connection. A function of its own, so that no other call clears places for it.
+#[inline(never)]
+fn by_path<'a>(
+    config: &Config,
+    mounts: &Mounts,
+    processes: &Processes,
+    process: &Process,
+    thread: Thread,
+    path: &'a [u8],
+    is_opened: bool,
+    prio: Prio,
+) -> Result<Addressed<'a>, Refusal>
+    requires there { Some process.now ≡ row_at processes.now thread.proc.num }
+    requires priority { IsPriority prio.0 }
+    ensures goes { IfOk result (λ addressed. CanGo addressed.target) }
+    ensures good { IfOk result (λ addressed. is_rest addressed.rest ≡ true) }
+    ensures rest { IfOk result (λ addressed. HasRest addressed.target.over addressed.rest) }
+    ensures place { IfOk result (λ addressed. CanAttachAt (row_at processes.now thread.proc.num) addressed.target) }
+    ensures target { result ≡ calls.target_at config.now thread.proc.user.0 (mounts_of mounts.now thread.proc.user.0) processes.now process.now prio (if is_opened then Opens path.now else Connects path.now) }
+{
+    let place = place_of(config, thread.proc.user, mounts, path)?;
+    let over = if is_opened {
+        Over::New(Coid(free_connection(process)?))
+    } else {
+        Over::Side
+    };
+    Ok(to_place(processes, process, place, over, prio)?)
 }
 
 /// Whether a thread may make a call with these fields.

@@ -68,6 +68,7 @@ pub fn stat(
 }
 
 /// Tells the status of what is open (C Library Reference: `fstat`).
+#[inline(always)]
 pub fn fstat(
     state: &Resources,
     opened: Result<Opened, Errno>,

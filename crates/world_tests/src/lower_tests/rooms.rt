@@ -60,7 +60,7 @@ fn reply(alloc: Global, way: Way) -> Result<Reply, AllocError> {
 }
 
 /// A thread whose message was received is answered.
-fn answer(cell: &mut ThreadCell, way: Way, reply: &Reply)
+fn answer(cell: &mut ThreadCell, way: Way, reply: &mut Reply)
     requires received { IsSome (taken_in cell.old.state) }
     ensures counted { cell.new.calls ≡ cell.old.calls }
 {
@@ -86,7 +86,7 @@ fn calls_without_memory(alloc: Global, cell: &mut ThreadCell) -> Result<bool, Al
 /// Whether a thread that was answered so calls again with all memory taken.
 fn calls_again(alloc: Global, way: Way) -> Result<bool, AllocError> {
     let mut cell = received(alloc)?;
-    answer(&mut cell, way, &reply(alloc, way)?);
+    answer(&mut cell, way, &mut reply(alloc, way)?);
     calls_without_memory(alloc, &mut cell)
 }
 
@@ -102,9 +102,9 @@ fn a_room_stays_with_its_thread_or_goes(rt: HostRuntime) -> Result<(), Fail> {
 fn frees_half(alloc: Global, cell: &mut ThreadCell, way: Way) -> Result<bool, AllocError>
     requires received { IsSome (taken_in cell.old.state) }
 {
-    let reply = reply(alloc, way)?;
+    let mut reply = reply(alloc, way)?;
     let pieces = take_all_memory(alloc)?;
-    answer(cell, way, &reply);
+    answer(cell, way, &mut reply);
     let piece: Result<Vec<u8>, AllocError> = Vec::with_capacity(alloc, Limits::BODY / 2);
     drop(pieces);
     Ok(piece.is_ok())

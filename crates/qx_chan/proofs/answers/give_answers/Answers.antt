@@ -1,33 +1,27 @@
-use Rattle.std.proofs.Common.{◌≡◌, List, [], Some, drop, slice_get, ap, ◌∙◌}
-use Rattle.qx_machine.specs.declared.rows.Queued.{Queued}
+use Rattle.std.specs.Prelude.{is_some}
+use Rattle.std.proofs.Common.{◌≡◌, false, List, [], ◌∷◌, slice_get, ap, refl, subst, sym, ◌∙◌}
+use Rattle.std.proofs.lemmas.Bool.{false≢true}
 use Rattle.qx_queues.specs.Queues.{UsersAnswer}
-use Rattle.qx_shared.specs.Shared.{HasNoCall, Shared}
-use Rattle.qx_queues.specs.Waiting.{addressed_by}
-use Rattle.qx_chan.specs.Users.{thread_row}
-use Rattle.qx_chan.proofs.GivenLemmas.{Answering-first, first-awaited, lines-first, users-first}
-use Rattle.qx_chan.proofs.RoomLemmas.{awaited-waits, waiting-brings}
+use Rattle.qx_shared.specs.Shared.{Shared}
+use Rattle.qx_chan.specs.inner.Kept.{StandTogether}
 use Rattle.qx_chan.proofs.answers.give_answers.Goals as goal
 
-abbrev cleared : Shared → List (List Queued) → Shared
-cleared queues lines = record queues { lines = lines; answered = [] }
+-- where there is no first one there is none
+nobody : (answers : List UsersAnswer) → is_some (slice_get answers 0) ≡ false → answers ≡ []
+nobody [] none = refl
+nobody (first ∷ answers) none = absurd (false≢true (sym none))
 
-pub answer-requires : goal.answer-requires
-answer-requires c =
-    let users = c.loop-taken.users in
-    let queues = c.loop-taken.queues in
-    let to : UsersAnswer = addressed_by c.in-Some.taken in
-    let own = first-awaited users queues.answered to c.in-Some.ensures.first c.loop-taken.invariant.kept.answered in
-    record { room = waiting-brings c.in-Some.taken.answer c.in-Some.taken.room (thread_row users to.thread) (awaited-waits to.call (thread_row users to.thread) own) c.in-Some.ensures.room }
+cleared : (queues : Shared) → is_some (slice_get queues.answered 0) ≡ false → ◌≡◌ {A = Shared} (record queues { answered = [] }) queues
+cleared queues none = ap (λ answers. record queues { answered = answers }) (sym (nobody queues.answered none))
 
-pub loop-taken-preserved : goal.loop-taken-preserved
-loop-taken-preserved c =
-    let users = c.loop-taken.users in
-    let queues = c.loop-taken.queues in
-    let to : UsersAnswer = addressed_by c.in-Some.taken in
-    let first : Some to ≡ slice_get queues.answered 0 = c.in-Some.ensures.first in
-    let none : HasNoCall (record queues { answered = drop 1 queues.answered }) to.thread = rw c.take_answered.ensures.rest at c.in-Some.ensures.gone in
-    record {
-      users = rw (c.reply.ensures.replied, c.answer.ensures.answered, c.take_answered.ensures.rest) (users-first users queues.answered to first ∙ c.loop-taken.invariant.users);
-      queues = rw (c.reply.ensures.replied, c.take_answered.ensures.rest) (ap (λ lines. cleared queues lines) (lines-first queues.lines queues.answered to first) ∙ c.loop-taken.invariant.queues);
-      kept = rw (c.reply.ensures.replied, c.answer.ensures.answered, c.take_answered.ensures.rest) (Answering-first users queues c.loop-taken.invariant.kept to first none (rw c.take_answered.ensures.rest at c.reply.ensures.gone));
-    }
+pub returns-else-has_answered-clause-users : goal.returns-else-has_answered-clause-users
+returns-else-has_answered-clause-users c =
+    rw (nobody c.args.queues.now.answered (sym c.has_answered.ensures.answered ∙ c.if-has_answered.false)) refl
+
+pub returns-else-has_answered-clause-queues : goal.returns-else-has_answered-clause-queues
+returns-else-has_answered-clause-queues c =
+    rw (nobody c.args.queues.now.answered (sym c.has_answered.ensures.answered ∙ c.if-has_answered.false)) refl
+
+pub returns-else-has_answered-clause-kept : goal.returns-else-has_answered-clause-kept
+returns-else-has_answered-clause-kept c =
+    subst (λ queues. StandTogether c.args.users.now queues) (cleared c.args.queues.now (sym c.has_answered.ensures.answered ∙ c.if-has_answered.false)) c.requires.answering.kept

@@ -2,7 +2,7 @@ use Rattle.std.proofs.Common.{◌≡◌, [], length}
 use Rattle.qx_shared.specs.Shared.{Shared}
 use Rattle.qx_chan.specs.inner.Answers.{given_lines, given_users}
 use Rattle.qx_chan.specs.inner.Kept.{Answering}
-use Rattle.qx_chan.proofs.answers.give_answers.Given as goal
+use Rattle.qx_chan.proofs.answers.give_all.Given as goal
 
 -- what is left to be given comes to what was to be given at first
 abbrev pub invariant-loop-taken : goal.invariant-loop-taken
