@@ -46,6 +46,9 @@ do_fstat() { alone; first open /a r 000; echo 'show a'; first fstat 3; }
 # A thread makes another connection to what it has open, and closes it.
 dup() { alone; first open /a r 000; echo 'show a'; ask dup 3; ask close 4; }
 
+# A thread opens what it has open already, and closes the new connection.
+again() { alone; first open /a r 000; echo 'show a'; ask open /a r 000; ask close 4; }
+
 # A thread opens COUNT connections, and closes them.
 opens() { for ((i = 0; i < $1; i++)); do ask open /a r 000; done; }
 closes() { for ((i = 1; i < $1; i++)); do ask close $((i + 2)); done; last close $(($1 + 2)); }
