@@ -35,6 +35,15 @@ impl MessageBytes {
     /// The most bytes that stand in the value, and so take no memory.
     pub const INLINE: usize = 40;
 
+    /// No bytes.
+    pub fn new(alloc: Global) -> Self
+        ensures none { result ≡ [] }
+    {
+        MessageBytes {
+            items: SmallVec::new(alloc),
+        }
+    }
+
     /// A copy of a few bytes, for which no memory is taken.
     pub fn inline(alloc: Global, bytes: &[u8]) -> Self
         requires few { length bytes.now ≤ INLINE }
@@ -80,10 +89,11 @@ impl MessageBytes {
         }
     }
 
-    /// Three pieces, one behind the other. Memory is taken only for more than a few bytes, once and for just so many.
+    /// Three pieces, one behind the other. More than a few bytes take the memory that is there, for which more is taken only
+    /// where they don't fit, once and for just so many; what stood in it goes.
     #[inline(always)]
     pub fn joined(
-        alloc: Global,
+        memory: &mut Vec<u8>,
         first: &[u8],
         second: &[u8],
         third: &[u8],
@@ -93,25 +103,33 @@ impl MessageBytes {
         ensures few { length (first.now ++ (second.now ++ third.now)) ≤ INLINE → IsOk result }
     {
         if first.len() + second.len() + third.len() > MessageBytes::INLINE {
-            return Ok(MessageBytes::many(alloc, first, second, third)?);
+            return Ok(MessageBytes::many(memory, first, second, third)?);
         }
         let mut few = [0; PLACES];
         let end = append(&mut few, 0, first);
         let end = append(&mut few, end, second);
         let end = append(&mut few, end, third);
+        let alloc = *memory.allocator();
         Ok(MessageBytes::from_buf_and_len(alloc, few, end))
     }
 
-    /// The same in one vector of just that length.
-    fn many(alloc: Global, first: &[u8], second: &[u8], third: &[u8]) -> Result<Self, AllocError>
+    /// The same in the memory that is there.
+    fn many(
+        memory: &mut Vec<u8>,
+        first: &[u8],
+        second: &[u8],
+        third: &[u8],
+    ) -> Result<Self, AllocError>
         requires fits { length (first.now ++ (second.now ++ third.now)) < 2 ^ 64 }
         ensures bytes { IfOk result (λ joined. joined ≡ first.now ++ (second.now ++ third.now)) }
     {
-        let mut many = Vec::with_capacity(alloc, first.len() + second.len() + third.len())?;
-        many.extend_from_slice(first)?;
-        many.extend_from_slice(second)?;
-        many.extend_from_slice(third)?;
-        Ok(MessageBytes::from_vec(many))
+        memory.clear();
+        memory.reserve_exact(first.len() + second.len() + third.len())?;
+        memory.extend_from_slice(first)?;
+        memory.extend_from_slice(second)?;
+        memory.extend_from_slice(third)?;
+        let none = Vec::new(*memory.allocator());
+        Ok(MessageBytes::from_vec(mem::replace(memory, none)))
     }
 
     /// The bytes, after which there are none.
@@ -119,9 +137,18 @@ impl MessageBytes {
         ensures bytes { result ≡ self.old }
         ensures none { self.new ≡ [] }
     {
-        let none = SmallVec::new(*self.items.allocator());
-        MessageBytes {
-            items: mem::replace(&mut self.items, none),
+        let none = MessageBytes::new(*self.items.allocator());
+        mem::replace(self, none)
+    }
+
+    /// The bytes go, and the memory of more than a few comes in place of that which is there, so that others can stand in it.
+    pub fn into_memory(self, memory: &mut Vec<u8>) {
+        if !self.items.spilled() {
+            return;
+        }
+        let MessageBytes { items } = self;
+        if let Ok(items) = items.into_vec() {
+            *memory = items;
         }
     }
 

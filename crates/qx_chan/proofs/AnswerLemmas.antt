@@ -2,7 +2,7 @@
 use Rattle.std.proofs.Common.{◌≡◌, ◌≢◌, inl, inr, ℕ, ◌&&◌, ◌==◌, Bool, true, false, List, Option, Some, None, refl, sym, ◌∙◌, ap}
 use Rattle.std.specs.Option.{option_to_list}
 use Rattle.std.specs.Prelude.{option_map}
-use Rattle.std.proofs.lemmas.Bool.{eqb-true}
+use Rattle.std.proofs.lemmas.Bool.{eqb-true, false≢true}
 use Rattle.qx_types.specs.Managers.{manager_number}
 use Rattle.qx_types.specs.declared.errno.Errno.{Errno}
 use Rattle.qx_types.specs.declared.names.Manager.{Manager}
@@ -22,6 +22,7 @@ use Rattle.qx_machine.specs.Processes.{Process, answered_thread, with_thread}
 use Rattle.qx_machine.specs.Rows.{with_row}
 use Rattle.qx_queues.specs.Queues.{stands, unblock_call}
 use Rattle.qx_shared.specs.Shared.{Shared, with_shared_line}
+use Rattle.qx_queues.proofs.EntryLemmas.{with_line-same}
 use Rattle.qx_queues.proofs.LineLemmas.{call-replied_other, call-withdrawn, replied-none, stands-replied, stands-withdrawn_other}
 use Rattle.qx_procs.specs.Calls.{LosesAt}
 use Rattle.qx_chan.specs.Calls.{queued_call}
@@ -195,3 +196,21 @@ module _ (users : Users) (queues : Shared) (thread : Thread) (call : Call) (is :
             let same : call.number ≡ other.0 = (pulse_of_call call_line other.0 (thread_row users thread) call is (kept.pulses thread call_line other.0 other.1)).1 in
             gone (other.1 ∙ ap Some (sym same))
       ]
+
+-- no unblock pulse of a call stands in a line that was not asked to unblock its thread
+pub unasked-none : (row : Option ThreadRow) (call : Call) → Some call ≡ taken_call row → call.is_asked ≡ false → (number other : ℕ) → asked_call number other row ≡ false
+unasked-none row call is unasked number other =
+    let it = waits taken_in row call is in
+    rw (it.there, taken_is it.row.state it.sent it.is, sym it.asked ∙ unasked) refl
+
+pub unasked-line : (users : Users) (queues : Shared) (thread : Thread) (call : Call) → Some call ≡ taken_call (thread_row users thread) → StandTogether users queues → call.is_asked ≡ false → (number : ℕ) → unblock_call (line_at queues.lines number) thread ≡ None
+unasked-line users queues thread call is kept unasked number = elim (option_cases (unblock_call (line_at queues.lines number) thread)) [
+  | inl none ↦ none
+  | inr other ↦ absurd (false≢true (sym (unasked-none (thread_row users thread) call is unasked number other.0) ∙ kept.pulses thread number other.0 other.1))
+]
+
+-- so that nothing goes with the answer
+pub unasked-same : (queues : Shared) (thread : Thread) (number call : ℕ) → unblock_call (line_at queues.lines number) thread ≡ None
+    → queues ≡ with_shared_line queues number (line_without thread.proc.user.0 (item.Unblock thread.proc.num thread.tid call))
+unasked-same queues thread number call none =
+    λ i. record queues { lines = with_line-same queues.lines number (line_without thread.proc.user.0 (item.Unblock thread.proc.num thread.tid call)) (replied-none (line_at queues.lines number) thread call none) i }

@@ -1,6 +1,6 @@
 //! Messages and unblock pulses, as a worker performs them.
 
-ghost use Rattle.std.specs.Prelude.{◌≡◌, ◌≤◌, List, ℕ, Option, Some, length, IfOk, IfSome, IsFalse, IsOk, IsSome, IsTrue, None, OnErr, OnOk};
+ghost use Rattle.std.specs.Prelude.{◌≡◌, false, List, ℕ, Option, Some, IfOk, IfSome, IsFalse, IsOk, IsSome, IsTrue, None, OnErr, OnOk};
 ghost use Rattle.std.specs.Option.{option_copied};
 ghost use Rattle.qx_types.specs.Managers.{manager_number};
 ghost use Rattle.qx_wire.specs.Reading as reading;
@@ -12,7 +12,7 @@ ghost use Rattle.qx_machine.specs.Wants.{bytes_want_memory, thread_wants_memory}
 ghost use Rattle.qx_machine.specs.declared.rows.OwnItem.TheVariants as item;
 ghost use Rattle.qx_machine.specs.declared.rows.ServerName.{ServerName as AnyServer};
 ghost use Rattle.qx_queues.specs.Queues.{unblock_call};
-ghost use Rattle.qx_shared.specs.Shared.{IsReceived, shared_line};
+ghost use Rattle.qx_shared.specs.Shared.{IsReceived, shared_line, with_shared_line};
 ghost use Rattle.qx_resmgr.specs.Deeds.{HasRoomAfter, IsReplied};
 ghost use Rattle.qx_resources.specs.Ranges.{IsInRanges};
 ghost use Rattle.qx_resources.specs.State.{HasUser, told};
@@ -44,7 +44,7 @@ impl Channel {
     /// wait; so are the calls that waited and can be answered then (Writing a Resource Manager: `dispatch_handler`; C Library
     /// Reference: `MsgReply`, `MsgError`). An unblock pulse of a call that is answered is in its line no more, and the user's
     /// events that are due give their pulses (`iofunc_notify_trigger`). Nothing happens to a thread with no such message. The
-    /// bytes may have been read before.
+    /// bytes may have been read before; more than a few leave their memory for others.
     #[inline(always)]
     pub fn serve(
         &mut self,
@@ -53,6 +53,7 @@ impl Channel {
         read: Option<&Parsed>,
         moment: u64,
         reply: &mut Reply,
+        memory: &mut Vec<u8>,
     ) -> Result<(), AllocError>
         requires user { resources.old.user ≡ thread.proc.user.0 }
         requires read { IsReadOf (option_copied read) (taken_of (thread_row self.old.users thread)) }
@@ -72,7 +73,7 @@ impl Channel {
         let (users, tables, spare) = (&mut self.users, &mut self.tables, &mut self.spare);
         let given = perform(users, tables, resources, message, read, reply, spare)?;
         let queues = &mut tables.shared;
-        answer(users, queues, message, given, reply, spare);
+        answer(users, queues, message, given, reply, spare, memory);
         give_answers(users, queues);
         Ok(())
     }
@@ -188,10 +189,12 @@ fn answer(
     given: Result<Done, Errno>,
     reply: &mut Reply,
     spare: &mut Option<Room>,
+    memory: &mut Vec<u8>,
 )
     requires taken { Some message.call ≡ taken_call (thread_row users.old message.thread) }
     requires room { IsReplied given → IsSome spare.old }
     requires nodes { HasServerNodes users.old queues.old message.thread.proc }
+    requires unasked { message.call.is_asked ≡ false → unblock_call (shared_line queues.old (manager_number message.call.target.manager)) message.thread ≡ None }
     ensures users { users.new ≡ answered_users users.old message.thread message.call.target.over reply.old given }
     ensures queues { queues.new ≡ answered_queues queues.old users.old users.new message.thread message.call given }
     ensures lost { IsReplied given → (lost : Option AnyServer) × LosesAt lost (process_of users.old message.thread.proc) (process_of users.new message.thread.proc) }
@@ -202,17 +205,29 @@ fn answer(
     let over = call.target.over;
     let lost = match given {
         Ok(Done::NoReply) => {
-            *spare = Some(users.wait(thread));
+            *spare = Some(users.wait(thread, memory));
             return;
         }
         Ok(Done::Reply { status, effect }) => {
             let replied = Replied { status, effect };
-            users.reply(thread, over, replied, reply)
+            users.reply(thread, over, replied, reply, memory)
         }
         Err(error) => users.fail(thread, over, error, None),
     };
-    queues.reply(call.target.manager, thread, call.number);
+    drop_pulse(queues, thread, call);
     servers::disconnect(queues, thread.proc, lost);
+}
+
+/// The unblock pulse of a call that is answered is in the line no more, where one stands only if the call was asked to unblock
+/// its thread.
+fn drop_pulse(queues: &mut Shared, thread: Thread, call: Call)
+    requires unasked { call.is_asked ≡ false → unblock_call (shared_line queues.old (manager_number call.target.manager)) thread ≡ None }
+    ensures dropped { queues.new ≡ with_shared_line queues.old (manager_number call.target.manager) (line_without thread.proc.user.0 (item.Unblock thread.proc.num thread.tid call.number)) }
+    ensures gone { unblock_call (shared_line queues.old (manager_number call.target.manager)) thread ≡ Some call.number → unblock_call (line_without thread.proc.user.0 (item.Unblock thread.proc.num thread.tid call.number) (shared_line queues.old (manager_number call.target.manager))) thread ≡ None }
+{
+    if call.is_asked {
+        queues.reply(call.target.manager, thread, call.number);
+    }
 }
 
 /// Whose message a call is.

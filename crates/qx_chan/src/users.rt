@@ -1,6 +1,6 @@
 //! The processes of all users, from 1: a place for each number.
 
-ghost use Rattle.std.specs.Prelude.{◌≡◌, ◌≤◌, IfOk, IfSome, IsOk, IsSome, IsTrue, OnOk, OnErr, OnSome, None, Some, length, slice_set};
+ghost use Rattle.std.specs.Prelude.{◌≡◌, ◌≤◌, IfOk, IfSome, IsOk, IsSome, IsTrue, OnOk, OnErr, OnSome, None, Some, slice_set};
 ghost use Rattle.std.specs.Option.{option_copied, option_copied_mut};
 ghost use Rattle.std.specs.Borrow.{sem};
 ghost use Rattle.qx_types.specs.declared.limits.TheConstants.Limits.{PROCESSES};
@@ -159,13 +159,14 @@ impl Users {
         }
     }
 
-    /// A thread's message, which was received, is served and left without a reply; gives the room for that.
-    pub fn wait(&mut self, thread: Thread) -> Room
+    /// A thread's message, which was received, is served and left without a reply, and leaves its memory for others; gives the
+    /// room for the reply.
+    pub fn wait(&mut self, thread: Thread, memory: &mut Vec<u8>) -> Room
         requires received { IsSome (taken_bytes (thread_row self.old thread)) }
         ensures served { self.new ≡ with_thread_row self.old thread served_thread }
     {
         match self.thread_mut(thread) {
-            Some(cell) => cell.wait(),
+            Some(cell) => cell.wait(memory),
             None => unreachable!(),
         }
     }
@@ -181,8 +182,8 @@ impl Users {
         }
     }
 
-    /// A thread whose message was received gets a reply, and the message does what it does to what it came over. Gives the server
-    /// connection that its process has lost with that.
+    /// A thread whose message was received gets a reply, and the message does what it does to what it came over, and leaves its
+    /// memory for others. Gives the server connection that its process has lost with that.
     #[tactic(auto, using(crate::proofs::ProcessLemmas::lends))]
     pub fn reply(
         &mut self,
@@ -190,13 +191,14 @@ impl Users {
         over: Over,
         replied: Replied,
         reply: &mut Reply,
+        memory: &mut Vec<u8>,
     ) -> Option<ServerName>
         requires received { AwaitsReply (thread_row self.old thread) }
         ensures replied { self.new ≡ with_process_of self.old thread.proc (process_replied thread.tid replied.effect replied.status reply.old over) }
         ensures lost { LosesAt result (process_of self.old thread.proc) (process_of self.new thread.proc) }
     {
         match self.process_mut(thread.proc) {
-            Some(process) => process.reply(thread.tid, over, replied, reply),
+            Some(process) => process.reply(thread.tid, over, replied, reply, memory),
             None => unreachable!(),
         }
     }

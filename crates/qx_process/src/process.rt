@@ -313,8 +313,8 @@ impl Process {
         }
     }
 
-    /// A thread whose message was received gets a reply, and the message does what it does to what it came over (C Library
-    /// Reference: `MsgReply`). Gives the server connection that the process has lost with that.
+    /// A thread whose message was received gets a reply, and the message does what it does to what it came over, and leaves its
+    /// memory for others (C Library Reference: `MsgReply`). Gives the server connection that the process has lost with that.
     #[tactic(auto, using(crate::proofs::RowLemmas::thread_absent))]
     pub fn reply(
         &mut self,
@@ -322,6 +322,7 @@ impl Process {
         over: Over,
         replied: Replied,
         reply: &mut Reply,
+        memory: &mut Vec<u8>,
     ) -> Option<ServerName>
         requires received { AwaitsReply (row_at self.old.threads thread) }
         ensures process { self.new ≡ machine.after_reply thread over replied.effect (with_thread thread (answered_thread (TheReply replied.status reply.old)) self.old) }
@@ -330,7 +331,7 @@ impl Process {
         let Some(cell) = self.thread_mut(thread) else {
             unreachable!();
         };
-        cell.reply(replied.status, reply);
+        cell.reply(replied.status, reply, memory);
         self.conclude(thread, over, replied.effect)
     }
 

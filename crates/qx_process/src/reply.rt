@@ -3,36 +3,42 @@ ghost use Rattle.qx_bytes.specs.declared.message.TheConstants.MessageBytes.{INLI
 ghost use Rattle.qx_types.specs.declared.limits.TheConstants.Limits.{BODY};
 
 use crate::room::Room;
-use qx_types::MessageBytes;
+use qx_types::{Limits, MessageBytes};
 use std::alloc::{AllocError, Global};
 use std::marker::Model;
 use std::mem;
 
-/// A place in the value for each of a few bytes.
-const PLACES: usize = MessageBytes::INLINE;
+/// A place for each byte that a reply may have.
+const PLACES: usize = Limits::BODY;
 
-/// The bytes of a reply while a function writes them: few stand in the value, as in an answer, and more in a room. It is made
-/// once, and then used for each message (Writing a Resource Manager: the message buffer of `resmgr_context_t`).
+/// The bytes of a reply while a function writes them, with room for as many as a reply may have: made once, and then used for
+/// each message (Writing a Resource Manager: the message buffer of `resmgr_context_t`). Bytes that come in pieces stand in
+/// an array; more than a few that come first stand in a room, with which they leave.
 #[derive(Drop)]
 pub struct Reply {
-    alloc: Global,
-    /// How many bytes there are.
+    /// The bytes that came in pieces stand first; what stands behind them is of earlier messages.
+    places: Box<[u8; PLACES]>,
+    /// How many these are.
     len: usize,
-    /// Where they stand if they are few.
-    few: [u8; PLACES],
-    /// Where they stand if they are more.
-    many: Room,
+    /// Whether the bytes stand in the room.
+    is_in_room: bool,
+    room: Room,
 }
 
 impl Model for Reply {
-    ghost use Rattle.std.specs.Prelude.{◌≡◌, ◌<◌, List, ℕ, if◌then◌else◌, length, nat_le, take};
+    ghost use Rattle.std.specs.Prelude.{◌≡◌, ◌<◌, ◌≤◌, IsTrue, List, ℕ, if◌then◌else◌, length, take};
     ghost use Rattle.qx_bytes.specs.declared.message.TheConstants.MessageBytes.{INLINE};
+    ghost use Rattle.qx_types.specs.declared.limits.TheConstants.Limits.{BODY};
 
     ghost Value = { List ℕ };
 
-    ghost view = { λ r. if nat_le r.len INLINE then take r.len r.few else r.many };
+    ghost view = { λ r. if r.is_in_room then r.room else take r.len r.places.value };
 
-    ghost invariant = { λ r. INLINE < r.len → length r.many ≡ r.len };
+    ghost invariant = { λ r. record {
+      places : length r.places.value ≡ BODY;
+      few : r.len ≤ BODY;
+      many : IsTrue r.is_in_room → INLINE < length r.room;
+    } };
 }
 
 impl Reply {
@@ -41,10 +47,10 @@ impl Reply {
         ensures none { IfOk result (λ reply. reply ≡ []) }
     {
         Ok(Reply {
-            alloc,
+            places: Box::new(alloc, [0; PLACES])?,
             len: 0,
-            few: [0; PLACES],
-            many: Room::new(alloc)?,
+            is_in_room: false,
+            room: Room::new(alloc)?,
         })
     }
 
@@ -53,6 +59,7 @@ impl Reply {
         ensures none { self.new ≡ [] }
     {
         self.len = 0;
+        self.is_in_room = false;
     }
 
     /// Bytes behind those that are there, for which there is room.
@@ -60,26 +67,41 @@ impl Reply {
         requires room { length self.old + length bytes.now ≤ BODY }
         ensures behind { self.new ≡ self.old ++ bytes.now }
     {
-        let end = self.len + bytes.len();
-        if end > MessageBytes::INLINE {
-            return self.push_many(bytes);
+        if self.is_in_room {
+            return self.push_in_room(bytes);
         }
-        self.few[self.len..end].copy_from_slice(bytes);
+        if self.len == 0 && bytes.len() > MessageBytes::INLINE {
+            return self.keep(bytes);
+        }
+        let end = self.len + bytes.len();
+        self.places[self.len..end].copy_from_slice(bytes);
         self.len = end;
     }
 
-    /// The same where they are more than a few then: in the room, to which the few move first.
+    /// The same into the room.
     #[inline(never)]
-    fn push_many(&mut self, bytes: &[u8])
+    fn push_in_room(&mut self, bytes: &[u8])
         requires room { length self.old + length bytes.now ≤ BODY }
         requires many { INLINE < length self.old + length bytes.now }
         ensures behind { self.new ≡ self.old ++ bytes.now }
     {
-        if self.len <= MessageBytes::INLINE {
-            self.many.keep(&self.few[..self.len]);
+        if !self.is_in_room {
+            self.room.keep(&self.places[..self.len]);
+            self.is_in_room = true;
         }
-        self.many.push(bytes);
-        self.len += bytes.len();
+        self.room.push(bytes);
+    }
+
+    /// The first bytes, which are more than a few.
+    #[inline(never)]
+    fn keep(&mut self, bytes: &[u8])
+        requires none { self.old ≡ [] }
+        requires room { length bytes.now ≤ BODY }
+        requires many { INLINE < length bytes.now }
+        ensures kept { self.new ≡ bytes.now }
+    {
+        self.room.keep(bytes);
+        self.is_in_room = true;
     }
 
     /// A copy of few bytes, for which no memory is taken; none of more.
@@ -87,21 +109,31 @@ impl Reply {
         ensures few { is_some result ≡ nat_le (length self.now) INLINE }
         ensures bytes { IfSome result (λ bytes. bytes ≡ self.now) }
     {
-        if self.len > MessageBytes::INLINE {
+        if self.is_in_room || self.len > MessageBytes::INLINE {
             return None;
         }
-        Some(MessageBytes::from_buf_and_len(self.alloc, self.few, self.len))
+        let alloc = *Box::allocator(&self.places);
+        if self.len == 0 {
+            return Some(MessageBytes::new(alloc));
+        }
+        match self.places.first_chunk() {
+            Some(few) => Some(MessageBytes::from_buf_and_len(alloc, *few, self.len)),
+            None => unreachable!(),
+        }
     }
 
-    /// More than a few bytes, which go with the room that they stand in; another comes in its place.
+    /// More than a few bytes, which go with the room that they stand in, while another comes in its place, or else with the
+    /// other.
     #[inline(never)]
     pub fn take_many(&mut self, other: Room) -> MessageBytes
         requires many { INLINE < length self.old }
         ensures bytes { result ≡ self.old }
-        ensures none { self.new ≡ [] }
     {
-        self.len = 0;
-        mem::replace(&mut self.many, other).into_bytes()
+        if self.is_in_room {
+            self.is_in_room = false;
+            return mem::replace(&mut self.room, other).into_bytes();
+        }
+        other.filled(&self.places[..self.len])
     }
 
     /// The bytes.
@@ -109,10 +141,10 @@ impl Reply {
         ensures bytes { result.now ≡ self.now }
         ensures few { length result.now ≤ BODY }
     {
-        if self.len > MessageBytes::INLINE {
-            self.many.as_slice()
+        if self.is_in_room {
+            self.room.as_slice()
         } else {
-            &self.few[..self.len]
+            &self.places[..self.len]
         }
     }
 }

@@ -27,14 +27,19 @@ const MANAGERS: usize = Manager::COUNT;
 #[derive(Drop)]
 pub struct Servers {
     places: ArrayVec<Option<ServerConnection>, PLACES>,
+    /// The number of the one in use, if one is.
+    in_use: Option<u8>,
 }
 
 impl Model for Servers {
+    ghost use Rattle.std.specs.Prelude.{◌≡◌};
     ghost use Rattle.qx_machine.specs.Servers as machine;
 
     ghost Value = { machine.Servers };
 
     ghost view = { λ s. s.places.items };
+
+    ghost invariant = { λ s. s.in_use ≡ machine.in_use s.places.items };
 }
 
 /// Those at each manager.
@@ -64,7 +69,10 @@ impl Default for Servers {
     {
         let mut places = ArrayVec::new();
         places.push(None);
-        Servers { places }
+        Servers {
+            places,
+            in_use: None,
+        }
     }
 }
 
@@ -73,12 +81,7 @@ impl Servers {
     pub fn in_use(&self) -> Option<u8>
         ensures number { result ≡ machine.in_use self.now }
     {
-        for number in 0..self.places.len() {
-            if is_in_use(&self.places[number]) {
-                return Some(number as u8);
-            }
-        }
-        None
+        self.in_use
     }
 
     /// How many there are, those whose disconnect pulse was made among them.
@@ -125,6 +128,7 @@ impl Servers {
             number,
             ServerConnection { is_leaving: false },
         );
+        self.in_use = in_use_among(&self.places);
     }
 
     /// None is in use any more.
@@ -136,6 +140,7 @@ impl Servers {
                 server.is_leaving = true;
             }
         }
+        self.in_use = None;
     }
 
     /// The one of a number goes, if it was left.
@@ -201,6 +206,18 @@ pub fn free(servers: &mut AllServers, server: ServerName)
     ensures servers { servers.new.items ≡ with_line servers.old.items (manager_number server.manager) (machine.without_left server.number) }
 {
     servers[server.manager.number()].free(server.number);
+}
+
+/// The number of the one in use, if one is.
+fn in_use_among(places: &ArrayVec<Option<ServerConnection>, PLACES>) -> Option<u8>
+    ensures number { result ≡ machine.in_use places.now.items }
+{
+    for number in 0..places.len() {
+        if is_in_use(&places[number]) {
+            return Some(number as u8);
+        }
+    }
+    None
 }
 
 /// Whether a server connection is in use.

@@ -196,10 +196,10 @@ impl ThreadCell {
         }
     }
 
-    /// The thread's message, which was received, is served and left without a reply: its bytes go, and the room for the reply
-    /// goes to the caller, since the answer is to bring one (Writing a Resource Manager: a client is REPLY-blocked until it
-    /// is replied to).
-    pub fn wait(&mut self) -> Room
+    /// The thread's message, which was received, is served and left without a reply: its bytes go and leave their memory for
+    /// others, and the room for the reply goes to the caller, since the answer is to bring one (Writing a Resource Manager: a
+    /// client is REPLY-blocked until it is replied to).
+    pub fn wait(&mut self, memory: &mut Vec<u8>) -> Room
         requires received { IsSome (taken_in self.old.state) }
         ensures row { self.new ≡ served_thread self.old }
     {
@@ -210,7 +210,7 @@ impl ThreadCell {
             unreachable!();
         };
         *stage = Stage::Waiting;
-        sent.bytes.take();
+        sent.bytes.take().into_memory(memory);
         room
     }
 
@@ -229,20 +229,21 @@ impl ThreadCell {
     }
 
     /// The thread, whose message was received, gets a reply. Few bytes leave it the room for its replies; with more that comes
-    /// in the place of theirs (C Library Reference: `MsgReply`).
-    pub fn reply(&mut self, status: u64, reply: &mut Reply)
+    /// in the place of theirs. The message leaves its memory for others (C Library Reference: `MsgReply`).
+    pub fn reply(&mut self, status: u64, reply: &mut Reply, memory: &mut Vec<u8>)
         requires received { IsSome (taken_in self.old.state) }
         ensures row { self.new ≡ answered_thread (TheReply status reply.old) self.old }
     {
         if let Some(bytes) = reply.inline() {
-            self.doing = Doing::Answered(Answer::Reply(status, bytes));
+            answered(&mut self.doing, Answer::Reply(status, bytes), memory);
             return;
         }
         let Some(room) = self.room.take() else {
             unreachable!();
         };
         self.has_room = false;
-        self.doing = Doing::Answered(Answer::Reply(status, reply.take_many(room)));
+        let bytes = reply.take_many(room);
+        answered(&mut self.doing, Answer::Reply(status, bytes), memory);
     }
 
     /// The thread gets another priority (C Library Reference: `SchedSet`).
@@ -277,5 +278,16 @@ impl ThreadCell {
             Doing::Sent(Stage::Taken, sent) => sent.bytes,
             _ => MessageBytes::inline(alloc, &[]),
         }
+    }
+}
+
+/// An answer comes in the place of a message, which leaves its memory for others.
+#[inline(always)]
+fn answered(doing: &mut Doing, answer: Answer, memory: &mut Vec<u8>)
+    ensures answered { doing.new ≡ Doing.Answered answer }
+{
+    let before = mem::replace(doing, Doing::Answered(answer));
+    if let Doing::Sent(_, sent) = before {
+        sent.bytes.into_memory(memory);
     }
 }

@@ -14,16 +14,20 @@ use qx_wire::{BorrowedBytes, Message, Rest, encode};
 use std::alloc::Global;
 
 /// The bytes that a request sends: the spelling of its message, with what its path has behind the mount, or a copy of its
-/// bytes (C Library Reference: `MsgSend`).
-pub fn encoded(alloc: Global, request: &Request, rest: &Path<'_>) -> Result<MessageBytes, NoMemory>
+/// bytes. More than a few take the memory that is there (C Library Reference: `MsgSend`).
+pub fn encoded(
+    memory: &mut Vec<u8>,
+    request: &Request,
+    rest: &Path<'_>,
+) -> Result<MessageBytes, NoMemory>
     requires sendable { IsTrue (can_send (content_of request.now rest.now)) }
     ensures bytes { IfOk result (λ bytes. bytes ≡ bytes_of (content_of request.now rest.now)) }
     ensures few { rest.now ≡ [] → length (bytes_of (content_of request.now rest.now)) ≤ INLINE → IsOk result }
 {
-    let joined = joined(alloc, rest)?;
+    let joined = joined(*memory.allocator(), rest)?;
     match content_of(request, Rest::new(joined.as_slice())) {
-        Content::Spelled(message) => encode(alloc, &message),
-        Content::Raw(bytes) => Ok(MessageBytes::from_slice(alloc, bytes.as_slice())?),
+        Content::Spelled(message) => encode(memory, &message),
+        Content::Raw(bytes) => Ok(MessageBytes::joined(memory, bytes.as_slice(), &[], &[])?),
     }
 }
 

@@ -1,5 +1,5 @@
 -- A client's step, by what the channel makes of it.
-use Rattle.std.proofs.Common.{◌≡◌, inl, inr, ℕ, List, [], Option, Some, None, Result, Ok, Err, slice_set, refl, sym, ap, ◌∙◌}
+use Rattle.std.proofs.Common.{◌≡◌, inl, inr, ℕ, List, [], Option, Some, None, Result, Ok, Err, slice_set, refl, sym, ap, ◌∙◌, Bool, false}
 use Rattle.std.specs.Prelude.{IfOk, IsErr, IsTrue, option_map}
 use Rattle.std.proofs.lemmas.Bool.{cases_Bool}
 use Rattle.qx_types.specs.Configuration.{Configuration}
@@ -46,7 +46,7 @@ use Rattle.qx_steps.specs.inner.Steps.{sent_to}
 use Rattle.qx_steps.specs.Steps.{target_in}
 use Rattle.qx_chan.proofs.RowReads.{option_cases}
 use Rattle.qx_steps.proofs.LeftLemmas.{AreLeft, left-kept, left-put, left-thread, queued-keeps, starts}
-use Rattle.qx_steps.proofs.OwnerLemmas.{Owner, nobody, others_kept, owner, sound-step}
+use Rattle.qx_steps.proofs.OwnerLemmas.{Owner, exits, nobody, others_kept, owner, sound-step}
 use Rattle.qx_steps.proofs.SettledLemmas.{settled-processes}
 use Rattle.qx_steps.proofs.StillLemmas.{still-asking, still-ranking, still-send, still-spawn, still-taking, still-withdrawing, world-told}
 use Rattle.qx_steps.proofs.PartsLemmas.{result_cases}
@@ -60,7 +60,7 @@ taken_outcome (Some answer) = outcome_of answer
 row_in : (c : Channel) (thread : Thread) (ps : List (Option Process)) (row : ThreadRow) → row_at c.users thread.proc.user.0 ≡ Some ps → thread_row c.users thread ≡ Some row → thread_of thread.tid (row_at ps thread.proc.num) ≡ Some row
 row_in c thread ps row user is = rw user at is
 
-module _ (config : Configuration) (c : Channel) (ks : List (Option Kept)) (hands : List (Option Held)) (sound : IsSound config c ks hands) where
+module _ (config : Configuration) (c : Channel) (ks : List (Option Kept)) (hands : List (Option Held)) {marks : List Bool} (sound : IsSound config c ks hands marks) where
   abbrev w : World
   w = world_of config c ks hands
 
@@ -305,26 +305,26 @@ module _ (config : Configuration) (c : Channel) (ks : List (Option Kept)) (hands
 
   -- ---- what is sound still
 
-  after_sound : (e : Step) (d : Channel) (outcome : Outcome) → AreResourcesOf d ks → step w e ≡ record { world = world_of config d ks hands; outcome = outcome } → IsSound config d ks hands
-  after_sound e d outcome users is = sound-step config c ks hands sound d ks hands e users (sym (ap (λ after. after.world) is))
+  after_sound : (e : Step) (d : Channel) (outcome : Outcome) → ((user : ℕ) → exits e user ≡ false) → AreResourcesOf d ks → step w e ≡ record { world = world_of config d ks hands; outcome = outcome } → IsSound config d ks hands marks
+  after_sound e d outcome stays users is = sound-step config c ks hands sound d ks hands e stays users (sym (ap (λ after. after.world) is))
 
-  pub spawn-sound : (user : User) (threads : ℕ) (prio : Prio) → IsSound config (after_spawn c user.0 threads prio.0) ks hands
-  spawn-sound user threads prio = after_sound _ _ _ (still-spawn c ks sound.users user.0 threads prio.0) (spawn-step user threads prio)
+  pub spawn-sound : (user : User) (threads : ℕ) (prio : Prio) → IsSound config (after_spawn c user.0 threads prio.0) ks hands marks
+  spawn-sound user threads prio = after_sound _ _ _ (λ user. refl) (still-spawn c ks sound.users user.0 threads prio.0) (spawn-step user threads prio)
 
-  pub take_reply-sound : (thread : Thread) → IsSound config (after_taking c thread) ks hands
-  take_reply-sound thread = after_sound _ _ _ (still-taking c ks sound.users thread).of (take_reply-step thread)
+  pub take_reply-sound : (thread : Thread) → IsSound config (after_taking c thread) ks hands marks
+  take_reply-sound thread = after_sound _ _ _ (λ user. refl) (still-taking c ks sound.users thread).of (take_reply-step thread)
 
-  pub set_prio-sound : (thread : Thread) (prio : Prio) → IsSound config (after_ranking c thread prio.0) ks hands
-  set_prio-sound thread prio = after_sound _ _ _ (still-ranking c ks sound.users thread prio.0) (set_prio-step thread prio)
+  pub set_prio-sound : (thread : Thread) (prio : Prio) → IsSound config (after_ranking c thread prio.0) ks hands marks
+  set_prio-sound thread prio = after_sound _ _ _ (λ user. refl) (still-ranking c ks sound.users thread prio.0) (set_prio-step thread prio)
 
-  pub call-sound : (thread : Thread) (request : Request) (addressed : Addressed) → target_in w thread request ≡ Ok addressed → IsSound config (after_send c thread (sent_to addressed request)) ks hands
-  call-sound thread request addressed is = after_sound _ _ _ (still-send c ks sound.users thread (sent_to addressed request)) (call-sent thread request addressed is)
+  pub call-sound : (thread : Thread) (request : Request) (addressed : Addressed) → target_in w thread request ≡ Ok addressed → IsSound config (after_send c thread (sent_to addressed request)) ks hands marks
+  call-sound thread request addressed is = after_sound _ _ _ (λ user. refl) (still-send c ks sound.users thread (sent_to addressed request)) (call-sent thread request addressed is)
 
-  pub withdrawn-sound : (thread : Thread) (row : ThreadRow) (sent : Message) → thread_row c.users thread ≡ Some row → row.state ≡ state.Queued sent → IsSound config (after_withdrawing c thread) ks hands
-  withdrawn-sound thread row sent there is = after_sound _ _ _ (still-withdrawing c ks sound.users thread).of (interrupt-queued thread row sent there is)
+  pub withdrawn-sound : (thread : Thread) (row : ThreadRow) (sent : Message) → thread_row c.users thread ≡ Some row → row.state ≡ state.Queued sent → IsSound config (after_withdrawing c thread) ks hands marks
+  withdrawn-sound thread row sent there is = after_sound _ _ _ (λ user. refl) (still-withdrawing c ks sound.users thread).of (interrupt-queued thread row sent there is)
 
-  pub asked-sound : (thread : Thread) (row : ThreadRow) → thread_row c.users thread ≡ Some row → queued_in row.state ≡ None → IsSound config (after_asking c thread) ks hands
-  asked-sound thread row there unqueued = after_sound _ _ _ (still-asking c ks sound.users thread).of (interrupt-unqueued thread row there unqueued)
+  pub asked-sound : (thread : Thread) (row : ThreadRow) → thread_row c.users thread ≡ Some row → queued_in row.state ≡ None → IsSound config (after_asking c thread) ks hands marks
+  asked-sound thread row there unqueued = after_sound _ _ _ (λ user. refl) (still-asking c ks sound.users thread).of (interrupt-unqueued thread row there unqueued)
 
 -- a spawn that is refused
 pub spawn-refused : (number : Result ℕ Outcome) → IsTrue (is_refusal (spawn_outcome number)) → IsErr number

@@ -17,6 +17,7 @@ use Rattle.qx_chan.specs.Channel.{Channel, after_freeing, channel_pipes}
 use Rattle.qx_procs.specs.Calls.{has_ended_in}
 use Rattle.qx_chan.specs.Users.{process_of}
 use Rattle.qx_chan.proofs.RowReads.{option_cases, with_row-twice}
+use Rattle.qx_steps.specs.inner.Parts.{has_ended_among}
 use Rattle.qx_steps.specs.inner.Performing.{first_left, holds_of, with_first_left, with_left, with_one_left}
 
 -- ---- whose items are held
@@ -156,3 +157,10 @@ pub living_left : (c : Channel) (held : List OwnItem) (user : ℕ) (processes : 
 living_left c held user processes there none =
     those_left c held user processes there
     ∙ ap (λ users. record c { users = users }) (ap (λ rows. slice_set c.users user (Some rows)) (living-left held (channel_pipes c user) 0 processes none) ∙ set-row c.users user processes there)
+
+-- nor where the user is not there, or no process of theirs has ended
+pub quiet_left : (c : Channel) (held : List OwnItem) (user : ℕ) → has_ended_among (row_at c.users user) ≡ false → with_left c held user ≡ c
+quiet_left c held user none = elim (option_cases (row_at c.users user)) [
+  | inl no_one ↦ nobody_left c held user no_one
+  | inr ps ↦ living_left c held user ps.0 ps.1 (rw ps.1 at none)
+]

@@ -5,6 +5,8 @@ pub mod PartsLemmas
 -- no user has too many processes
 -- processes of which none is to be freed
 pub mod LeftLemmas
+-- no step but an exit ends a process
+pub mod QuietLemmas
 -- what the end of a step settles
 pub mod SettledLemmas
 -- a user in a sound world

@@ -1,5 +1,5 @@
 -- A step that mounts: how it is judged, and what it comes to.
-use Rattle.std.proofs.Common.{◌≡◌, ◌⊎◌, inl, inr, ℕ, zero, suc, List, [], ◌∷◌, true, false, Option, Some, None, Result, Ok, Err, refl, sym, ap, subst, ◌∙◌}
+use Rattle.std.proofs.Common.{◌≡◌, ◌⊎◌, inl, inr, ℕ, zero, suc, List, [], ◌∷◌, true, false, Option, Some, None, Result, Ok, Err, refl, sym, ap, subst, ◌∙◌, Bool}
 use Rattle.std.specs.Prelude.{IfOk, option_map, slice_set}
 use Rattle.std.proofs.lemmas.Bool.{cases_eq, false≢true}
 use Rattle.std.proofs.lemmas.Option.{same_Some}
@@ -132,10 +132,12 @@ module _ (w : World) (user : ℕ) (mount : MountPoint) where
         subst (λ number. settle_part part (own_held number w.hands) part ≡ part) (sym its.1.1.0) (subst (λ part. settle_part part (own_held user w.hands) part ≡ part) its.1.1.1 after)
   ]
 
-pub sound-mount : (config : Configuration) (c d : Channel) (ks ls : List (Option Kept)) (hands : List (Option Held)) (user : ℕ) (mount : MountPoint) → IsSound config c ks hands → AreResourcesOf d ls → world_of config d ls hands ≡ after_mount (world_of config c ks hands) user mount → IsSound config d ls hands
-sound-mount config c d ks ls hands user mount sound users is = record {
+pub sound-mount : (config : Configuration) (c d : Channel) (ks ls : List (Option Kept)) (hands : List (Option Held)) {marks : List Bool} (user : ℕ) (mount : MountPoint) → IsSound config c ks hands marks → d.users ≡ c.users → AreResourcesOf d ls
+    → world_of config d ls hands ≡ after_mount (world_of config c ks hands) user mount → IsSound config d ls hands marks
+sound-mount config c d ks ls hands user mount sound same users is = record {
   users = users;
   settled = subst IsSettled (sym is) (mount_settled (world_of config c ks hands) user mount sound.settled);
+  marked = rw same sound.marked;
 }
 
 -- ---- a manager is attached for a user

@@ -1,7 +1,7 @@
 -- An item is done for its user, the worker's hand is empty, and processes that have ended are freed: the machine's world then.
-use Rattle.std.proofs.Common.{length, ◌≡◌, inl, inr, ℕ, get_or, List, [], Option, Some, None, is_some, refl, sym, ap, ap₂, subst, ◌∙◌}
+use Rattle.std.proofs.Common.{length, ◌≡◌, ◌≢◌, inl, inr, ℕ, get_or, Bool, true, false, List, [], Option, Some, None, is_some, refl, sym, ap, ap₂, subst, ◌∙◌}
 use Rattle.std.specs.Prelude.{Ok, option_map, slice_set}
-use Rattle.std.proofs.lemmas.Bool.{false≢true}
+use Rattle.std.proofs.lemmas.Bool.{cases_eq, false≢true}
 use Rattle.std.proofs.lemmas.List.{get_or-set_other, set-set}
 use Rattle.std.proofs.lemmas.Option.{same_Some}
 use Rattle.qx_types.specs.Configuration.{Configuration}
@@ -27,11 +27,12 @@ use Rattle.qx_resources.specs.State.{told, Kept}
 use Rattle.qx_chan.specs.Channel.{Channel, channel_pipes, lists}
 use Rattle.qx_chan.specs.Serving.{part_in, settled, PartServed, Serves}
 use Rattle.qx_chan.proofs.RowReads.{option_cases, row_at-set_same, row_within}
-use Rattle.qx_steps.specs.inner.Parts.{part_of, parts_of, told_all, told_world, world_of, AreResourcesOf, IsSound, SameUsers}
+use Rattle.qx_steps.specs.inner.Parts.{has_ended_among, part_of, parts_of, told_all, told_world, world_of, AreResourcesOf, IsSound, SameUsers}
 use Rattle.qx_steps.specs.inner.Performing.{with_left, Performs, PerformsFor}
 use Rattle.qx_steps.proofs.FreeLemmas.{nobody_left, those_left}
-use Rattle.qx_steps.proofs.OwnerLemmas.{Owner, nobody, owner, sound-step}
+use Rattle.qx_steps.proofs.OwnerLemmas.{Owner, all-live, nobody, none-ended, owner, sound-marked}
 use Rattle.qx_steps.proofs.PartsLemmas.{mapped-put, parts-set_both, row_at-parts, same-with_processes, still-resources, told-there}
+use Rattle.qx_steps.proofs.QuietLemmas.{served_live}
 use Rattle.qx_steps.proofs.StillLemmas.{of-users, still-left}
 use Rattle.qx_steps.proofs.WorkerLemmas.{perform-handled}
 
@@ -113,7 +114,7 @@ performs-disconnect c d k l held process moment server proc is named serves conf
 
 -- ---- the end of the step
 
-module _ (config : Configuration) (c : Channel) (ks : List (Option Kept)) (hands : List (Option Held)) (sound : IsSound config c ks hands) (worker : ℕ) (held : Held) (moment : ℕ) where
+module _ (config : Configuration) (c : Channel) (ks : List (Option Kept)) (hands : List (Option Held)) {marks : List Bool} (sound : IsSound config c ks hands marks) (worker : ℕ) (held : Held) (moment : ℕ) where
   abbrev w : World
   w = world_of config c ks hands
 
@@ -197,9 +198,27 @@ module _ (config : Configuration) (c : Channel) (ks : List (Option Kept)) (hands
         ap (λ ls. world_of config (freed d) ls (slice_set hands worker None)) did.1.0 ∙ performed-one ps.0 o d did.0 (subst (λ k. Performs c d k did.0 held moment) same did.1.1)
   ]
 
+  -- before any is freed, no process has ended if none had before
+  pub performed-quiet : (d : Channel) (ls : List (Option Kept)) (k : Option Kept) → row_at ks user ≡ k → PerformsFor c d ks ls held moment k
+      → has_ended_among (row_at c.users user) ≡ false → has_ended_among (row_at d.users user) ≡ false
+  performed-quiet d ls None there did none = ap (λ (e : Channel). has_ended_among (row_at e.users user)) did.0 ∙ none
+  performed-quiet d ls (Some k) there did none = elim (option_cases (row_at c.users user)) [
+    | inl no_one ↦ absurd (false≢true (sym (ap is_some no_one) ∙ (sound.users.same user ∙ ap is_some there)))
+    | inr ps ↦
+        let o = owner config c ks hands sound user ps.0 ps.1 in
+        let same : k ≡ o.k = same_Some k o.k (sym there ∙ o.kept) in
+        ap has_ended_among (row-then ps.0 o d did.0 (subst (λ k. Performs c d k did.0 held moment) same did.1.1))
+        ∙ none-ended _ (served_live config user items (part ps.0 o d did.0 (subst (λ k. Performs c d k did.0 held moment) same did.1.1)) held.item moment (all-live ps.0 (rw ps.1 at none)))
+  ]
+
   pub performed-sound : (d : Channel) (ls : List (Option Kept)) (k : Option Kept) → item_to_do w worker ≡ Ok held → row_at ks user ≡ k → PerformsFor c d ks ls held moment k
-      → (room : ℕ) → IsSound config (record (freed d) { room = room }) ls (slice_set hands worker None)
-  performed-sound d ls k holds there did room =
-      sound-step config c ks hands sound (record (freed d) { room = room }) ls (slice_set hands worker None) (Perform (record { 0 = worker }) moment)
+      → (room : ℕ) (after : List Bool) → ((other : ℕ) → other ≢ user → get_or after other true ≡ get_or marks other true) → (get_or after user true ≡ false → has_ended_among (row_at (freed d).users user) ≡ false)
+      → IsSound config (record (freed d) { room = room }) ls (slice_set hands worker None) after
+  performed-sound d ls k holds there did room after others own =
+      sound-marked config c ks hands sound (record (freed d) { room = room }) ls (slice_set hands worker None) after (Perform (record { 0 = worker }) moment)
+      (λ other unmarked. elim (cases_eq other user) [
+        | inl same ↦ inr (rw same (own (rw same at unmarked)))
+        | inr differs ↦ inl (sym (others other differs) ∙ unmarked, refl)
+      ])
       (still-left d ls (still-performing c d ks ls sound.users held moment config k there did) items user room)
       (performed d ls k there did ∙ sym (ap (λ after. after.world) (perform-handled w (record { 0 = worker }) moment held holds)))

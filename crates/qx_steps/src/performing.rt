@@ -1,6 +1,6 @@
 //! What a worker performs, for the user whose item it is, and how processes that have ended are freed.
 
-ghost use Rattle.std.specs.Prelude.{◌≡◌, IsFalse, IsOk, OnErr, OnOk};
+ghost use Rattle.std.specs.Prelude.{◌≡◌, ◌≢◌, ℕ, IsFalse, IsOk, OnErr, OnOk, false, get_or, slice_set, true};
 ghost use Rattle.std.specs.List.{list_any};
 ghost use Rattle.std.specs.Option.{option_copied};
 ghost use Rattle.qx_machine.specs.Machine as machine;
@@ -10,7 +10,7 @@ ghost use Rattle.qx_machine.specs.Settling.{process_of_item};
 ghost use Rattle.qx_machine.specs.Wants.{item_wants_memory};
 ghost use Rattle.qx_chan.specs.Serving.{IsReadOf};
 ghost use Rattle.qx_steps.specs.inner.Held.{taken_item};
-ghost use Rattle.qx_steps.specs.inner.Parts.{parts_of, told_all, AreResourcesOf};
+ghost use Rattle.qx_steps.specs.inner.Parts.{has_ended_among, parts_of, told_all, AreResourcesOf};
 ghost use Rattle.qx_steps.specs.inner.Performing.{holds_of, with_left, with_one_left, PerformsFor};
 
 use qx_chan::Channel;
@@ -31,6 +31,7 @@ pub(crate) fn perform(
     read: Option<&Parsed>,
     moment: u64,
     reply: &mut Reply,
+    memory: &mut Vec<u8>,
 ) -> Result<(), AllocError>
     requires users { AreResourcesOf channel.old resources.old }
     requires read { IsReadOf (option_copied read) (taken_item channel.old.users held) }
@@ -44,7 +45,7 @@ pub(crate) fn perform(
     match held.item {
         OwnItem::Message { process, thread } => {
             let thread = named_thread(held.user, process, thread);
-            channel.serve(resources, thread, read, moment, reply)?;
+            channel.serve(resources, thread, read, moment, reply, memory)?;
         }
         OwnItem::Unblock {
             process,
@@ -63,18 +64,50 @@ pub(crate) fn perform(
 }
 
 /// Frees those processes of a user that have ended and of which nothing is left: no server connection, no item in a worker's
-/// hand and no call that waits.
-pub(crate) fn free_ended(channel: &mut Channel, hands: &[Option<Held>], user: User)
-    ensures { channel.new ≡ record (with_left channel.old (own_held user.0 hands.now) user.0) { room = channel.new.room } }
+/// hand and no call that waits. The user's mark tells whether any may have ended; where none has, it goes.
+pub(crate) fn free_ended(
+    channel: &mut Channel,
+    hands: &[Option<Held>],
+    user: User,
+    marks: &mut Vec<bool>,
+)
+    requires marked { get_or marks.old.items user.0 true ≡ false → has_ended_among (row_at channel.old.users user.0) ≡ false }
+    ensures freed { channel.new ≡ record (with_left channel.old (own_held user.0 hands.now) user.0) { room = channel.new.room } }
+    ensures marked { get_or marks.new.items user.0 true ≡ false → has_ended_among (row_at channel.new.users user.0) ≡ false }
+    ensures others { (other : ℕ) → other ≢ user.0 → get_or marks.new.items other true ≡ get_or marks.old.items other true }
 {
+    if !is_marked(marks.as_slice(), user) {
+        return;
+    }
     let Some(processes) = channel.processes(user) else {
         return;
     };
     if !processes.has_ended() {
+        set_mark(marks, user, false);
         return;
     }
     for number in 0..processes.places() {
         free_one(channel, hands, named_process(user, number));
+    }
+}
+
+/// Whether a process of a user may have ended, by the marks of all users.
+fn is_marked(marks: &[bool], user: User) -> bool
+    ensures mark { result ≡ get_or marks.now user.0 true }
+{
+    match marks.get(user.0 as usize) {
+        Some(mark) => *mark,
+        None => true,
+    }
+}
+
+/// Marks a user, of whom a process may have ended, or takes the mark away.
+pub(crate) fn set_mark(marks: &mut Vec<bool>, user: User, may_have_ended: bool)
+    ensures marks { marks.new.items ≡ slice_set marks.old.items user.0 may_have_ended }
+{
+    let place = user.0 as usize;
+    if place < marks.len() {
+        marks[place] = may_have_ended;
     }
 }
 

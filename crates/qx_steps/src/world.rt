@@ -20,7 +20,7 @@ ghost use Rattle.qx_steps.specs.inner.Reads.{is_thread_ready};
 ghost use Rattle.qx_steps.specs.inner.Steps.{after_mount, mount_in, CanMount};
 ghost use Rattle.qx_steps.specs.Steps.{target_in, HasMemory};
 
-use crate::performing::{free_ended, free_one, named_thread, perform};
+use crate::performing::{free_ended, free_one, named_thread, perform, set_mark};
 use crate::work::{PerformFault, Work, WorkRef};
 use qx_chan::Channel;
 use qx_machine::{Addressed, Held, OwnItem, Queued, Sent};
@@ -42,8 +42,12 @@ pub struct World {
     channel: Channel,
     resources: AllResources,
     hands: Vec<Option<Held>>,
+    /// Whether a process of a user may have ended that is not freed, under the user's number.
+    marks: Vec<bool>,
     /// The bytes of the reply to the message that is being done.
     reply: Reply,
+    /// Memory that the bytes of a message left, for the next one of more than a few.
+    memory: Vec<u8>,
 }
 
 /// As it would be derived; but what drops a world at an exit is proved with one call there.
@@ -55,7 +59,9 @@ impl Drop for World {
             channel: _,
             resources: _,
             hands: _,
+            marks: _,
             reply: _,
+            memory: _,
         } = self;
     }
 }
@@ -72,7 +78,7 @@ impl Model for World {
 
     ghost view = { λ w. world_of w.config w.channel w.resources w.hands.items };
 
-    ghost invariant = { λ w. IsSound w.config w.channel w.resources w.hands.items };
+    ghost invariant = { λ w. IsSound w.config w.channel w.resources w.hands.items w.marks.items };
 }
 
 impl World {
@@ -83,6 +89,7 @@ impl World {
         let channel = Channel::boot(alloc, &config)?;
         let resources = AllResources::boot(alloc, &config)?;
         let hands = empty_hands(alloc, config.workers())?;
+        let marks = vec![in alloc; true; config.user_count() + 1]?;
         let reply = Reply::new(alloc)?;
         Ok(World {
             alloc,
@@ -90,7 +97,9 @@ impl World {
             channel,
             resources,
             hands,
+            marks,
             reply,
+            memory: Vec::new(alloc),
         })
     }
 
@@ -118,6 +127,7 @@ impl World {
     {
         let outcome = self.channel.exit(self.alloc, proc);
         free_one(&mut self.channel, self.hands.as_slice(), proc);
+        set_mark(&mut self.marks, proc.user, true);
         outcome
     }
 
@@ -190,7 +200,7 @@ impl World {
         let sent = Sent {
             target: addressed.target,
             is_asked: false,
-            bytes: encoded(self.alloc, request, &addressed.rest)?,
+            bytes: encoded(&mut self.memory, request, &addressed.rest)?,
         };
         self.channel.send(self.alloc, thread, sent)?;
         sent_outcome()
@@ -408,9 +418,15 @@ impl World {
             read,
             moment,
             &mut self.reply,
+            &mut self.memory,
         )?;
         places::free(&mut self.hands, worker.0 as usize);
-        free_ended(&mut self.channel, self.hands.as_slice(), held.user);
+        free_ended(
+            &mut self.channel,
+            self.hands.as_slice(),
+            held.user,
+            &mut self.marks,
+        );
         Ok(())
     }
 

@@ -6,47 +6,46 @@ ghost use Rattle.qx_wire.specs.Table.{action_number, framed, in_ranges, spelling
 
 use crate::message::Message;
 use qx_types::{MessageBytes, NoMemory, NotifyAction, Whence};
-use std::alloc::Global;
 
-/// The one spelling of a message whose values are in their ranges. Memory is taken only where its bytes do not stand
-/// inline, once and for just so many.
+/// The one spelling of a message whose values are in their ranges. Where its bytes do not stand inline they take the memory
+/// that is there, for which more is taken only where they don't fit.
 #[tactic(auto, unfolding(crate::specs::Table::spelling))]
 #[inline(always)]
-pub fn encode(alloc: Global, message: &Message<'_>) -> Result<MessageBytes, NoMemory>
+pub fn encode(memory: &mut Vec<u8>, message: &Message<'_>) -> Result<MessageBytes, NoMemory>
     requires in_ranges { IsTrue (in_ranges message.now) }
     ensures spelling { IfOk result (λ bytes. bytes ≡ spelling message.now) }
     ensures few { length (spelling message.now) ≤ INLINE → IsOk result }
 {
     match message {
         Message::Open { flags, mode, rest } => {
-            framed(alloc, 256, 1, &words(flags.0, *mode), rest.as_slice())
+            framed(memory, 256, 1, &words(flags.0, *mode), rest.as_slice())
         }
-        Message::Stat { rest } => framed(alloc, 256, 2, &[], rest.as_slice()),
-        Message::Unlink { rest } => framed(alloc, 256, 3, &[], rest.as_slice()),
-        Message::Mknod { mode, rest } => framed(alloc, 256, 4, &words(2, *mode), rest.as_slice()),
-        Message::Read { count } => framed(alloc, 257, 0, &count.to_le_bytes(), &[]),
-        Message::Write { bytes } => framed(alloc, 258, 0, &[], bytes.as_slice()),
-        Message::Close => framed(alloc, 259, 0, &[], &[]),
-        Message::Dup { old } => framed(alloc, 260, 0, &u16::from(old.0).to_le_bytes(), &[]),
+        Message::Stat { rest } => framed(memory, 256, 2, &[], rest.as_slice()),
+        Message::Unlink { rest } => framed(memory, 256, 3, &[], rest.as_slice()),
+        Message::Mknod { mode, rest } => framed(memory, 256, 4, &words(2, *mode), rest.as_slice()),
+        Message::Read { count } => framed(memory, 257, 0, &count.to_le_bytes(), &[]),
+        Message::Write { bytes } => framed(memory, 258, 0, &[], bytes.as_slice()),
+        Message::Close => framed(memory, 259, 0, &[], &[]),
+        Message::Dup { old } => framed(memory, 260, 0, &u16::from(old.0).to_le_bytes(), &[]),
         Message::Lseek { whence, offset } => {
             framed(
-                alloc,
+                memory,
                 261,
                 whence_number(*whence),
                 &offset.to_le_bytes(),
                 &[],
             )
         }
-        Message::Fstat => framed(alloc, 262, 0, &[], &[]),
-        Message::List { after } => framed(alloc, 263, 0, &[], after.as_slice()),
-        Message::Chmod { mode } => framed(alloc, 264, 0, &mode.to_le_bytes(), &[]),
+        Message::Fstat => framed(memory, 262, 0, &[], &[]),
+        Message::List { after } => framed(memory, 263, 0, &[], after.as_slice()),
+        Message::Chmod { mode } => framed(memory, 264, 0, &mode.to_le_bytes(), &[]),
         Message::Notify {
             action,
             conditions,
             code,
             value,
         } => framed(
-            alloc,
+            memory,
             265,
             action_number(*action),
             &notification(conditions.0, *code, *value),
@@ -97,7 +96,7 @@ fn action_number(action: NotifyAction) -> u16
 /// A header, and behind it numbers and a text.
 #[inline(always)]
 fn framed(
-    alloc: Global,
+    memory: &mut Vec<u8>,
     kind: u16,
     subtype: u16,
     numbers: &[u8],
@@ -109,7 +108,7 @@ fn framed(
 {
     let len = numbers.len() + text.len();
     let header = header(kind, subtype, len as u32);
-    Ok(MessageBytes::joined(alloc, &header, numbers, text)?)
+    Ok(MessageBytes::joined(memory, &header, numbers, text)?)
 }
 
 /// A header: the type, the subtype and the length of the body.

@@ -1,6 +1,6 @@
 //! One kind of calls below a world, so many times: those that a script does not reach alone.
 
-ghost use Rattle.std.specs.Prelude.{◌≤◌, IsTrue};
+ghost use Rattle.std.specs.Prelude.{IsTrue};
 ghost use Rattle.qx_lines.specs.Line.{IsLineOf};
 ghost use Rattle.qx_lists.specs.Table.{IsFree};
 ghost use Rattle.qx_wire.specs.Table.{in_ranges};
@@ -83,7 +83,7 @@ fn on_message(alloc: Global, calls: &str, len: usize, rounds: u32) -> anyhow::Re
     if !in_ranges(&message) {
         bail!("the message is out of its ranges");
     }
-    match encode(alloc, &message) {
+    match encode(&mut Vec::new(alloc), &message) {
         Ok(_) if calls == "encode" => Ok(encoded(alloc, &message, rounds)),
         Ok(bytes) => Ok(read(bytes, rounds)),
         Err(_) => bail!("out of memory"),
@@ -99,14 +99,16 @@ fn components(alloc: Global, len: usize) -> Result<Vec<u8>, AllocError> {
     Ok(text)
 }
 
-/// In each round a message is encoded, and its bytes dropped.
+/// In each round a message is encoded, and its memory kept for the next one.
 fn encoded(alloc: Global, message: &Message<'_>, rounds: u32) -> u64
     requires { IsTrue (in_ranges message.now) }
 {
     let mut total: u64 = 0;
+    let mut memory = Vec::new(alloc);
     for _ in 0..rounds {
-        if let Ok(bytes) = encode(alloc, message) {
+        if let Ok(bytes) = encode(&mut memory, message) {
             total = total.saturating_add(bytes.as_slice().len() as u64);
+            bytes.into_memory(&mut memory);
         }
     }
     total

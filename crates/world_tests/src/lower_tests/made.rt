@@ -69,7 +69,7 @@ fn text(alloc: Global) -> Result<bool, NoMemory> {
 /// The bytes of a reply, more than stand in a value, in two parts.
 fn reply(alloc: Global) -> Result<MessageBytes, AllocError> {
     let first = [7; MessageBytes::INLINE];
-    MessageBytes::joined(alloc, &first, &[7], &[])
+    MessageBytes::joined(&mut Vec::new(alloc), &first, &[7], &[])
 }
 
 fn received(alloc: Global) -> Result<bool, NoMemory> {
@@ -120,7 +120,7 @@ fn spelled(alloc: Global) -> Result<bool, NoMemory> {
     if !in_ranges(&message) {
         return Ok(false);
     }
-    Ok(encode(alloc, &message)?.as_slice().get(8..) == Some(NAME.as_slice()))
+    Ok(encode(&mut Vec::new(alloc), &message)?.as_slice().get(8..) == Some(NAME.as_slice()))
 }
 
 fn joined(alloc: Global) -> Result<bool, NoMemory> {

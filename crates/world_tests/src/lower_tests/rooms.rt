@@ -60,14 +60,15 @@ fn reply(alloc: Global, way: Way) -> Result<Reply, AllocError> {
 }
 
 /// A thread whose message was received is answered.
-fn answer(cell: &mut ThreadCell, way: Way, reply: &mut Reply)
+fn answer(alloc: Global, cell: &mut ThreadCell, way: Way, reply: &mut Reply)
     requires received { IsSome (taken_in cell.old.state) }
     ensures counted { cell.new.calls ≡ cell.old.calls }
 {
+    let mut memory = Vec::new(alloc);
     match way {
-        Way::Few | Way::More => cell.reply(0, reply),
+        Way::Few | Way::More => cell.reply(0, reply, &mut memory),
         Way::Returned => {
-            let room = cell.wait();
+            let room = cell.wait(&mut memory);
             cell.answer(Answer::Failed(Errno::EINTR), Some(room));
         }
     }
@@ -86,7 +87,7 @@ fn calls_without_memory(alloc: Global, cell: &mut ThreadCell) -> Result<bool, Al
 /// Whether a thread that was answered so calls again with all memory taken.
 fn calls_again(alloc: Global, way: Way) -> Result<bool, AllocError> {
     let mut cell = received(alloc)?;
-    answer(&mut cell, way, &mut reply(alloc, way)?);
+    answer(alloc, &mut cell, way, &mut reply(alloc, way)?);
     calls_without_memory(alloc, &mut cell)
 }
 
@@ -104,7 +105,7 @@ fn frees_half(alloc: Global, cell: &mut ThreadCell, way: Way) -> Result<bool, Al
 {
     let mut reply = reply(alloc, way)?;
     let pieces = take_all_memory(alloc)?;
-    answer(cell, way, &mut reply);
+    answer(alloc, cell, way, &mut reply);
     let piece: Result<Vec<u8>, AllocError> = Vec::with_capacity(alloc, Limits::BODY / 2);
     drop(pieces);
     Ok(piece.is_ok())

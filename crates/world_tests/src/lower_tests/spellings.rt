@@ -107,7 +107,7 @@ fn is_meant(alloc: Global, parsed: &Parsed, expected: &str) -> Result<bool, Allo
 /// Whether the message that they mean, if they mean one, is encoded to the same bytes.
 fn is_encoded_again(alloc: Global, parsed: &Parsed) -> Result<bool, NoMemory> {
     match parsed.meaning() {
-        Meaning::Known(message) => Ok(encode(alloc, &message)? == *parsed.bytes()),
+        Meaning::Known(message) => Ok(encode(&mut Vec::new(alloc), &message)? == *parsed.bytes()),
         _ => Ok(true),
     }
 }

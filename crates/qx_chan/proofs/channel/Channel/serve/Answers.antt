@@ -2,11 +2,14 @@ use Rattle.std.proofs.Common.{◌≡◌, Some, refl, ◌∙◌, sym, ap}
 use Rattle.std.proofs.lemmas.Bool.{false≢true}
 use Rattle.qx_chan.specs.inner.Calls.{taken_call}
 use Rattle.qx_chan.specs.Users.{thread_row}
+use Rattle.qx_chan.proofs.AnswerLemmas.{unasked-line}
 use Rattle.qx_chan.proofs.MessageLemmas.{Serves-untaken, received, received-alone, received-wants, room-there, sends}
 use Rattle.qx_chan.proofs.OutcomeLemmas.{outcome}
 use Rattle.qx_chan.proofs.PulseLemmas.{user-fits}
 use Rattle.qx_chan.proofs.SettledLemmas.{places}
+use Rattle.qx_machine.specs.Lines.{line_at}
 use Rattle.qx_machine.specs.Rows.{row_at}
+use Rattle.qx_queues.specs.Queues.{unblock_call}
 use Rattle.qx_shared.specs.Shared.{Shared, has_disconnect_node}
 use Rattle.qx_types.specs.Managers.{manager_number}
 use Rattle.qx_chan.proofs.NodesLemmas.{did-fields, room-answered}
@@ -86,3 +89,12 @@ answer-requires-clause-nodes c manager =
     let same = did-fields (λ q. has_disconnect_node q c.args.thread.proc (manager_number manager)) (λ q user pipes answers. refl)
     _ c.args.resources.now c.perform.new.resources c.self.inside.tables c.perform.new.tables c.perform.new.reply c.in_ok-given.given _ (c.in_ok-given.ensures.did its.process its.sent.bytes (sends c.self.inside.users c.args.thread c.in-Some.call its)) in
     rw same (c.self.invariant.shared.servers c.args.thread.proc manager)
+
+pub answer-requires-clause-unasked : goal.answer-requires-clause-unasked
+answer-requires-clause-unasked c unasked =
+    let taken : Some c.in-Some.call ≡ taken_call (thread_row c.self.inside.users c.args.thread) = rw (← c.self.view_is) at c.in-Some.ensures.call in
+    let its = received c.self.inside.users c.args.thread c.in-Some.call taken in
+    let number = manager_number c.in-Some.call.target.manager in
+    let same = did-fields (λ q. unblock_call (line_at q.lines number) c.args.thread) (λ q user pipes answers. refl)
+    _ c.args.resources.now c.perform.new.resources c.self.inside.tables c.perform.new.tables c.perform.new.reply c.in_ok-given.given _ (c.in_ok-given.ensures.did its.process its.sent.bytes (sends c.self.inside.users c.args.thread c.in-Some.call its)) in
+    same ∙ unasked-line c.self.inside.users c.self.inside.tables.shared c.args.thread c.in-Some.call taken c.self.invariant.shared unasked number

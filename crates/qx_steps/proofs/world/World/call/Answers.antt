@@ -5,6 +5,7 @@ use Rattle.qx_steps.specs.inner.Parts.{world_of}
 use Rattle.qx_steps.specs.Steps.{target_in}
 use Rattle.qx_steps.proofs.ClientLemmas.{call-refused, call-sent, call-sound, no-rest}
 use Rattle.qx_steps.proofs.PartsLemmas.{process-told, thread_row-told}
+use Rattle.qx_steps.proofs.ResultLemmas.{on_err}
 use Rattle.qx_steps.proofs.world.World.call.Goals as goal
 
 pub returns-in_err-encoded-clause-sure : goal.returns-in_err-encoded-clause-sure
@@ -36,8 +37,11 @@ returns-in_err-send-clause-sure c =
     let goes : target_in (world_of c.self.inside.config c.self.inside.channel c.self.inside.resources c.self.inside.hands.items) c.args.thread c.args.request.now ≡ Ok c.in-Ok.addressed = rw (← c.self.view_is) at (sym c.in-Ok.ensures.target) in
     rw (← c.self.view_is, call-sent c.self.inside.config c.self.inside.channel c.self.inside.resources c.self.inside.hands.items c.self.invariant c.args.thread c.args.request.now c.in-Ok.addressed goes) (λ refused. absurd (false≢true refused))
 
-pub invariant_of-self : goal.invariant_of-self
-invariant_of-self c = rw c.in_err-send.ensures.err (sound-room c.self.inside.config c.self.inside.channel c.self.inside.resources c.self.inside.hands.items c.self.invariant c.send.new.self.room)
+pub invariant_of-self-in_err-send : goal.invariant_of-self-in_err-send
+invariant_of-self-in_err-send c = rw c.in_err-send.ensures.err (sound-room c.self.inside.config c.self.inside.channel c.self.inside.resources c.self.inside.hands.items c.self.invariant c.send.new.self.room)
+
+pub returns-in_err-send-clause-err : goal.returns-in_err-send-clause-err
+returns-in_err-send-clause-err c = on_err c.from_residual-in_err-send.result (rw c.in_err-send.ensures.err c.self.view_is)
 
 pub invariant_of-self-2 : goal.invariant_of-self-2
 invariant_of-self-2 c = rw (c.in_ok-send.ensures.ok, c.in_ok-encoded.ensures.bytes) (call-sound c.self.inside.config c.self.inside.channel c.self.inside.resources c.self.inside.hands.items c.self.invariant c.args.thread c.args.request.now c.in-Ok.addressed (rw (← c.self.view_is) at (sym c.in-Ok.ensures.target)))
