@@ -30,6 +30,8 @@ mod NodesLemmas
 pub mod RowReads
 -- a message goes out
 mod SendLemmas
+-- what is told at once
+mod ToldLemmas
 -- what a received message that was done comes to
 mod OutcomeLemmas
 -- a deed to a user's resources, in what all users share and in the channel

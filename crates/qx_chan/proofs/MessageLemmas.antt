@@ -28,10 +28,11 @@ use Rattle.qx_resmgr.specs.declared.functions.Done.TheVariants.{NoReply, Reply}
 use Rattle.qx_resources.specs.State as state
 use Rattle.qx_resources.specs.inner.State.{IsCallerReceived}
 use Rattle.qx_resources.specs.State.{told}
+use Rattle.qx_resources.specs.Told.{told_by}
 use Rattle.qx_resources.specs.declared.tables.Tables.{Tables as AllTables}
 use Rattle.qx_chan.specs.inner.Calls.{taken_bytes, taken_call}
 use Rattle.qx_chan.specs.inner.Kept.{StandTogether}
-use Rattle.qx_chan.specs.inner.Serving.{Sends, caller_of_call, deed_in}
+use Rattle.qx_chan.specs.inner.Serving.{Sends, caller_of_call, deed_in, told_in}
 use Rattle.qx_chan.specs.Serving.{Serves, part_in, settled}
 use Rattle.qx_chan.specs.Users.{Users, process_of_user, process_of, thread_row}
 use Rattle.qx_chan.specs.declared.call.Call.{Call}
@@ -128,6 +129,15 @@ module _ (users : Users) (thread : Thread) (process : Process) (bytes : List ℕ
   deed-served k w call moment =
       ap (λ process. deed_of (told k w) (context_of process (caller_of_call thread call) call.target moment means) means) found-is
       ∙ ap (λ means. deed_of (told k w) (context_of process (caller_of_call thread call) call.target moment means) means) meaning-served
+
+  -- and it is told so
+  pub told-served : (k : state.Kept) (w : AllTables) (call : Call) (moment : ℕ)
+      → told_by call.target.manager (told k w) (context_of found (caller_of_call thread call) call.target moment means) means (deed_of (told k w) (context_of found (caller_of_call thread call) call.target moment means) means)
+      ≡ told_in k w process (record { thread = thread; call = call; moment = moment }) bytes
+  told-served k w call moment =
+      let tells = λ (process : Process) (means : Meaning).
+      told_by call.target.manager (told k w) (context_of process (caller_of_call thread call) call.target moment means) means (deed_of (told k w) (context_of process (caller_of_call thread call) call.target moment means) means) in
+      ap (λ process. tells process means) found-is ∙ ap (tells process) meaning-served
 
 -- ---- after
 

@@ -5,8 +5,10 @@ use Rattle.std.proofs.lemmas.Bool.{eq-eqb}
 use Rattle.std.specs.Option.{option_to_list}
 use Rattle.std.specs.Prelude.{if◌then◌else◌, is_some, option_map, take, unwrap_or}
 use Rattle.std.proofs.lemmas.List.{append-nil}
+use Rattle.std.proofs.lemmas.Result.{IfOk-at_ok}
 use Rattle.qx_types.specs.Managers.{manager_number}
 use Rattle.qx_types.specs.declared.errno.Errno.{Errno}
+use Rattle.qx_types.specs.declared.names.Coid.{Coid}
 use Rattle.qx_types.specs.declared.names.Manager.{Manager}
 use Rattle.qx_types.specs.declared.names.Manager.TheVariants.{Pipe, Ram}
 use Rattle.qx_types.specs.declared.names.Thread.{Thread}
@@ -14,7 +16,10 @@ use Rattle.qx_types.specs.declared.outcome.Answer.{Answer}
 use Rattle.qx_types.specs.declared.outcome.Answer.TheVariants as answer
 use Rattle.qx_wire.specs.Reading.{meaning}
 use Rattle.qx_paths.specs.Prefixes.{MountPoint}
+use Rattle.qx_machine.specs.declared.rows.Context.{Context}
 use Rattle.qx_machine.specs.declared.rows.Effect.{Effect}
+use Rattle.qx_machine.specs.declared.rows.Effect.TheVariants.{Keeps}
+use Rattle.qx_machine.specs.declared.rows.Over.TheVariants.{Existing}
 use Rattle.qx_machine.specs.declared.rows.OwnItem.TheVariants as item
 use Rattle.qx_machine.specs.declared.rows.Queued as queued
 use Rattle.qx_machine.specs.declared.rows.ServerName.{ServerName}
@@ -27,20 +32,22 @@ use Rattle.qx_machine.specs.Lines.{line_at, with_line}
 use Rattle.qx_machine.specs.Machine.{line_without, lines_after}
 use Rattle.qx_machine.specs.Parts.{Change, Part, disconnect, disconnects, thread_of}
 use Rattle.qx_machine.specs.Resources.{Resources}
-use Rattle.qx_machine.specs.Performing.{Served, after_answer, after_message, after_serving, answered_changes, or_kept, own_change, serve_message, served_changes, taken_in}
+use Rattle.qx_machine.specs.Performing.{Served, after_answer, after_message, after_serving, answered_changes, context_of, dup_of, or_kept, own_change, serve_message, served_changes, taken_in}
 use Rattle.qx_machine.specs.Processes.{Process, served_state, served_thread, with_thread}
 use Rattle.qx_machine.specs.Settling.{is_living}
 use Rattle.qx_machine.proofs.Living.{lives-answered}
 use Rattle.qx_machine.specs.Rows.{row_at, with_row}
-use Rattle.qx_machine.proofs.Waiters.{InDeed, IsAlone, alone-answers, alone-replied, deed-keeps, deed-keeps_replied, ram_deed-alone}
+use Rattle.qx_machine.proofs.Waiters.{InDeed, IsAlone, alone-answers, alone-replied, deed-keeps, deed-keeps_replied, opened_by-caller, ram_deed-alone}
 use Rattle.qx_queues.specs.Queues.{unblock_call}
 use Rattle.qx_shared.specs.Shared.{Shared, users_given, with_shared_line}
+use Rattle.qx_pipes.specs.Told.{told_alone}
 use Rattle.qx_resmgr.specs.Deeds.{IsReplied}
 use Rattle.qx_resmgr.specs.declared.functions.Done.{Done}
 use Rattle.qx_resmgr.specs.declared.functions.Done.TheVariants as done
 use Rattle.qx_resources.specs.State as state
 use Rattle.qx_resources.specs.State.{told}
 use Rattle.qx_resources.specs.declared.tables.Tables.{Tables as AllTables}
+use Rattle.qx_resources.proofs.ToldLemmas.{RepliedAlone, ToldAlone, alone-cases, told-cases}
 use Rattle.qx_procs.specs.Calls.{LosesAt}
 use Rattle.qx_chan.specs.inner.Answers.{answered_queues, answered_users, given_lines, given_users, without_pulse}
 use Rattle.qx_chan.specs.inner.Calls.{taken_call}
@@ -48,7 +55,7 @@ use Rattle.qx_chan.specs.Channel.{failed}
 use Rattle.qx_chan.specs.inner.Channel.{process_replied}
 use Rattle.qx_chan.specs.inner.Kept.{Answering, StandTogether, with_lost, asked_call, is_asked_at, is_queued_at, is_waiting_for, stands_at, waits_for}
 use Rattle.qx_chan.specs.Serving.{Serves, settled}
-use Rattle.qx_chan.specs.inner.Serving.{Comes, Leaves, caller_of_call, deed_in}
+use Rattle.qx_chan.specs.inner.Serving.{Comes, Leaves, caller_of_call, deed_in, told_in}
 use Rattle.qx_chan.specs.Users.{Users, lives_in, process_of_user, process_of, thread_row, with_process_of, with_thread_row}
 use Rattle.qx_chan.specs.declared.call.Call.{Call}
 use Rattle.qx_chan.proofs.AnswerLemmas.{IsAnswer, fails, replies}
@@ -57,6 +64,7 @@ use Rattle.qx_chan.proofs.LostLemmas.{lost-fields, lost-lines, lost-listed, lost
 use Rattle.qx_chan.proofs.MessageLemmas.{Received, received, serves-message}
 use Rattle.qx_chan.proofs.ServeLemmas.{Answering-left, Serves-given, Waits, given_all, left-same, nothing_done, shown, waits-before}
 use Rattle.qx_chan.proofs.ProcessLemmas.{process_of-same}
+use Rattle.qx_chan.proofs.ToldLemmas.{KeepsPipes, LeavesOwn, asked-existing, asked-own, asked-pipes, told-serves}
 use Rattle.qx_chan.proofs.ServedLemmas.{Answering-answered, lines-done, lines-others, users-done, users-refused}
 use Rattle.qx_chan.proofs.ThreadLemmas.{Kept-thread, one_thread}
 
@@ -146,6 +154,14 @@ module _ (users : Users) (w : AllTables) (thread : Thread) (call : Call) (taken 
     abbrev meant : Result (Deed Resources) Errno
     meant = deed_in k w its.process (record { thread = thread; call = call; moment = moment }) its.sent.bytes
 
+    -- what it is served with
+    abbrev context : Context
+    context = context_of its.process (caller_of_call thread call) call.target moment (meaning its.sent.bytes)
+
+    -- how it is told
+    abbrev told_so : Result (Deed Resources) Errno
+    told_so = told_in k w its.process (record { thread = thread; call = call; moment = moment }) its.sent.bytes
+
     abbrev served : Part → Served
     served part = or_kept part (serve_message part thread.proc.num thread.tid moment)
 
@@ -197,13 +213,13 @@ module _ (users : Users) (w : AllTables) (thread : Thread) (call : Call) (taken 
       | inr ram ↦ let clash : false ≡ true = ap is_some reply_is ∙ alone-replied (told k w) deed (alone deed is ram) in absurd (cc)
     ]
 
-    module _ (deed : Deed Resources) (left : Leaves (is_living its.processes) k w l v deed) (r : Result (Deed Resources) Errno) (is : meant ≡ r) (resources_are : (served_by r).part.resources ≡ deed.state) where
+    module _ (deed : Deed Resources) (left : Leaves (is_living its.processes) k w l v deed) (r : Result (Deed Resources) Errno) (same : served_by meant ≡ served_by r) (resources_are : (served_by r).part.resources ≡ deed.state) where
       -- once the answers are given, all is as in the machine
       serves : (rows : Users) (after : Shared) → after.answered ≡ v.shared.answered → after.pipes ≡ v.shared.pipes
           → given_users rows (map (users_given user) deed.answers) ≡ with_row users user (λ _. (served_by r).part.processes)
           → given_lines after.lines (map (users_given user) deed.answers) ≡ lines_after user w.shared.lines (served_by r).changes
           → Serves (shown users w.shared w.mounts w.events.events) (given_all rows after v.mounts v.events.events) k l (λ part. settled part (served part))
-      serves = Serves-given users w k served kept l v deed user of its.processes its.user left (served_by r) (served_is ∙ ap served_by is) resources_are (lives-answered part thread.proc.num thread.tid call.target.over r)
+      serves = Serves-given users w k served kept l v deed user of its.processes its.user left (served_by r) (served_is ∙ same) resources_are (lives-answered part thread.proc.num thread.tid call.target.over r)
 
       -- the thread is answered too
       answered : (f : Process → Process) (given : Answer) → IsAnswer thread.tid given f → InDeed (Waits users k.user) deed → Gone v.shared
@@ -228,7 +244,7 @@ module _ (users : Users) (w : AllTables) (thread : Thread) (call : Call) (taken 
           after : Shared
           after = with_lost thread.proc (option_to_list lost) dropped
 
-    module _ (deed : Deed Resources) (left : Leaves (is_living its.processes) k w l v deed) (is : meant ≡ Ok deed) where
+    module _ (deed : Deed Resources) (left : Leaves (is_living its.processes) k w l v deed) (same : served_by meant ≡ served_by (Ok deed)) where
       -- the rows and the lines, by the reply
       rows_by : (reply : Option Reply) → reply ≡ deed.reply → given_users (with_process_of users thread.proc (after_serving thread.tid call.target.over reply)) (map (users_given user) deed.answers) ≡ with_row users user (λ _. (served_by (Ok deed)).part.processes)
       rows_by reply reply_is = ap (λ r. given_users (with_process_of users thread.proc (after_serving thread.tid call.target.over r)) (map (users_given user) deed.answers)) reply_is ∙ users-done users thread.proc thread.tid call.target.over part its.user deed
@@ -237,25 +253,24 @@ module _ (users : Users) (w : AllTables) (thread : Thread) (call : Call) (taken 
           → lines_after user w.shared.lines ((if is_some reply then own_change manager (caller_of_call thread call) ∷ [] else []) ++ lost ++ answered_changes manager deed.answers) ≡ lines_after user w.shared.lines (served_by (Ok deed)).changes
       lines_by reply lost reply_is lost_is = ap₂ (λ r pulses. lines_after user w.shared.lines ((if is_some r then own_change manager (caller_of_call thread call) ∷ [] else []) ++ pulses ++ answered_changes manager deed.answers)) reply_is lost_is
 
-      reply_after : (status : ℕ) (bytes : List ℕ) (effect : Effect) → Some (record { status = status; bytes = bytes; effect = effect }) ≡ deed.reply → Gone v.shared
+      reply_after : InDeed (Waits users k.user) deed → (manager ≡ Pipe) ⊎ (deed.answers ≡ []) → (status : ℕ) (bytes : List ℕ) (effect : Effect) → Some (record { status = status; bytes = bytes; effect = effect }) ≡ deed.reply → Gone v.shared
           → (lost : Option ServerName) → LosesAt lost (process_of users thread.proc) (process_of (with_process_of users thread.proc (process_replied thread.tid effect status bytes call.target.over)) thread.proc)
           → After (with_process_of users thread.proc (process_replied thread.tid effect status bytes call.target.over)) (without_pulse v.shared users (with_process_of users thread.proc (process_replied thread.tid effect status bytes call.target.over)) thread call) v.mounts v.events.events k l served
-      reply_after status bytes effect reply_is gone lost loses =
+      reply_after keeps of_pipe status bytes effect reply_is gone lost loses =
           let reply : Reply = record { status = status; bytes = bytes; effect = effect } in
           let pulses = map (disconnect thread.proc.num) (option_to_list lost) in
           let pulses_are : pulses ≡ lost_by (Ok deed) =
           sym (lost_pulses (process_replied thread.tid effect status bytes call.target.over) lost loses) ∙ ap (λ r. disconnects thread.proc.num (after_serving thread.tid call.target.over r) (row_at part.processes thread.proc.num)) reply_is in
-          answered deed left (Ok deed) is (resources-machine deed.answers _) (process_replied thread.tid effect status bytes call.target.over) (answer.Reply status bytes) (replies thread.tid effect status bytes call.target.over)
-          (deed-keeps_replied (told k w) its.process (caller_of_call thread call) call.target moment (meaning its.sent.bytes) deed is (Waits users k.user) (waits-before users k.user w.shared kept.waits) reply (sym reply_is))
-          gone lost loses (rows_by (Some reply) reply_is) (lines-done user manager deed.answers (only deed is) w.shared.lines (caller_of_call thread call) pulses ∙ lines_by (Some reply) pulses reply_is pulses_are)
+          answered deed left (Ok deed) same (resources-machine deed.answers _) (process_replied thread.tid effect status bytes call.target.over) (answer.Reply status bytes) (replies thread.tid effect status bytes call.target.over) keeps
+          gone lost loses (rows_by (Some reply) reply_is) (lines-done user manager deed.answers of_pipe w.shared.lines (caller_of_call thread call) pulses ∙ lines_by (Some reply) pulses reply_is pulses_are)
 
       -- where it is left without a reply, its own call waits or is answered
-      waiting_after : None ≡ deed.reply → After served_users v.shared v.mounts v.events.events k l served
-      waiting_after reply_is = (
+      waiting_after : meant ≡ Ok deed → None ≡ deed.reply → After served_users v.shared v.mounts v.events.events k l served
+      waiting_after is reply_is = (
         Answering-left served_users k.user w.shared v.shared deed Kept-served left.shared
             (deed-keeps (told k w) its.process (caller_of_call thread call) call.target moment (meaning its.sent.bytes) deed is (Waits served_users k.user) (waits-before served_users k.user w.shared Kept-served.waits)
             (λ block wanted bytes. ap (λ u. waits_for call.number (thread_row served_users (record { proc = record { user = record { 0 = u }; num = thread.proc.num }; tid = thread.tid }))) of ∙ own-waits (piped deed is reply_is))),
-        serves deed left (Ok deed) is (resources-machine deed.answers _) served_users v.shared refl refl (rows_by None reply_is)
+        serves deed left (Ok deed) same (resources-machine deed.answers _) served_users v.shared refl refl (rows_by None reply_is)
             (ap (λ q. given_lines q.lines (map (users_given user) deed.answers)) left.shared ∙ lines-others user manager deed.answers (only deed is) w.shared.lines ∙ lines_by None [] reply_is (nothing_lost deed reply_is)),
       )
 
@@ -265,7 +280,7 @@ module _ (users : Users) (w : AllTables) (thread : Thread) (call : Call) (taken 
       → After (with_process_of users thread.proc (failed thread.tid error call.target.over)) (without_pulse w.shared users (with_process_of users thread.proc (failed thread.tid error call.target.over)) thread call) w.mounts w.events.events k k (served k k w of moment)
   error_after k of moment error is gone lost loses =
       let pulses = map (disconnect thread.proc.num) (option_to_list lost) in
-      answered k k w of moment (nothing_done (told k w)) (left-same (is_living its.processes) k w) (Err error) is refl (failed thread.tid error call.target.over) (answer.Failed error) (fails thread.tid error call.target.over)
+      answered k k w of moment (nothing_done (told k w)) (left-same (is_living its.processes) k w) (Err error) (ap (served_by k k w of moment) is) refl (failed thread.tid error call.target.over) (answer.Failed error) (fails thread.tid error call.target.over)
       (record { pipes = waits-before users k.user w.shared kept.waits; answers = tt })
       gone lost loses (users-refused users thread.proc thread.tid call.target.over (part k k w of moment) its.user error)
       (lines-done user manager [] (inr refl) w.shared.lines (caller_of_call thread call) pulses
@@ -288,8 +303,10 @@ module _ (users : Users) (w : AllTables) (thread : Thread) (call : Call) (taken 
   outcome_by : (k l : state.Kept) (v : AllTables) (of : k.user ≡ thread.proc.user.0) (moment : ℕ) (bytes : List ℕ) (given : Result Done Errno) (r : Result (Deed Resources) Errno) → meant k l v of moment ≡ r
       → Comes (is_living its.processes) k w l v bytes given r → (IsReplied given → Gone v.shared) → (IsReplied given → HasLost bytes given) → Outcome k l v moment bytes given
   outcome_by k l v of moment bytes (Ok (done.Reply status effect)) (Ok deed) is did gone lost =
-      reply_after k l v of moment deed did.1 is status bytes effect did.0 (gone tt) (lost tt).0 (lost tt).1
-  outcome_by k l v of moment bytes (Ok done.NoReply) (Ok deed) is did gone lost = waiting_after k l v of moment deed did.1 is did.0
+      reply_after k l v of moment deed did.1 (ap (served_by k l v of moment) is)
+      (deed-keeps_replied (told k w) its.process (caller_of_call thread call) call.target moment (meaning its.sent.bytes) deed is (Waits users k.user) (waits-before users k.user w.shared kept.waits) (record { status = status; bytes = bytes; effect = effect }) (sym did.0))
+      (only k l v of moment deed is) status bytes effect did.0 (gone tt) (lost tt).0 (lost tt).1
+  outcome_by k l v of moment bytes (Ok done.NoReply) (Ok deed) is did gone lost = waiting_after k l v of moment deed did.1 (ap (served_by k l v of moment) is) is did.0
   outcome_by k l v of moment bytes (Err error) (Err refused) is did gone lost =
       subst (λ (l : state.Kept). Outcome k l v moment bytes (Err error)) (sym did.1)
       (subst (λ v. Outcome k k v moment bytes (Err error)) (sym did.2)
@@ -298,7 +315,58 @@ module _ (users : Users) (w : AllTables) (thread : Thread) (call : Call) (taken 
   outcome_by k l v of moment bytes (Ok done.NoReply) (Err error) is did gone lost = absurd did
   outcome_by k l v of moment bytes (Err error) (Ok deed) is did gone lost = absurd did
 
-  pub outcome : (k l : state.Kept) (v : AllTables) (of : k.user ≡ thread.proc.user.0) (moment : ℕ) (bytes : List ℕ) (given : Result Done Errno) (r : Result (Deed Resources) Errno) → meant k l v of moment ≡ r
+  -- a deed with this as the reply, and no answers
+  abbrev told_deed : Deed Resources → ℕ → List ℕ → Deed Resources
+  told_deed deed status bytes = record deed { reply = Some (record { status = status; bytes = bytes; effect = Keeps }); answers = [] }
+
+  -- the call was answered alone in its pipe, and is told so
+  alone_by : (k l : state.Kept) (v : AllTables) (of : k.user ≡ thread.proc.user.0) (moment : ℕ) (bytes : List ℕ) (given : Result Done Errno) (deed : Deed Resources) → meant k l v of moment ≡ Ok deed
+      → (it : ToldAlone manager (told k w) (context k l v of moment) (meaning its.sent.bytes) (meant k l v of moment)) (one : RepliedAlone (told k w) it.opened deed)
+      → Comes (is_living its.processes) k w l v bytes given (told_alone (told k w) it.opened (Ok deed)) → (IsReplied given → Gone v.shared) → (IsReplied given → HasLost bytes given) → Outcome k l v moment bytes given
+  alone_by k l v of moment bytes given deed is it one did gone lost = by_given given (subst (Comes (is_living its.processes) k w l v bytes given) one.told did) gone lost
+    where
+      existing : (coid : Coid) × (call.target.over ≡ Existing coid)
+      existing = asked-existing its.process (caller_of_call thread call) call.target moment (meaning its.sent.bytes) it.opened it.asks it.over
+
+      own : LeavesOwn (told k w) it.opened (meant k l v of moment)
+      own = asked-own (told k w) (context k l v of moment) (meaning its.sent.bytes) it.opened it.asks it.pipe it.over
+
+      same : served_by k l v of moment (meant k l v of moment) ≡ served_by k l v of moment (Ok (told_deed deed one.status one.bytes))
+      same =
+          let whose = opened_by-caller its.process (caller_of_call thread call) call.target moment (dup_of (meaning its.sent.bytes)) it.opened it.over in
+          let told_same = told-serves (part k l v of moment) (caller_of_call thread call) (record { target = call.target; is_asked = call.is_asked; bytes = [] }) existing.0 (told k w) it.opened (meant k l v of moment) existing.1 whose own in
+          sym told_same ∙ ap (served_by k l v of moment) (ap (told_alone (told k w) it.opened) is ∙ one.told)
+
+      keeps : InDeed (Waits users k.user) (told_deed deed one.status one.bytes)
+      keeps = record {
+        pipes = IfOk-at_ok (KeepsPipes (Waits users k.user) (told k w) it.opened) is (asked-pipes (told k w) (context k l v of moment) (meaning its.sent.bytes) it.opened it.asks it.pipe it.over (Waits users k.user) (waits-before users k.user w.shared kept.waits))
+            one.alone (one.call, answer.Reply one.status one.bytes) [] one.answers;
+        answers = tt;
+      }
+
+      by_given : (given : Result Done Errno) → Comes (is_living its.processes) k w l v bytes given (Ok (told_deed deed one.status one.bytes)) → (IsReplied given → Gone v.shared) → (IsReplied given → HasLost bytes given) → Outcome k l v moment bytes given
+      by_given (Ok (done.Reply status effect)) did gone lost = reply_after k l v of moment (told_deed deed one.status one.bytes) did.1 same keeps (inr refl) status bytes effect did.0 (gone tt) (lost tt).0 (lost tt).1
+      by_given (Ok done.NoReply) did gone lost = let clash : None ≡ Some (record { status = one.status; bytes = one.bytes; effect = Keeps }) = did.0 in absurd (cc)
+      by_given (Err error) did gone lost = absurd did
+
+  -- what is told is meant, or told alone
+  told_by_cases : (k l : state.Kept) (v : AllTables) (of : k.user ≡ thread.proc.user.0) (moment : ℕ) (bytes : List ℕ) (given : Result Done Errno)
+      → Comes (is_living its.processes) k w l v bytes given (told_so k l v of moment) → (IsReplied given → Gone v.shared) → (IsReplied given → HasLost bytes given) → Outcome k l v moment bytes given
+  told_by_cases k l v of moment bytes given did gone lost = elim (told-cases manager (told k w) (context k l v of moment) (meaning its.sent.bytes) (meant k l v of moment)) [
+    | inl same ↦ outcome_by k l v of moment bytes given (told_so k l v of moment) (sym same) did gone lost
+    | inr it ↦ by_meant it (meant k l v of moment) refl
+  ]
+    where
+      by_meant : (it : ToldAlone manager (told k w) (context k l v of moment) (meaning its.sent.bytes) (meant k l v of moment)) (m : Result (Deed Resources) Errno) → meant k l v of moment ≡ m → Outcome k l v moment bytes given
+      by_meant it (Err error) is = outcome_by k l v of moment bytes given (told_so k l v of moment) (is ∙ sym (it.told ∙ ap (told_alone (told k w) it.opened) is)) did gone lost
+      by_meant it (Ok deed) is =
+          let told_is : told_so k l v of moment ≡ told_alone (told k w) it.opened (Ok deed) = it.told ∙ ap (told_alone (told k w) it.opened) is in
+          elim (alone-cases (told k w) it.opened deed) [
+            | inl same ↦ outcome_by k l v of moment bytes given (told_so k l v of moment) (is ∙ sym (told_is ∙ same)) did gone lost
+            | inr one ↦ alone_by k l v of moment bytes given deed is it one (subst (Comes (is_living its.processes) k w l v bytes given) told_is did) gone lost
+          ]
+
+  pub outcome : (k l : state.Kept) (v : AllTables) (of : k.user ≡ thread.proc.user.0) (moment : ℕ) (bytes : List ℕ) (given : Result Done Errno) (r : Result (Deed Resources) Errno) → told_so k l v of moment ≡ r
       → Comes (lives_in users thread.proc.user.0) k w l v bytes given r → (IsReplied given → Gone v.shared) → (IsReplied given → HasLost bytes given) → Outcome k l v moment bytes given
   outcome k l v of moment bytes given r is did =
-      outcome_by k l v of moment bytes given r is (subst (λ lives. Comes lives k w l v bytes given r) (ap (λ rows. is_living (unwrap_or rows [])) its.user) did)
+      told_by_cases k l v of moment bytes given (subst (Comes (is_living its.processes) k w l v bytes given) (sym is) (subst (λ lives. Comes lives k w l v bytes given r) (ap (λ rows. is_living (unwrap_or rows [])) its.user) did))

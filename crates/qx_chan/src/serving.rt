@@ -22,7 +22,7 @@ ghost use Rattle.qx_chan.specs.inner.Calls.{taken_bytes, taken_call};
 ghost use Rattle.qx_chan.specs.Calls.{taken_of};
 ghost use Rattle.qx_chan.specs.Serving.{IsReadOf, Serves, part_in, settled};
 ghost use Rattle.qx_chan.specs.inner.Kept.{HasServerNodes};
-ghost use Rattle.qx_chan.specs.inner.Serving.{Comes, Sends, caller_of_call, deed_in};
+ghost use Rattle.qx_chan.specs.inner.Serving.{Comes, Sends, caller_of_call, deed_in, told_in};
 ghost use Rattle.qx_chan.specs.Users.{lives_in, process_of, thread_row};
 
 use crate::answers::give_answers;
@@ -144,7 +144,7 @@ fn perform(
     requires received { IsReceived tables.old.shared message.thread }
     requires read { IsReadOf (option_copied read) (taken_of (thread_row users.now message.thread)) }
     requires spare { IsSome spare.old }
-    ensures did { (process : machine.Process) (bytes : List ℕ) → Sends users.now message.thread process bytes → IfOk result (λ given. Comes (lives_in users.now message.thread.proc.user.0) resources.old tables.old resources.new tables.new reply.new given (deed_in resources.old tables.old process message bytes)) }
+    ensures did { (process : machine.Process) (bytes : List ℕ) → Sends users.now message.thread process bytes → IfOk result (λ given. Comes (lives_in users.now message.thread.proc.user.0) resources.old tables.old resources.new tables.new reply.new given (told_in resources.old tables.old process message bytes)) }
     ensures room { IfOk result (λ given. HasRoomAfter spare.old spare.new given) }
     ensures err { OnErr result ((tables.new ≡ tables.old) × (resources.new ≡ resources.old) × (spare.new ≡ spare.old)) }
     ensures wanted { (process : machine.Process) (bytes : List ℕ) → Sends users.now message.thread process bytes → OnErr result (IsTrue (bytes_want_memory message.call.target.manager (told resources.old tables.old) (reading.meaning bytes) (deed_in resources.old tables.old process message bytes))) }

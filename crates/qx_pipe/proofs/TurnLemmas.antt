@@ -1,8 +1,8 @@
 -- One turn of settling, and then the next.
-use Rattle.std.proofs.Common.{◌≡◌, ◌==◌, inl, inr, ℕ, ◌+◌, ◌≤◌, ◌<◌, Bool, false, true, List, [], ◌∷◌, length, take, drop, slice_get, Option, Some, None, is_some, refl, sym, ap, ◌∙◌, append-nil, arith}
+use Rattle.std.proofs.Common.{◌≡◌, ◌==◌, ◌&&◌, inl, inr, ℕ, ◌+◌, ◌≤◌, ◌<◌, Bool, false, true, List, [], ◌∷◌, length, take, drop, slice_get, Option, Some, None, is_some, refl, sym, ap, ◌∙◌, append-nil, arith}
 use Rattle.std.specs.Borrow.{Bor}
 use Rattle.std.specs.Option.{option_copied}
-use Rattle.std.specs.Prelude.{min, nat_le}
+use Rattle.std.specs.Prelude.{min, nat_le, not}
 use Rattle.std.proofs.lemmas.Bool.{le-leb, lt-leb}
 use Rattle.std.proofs.lemmas.Bool.Decides.{eqb_tells}
 use Rattle.qx_types.specs.declared.limits.TheConstants.Limits.{PIPE}
@@ -90,6 +90,20 @@ pub none-waits : {A : Type 0} (first : Option (Bor A)) (xs : List A) → option_
 none-waits first [] is none = refl
 none-waits None (x ∷ xs) is none = absurd (cc)
 none-waits (Some borrowed) (x ∷ xs) is none = absurd (cc)
+
+pub is-some : {A : Type 0} (first : Option (Bor A)) (xs : List A) → option_copied first ≡ slice_get xs 0 → is_some first ≡ not (length xs == 0)
+is-some None [] is = refl
+is-some None (x ∷ xs) is = absurd (cc)
+is-some (Some borrowed) [] is = absurd (cc)
+is-some (Some borrowed) (x ∷ xs) is = sym (ap not (not_zero (length (x ∷ xs)) (λ none. omega (arith, none))))
+
+pub first-waits : (a b : Bool) → true ≡ not a → true ≡ not (a && b)
+first-waits false b some = refl
+first-waits true b some = absurd (cc)
+
+pub then-waits : (a b : Bool) → false ≡ not a → not b ≡ not (a && b)
+then-waits true b none = refl
+then-waits false b none = absurd (cc)
 
 module _ (manner : Manner) (call : WaitingCall) (p : Pipe WaitingCall) where
   pub read-bytes : (count : ℕ) → (call.wanted ≡ 0 → ⊥) → (length p.bytes ≡ 0 → ⊥) → count ≡ min call.wanted (length p.bytes) → clean_read wanted offered manner call p ≡ and_then (passed_to count (call ∷ []) p) (settle wanted offered)

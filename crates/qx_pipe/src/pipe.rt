@@ -1,18 +1,20 @@
 //! What is done to one pipe, under the number of an inode of a user. Each call tells whether bytes went in.
 #![tactic(auto, using(crate::proofs::AfterLemmas::steps))]
 
-ghost use Rattle.std.specs.Prelude.{◌≡◌, ◌==◌, ◌<◌, ◌≤◌, IfNone, IfSome, IsFalse, length};
+ghost use Rattle.std.specs.Prelude.{◌≡◌, ◌==◌, ◌<◌, ◌≤◌, [], IfNone, IfSome, IsFalse, IsTrue, false, length, not};
 ghost use Rattle.qx_machine.specs.Waiting.{is_call, is_gone, offered, waiting_call, wanted};
 ghost use Rattle.qx_machine.specs.Pipes as machine;
-ghost use Rattle.qx_machine.specs.Pipes.{clean_read, clean_write, dismissed, nobody_answered, readers_ended, without_bytes, writers_ended};
+ghost use Rattle.qx_machine.specs.Pipes.{clean_read, clean_write, dismissed, nobody_answered, one_answered, readers_ended, without_bytes, writers_ended};
+ghost use Rattle.qx_machine.specs.declared.rows.Opened.{Opened as AnyOpened};
+ghost use Rattle.qx_pipe.specs.Alone.{is_idle, is_one_reply};
 ghost use Rattle.qx_pipe.specs.inner.Turns.{NobodyWaits, Turning, settling, unless_served, waiting_count};
 ghost use Rattle.qx_queues.specs.Waits.{leaves};
 ghost use Rattle.qx_shared.specs.Shared.{HasPipe, IsCallReceived, pipe_at, went_in, with_pipe_after};
 ghost use Rattle.qx_types.specs.declared.limits.TheConstants.Limits.{BODY};
-ghost use Rattle.qx_types.specs.declared.outcome.Answer.TheVariants.{Failed};
+ghost use Rattle.qx_types.specs.declared.outcome.Answer.TheVariants.{Failed, Reply as TheReply};
 
 use qx_machine::{Manner, Opened, Sides};
-use qx_process::Room;
+use qx_process::{Reply, Room};
 use qx_queues::{Leaving, PipeCall};
 use qx_shared::{Shared, Side};
 use qx_types::{Errno, Limits, User};
@@ -75,6 +77,78 @@ pub fn write(
     let before = clean_others(shared, user, inode, others);
     let own = write_clean(shared, user, inode, opened, bytes, room, manner, others);
     before | own
+}
+
+/// A READ of a call that is told its reply at once, where nobody waits in the pipe and it is answered with a reply: the
+/// bytes that it gets go from the pipe into the reply (C Library Reference: `read`). None else, and nothing is done.
+pub fn read_alone(
+    shared: &mut Shared,
+    user: User,
+    inode: u32,
+    count: u32,
+    manner: Manner,
+    reply: &mut Reply,
+) -> Option<u64>
+    requires pipe { HasPipe shared.old user.0 inode }
+    requires empty { reply.old ≡ [] }
+    ensures idle { IfSome result (λ status. IsTrue (is_idle (pipe_at shared.old user.0 inode))) }
+    ensures told { IfSome result (λ status. (opened : AnyOpened) → machine.read wanted offered is_gone manner (waiting_call opened count []) (pipe_at shared.old user.0 inode) ≡ one_answered (waiting_call opened count []) (TheReply status reply.new) (pipe_at shared.new user.0 inode)) }
+    ensures left { IfSome result (λ status. shared.new ≡ with_pipe_after shared.old user.0 inode (nobody_answered (pipe_at shared.new user.0 inode))) }
+    ensures otherwise { IfNone result (IsTrue (is_idle (pipe_at shared.old user.0 inode)) → (opened : AnyOpened) → is_one_reply (machine.read wanted offered is_gone manner (waiting_call opened count []) (pipe_at shared.old user.0 inode)).answers ≡ false) }
+    ensures same { IfNone result (shared.new ≡ shared.old) }
+    ensures unused { IfNone result (reply.new ≡ []) }
+{
+    if anyone_waits(shared, user, inode) {
+        return None;
+    }
+    if count == 0 {
+        return Some(0);
+    }
+    let len = shared.pipe_len(user, inode);
+    if len != 0 {
+        let count = (count as usize).min(len);
+        reply.push(shared.front(user, inode, count));
+        shared.drop_front(user, inode, count);
+        return Some(count as u64);
+    }
+    if manner.has_other_side {
+        return None;
+    }
+    Some(0)
+}
+
+/// A WRITE of a call that is told its reply at once, where nobody waits in the pipe and it is answered with a reply, which
+/// has no bytes (C Library Reference: `write`). None else, and nothing is done.
+pub fn write_alone(
+    shared: &mut Shared,
+    user: User,
+    inode: u32,
+    bytes: &[u8],
+    manner: Manner,
+) -> Option<u64>
+    requires pipe { HasPipe shared.old user.0 inode }
+    ensures idle { IfSome result (λ status. IsTrue (is_idle (pipe_at shared.old user.0 inode))) }
+    ensures count { IfSome result (λ status. status ≡ length bytes.now) }
+    ensures told { IfSome result (λ status. (opened : AnyOpened) → machine.write wanted offered is_gone manner (waiting_call opened 0 bytes.now) (pipe_at shared.old user.0 inode) ≡ one_answered (waiting_call opened 0 bytes.now) (TheReply status []) (pipe_at shared.new user.0 inode)) }
+    ensures left { IfSome result (λ status. shared.new ≡ with_pipe_after shared.old user.0 inode (nobody_answered (pipe_at shared.new user.0 inode))) }
+    ensures otherwise { IfNone result (IsTrue (is_idle (pipe_at shared.old user.0 inode)) → (opened : AnyOpened) → is_one_reply (machine.write wanted offered is_gone manner (waiting_call opened 0 bytes.now) (pipe_at shared.old user.0 inode)).answers ≡ false) }
+    ensures same { IfNone result (shared.new ≡ shared.old) }
+{
+    if anyone_waits(shared, user, inode) {
+        return None;
+    }
+    let len = bytes.len();
+    if len == 0 {
+        return Some(0);
+    }
+    if !manner.has_other_side {
+        return None;
+    }
+    if len > Limits::PIPE - shared.pipe_len(user, inode) {
+        return None;
+    }
+    shared.append(user, inode, bytes);
+    Some(len as u64)
 }
 
 /// An unblock of a call of a thread: the pipe is cleaned; if the call waits then, it is answered EINTR, and others may be
@@ -144,6 +218,7 @@ fn turn(shared: &mut Shared, user: User, inode: u32) -> Option<bool>
 // Whether a call waits in a pipe. Where none does, there is nobody to take out or to serve.
 fn anyone_waits(shared: &Shared, user: User, inode: u32) -> bool
     ensures alone { IsFalse result → NobodyWaits (pipe_at shared.now user.0 inode) }
+    ensures idle { result ≡ not (is_idle (pipe_at shared.now user.0 inode)) }
 {
     shared.first_waiting(user, inode, Side::Reading).is_some()
         || shared.first_waiting(user, inode, Side::Writing).is_some()

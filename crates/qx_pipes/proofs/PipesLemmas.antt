@@ -93,7 +93,7 @@ module _ (c : Shared) (user : ℕ) where
 
 -- ---- another size of an inode, and an inode that goes
 
-abbrev resized : ℕ → (Attribute → Attribute) → Stored → Stored
+abbrev pub resized : ℕ → (Attribute → Attribute) → Stored → Stored
 resized inode change s = record s { inodes = record s.inodes { attributes = with_row s.inodes.attributes inode change } }
 
 -- an inode goes, or not, and its pipe

@@ -1,2 +1,3 @@
 pub mod Pipes
+pub mod Told
 pub mod inner

@@ -1,6 +1,6 @@
 //! What messages over an open control block do.
 
-ghost use Rattle.std.specs.Prelude.{◌≡◌, ◌<◌, ◌≤◌, ℤ, IsSome, MatchResult, None, Err, if◌then◌else◌, is_ok, length, position};
+ghost use Rattle.std.specs.Prelude.{◌≡◌, ◌<◌, ◌≤◌, [], ℤ, IsSome, MatchOption, MatchResult, None, Err, if◌then◌else◌, is_ok, length, position};
 ghost use Rattle.qx_iofunc.specs.Sizes.{sized};
 ghost use Rattle.qx_iofunc.specs.Store.{with_stored};
 ghost use Rattle.qx_machine.specs.Defaults as defaults;
@@ -11,6 +11,7 @@ ghost use Rattle.qx_machine.specs.Rows.{with_row};
 ghost use Rattle.qx_machine.specs.Waiting.{holds, is_call};
 ghost use Rattle.qx_machine.specs.declared.rows.Kind.TheVariants as kind;
 ghost use Rattle.qx_pipes.specs.Pipes.{Follows, done_of, seen};
+ghost use Rattle.qx_pipes.specs.Told.{bytes_told, status_told, told_alone};
 ghost use Rattle.qx_shared.specs.Shared.{IsReceived, pipe_at, pipes_of, callers_thread, with_row_at};
 ghost use Rattle.qx_types.specs.declared.flags.TheConstants.OFlags.{NONBLOCK};
 ghost use Rattle.qx_types.specs.declared.limits.TheConstants.Limits.{TRANSFER};
@@ -20,78 +21,93 @@ use bitflags::Flags;
 use qx_attr::Inodes;
 use qx_iofunc::Store;
 use qx_machine::{Kind, Manner, Ocb, Opened};
-use qx_process::Room;
+use qx_process::{Reply, Room};
 use qx_queues::PipeCall;
 use qx_shared::Shared;
 use qx_types::{Errno, Limits, OFlags, Thread, User};
 
-/// A READ of a call whose message was received: it waits with the room for its reply, or is answered, and so are others
-/// that can be then (C Library Reference: `read`). EBADF without a block for reading, EISDIR on the mount's root; the room is
-/// left then.
+/// A READ of a call whose message was received. Where nobody waits in the pipe and it is answered with a reply, it is told
+/// that at once: the status, with the bytes in the reply; the room is left then. Else it is left without a reply: it waits
+/// with the room for its reply, or is answered, and so are others that can be then (C Library Reference: `read`). EBADF
+/// without a block for reading, EISDIR on the mount's root; the room is left then.
 pub fn read(
     shared: &mut Shared,
     store: &mut Store,
     opened: Opened,
     wanted: u32,
+    reply: &mut Reply,
     room: &mut Option<Room>,
-) -> Result<(), Errno>
+) -> Result<Option<u64>, Errno>
     requires user { store.old.stored.user < length shared.old.pipes }
     requires received { IsReceived shared.old (callers_thread store.old.stored.user opened.caller) }
+    requires empty { reply.old ≡ [] }
     requires room { IsSome room.old }
     ensures user { store.new.stored.user ≡ store.old.stored.user }
-    ensures done { (r : Resources) → result ≡ done_of (machine.read_pipe (seen r store.old.stored shared.old) opened wanted) }
-    ensures left { (r : Resources) → Follows store.old.stored shared.old store.new.stored shared.new r (machine.read_pipe (seen r store.old.stored shared.old) opened wanted) }
-    ensures room { MatchResult result (λ done. room.new ≡ None) (λ error. room.new ≡ room.old) }
+    ensures done { (r : Resources) → result ≡ status_told (told_alone (seen r store.old.stored shared.old) opened (machine.read_pipe (seen r store.old.stored shared.old) opened wanted)) }
+    ensures left { (r : Resources) → Follows store.old.stored shared.old store.new.stored shared.new r (told_alone (seen r store.old.stored shared.old) opened (machine.read_pipe (seen r store.old.stored shared.old) opened wanted)) }
+    ensures bytes { (r : Resources) → reply.new ≡ bytes_told (told_alone (seen r store.old.stored shared.old) opened (machine.read_pipe (seen r store.old.stored shared.old) opened wanted)) }
+    ensures room { MatchResult result (λ status. MatchOption status (room.new ≡ None) (λ told. room.new ≡ room.old)) (λ error. room.new ≡ room.old) }
 {
     let block = store.inodes().block_for(opened.number, OFlags::READ)?;
     let user = store.user();
     if !shared.has_pipe(user, block.inode) {
         return Err(Errno::EISDIR);
     }
+    let inode = block.inode;
+    let sides = store.inodes().sides(inode);
+    let manner = manner(sides.for_writing, &block, opened.caller.is_asked);
+    if let Some(status) = qx_pipe::pipe::read_alone(shared, user, inode, wanted, manner, reply) {
+        set_size(shared, store, inode, false, opened.moment);
+        return Ok(Some(status));
+    }
     let Some(own_room) = room.take() else {
         unreachable!();
     };
-    let sides = store.inodes().sides(block.inode);
-    let manner = manner(sides.for_writing, &block, opened.caller.is_asked);
     let call = PipeCall::reading(opened, wanted, own_room);
-    let filled = qx_pipe::pipe::read(shared, user, block.inode, call, manner);
-    set_size(shared, store, block.inode, filled, opened.moment);
-    Ok(())
+    let filled = qx_pipe::pipe::read(shared, user, inode, call, manner);
+    set_size(shared, store, inode, filled, opened.moment);
+    Ok(None)
 }
 
-/// A WRITE of a call whose message was received: it waits with the room for its reply, in which a copy of the bytes is
-/// kept then, or is answered, and so are others that can be then (C Library Reference: `write`). EBADF without a block for
-/// writing; the room is left then.
+/// A WRITE of a call whose message was received. Where nobody waits in the pipe and it is answered with a reply, it is told
+/// that at once: the status, with no bytes; the room is left then. Else it is left without a reply: it waits with the room
+/// for its reply, in which a copy of the bytes is kept then, or is answered, and so are others that can be then (C Library
+/// Reference: `write`). EBADF without a block for writing; the room is left then.
 pub fn write(
     shared: &mut Shared,
     store: &mut Store,
     opened: Opened,
     bytes: &[u8],
     room: &mut Option<Room>,
-) -> Result<(), Errno>
+) -> Result<Option<u64>, Errno>
     requires user { store.old.stored.user < length shared.old.pipes }
     requires received { IsReceived shared.old (callers_thread store.old.stored.user opened.caller) }
     requires fits { length bytes.now ≤ TRANSFER }
     requires room { IsSome room.old }
     ensures user { store.new.stored.user ≡ store.old.stored.user }
-    ensures done { (r : Resources) → result ≡ done_of (machine.write_pipe (seen r store.old.stored shared.old) opened bytes.now) }
-    ensures left { (r : Resources) → Follows store.old.stored shared.old store.new.stored shared.new r (machine.write_pipe (seen r store.old.stored shared.old) opened bytes.now) }
-    ensures room { MatchResult result (λ done. room.new ≡ None) (λ error. room.new ≡ room.old) }
+    ensures done { (r : Resources) → result ≡ status_told (told_alone (seen r store.old.stored shared.old) opened (machine.write_pipe (seen r store.old.stored shared.old) opened bytes.now)) }
+    ensures left { (r : Resources) → Follows store.old.stored shared.old store.new.stored shared.new r (told_alone (seen r store.old.stored shared.old) opened (machine.write_pipe (seen r store.old.stored shared.old) opened bytes.now)) }
+    ensures bytes { (r : Resources) → bytes_told (told_alone (seen r store.old.stored shared.old) opened (machine.write_pipe (seen r store.old.stored shared.old) opened bytes.now)) ≡ [] }
+    ensures room { MatchResult result (λ status. MatchOption status (room.new ≡ None) (λ told. room.new ≡ room.old)) (λ error. room.new ≡ room.old) }
 {
     let block = store.inodes().block_for(opened.number, OFlags::WRITE)?;
     let user = store.user();
     if !shared.has_pipe(user, block.inode) {
         return Err(Errno::EBADF);
     }
+    let inode = block.inode;
+    let sides = store.inodes().sides(inode);
+    let manner = manner(sides.for_reading, &block, opened.caller.is_asked);
+    if let Some(status) = qx_pipe::pipe::write_alone(shared, user, inode, bytes, manner) {
+        set_size(shared, store, inode, status != 0, opened.moment);
+        return Ok(Some(status));
+    }
     let Some(own_room) = room.take() else {
         unreachable!();
     };
-    let sides = store.inodes().sides(block.inode);
-    let manner = manner(sides.for_reading, &block, opened.caller.is_asked);
-    let inode = block.inode;
     let filled = qx_pipe::pipe::write(shared, user, inode, opened, bytes, own_room, manner);
     set_size(shared, store, inode, filled, opened.moment);
-    Ok(())
+    Ok(None)
 }
 
 /// A pipe has no offset: ESPIPE; on the mount's root EINVAL (C Library Reference: `lseek`).

@@ -2,7 +2,8 @@
 //!
 //! It stands over what all users share and a user's store: `paths.rt` has an open and an unlink, `blocks.rt` what goes
 //! over an open control block, and an unblock. `Pipes.antt` says how the user's resources are seen in the two (`seen`),
-//! and that both are afterwards as the machine left them (`Follows`).
+//! and that both are afterwards as the machine left them (`Follows`). `Told.antt` says what a READ and a WRITE are told at
+//! once, where nobody waits in the pipe.
 #![tactic(auto)]
 
 pub mod blocks;

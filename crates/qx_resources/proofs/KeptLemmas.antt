@@ -1,6 +1,6 @@
 -- What functions come to, by what the store and the pipes tell of them.
 use Rattle.std.proofs.Common.{◌≡◌, ◌∙◌, ◌+◌, ◌-◌, ℕ, Bool, false, List, [], Result, Ok, Err, IfOk, OnErr, MatchResult, refl, sym, ap, subst, arith}
-use Rattle.std.specs.Prelude.{◌||◌, IsTrue}
+use Rattle.std.specs.Prelude.{◌||◌, IsTrue, Option, option_map}
 use Rattle.std.proofs.lemmas.List.{set-get_or}
 use Rattle.qx_types.specs.declared.errno.Errno.{Errno}
 use Rattle.qx_types.specs.declared.names.Manager.TheVariants as managers
@@ -23,12 +23,15 @@ use Rattle.qx_machine.specs.Resources.{Resources}
 use Rattle.qx_machine.specs.Wants.{difference_wants_memory, got_events, is_done_so, writes_some}
 use Rattle.qx_pipes.proofs.PipesLemmas.{given-same}
 use Rattle.qx_pipes.specs.Pipes.{Follows, done_of, seen}
+use Rattle.qx_pipes.specs.Told.{bytes_told, status_told}
 use Rattle.qx_resmgr.specs.Deeds.{Did, reply_with}
 use Rattle.qx_resmgr.specs.declared.functions.Done.{Done}
 use Rattle.qx_resmgr.specs.declared.functions.Done.TheVariants.{Reply}
 use Rattle.qx_resources.specs.Boot.{kept_of}
 use Rattle.qx_notify.specs.Events.{AllEvents, events_of, with_events}
 use Rattle.qx_resources.specs.State.{Kept, state, told}
+use Rattle.qx_resources.specs.Told.{done_at_once}
+use Rattle.qx_resources.proofs.ToldLemmas.{KeepsAll, reply-told}
 use Rattle.qx_resources.specs.inner.State.{AreLeft, Came}
 use Rattle.qx_resources.specs.declared.tables.Tables.{Tables}
 use Rattle.qx_shared.specs.Shared.{Shared, pipes_of}
@@ -84,6 +87,21 @@ module _ (mounts : List (List MountPoint)) (old new : Stored) (c d : Shared) (e 
   pub passed : (answer : Done) (given : Result (Unit {0}) Errno) (result : Result Done Errno) (meant : Resources → Result (Deed Resources) Errno) → ((r : Resources) → Follows old c new d r (meant r)) → ((r : Resources) → given ≡ done_of (meant r)) → new.user ≡ old.user
       → IfOk (meant before) (λ deed. reply_with bytes answer ≡ deed.reply) → bytes ≡ [] → MatchResult given (λ nothing. result ≡ Ok answer) (λ error. result ≡ Err error) → DidSo result (meant before)
   passed answer given result meant follows is = passed_as answer given result (meant before) (follows before) (is before)
+
+  told_as : (given : Result (Option ℕ) Errno) (result : Result Done Errno) (meant : Result (Deed Resources) Errno) → Follows old c new d before meant → given ≡ status_told meant → bytes ≡ bytes_told meant → KeepsAll meant → new.user ≡ old.user
+      → MatchResult given (λ status. result ≡ Ok (done_at_once status)) (λ error. result ≡ Err error) → DidSo result meant
+  told_as (Ok status) result (Ok deed) follows is told keeps user gives =
+      let left = left-so deed follows user in
+      let same : status ≡ option_map (λ reply. reply.status) deed.reply = cc in
+      rw gives (reply-told status bytes deed same told keeps, left.state, left.shared, user)
+  told_as (Err error) result (Err meant) follows is told keeps user gives = let same : error ≡ meant = cc in rw gives (same, ap kept_of follows.state, ap (λ s. tables_of s e mounts) follows.shared, told)
+  told_as (Ok status) result (Err meant) follows is told keeps user gives = absurd (cc)
+  told_as (Err error) result (Ok deed) follows is told keeps user gives = absurd (cc)
+
+  -- what is told at once is the reply that is meant
+  pub told_at_once : (given : Result (Option ℕ) Errno) (result : Result Done Errno) (meant : Resources → Result (Deed Resources) Errno) → ((r : Resources) → Follows old c new d r (meant r)) → ((r : Resources) → given ≡ status_told (meant r))
+      → ((r : Resources) → bytes ≡ bytes_told (meant r)) → KeepsAll (meant before) → new.user ≡ old.user → MatchResult given (λ status. result ≡ Ok (done_at_once status)) (λ error. result ≡ Err error) → DidSo result (meant before)
+  told_at_once given result meant follows is told = told_as given result (meant before) (follows before) (is before) (told before)
 
   -- each value is told as a reply of its own, and each error is an error
   pub told_so : {A : Type 0} (tell : Resources → Result A Errno → Result (Deed Resources) Errno) (status : A → ℕ) (effect : A → Effect) → ((r : Resources) (value : A) → tell r (Ok value) ≡ Ok (reply_alone (status value) bytes (effect value) r))

@@ -2,6 +2,8 @@
 mod NotifyLemmas
 -- what functions come to
 mod KeptLemmas
+-- what is told at once
+pub mod ToldLemmas
 -- which conditions come to hold
 mod WatchQuiet
 -- which events are due by that, and what is told of one pipe

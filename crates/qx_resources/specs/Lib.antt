@@ -4,5 +4,6 @@ pub mod Lends
 pub mod Mounts
 pub mod Ranges
 pub mod State
+pub mod Told
 pub mod Watching
 pub mod inner

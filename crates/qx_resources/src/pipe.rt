@@ -1,6 +1,8 @@
-ghost use Rattle.qx_machine.specs.Managers.{pipe_connect, pipe_io};
+ghost use Rattle.std.specs.Prelude.{◌≡◌};
+ghost use Rattle.qx_machine.specs.Managers.{pipe_connect};
 ghost use Rattle.qx_machine.specs.Wants.{difference_wants_memory};
 ghost use Rattle.qx_types.specs.declared.names.Manager.TheVariants as manager;
+ghost use Rattle.qx_resources.specs.Told.{done_at_once, told_io};
 
 use crate::resources::Resources;
 use crate::state::Told;
@@ -71,7 +73,7 @@ impl Connect<Resources, Tables, Told> for Pipe {
 impl Io<Resources, Tables, Told> for Pipe {
     ghost use Rattle.qx_resources.specs.inner.State.{IsCallerReceived};
 
-    ghost io = { pipe_io };
+    ghost io = { told_io };
 
     ghost wants = { difference_wants_memory manager.Pipe };
 
@@ -82,11 +84,11 @@ impl Io<Resources, Tables, Told> for Pipe {
         tables: &mut Tables,
         opened: Result<Opened, Errno>,
         count: u32,
-        _reply: &mut Reply,
+        reply: &mut Reply,
         room: &mut Option<Room>,
     ) -> Result<Done, Errno> {
-        let read = qx_pipes::read(&mut tables.shared, &mut state.store, opened?, count, room);
-        read.map(|_| Done::NoReply)
+        let (shared, store) = (&mut tables.shared, &mut state.store);
+        qx_pipes::read(shared, store, opened?, count, reply, room).map(done_at_once)
     }
 
     fn write(
@@ -100,8 +102,8 @@ impl Io<Resources, Tables, Told> for Pipe {
             Ok(opened) => opened,
             Err(error) => return Ok(Err(error)),
         };
-        let written = qx_pipes::write(&mut tables.shared, &mut state.store, opened, bytes, room);
-        Ok(written.map(|_| Done::NoReply))
+        let (shared, store) = (&mut tables.shared, &mut state.store);
+        Ok(qx_pipes::write(shared, store, opened, bytes, room).map(done_at_once))
     }
 
     fn close(
@@ -166,5 +168,15 @@ impl Io<Resources, Tables, Told> for Pipe {
         wish: PulseWish,
     ) -> Result<Result<Done, Errno>, AllocError> {
         blocks::notify(state, tables, opened, action, wish)
+    }
+}
+
+/// What a message came to that is told this status at once, or is left without a reply.
+fn done_at_once(status: Option<u64>) -> Done
+    ensures { result ≡ done_at_once status }
+{
+    match status {
+        Some(status) => Done::keeps(status),
+        None => Done::NoReply,
     }
 }

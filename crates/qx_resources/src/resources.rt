@@ -14,6 +14,7 @@ ghost use Rattle.qx_resources.specs.Boot.{kept_of};
 ghost use Rattle.qx_resources.specs.Mounts.{IsNextMount, with_new_root};
 ghost use Rattle.qx_resources.specs.Ranges.{IsInRanges};
 ghost use Rattle.qx_resources.specs.State.{HasUser, state, told};
+ghost use Rattle.qx_resources.specs.Told.{told_by};
 ghost use Rattle.qx_resources.specs.inner.State.{IsCallerReceived};
 ghost use Rattle.qx_resources.specs.declared.tables.Tables.{Tables as AllTables};
 ghost use Rattle.qx_shared.specs.Shared.{shared_after, state_after};
@@ -115,8 +116,9 @@ impl Resources {
     }
 
     /// Does what bytes that were sent to a manager ask it for, by what they mean; the bytes of the reply are then in `reply`,
-    /// none after an error, and a call that waits took `room` along. Only an open, a mknod, a write of some bytes to
-    /// a file and a notification that arms may want memory, and only where they would be done.
+    /// none after an error, and a call that waits took `room` along. A call on a pipe in which nobody waits is replied to, if
+    /// it is answered at once with a reply. Only an open, a mknod, a write of some bytes to a file and a notification that
+    /// arms may want memory, and only where they would be done.
     pub fn perform(
         &mut self,
         all: &mut Tables,
@@ -129,7 +131,7 @@ impl Resources {
         requires fits { HasUser self.old all.old }
         requires received { IfOk context.opened (λ o. IsCallerReceived self.old all.old o) }
         requires room { IsSome room.old }
-        ensures did { IfOk result (λ given. Did state self.old all.old self.new all.new reply.new given (deed_of (told self.old all.old) context meaning.entry)) }
+        ensures did { IfOk result (λ given. Did state self.old all.old self.new all.new reply.new given (told_by context.target.manager (told self.old all.old) context meaning.entry (deed_of (told self.old all.old) context meaning.entry))) }
         ensures room { IfOk result (λ given. HasRoomAfter room.old room.new given) }
         ensures err { OnErr result ((self.new ≡ self.old) × (all.new ≡ all.old) × (room.new ≡ room.old)) }
         ensures wanted { OnErr result (IsTrue (bytes_want_memory context.target.manager (told self.old all.old) meaning.entry (deed_of (told self.old all.old) context meaning.entry))) }

@@ -264,6 +264,34 @@ impl Shared {
         count != 0
     }
 
+    /// So many of the first bytes that stand in a pipe.
+    pub fn front(&self, user: User, inode: u32, count: usize) -> &[u8]
+        requires pipe { HasPipe self.now user.0 inode }
+        requires count { count ≤ length (pipe_at self.now user.0 inode).bytes }
+        ensures bytes { result.now ≡ take count (pipe_at self.now user.0 inode).bytes }
+        ensures within { length result.now ≤ PIPE }
+    {
+        first_bytes(&self.pipes, user, inode, count)
+    }
+
+    /// So many of the first bytes that stand in a pipe go.
+    pub fn drop_front(&mut self, user: User, inode: u32, count: usize)
+        requires pipe { HasPipe self.old user.0 inode }
+        requires count { count ≤ length (pipe_at self.old user.0 inode).bytes }
+        ensures rest { self.new ≡ with_pipe_after self.old user.0 inode (nobody_answered (record (pipe_at self.old user.0 inode) { bytes = drop count (pipe_at self.old user.0 inode).bytes })) }
+    {
+        self.pipes[user.0 as usize].drop_front(inode, count);
+    }
+
+    /// Bytes that fit go last into a pipe.
+    pub fn append(&mut self, user: User, inode: u32, bytes: &[u8])
+        requires pipe { HasPipe self.old user.0 inode }
+        requires fits { length (pipe_at self.old user.0 inode).bytes + length bytes.now ≤ PIPE }
+        ensures appended { self.new ≡ with_pipe_after self.old user.0 inode (nobody_answered (record (pipe_at self.old user.0 inode) { bytes = (pipe_at self.old user.0 inode).bytes ++ bytes.now })) }
+    {
+        self.pipes[user.0 as usize].append(inode, bytes);
+    }
+
     /// The bytes that stand in a pipe go.
     pub fn discard(&mut self, user: User, inode: u32)
         requires pipe { HasPipe self.old user.0 inode }

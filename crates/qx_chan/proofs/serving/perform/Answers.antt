@@ -4,9 +4,11 @@ use Rattle.qx_machine.specs.Performing.{deed_of, dup_of}
 use Rattle.qx_machine.specs.Settling.{is_living}
 use Rattle.qx_resmgr.specs.Deeds.{Did}
 use Rattle.qx_resources.specs.State.{state, told}
-use Rattle.qx_chan.specs.inner.Serving.{deed_in, Comes}
+use Rattle.qx_resources.specs.Told.{told_by}
+use Rattle.qx_resources.proofs.ToldLemmas.{told-meant}
+use Rattle.qx_chan.specs.inner.Serving.{told_in, Comes}
 use Rattle.qx_chan.specs.Users.{lives_in, process_of_user, process_of}
-use Rattle.qx_chan.proofs.MessageLemmas.{caller-received, deed-served}
+use Rattle.qx_chan.proofs.MessageLemmas.{caller-received, told-served}
 use Rattle.qx_chan.proofs.SettledLemmas.{comes, fits-did}
 use Rattle.qx_chan.proofs.serving.perform.Goals as goal
 
@@ -25,9 +27,11 @@ returns-clause-did c = λ process bytes sends.
     let message = c.args.message in
     let same : is_living c.in-Some.processes.now ≡ lives_in c.args.users.now message.thread.proc.user.0 = ap (λ rows. is_living (unwrap_or rows [])) c.in-Some.ensures.row in
     let there : Some c.in-Some-process.process.now ≡ process_of c.args.users.now message.thread.proc = c.in-Some-process.ensures.row ∙ ap (process_of_user message.thread.proc.num) c.in-Some.ensures.row in
-    let is : deed_of (told k w) c.context_of-context.result c.meaning_of-meaning.result ≡ deed_in k w process message bytes = rw (c.context_of-context.ensures.context, c.caller.ensures)
-    (deed-served c.args.users.now message.thread process bytes sends c.in-Some-process.process.now there c.in-Some-received.bytes.now c.in-Some-received.ensures.bytes c.meaning_of-meaning.result c.meaning_of-meaning.ensures.meaning k w message.call message.moment)
+    let is : told_by c.context_of-context.result.target.manager (told k w) c.context_of-context.result c.meaning_of-meaning.result (deed_of (told k w) c.context_of-context.result c.meaning_of-meaning.result) ≡ told_in k w process message bytes = rw (c.context_of-context.ensures.context, c.caller.ensures)
+    (told-served c.args.users.now message.thread process bytes sends c.in-Some-process.process.now there c.in-Some-received.bytes.now c.in-Some-received.ensures.bytes c.meaning_of-meaning.result c.meaning_of-meaning.ensures.meaning k w message.call message.moment)
     in
-    subst (λ lives. Comes lives k w c.perform.new.self c.trigger.new.tables c.perform.new.reply c.in_ok-given.given (deed_in k w process message bytes)) same
-    (comes (is_living c.in-Some.processes.now) k c.perform.new.self w c.perform.new.all c.trigger.new.tables c.context_of-context.result c.meaning_of-meaning.result c.watch_message-watched.result c.perform.new.reply c.in_ok-given.given (deed_in k w process message bytes)
-    c.requires.fits c.watch_message-watched.ensures.there is c.watch_message-watched.ensures.watched c.trigger.ensures.triggered (subst (Did state k w c.perform.new.self c.perform.new.all c.perform.new.reply c.in_ok-given.given) is c.in_ok-given.ensures.did))
+    subst (λ lives. Comes lives k w c.perform.new.self c.trigger.new.tables c.perform.new.reply c.in_ok-given.given (told_in k w process message bytes)) same
+    (comes (is_living c.in-Some.processes.now) k c.perform.new.self w c.perform.new.all c.trigger.new.tables c.context_of-context.result c.meaning_of-meaning.result c.watch_message-watched.result c.perform.new.reply c.in_ok-given.given (told_in k w process message bytes)
+    c.requires.fits c.watch_message-watched.ensures.there
+    (λ deed its. told-meant c.context_of-context.result.target.manager (told k w) c.context_of-context.result c.meaning_of-meaning.result (deed_of (told k w) c.context_of-context.result c.meaning_of-meaning.result) deed (is ∙ its))
+    c.watch_message-watched.ensures.watched c.trigger.ensures.triggered (subst (Did state k w c.perform.new.self c.perform.new.all c.perform.new.reply c.in_ok-given.given) is c.in_ok-given.ensures.did))

@@ -1,11 +1,10 @@
-use Rattle.std.proofs.Common.{arith, rules}
-use Rattle.std.proofs.lemmas.Grind.{common_steps}
-use Rattle.qx_resmgr.specs.declared.functions.Done.TheVariants.{NoReply}
-use Rattle.qx_resources.proofs.KeptLemmas.{passed}
+use Rattle.std.proofs.Common.{rules}
+use Rattle.qx_resources.proofs.KeptLemmas.{told_at_once}
+use Rattle.qx_resources.proofs.ToldLemmas.{read-keeps}
 use Rattle.qx_resources.proofs.pipe.PipeIoResourcesTablesTold.read.Goals as goal
 
 pub returns-clause-did : goal.returns-clause-did
 returns-clause-did c =
     rw (c.in_ok-opened.was, ← c.state.view_is)
-    (passed c.args.tables.now.mounts c.state.inside.store.stored c.read-read.new.store.stored c.args.tables.now.shared c.read-read.new.shared c.args.tables.now.events c.args._reply.now NoReply c.read-read.result c.map.result _
-    c.read-read.ensures.left c.read-read.ensures.done c.read-read.ensures.user (grind (arith, common_steps)) c.requires.empty (search rules))
+    (told_at_once c.args.tables.now.mounts c.state.inside.store.stored c.read.new.store.stored c.args.tables.now.shared c.read.new.shared c.args.tables.now.events c.read.new.reply c.read.result c.map.result _
+    c.read.ensures.left c.read.ensures.done c.read.ensures.bytes (read-keeps _ c.in_ok-opened.field-0 c.args.count) c.read.ensures.user (search rules))

@@ -1,11 +1,10 @@
-use Rattle.std.proofs.Common.{arith, rules, [], refl}
-use Rattle.std.proofs.lemmas.Grind.{common_steps}
-use Rattle.qx_resmgr.specs.declared.functions.Done.TheVariants.{NoReply}
-use Rattle.qx_resources.proofs.KeptLemmas.{passed}
+use Rattle.std.proofs.Common.{[], rules, sym}
+use Rattle.qx_resources.proofs.KeptLemmas.{told_at_once}
+use Rattle.qx_resources.proofs.ToldLemmas.{write-keeps}
 use Rattle.qx_resources.proofs.pipe.PipeIoResourcesTablesTold.write.Goals as goal
 
 pub returns-clause-did : goal.returns-clause-did
 returns-clause-did c =
     rw (c.in-Ok.is, ← c.state.view_is)
-    (passed c.args.tables.now.mounts c.state.inside.store.stored c.write-written.new.store.stored c.args.tables.now.shared c.write-written.new.shared c.args.tables.now.events [] NoReply c.write-written.result c.map.result _
-    c.write-written.ensures.left c.write-written.ensures.done c.write-written.ensures.user (grind (arith, common_steps)) refl (search rules))
+    (told_at_once c.args.tables.now.mounts c.state.inside.store.stored c.write.new.store.stored c.args.tables.now.shared c.write.new.shared c.args.tables.now.events [] c.write.result c.map.result _
+    c.write.ensures.left c.write.ensures.done (λ r. sym (c.write.ensures.bytes r)) (write-keeps _ c.in-Ok.opened c.args.bytes.now) c.write.ensures.user (search rules))
