@@ -4,19 +4,33 @@ ghost use Rattle.std.specs.Prelude.{◌≡◌, ◌+◌, ◌<◌, ◌≤◌, ◌^
 ghost use Rattle.std.specs.Str.{bytes_eq};
 ghost use Rattle.qx_bytes.specs.declared.message.TheConstants.MessageBytes.{INLINE};
 
-use smallvec::SmallVec;
 use std::alloc::{AllocError, Global};
 use std::marker::Model;
-use std::mem;
+use std::{fmt, mem};
 
 /// A place in the value for each of a few bytes.
 const PLACES: usize = MessageBytes::INLINE;
 
 /// Bytes of a message or of its answer, which contracts see as a list of numbers: at most 40 stand inline, more in a
 /// vector.
-#[derive(Debug, Drop)]
+#[derive(Drop)]
 pub struct MessageBytes {
-    items: SmallVec<u8, PLACES>,
+    items: Items,
+}
+
+/// Where bytes stand.
+#[derive(Drop)]
+enum Items {
+    Few(Few),
+    Many(Vec<u8>),
+}
+
+/// The first of these places, so many; what stands in the others is nobody's to see.
+#[derive(Drop)]
+struct Few {
+    alloc: Global,
+    places: [u8; PLACES],
+    len: usize,
 }
 
 impl Model for MessageBytes {
@@ -25,10 +39,12 @@ impl Model for MessageBytes {
 
     ghost Value = { List ℕ };
 
-    ghost view = { λ b. b.items.items };
+    ghost use Rattle.qx_bytes.specs.Items.{are_within, bytes_in};
 
-    // few bytes stand inline
-    ghost invariant = { λ b. length b.items.items ≤ INLINE → b.items.capacity ≡ INLINE };
+    ghost view = { λ b. bytes_in b.items };
+
+    // few bytes stand inline, and no more than there are places
+    ghost invariant = { λ b. are_within b.items };
 }
 
 impl MessageBytes {
@@ -40,7 +56,11 @@ impl MessageBytes {
         ensures none { result ≡ [] }
     {
         MessageBytes {
-            items: SmallVec::new(alloc),
+            items: Items::Few(Few {
+                alloc,
+                places: [0; PLACES],
+                len: 0,
+            }),
         }
     }
 
@@ -60,7 +80,11 @@ impl MessageBytes {
         ensures bytes { result ≡ take len few }
     {
         MessageBytes {
-            items: SmallVec::from_buf_and_len(alloc, few, len),
+            items: Items::Few(Few {
+                alloc,
+                places: few,
+                len,
+            }),
         }
     }
 
@@ -72,8 +96,10 @@ impl MessageBytes {
         if bytes.len() <= MessageBytes::INLINE {
             return Ok(MessageBytes::inline(alloc, bytes));
         }
+        let mut items = Vec::new(alloc);
+        items.extend_from_slice(bytes)?;
         Ok(MessageBytes {
-            items: SmallVec::from_slice(alloc, bytes)?,
+            items: Items::Many(items),
         })
     }
 
@@ -85,7 +111,7 @@ impl MessageBytes {
             return MessageBytes::inline(*items.allocator(), items.as_slice());
         }
         MessageBytes {
-            items: SmallVec::from_vec(items),
+            items: Items::Many(items),
         }
     }
 
@@ -105,7 +131,7 @@ impl MessageBytes {
         if first.len() + second.len() + third.len() > MessageBytes::INLINE {
             return Ok(MessageBytes::many(memory, first, second, third)?);
         }
-        let mut few = [0; PLACES];
+        let mut few = zeros();
         let end = append(&mut few, 0, first);
         let end = append(&mut few, end, second);
         let end = append(&mut few, end, third);
@@ -137,17 +163,13 @@ impl MessageBytes {
         ensures bytes { result ≡ self.old }
         ensures none { self.new ≡ [] }
     {
-        let none = MessageBytes::new(*self.items.allocator());
+        let none = MessageBytes::new(*self.allocator());
         mem::replace(self, none)
     }
 
     /// The bytes go, and the memory of more than a few comes in place of that which is there, so that others can stand in it.
     pub fn into_memory(self, memory: &mut Vec<u8>) {
-        if !self.items.spilled() {
-            return;
-        }
-        let MessageBytes { items } = self;
-        if let Ok(items) = items.into_vec() {
+        if let Items::Many(items) = self.items {
             *memory = items;
         }
     }
@@ -156,8 +178,29 @@ impl MessageBytes {
     pub fn as_slice(&self) -> &[u8]
         ensures bytes { result.now ≡ self.now }
     {
-        self.items.as_slice()
+        match &self.items {
+            Items::Few(few) => &few.places[..few.len],
+            Items::Many(items) => items.as_slice(),
+        }
     }
+
+    fn allocator(&self) -> &Global {
+        match &self.items {
+            Items::Few(few) => &few.alloc,
+            Items::Many(items) => items.allocator(),
+        }
+    }
+}
+
+/// Zero bytes in all places.
+fn zeros() -> [u8; PLACES] {
+    let mut zeros = [0; PLACES];
+    zeros[..8].copy_from_slice(&[0; 8]);
+    zeros[8..16].copy_from_slice(&[0; 8]);
+    zeros[16..24].copy_from_slice(&[0; 8]);
+    zeros[24..32].copy_from_slice(&[0; 8]);
+    zeros[32..].copy_from_slice(&[0; 8]);
+    zeros
 }
 
 /// Puts a piece behind the first bytes of an array, and gives how many they are then.
@@ -169,6 +212,12 @@ fn append(few: &mut [u8; PLACES], end: usize, piece: &[u8]) -> usize
     let behind = end + piece.len();
     few[end..behind].copy_from_slice(piece);
     behind
+}
+
+impl fmt::Debug for MessageBytes {
+    fn fmt<W: fmt::Write>(&self, f: &mut fmt::Formatter<W>) -> fmt::Result {
+        f.debug_list().entries(self.as_slice()).finish()
+    }
 }
 
 impl PartialEq for MessageBytes {
@@ -195,6 +244,6 @@ impl Clone for MessageBytes {
     ghost is_clone = { λ original copy. copy ≡ original };
 
     fn clone(&self) -> Result<MessageBytes, AllocError> {
-        MessageBytes::from_slice(*self.items.allocator(), self.as_slice())
+        MessageBytes::from_slice(*self.allocator(), self.as_slice())
     }
 }

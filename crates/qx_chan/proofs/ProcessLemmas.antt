@@ -1,12 +1,14 @@
 -- One process among those of all users, where it changes.
 use Rattle.std.proofs.Common.{◌≡◌, ◌≢◌, inl, inr, ℕ, List, Option, Some, None, Ok, Err, refl, sym, ap}
-use Rattle.std.specs.Prelude.{OnErr, Result, option_map, slice_set}
+use Rattle.std.specs.Prelude.{IsSome, OnErr, Result, option_map, slice_set}
 use Rattle.std.proofs.lemmas.Bool.{cases_eq}
 use Rattle.qx_types.specs.declared.names.Proc.{Proc}
 use Rattle.qx_types.specs.declared.names.Thread.{Thread}
 use Rattle.qx_machine.specs.declared.rows.ThreadRow.{ThreadRow}
+use Rattle.qx_machine.specs.Parts.{thread_of}
 use Rattle.qx_machine.specs.Processes.{Process, with_thread}
 use Rattle.qx_machine.specs.Rows.{row_at, with_row}
+use Rattle.qx_process.specs.Lends.{put_thread}
 use Rattle.qx_process.proofs.RowLemmas.{set-row, with_row-none}
 use Rattle.qx_chan.specs.Users.{Users, process_of_user, process_of, thread_row, with_process_of, with_thread_row}
 use Rattle.qx_chan.proofs.RowReads.{option_cases, row_at-with_other, row_at-with_same}
@@ -32,6 +34,34 @@ module _ (users : Users) (proc : Proc) (h : List (Option Process) → List (Opti
       by_user : (o : Option (List (Option Process))) → row_at users proc.user.0 ≡ o → other.num ≢ proc.num → process_of_user other.num (option_map h o) ≡ process_of_user other.num o
       by_user None there apart = refl
       by_user (Some rows) there apart = others rows there other.num apart
+
+-- where a process is there, so is its user, and where a thread is there, its process
+
+pub user-there : (users : Users) (proc : Proc) → IsSome (process_of users proc) → IsSome (row_at users proc.user.0)
+user-there users proc there = by_user (row_at users proc.user.0) there
+  where
+    by_user : (o : Option (List (Option Process))) → IsSome (process_of_user proc.num o) → IsSome o
+    by_user None none = none
+    by_user (Some rows) some = refl
+
+pub process-there : (users : Users) (thread : Thread) → IsSome (thread_row users thread) → IsSome (process_of users thread.proc)
+process-there users thread there = by_process (process_of users thread.proc) there
+  where
+    by_process : (o : Option Process) → IsSome (thread_of thread.tid o) → IsSome o
+    by_process None none = none
+    by_process (Some process) some = refl
+
+-- a thread's row that is put into its process, as that is put among those of all users
+pub thread-put : (users : Users) (thread : Thread) (process : Process) (row left : ThreadRow)
+    → process_of users thread.proc ≡ Some process
+    → row_at process.threads thread.tid ≡ Some row
+    → with_process_of users thread.proc (λ _. put_thread thread.tid left process) ≡ with_thread_row users thread (λ _. left)
+thread-put users thread process row left is there = elim (option_cases (row_at users thread.proc.user.0)) [
+  | inl nobody ↦ let clash : None ≡ Some process = rw nobody at is in absurd (cc)
+  | inr rows ↦
+      let its : row_at rows.0 thread.proc.num ≡ Some process = rw rows.1 at is in
+      rw (rows.1, its, there) refl
+]
 
 -- a process that is not there, and one that is left as it was
 

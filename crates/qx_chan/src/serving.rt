@@ -81,6 +81,7 @@ impl Channel {
     /// A call of a thread is asked to unblock by the pulse that a worker performs: if it waits in a pipe, it is answered, and
     /// so are others that can be then (Writing a Resource Manager: the unblock pulse). The user's events that are due give
     /// their pulses.
+    #[inline(never)]
     pub fn cancel(&mut self, resources: &mut Resources, thread: Thread, call: u64, moment: u64)
         requires user { resources.old.user ≡ thread.proc.user.0 }
         ensures cancelled { Serves self.old self.new resources.old resources.new (λ part. settled part (or_kept part (serve_pulse part thread.proc.num thread.tid call moment))) }
@@ -99,6 +100,7 @@ impl Channel {
     /// The disconnect pulse of a process' server connection is performed: the open control blocks go that are open over it still,
     /// and then it goes itself; calls that waited and can be answered by that are, and the user's events that are due give
     /// their pulses (Writing a Resource Manager: `_PULSE_CODE_DISCONNECT`). Nothing happens where the process is not there.
+    #[inline(never)]
     pub fn disconnect(
         &mut self,
         resources: &mut Resources,

@@ -16,6 +16,7 @@ ghost use Rattle.qx_chan.specs.inner.Channel.{process_replied};
 ghost use Rattle.qx_chan.specs.inner.Users.{HasPlace};
 ghost use Rattle.qx_chan.specs.Users.{UsesAt, no_processes, process_of, thread_row, with_process_of, with_thread_row};
 
+use qx_hint::as_mut_unchecked;
 use qx_machine::{Over, Sent, ServerName};
 use qx_process::{LostServers, Process, Replied, Reply, Room, ThreadCell, places};
 use qx_procs::Processes;
@@ -39,7 +40,7 @@ impl Model for Users {
 }
 
 impl Users {
-    ghost use Rattle.qx_chan.specs.inner.Lends.{lends_process_of, lends_processes, lends_thread_row};
+    ghost use Rattle.qx_chan.specs.inner.Lends.{lends_process_of, lends_process_there, lends_processes, lends_processes_there, lends_thread_row, lends_thread_there};
 
     /// Users from 1 to this many, with no process.
     pub fn new(alloc: Global, users: usize) -> Result<Self, AllocError>
@@ -107,6 +108,33 @@ impl Users {
             .thread_mut(thread.proc.num, thread.tid)
     }
 
+    /// The processes of a user that is there, for writing.
+    fn processes_there(&mut self, user: User) -> &mut Processes
+        requires there { IsSome (row_at self.old user.0) }
+        ensures* writes_back { sem 𝓛 (lends_processes_there self.entry user.0 result) }
+        ensures row { row_at self.old user.0 ≡ Some result.now }
+    {
+        as_mut_unchecked(&mut self.rows[user.0 as usize])
+    }
+
+    /// A process that is there, for writing.
+    fn process_there(&mut self, proc: Proc) -> &mut Process
+        requires there { IsSome (process_of self.old proc) }
+        ensures* writes_back { sem 𝓛 (lends_process_there self.entry proc result) }
+        ensures row { process_of self.old proc ≡ Some result.now }
+    {
+        self.processes_there(proc.user).process_there(proc.num)
+    }
+
+    /// A thread that is there, for writing.
+    fn thread_there(&mut self, thread: Thread) -> &mut ThreadCell
+        requires there { IsSome (thread_row self.old thread) }
+        ensures* writes_back { sem 𝓛 (lends_thread_there self.entry thread result) }
+        ensures row { thread_row self.old thread ≡ Some result.now }
+    {
+        self.process_there(thread.proc).thread_there(thread.tid)
+    }
+
     /// Starts a process of a user.
     #[tactic(auto, using(crate::proofs::ProcessLemmas::lends))]
     pub fn spawn(&mut self, user: User, threads: u8, prio: Prio) -> Result<(), AllocError>
@@ -131,10 +159,8 @@ impl Users {
         ensures had_room { IfSome (thread_row self.old thread) (λ row. IsTrue (has_own_room row)) → IsOk result }
         ensures err { OnErr result (self.new ≡ self.old) }
     {
-        match self.process_mut(thread.proc) {
-            Some(process) => process.send(alloc, thread.tid, sent),
-            None => unreachable!(),
-        }
+        self.process_there(thread.proc)
+            .send(alloc, thread.tid, sent)
     }
 
     /// A thread's message is received.
@@ -143,10 +169,7 @@ impl Users {
         requires there { IsSome (thread_row self.old thread) }
         ensures taken { self.new ≡ with_thread_row self.old thread taken_thread }
     {
-        match self.thread_mut(thread) {
-            Some(cell) => cell.take(),
-            None => unreachable!(),
-        }
+        self.thread_there(thread).take()
     }
 
     /// A thread's message, which was received, is asked to unblock it.
@@ -165,10 +188,7 @@ impl Users {
         requires received { IsSome (taken_bytes (thread_row self.old thread)) }
         ensures served { self.new ≡ with_thread_row self.old thread served_thread }
     {
-        match self.thread_mut(thread) {
-            Some(cell) => cell.wait(memory),
-            None => unreachable!(),
-        }
+        self.thread_there(thread).wait(memory)
     }
 
     /// A thread whose call waited gets the answer, with the room for its replies, unless the answer took that along.
@@ -197,10 +217,8 @@ impl Users {
         ensures replied { self.new ≡ with_process_of self.old thread.proc (process_replied thread.tid replied.effect replied.status reply.old over) }
         ensures lost { LosesAt result (process_of self.old thread.proc) (process_of self.new thread.proc) }
     {
-        match self.process_mut(thread.proc) {
-            Some(process) => process.reply(thread.tid, over, replied, reply, memory),
-            None => unreachable!(),
-        }
+        self.process_there(thread.proc)
+            .reply(thread.tid, over, replied, reply, memory)
     }
 
     /// A thread gets an error, which gives back what its call attached, with the room for its replies where that had gone.

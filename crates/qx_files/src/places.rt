@@ -280,6 +280,19 @@ fn put_bytes(bytes: &mut [u8], places: &[Option<usize>], in_order: usize, offset
     put_bytes(bytes, places, in_order, offset + count, rest);
 }
 
+/// Where a block stands that is there; those in order stand under their own number.
+fn index_of(places: &[Option<usize>], in_order: usize, number: usize) -> usize
+    requires ordered { InOrder places.now in_order }
+    requires made { is_some (row_at places.now number) ≡ true }
+    ensures index { row_at places.now number ≡ Some result }
+{
+    if number < in_order {
+        number
+    } else {
+        *places::there(places, number)
+    }
+}
+
 /// Puts bytes at an offset into blocks that are there, in which they stand one behind another.
 fn put_run(bytes: &mut [u8], places: &[Option<usize>], in_order: usize, offset: usize, new: &[u8])
     requires run { InRun in_order offset (length new.now) }
@@ -288,8 +301,7 @@ fn put_run(bytes: &mut [u8], places: &[Option<usize>], in_order: usize, offset: 
     requires made { is_some (row_at places.now (offset / 512)) ≡ true }
     ensures put { (n : ℕ) → byte_at bytes.new places.now n ≡ byte_after offset new.now (byte_at bytes.old places.now) n }
 {
-    if let Some(index) = places::row(places, offset / BLOCK) {
-        let at = BLOCK * *index + offset % BLOCK;
-        bytes[at..at + new.len()].copy_from_slice(new);
-    }
+    let index = index_of(places, in_order, offset / BLOCK);
+    let at = BLOCK * index + offset % BLOCK;
+    bytes[at..at + new.len()].copy_from_slice(new);
 }

@@ -24,6 +24,7 @@ mod marks;
 pub mod uncounted;
 
 use marks::{Marks, PRIORITIES};
+use qx_hint::assert_unchecked;
 use qx_lists::{Steps, Table};
 use qx_types::Ranked;
 use std::alloc::AllocError;
@@ -105,6 +106,7 @@ impl Line {
     {
         let priority = self.marks.highest(looks)?;
         let Some(node) = table.pop_front(self.lists[priority], changes, looks) else {
+            assert_unchecked(false);
             unreachable!();
         };
         self.mark(table, priority, changes, looks);

@@ -147,7 +147,7 @@ impl<T> Table<T> {
         requires { ContainsNode self.now node }
         ensures { map.get self.now.values node ≡ Some result.now }
     {
-        &self.rings.nodes[node].value
+        &self.rings.node(node).value
     }
 
     /// The value of a node, for writing.

@@ -5,6 +5,7 @@ ghost use Rattle.slab.specs.Slab.{get, ContainsKey};
 ghost use Rattle.qx_lists.specs.Rings.{links_at, with_next, with_previous, with_adjacent};
 
 use crate::steps::Steps;
+use qx_hint::{assert_unchecked, unwrap_unchecked};
 use slab::Slab;
 use std::sync::ledger::Ledger;
 
@@ -52,8 +53,8 @@ impl<T> Rings<T> {
         looks.tick();
         looks.tick();
         match place {
-            None => self.lists[list],
-            Some(node) => self.nodes[node].links,
+            None => *self.list(list),
+            Some(node) => self.node(node).links,
         }
     }
 
@@ -74,14 +75,35 @@ impl<T> Rings<T> {
         self.set_previous(list, after, before, changes);
     }
 
+    /// A node that is there.
+    pub(crate) fn node(&self, node: usize) -> &Node<T>
+        requires there { ContainsKey self.now.nodes node }
+        ensures node { get self.now.nodes node ≡ Some result.now }
+    {
+        unwrap_unchecked(self.nodes.get(node))
+    }
+
+    /// The links of a list that is there.
+    fn list(&self, list: usize) -> &Links
+        requires there { ContainsKey self.now.lists list }
+        ensures links { get self.now.lists list ≡ Some result.now }
+    {
+        unwrap_unchecked(self.lists.get(list))
+    }
+
     /// The value of a node, for writing.
     pub(crate) fn value_mut(&mut self, node: usize) -> &mut T
         requires { ContainsKey self.old.nodes node }
         ensures* writes_back { sem 𝓛 (lends_ring_value T.row self.entry node result) }
         ensures value { option_map (λ n. n.value) (get self.old.nodes node) ≡ Some result.now }
     {
-        let node = &mut self.nodes[node];
-        &mut node.value
+        match self.nodes.get_mut(node) {
+            Some(node) => &mut node.value,
+            None => {
+                assert_unchecked(false);
+                unreachable!()
+            }
+        }
     }
 
     fn set_next<L: Ledger>(
@@ -97,8 +119,20 @@ impl<T> Rings<T> {
     {
         changes.tick();
         match place {
-            None => self.lists[list].next = next,
-            Some(node) => self.nodes[node].links.next = next,
+            None => match self.lists.get_mut(list) {
+                Some(links) => links.next = next,
+                None => {
+                    assert_unchecked(false);
+                    unreachable!()
+                }
+            },
+            Some(node) => match self.nodes.get_mut(node) {
+                Some(node) => node.links.next = next,
+                None => {
+                    assert_unchecked(false);
+                    unreachable!()
+                }
+            },
         }
     }
 
@@ -115,8 +149,20 @@ impl<T> Rings<T> {
     {
         changes.tick();
         match place {
-            None => self.lists[list].previous = previous,
-            Some(node) => self.nodes[node].links.previous = previous,
+            None => match self.lists.get_mut(list) {
+                Some(links) => links.previous = previous,
+                None => {
+                    assert_unchecked(false);
+                    unreachable!()
+                }
+            },
+            Some(node) => match self.nodes.get_mut(node) {
+                Some(node) => node.links.previous = previous,
+                None => {
+                    assert_unchecked(false);
+                    unreachable!()
+                }
+            },
         }
     }
 }

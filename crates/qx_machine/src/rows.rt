@@ -117,9 +117,9 @@ pub enum Effect {
 /// (Writing a Resource Manager: `resmgr_context_t`, the `rcvid`).
 #[derive(Clone, Copy, Debug, PartialEq, Eq)]
 pub struct Caller {
+    pub call: u64,
     pub process: u8,
     pub thread: u8,
-    pub call: u64,
     pub is_asked: bool,
 }
 
@@ -127,10 +127,10 @@ pub struct Caller {
 /// block; and the moment at which it does. A dup works on the connection that it names, the old one.
 #[derive(Clone, Copy, Debug, PartialEq, Eq)]
 pub struct Opened {
-    pub caller: Caller,
-    pub coid: Coid,
-    pub number: u16,
     pub moment: u64,
+    pub caller: Caller,
+    pub number: u16,
+    pub coid: Coid,
 }
 
 /// What a message is served with beside its own fields: where it was sent, by which client, what it has open, or the error if

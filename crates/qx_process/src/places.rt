@@ -1,10 +1,11 @@
 //! Tables of rows under small numbers: a place for each number, as long as the table has grown.
 
-ghost use Rattle.std.specs.Prelude.{◌≡◌, ◌+◌, ◌<◌, ◌≤◌, ◌^◌, vec_capacity, vec_len, length, IfOk, IsOk, OnOk, OnErr, OnSome, None, [], ◌∷◌, replicate, slice_set, Some};
+ghost use Rattle.std.specs.Prelude.{◌≡◌, ◌+◌, ◌<◌, ◌≤◌, ◌^◌, vec_capacity, vec_len, length, IfOk, IsOk, IsSome, OnOk, OnErr, OnSome, None, [], ◌∷◌, replicate, slice_set, Some};
 ghost use Rattle.std.specs.Option.{option_copied};
 ghost use Rattle.qx_machine.specs.Rows.{row_at, lowest_from, put_row};
 
 use arrayvec::ArrayVec;
+use qx_hint::assert_unchecked;
 use std::alloc::{AllocError, Global};
 
 /// The row under a number.
@@ -15,6 +16,20 @@ pub fn row<T>(places: &[Option<T>], number: usize) -> Option<&T>
     match places.get(number) {
         Some(Some(row)) => Some(row),
         _ => None,
+    }
+}
+
+/// The row under a number that has one.
+pub fn there<T>(places: &[Option<T>], number: usize) -> &T
+    requires there { IsSome (row_at places.now number) }
+    ensures row { row_at places.now number ≡ Some result.now }
+{
+    match &places[number] {
+        Some(row) => row,
+        None => {
+            assert_unchecked(false);
+            unreachable!()
+        }
     }
 }
 

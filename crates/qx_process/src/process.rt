@@ -1,4 +1,4 @@
-ghost use Rattle.std.specs.Prelude.{◌≡◌, ◌+◌, ◌≤◌, count_by, is_some, length, IfSome, IsOk, IsTrue, OnSome, OnOk, OnErr, Some, None, true};
+ghost use Rattle.std.specs.Prelude.{IsSome, ◌≡◌, ◌+◌, ◌≤◌, count_by, is_some, length, IfSome, IsOk, IsTrue, OnSome, OnOk, OnErr, Some, None, true};
 ghost use Rattle.std.specs.Option.{option_copied, option_copied_mut};
 ghost use Rattle.std.specs.Borrow.{sem};
 ghost use Rattle.qx_types.specs.declared.limits.TheConstants.Limits.{FIRST_CONNECTION, LAST_CONNECTION, SERVERS, THREADS};
@@ -17,6 +17,7 @@ use crate::servers::{self, AllServers, LostServers, Sides};
 use crate::thread::{Replied, ThreadCell};
 use crate::threads::{self, Held, PLACES, Threads};
 use arrayvec::ArrayVec;
+use qx_hint::{as_mut_unchecked, assert_unchecked};
 use qx_machine::{Client, Connection, Effect, Over, Sent, ServerName};
 use qx_types::{Answer, Coid, Errno, Limits, Manager, MessageBytes, Prio};
 use std::alloc::{AllocError, Global};
@@ -47,7 +48,7 @@ impl Model for Process {
 }
 
 impl Process {
-    ghost use Rattle.qx_process.specs.Lends.{lends_thread};
+    ghost use Rattle.qx_process.specs.Lends.{lends_thread, lends_thread_there};
 
     /// A process with so many ready threads, and nothing attached.
     pub fn new(threads: u8, prio: Prio) -> Self
@@ -77,6 +78,21 @@ impl Process {
         ensures row { option_copied_mut result ≡ row_at self.old.threads thread }
     {
         self.threads.get_mut(thread as usize)?.as_mut()
+    }
+
+    /// A thread that is there, for writing.
+    pub fn thread_there(&mut self, thread: u8) -> &mut ThreadCell
+        requires there { IsSome (row_at self.old.threads thread) }
+        ensures* writes_back { sem 𝓛 (lends_thread_there self.entry thread result) }
+        ensures row { row_at self.old.threads thread ≡ Some result.now }
+    {
+        match self.threads.get_mut(thread as usize) {
+            Some(place) => as_mut_unchecked(place),
+            None => {
+                assert_unchecked(false);
+                unreachable!()
+            }
+        }
     }
 
     /// How many places it has for threads, from 0; none once it has ended.
@@ -246,9 +262,7 @@ impl Process {
         ensures err { OnErr result (self.new ≡ self.old) }
     {
         let target = sent.target;
-        let Some(cell) = self.thread_mut(thread) else {
-            unreachable!();
-        };
+        let cell = self.thread_there(thread);
         cell.send(alloc, sent)?;
         self.connect(thread, target.manager, target.over);
         Ok(())
@@ -328,9 +342,7 @@ impl Process {
         ensures process { self.new ≡ machine.after_reply thread over replied.effect (with_thread thread (answered_thread (TheReply replied.status reply.old)) self.old) }
         ensures lost { Loses result self.old self.new }
     {
-        let Some(cell) = self.thread_mut(thread) else {
-            unreachable!();
-        };
+        let cell = self.thread_there(thread);
         cell.reply(replied.status, reply, memory);
         self.conclude(thread, over, replied.effect)
     }

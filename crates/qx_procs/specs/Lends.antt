@@ -1,6 +1,6 @@
 -- What lends a row of its own, and ends with what was left in the row.
 use Rattle.std.specs.Prelude.{ℕ, List, Option, Some, slice_set}
-use Rattle.std.specs.Borrow.{LendsIf, Fml, MutBor}
+use Rattle.std.specs.Borrow.{Lends, LendsIf, Fml, MutBor}
 use Rattle.qx_machine.specs.declared.rows.ThreadRow.{ThreadRow}
 use Rattle.qx_machine.specs.Processes.{Process}
 use Rattle.qx_machine.specs.Rows.{with_row}
@@ -11,6 +11,10 @@ use Rattle.qx_procs.specs.contracts.processes.Processes as processes
 
 abbrev pub lends_process : MutBor (List (Option Process)) → ℕ → Option (MutBor Process) → Fml
 lends_process lender number r = LendsIf processes.the_row process.the_row lender r (λ row. slice_set lender.now number (Some row)) lender.now
+
+-- the same of a process that is there
+abbrev pub lends_process_there : MutBor (List (Option Process)) → ℕ → MutBor Process → Fml
+lends_process_there lender number r = Lends processes.the_row process.the_row lender r (λ row. slice_set lender.now number (Some row))
 
 abbrev pub lends_thread_of : MutBor (List (Option Process)) → ℕ → ℕ → Option (MutBor ThreadRow) → Fml
 lends_thread_of lender number thread r =

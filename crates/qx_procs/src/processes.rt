@@ -1,6 +1,6 @@
 //! The processes of a user, from 1: a place for each number.
 
-ghost use Rattle.std.specs.Prelude.{◌≡◌, ◌∷◌, ◌<◌, ◌≤◌, [], None, length, slice_set, IsErr, IsOk, IfOk, OnOk, OnErr, OnSome};
+ghost use Rattle.std.specs.Prelude.{IsSome, ◌≡◌, ◌∷◌, ◌<◌, ◌≤◌, [], None, length, slice_set, IsErr, IsOk, IfOk, OnOk, OnErr, OnSome};
 ghost use Rattle.std.specs.Option.{option_copied, option_copied_mut};
 ghost use Rattle.std.specs.Borrow.{sem};
 ghost use Rattle.std.specs.List.{list_any, sum_by};
@@ -12,6 +12,7 @@ ghost use Rattle.qx_machine.specs.Rows.{row_at, with_row};
 ghost use Rattle.qx_procs.specs.Calls.{has_ended_in, spawn_outcome, spawned, done_or, after_or, with_prio, new_connection_number, with_new_side, EndsAt, LosesAt};
 ghost use Rattle.qx_machine.specs.Parts.{connection_of, thread_of};
 
+use qx_hint::{as_mut_unchecked, assert_unchecked};
 use qx_machine::{Connection, ServerName};
 use qx_process::{LostServers, Process, ThreadCell, places};
 use qx_types::{Coid, Errno, Limits, Manager, Outcome, Prio};
@@ -37,7 +38,7 @@ impl Model for Processes {
 }
 
 impl Processes {
-    ghost use Rattle.qx_procs.specs.Lends.{lends_process, lends_thread_of};
+    ghost use Rattle.qx_procs.specs.Lends.{lends_process, lends_process_there, lends_thread_of};
 
     /// No process.
     pub fn new(alloc: Global) -> Result<Self, AllocError>
@@ -85,6 +86,21 @@ impl Processes {
         ensures row { option_copied_mut result ≡ row_at self.old process }
     {
         self.rows.get_mut(process as usize)?.as_mut()
+    }
+
+    /// A process that is there, for writing.
+    pub fn process_there(&mut self, process: u8) -> &mut Process
+        requires there { IsSome (row_at self.old process) }
+        ensures* writes_back { sem 𝓛 (lends_process_there self.entry process result) }
+        ensures row { row_at self.old process ≡ Some result.now }
+    {
+        match self.rows.get_mut(process as usize) {
+            Some(place) => as_mut_unchecked(place),
+            None => {
+                assert_unchecked(false);
+                unreachable!()
+            }
+        }
     }
 
     /// A thread; none where it is not there.

@@ -184,6 +184,9 @@ module _ (nodes : List UserNodes) (proc : Proc) (number : ℕ) (node : Option �
 pub nodes-there : (nodes : List UserNodes) (thread : Thread) → nodes_of_thread nodes thread ≡ None → set.contains (threads_of nodes) thread ≡ true → ⊥
 nodes-there nodes thread none there = let clash : false ≡ true = sym (ap is_some none) ∙ sym (threads-nodes nodes thread) ∙ there in cc
 
+pub nodes-known : (nodes : List UserNodes) (thread : Thread) → set.contains (threads_of nodes) thread ≡ true → is_some (nodes_of_thread nodes thread) ≡ true
+nodes-known nodes thread there = sym (threads-nodes nodes thread) ∙ there
+
 pub nodes-absent : (nodes : List UserNodes) (thread : Thread) → set.contains (threads_of nodes) thread ≡ false → nodes_of_thread nodes thread ≡ None
 nodes-absent nodes thread absent = none_of _ (sym (threads-nodes nodes thread) ∙ absent)
 

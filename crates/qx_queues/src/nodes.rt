@@ -1,11 +1,12 @@
 //! The nodes of all threads and of all server connections: made with them, so that a message and a pulse take none.
 
-ghost use Rattle.std.specs.Prelude.{◌≡◌, ◌≢◌, ◌<◌, ◌≤◌, ◌+◌, ℕ, None, length, is_some, option_map, IfOk, IfSome, IsTrue, Some};
+ghost use Rattle.std.specs.Prelude.{◌≡◌, ◌≢◌, ◌<◌, ◌≤◌, ◌+◌, ℕ, None, length, is_some, option_map, IfOk, IfSome, IsSome, IsTrue, Some};
 ghost use Rattle.qx_types.specs.Managers.{manager_number};
 ghost use Rattle.qx_types.specs.declared.limits.TheConstants.Limits.{PROCESSES, THREADS};
 ghost use Rattle.qx_machine.specs.Rows.{row_at};
 ghost use Rattle.qx_queues.specs.Nodes.{Asked, disconnect_at, no_nodes, no_process, nodes_of_thread, process_at, process_nodes_in, servers_with, threads_with, user_with, with_disconnect_at, with_nodes_at};
 
+use qx_process::places;
 use qx_types::{Limits, Manager, Proc, Thread};
 use std::alloc::{AllocError, Global};
 use std::marker::Model;
@@ -121,6 +122,17 @@ impl Nodes {
         let of_user = self.users.get(thread.proc.user.0 as usize)?;
         let of_process = of_user.processes.get(thread.proc.num as usize)?;
         *of_process.threads.get(thread.tid as usize)?
+    }
+
+    /// The nodes of a thread that has some.
+    pub fn there(&self, thread: Thread) -> &ThreadNodes
+        requires there { IsSome (nodes_of_thread self.now thread) }
+        ensures own { nodes_of_thread self.now thread ≡ Some result.now }
+    {
+        let _known = self.at(thread);
+        let of_user = &self.users[thread.proc.user.0 as usize];
+        let of_process = &of_user.processes[thread.proc.num as usize];
+        places::there(&of_process.threads, thread.tid as usize)
     }
 
     /// The nodes of a process' threads, by number.

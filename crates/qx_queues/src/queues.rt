@@ -90,11 +90,9 @@ impl Queues {
         requires highest { prio.0 ≤ PRIORITY }
         ensures sent { self.new ≡ with_queues_line self.old (manager_number manager) (λ line. into machine.rank line (message_of thread prio.0)) }
     {
-        let Some(own) = self.nodes.at(thread) else {
-            unreachable!();
-        };
+        let node = self.nodes.there(thread).message;
         let line = &mut self.lines[manager.number()];
-        put_again(&mut self.table, line, own.message, prio);
+        put_again(&mut self.table, line, node, prio);
     }
 
     /// Takes the first item of a line, a message or a pulse (C Library Reference: `MsgReceive`); the node of a disconnect pulse

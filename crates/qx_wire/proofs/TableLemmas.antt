@@ -17,7 +17,7 @@ use Rattle.qx_types.specs.declared.fields.NotifyAction.TheVariants as action
 use Rattle.qx_wire.specs.Rests.{joined, components_of, is_component, is_rest}
 use Rattle.qx_wire.specs.Table.{row, body, in_ranges, framed, spelling, Spells, IsOfNoKind}
 use Rattle.qx_wire.specs.Laws.{IfKnown}
-use Rattle.qx_wire.specs.Reading.{ended, open_at, mknod_at, read_at, dup_at, lseek_at, chmod_at, notify_at, known_or_malformed, Case, cases, meaning_found, body_cut, Frame, frame_at, frame_cut, cut, judged, meaning}
+use Rattle.qx_wire.specs.Reading.{ended, open_at, mknod_at, read_at, dup_at, lseek_at, chmod_at, notify_at, known_or_malformed, Case, cases, meaning_found, body_cut, Frame, frame_at, frame_cut, cut, judged, judged_where, meaning}
 use Rattle.qx_wire.proofs.FieldLemmas.{IsBytes, some_else_none, and_true, wide16, wide32, peel, put_back, number_again}
 use Rattle.qx_wire.proofs.ReadLemmas.{Has, Takes, open_takes, open_again, stat_takes, unlink_takes, rest_again, mknod_takes, mknod_again, read_takes, read_again, write_takes, list_takes, close_takes, fstat_takes, dup_takes, dup_again, lseek_takes, lseek_again, chmod_takes, chmod_again, notify_takes, notify_again}
 
@@ -269,3 +269,24 @@ unfolding meaning
 meant_spells bytes (Known m) e spelled = ((judged_known (cut bytes) m (sym e)).1, spelled)
 meant_spells bytes Unknown e spelled = tt
 meant_spells bytes Malformed e spelled = tt
+
+-- ---- what is judged only where that is asked for
+
+pub judged_where-unknown : (judges : Bool) → Unknown ≡ judged_where judges Unknown
+judged_where-unknown true = refl
+judged_where-unknown false = refl
+
+pub judged_where-malformed : (judges : Bool) → Malformed ≡ judged_where judges Malformed
+judged_where-malformed true = refl
+judged_where-malformed false = refl
+
+-- what holds of a message holds of it where it is judged too
+pub judged_where-kept : (P : Message → Type 0) (judges : Bool) (c : Meaning) → IfKnown c P → IfKnown (judged_where judges c) P
+judged_where-kept P false c holds = holds
+judged_where-kept P true Unknown holds = holds
+judged_where-kept P true Malformed holds = holds
+judged_where-kept P true (Known m) holds = by_ranges (in_ranges m) holds
+  where
+    by_ranges : (in_them : Bool) → P m → IfKnown (cond in_them (Known m) Malformed) P
+    by_ranges true it = it
+    by_ranges false it = tt

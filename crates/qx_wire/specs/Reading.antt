@@ -1,5 +1,5 @@
 -- What bytes mean, as a function. It need not be believed: the laws say that it is the table's meaning (Laws.antt).
-use Rattle.std.specs.Prelude.{ℕ, ◌==◌, ◌&&◌, nat_le, nat_lt, if◌then◌else◌, List, [], ◌∷◌, length, take, drop, Option, Some, None}
+use Rattle.std.specs.Prelude.{Bool, ℕ, ◌==◌, ◌&&◌, nat_le, nat_lt, if◌then◌else◌, List, [], ◌∷◌, length, take, drop, Option, Some, None}
 use Rattle.std.specs.Int.{Width, w8, w16, w32, w64, byte_len, from_le_bytes, cast_signed}
 use Rattle.qx_types.specs.Optional.{◌>>=◌}
 use Rattle.qx_types.specs.declared.fields.NotifyAction.{NotifyAction}
@@ -137,6 +137,10 @@ abbrev pub judged : Meaning → Meaning
 judged Unknown = Unknown
 judged Malformed = Malformed
 judged (Known m) = if in_ranges m then Known m else Malformed
+
+-- the same, where that is judged
+abbrev pub judged_where : Bool → Meaning → Meaning
+judged_where judges meaning = if judges then judged meaning else meaning
 
 -- what bytes mean
 unfoldable pub meaning : List ℕ → Meaning

@@ -4,7 +4,7 @@ ghost use Rattle.qx_wire.specs.Reading.{meaning};
 ghost use Rattle.qx_wire.specs.Table.{Spells};
 
 use crate::message::Meaning;
-use crate::reading::{cut, judged};
+use crate::reading::cut;
 use qx_types::MessageBytes;
 use std::marker::Model;
 
@@ -64,7 +64,7 @@ impl Parsed {
         if self.is_malformed {
             Meaning::Malformed
         } else {
-            cut(self.bytes.as_slice())
+            cut(self.bytes.as_slice(), false)
         }
     }
 }
@@ -74,5 +74,5 @@ impl Parsed {
 pub fn meaning(bytes: &[u8]) -> Meaning<'_>
     ensures meaning { result ≡ meaning bytes.now }
 {
-    judged(cut(bytes))
+    cut(bytes, true)
 }

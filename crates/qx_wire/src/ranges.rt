@@ -9,6 +9,7 @@ use qx_types::{Coid, Conds, Limits, OFlags};
 
 /// Whether each value of the message is in its range: what `encode` asks for, and what every message that was read
 /// meets.
+#[inline(always)]
 pub fn in_ranges(message: &Message<'_>) -> bool
     ensures in_ranges { result ≡ in_ranges message.now }
 {

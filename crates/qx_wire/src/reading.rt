@@ -2,7 +2,7 @@ ghost use Rattle.std.specs.Prelude.{◌≡◌, ◌<◌, Option, None, Some, if�
 ghost use Rattle.std.specs.Int.{w8, w16, w32, w64};
 ghost use Rattle.std.specs.Option.{option_map};
 ghost use Rattle.qx_wire.specs.Laws.{IfKnown};
-ghost use Rattle.qx_wire.specs.Reading.{body_cut, chmod_at, cut, dup_at, ended, judged, known_or_malformed, lseek_at, mknod_at, notify_at, number_at, open_at, read_at};
+ghost use Rattle.qx_wire.specs.Reading.{body_cut, chmod_at, cut, dup_at, ended, judged_where, known_or_malformed, lseek_at, mknod_at, notify_at, number_at, open_at, read_at};
 ghost use Rattle.qx_wire.specs.Table.{spelling};
 
 use crate::borrowed::BorrowedBytes;
@@ -65,7 +65,7 @@ fn ended<'a>(bytes: &[u8], message: Message<'a>) -> Option<Message<'a>>
     }
 }
 
-// What each kind of body is cut into. Ranges are judged later, by `judged`.
+// What each kind of body is cut into.
 
 #[tactic(auto, unfolding(crate::specs::Reading::open_at))]
 fn open_at(body: &[u8]) -> Option<Message<'_>>
@@ -159,55 +159,62 @@ fn notify_at(action: NotifyAction, body: &[u8]) -> Option<Message<'_>>
     )
 }
 
-/// What was cut, or that it could not be cut.
-fn known_or_malformed<'a>(message: Option<Message<'a>>) -> Meaning<'a>
-    ensures { result ≡ known_or_malformed message.entry }
+/// What was cut, or that it could not be cut, or that a value is not in its range, where that is judged. In place at each kind,
+/// so that a kind's ranges are judged where its body is cut.
+#[inline(always)]
+fn known(message: Option<Message<'_>>, judges: bool) -> Meaning<'_>
+    ensures { result ≡ judged_where judges (known_or_malformed message.entry) }
 {
     match message {
         None => Meaning::Malformed,
+        Some(message) if judges && !in_ranges(&message) => Meaning::Malformed,
         Some(message) => Meaning::Known(message),
     }
 }
 
 /// What a body of that type and subtype is cut into.
 #[tactic(auto, unfolding(crate::specs::Reading::body_cut))]
-fn body_cut(kind: u16, subtype: u16, body: &[u8]) -> Meaning<'_>
-    ensures { result ≡ body_cut kind subtype body.now }
+fn body_cut(kind: u16, subtype: u16, body: &[u8], judges: bool) -> Meaning<'_>
+    ensures { result ≡ judged_where judges (body_cut kind subtype body.now) }
 {
-    known_or_malformed(match (kind, subtype) {
-        (256, 1) => open_at(body),
-        (256, 2) => Some(Message::Stat {
-            rest: Rest::new(body),
-        }),
-        (256, 3) => Some(Message::Unlink {
-            rest: Rest::new(body),
-        }),
-        (256, 4) => mknod_at(body),
-        (257, 0) => read_at(body),
-        (258, 0) => Some(Message::Write {
-            bytes: BorrowedBytes::new(body),
-        }),
-        (259, 0) => ended(body, Message::Close),
-        (260, 0) => dup_at(body),
-        (261, 0) => lseek_at(Whence::Set, body),
-        (261, 1) => lseek_at(Whence::Current, body),
-        (261, 2) => lseek_at(Whence::End, body),
-        (262, 0) => ended(body, Message::Fstat),
-        (263, 0) => Some(Message::List {
-            after: BorrowedBytes::new(body),
-        }),
-        (264, 0) => chmod_at(body),
-        (265, 0) => notify_at(NotifyAction::Poll, body),
-        (265, 1) => notify_at(NotifyAction::PollArm, body),
-        (265, 2) => notify_at(NotifyAction::TranArm, body),
-        _ => return Meaning::Unknown,
-    })
+    match (kind, subtype) {
+        (256, 1) => known(open_at(body), judges),
+        (256, 2) => {
+            let rest = Rest::new(body);
+            known(Some(Message::Stat { rest }), judges)
+        }
+        (256, 3) => {
+            let rest = Rest::new(body);
+            known(Some(Message::Unlink { rest }), judges)
+        }
+        (256, 4) => known(mknod_at(body), judges),
+        (257, 0) => known(read_at(body), judges),
+        (258, 0) => {
+            let bytes = BorrowedBytes::new(body);
+            known(Some(Message::Write { bytes }), judges)
+        }
+        (259, 0) => known(ended(body, Message::Close), judges),
+        (260, 0) => known(dup_at(body), judges),
+        (261, 0) => known(lseek_at(Whence::Set, body), judges),
+        (261, 1) => known(lseek_at(Whence::Current, body), judges),
+        (261, 2) => known(lseek_at(Whence::End, body), judges),
+        (262, 0) => known(ended(body, Message::Fstat), judges),
+        (263, 0) => {
+            let after = BorrowedBytes::new(body);
+            known(Some(Message::List { after }), judges)
+        }
+        (264, 0) => known(chmod_at(body), judges),
+        (265, 0) => known(notify_at(NotifyAction::Poll, body), judges),
+        (265, 1) => known(notify_at(NotifyAction::PollArm, body), judges),
+        (265, 2) => known(notify_at(NotifyAction::TranArm, body), judges),
+        _ => Meaning::Unknown,
+    }
 }
 
-/// What bytes are cut into, with no look at the ranges of values and at the bytes of texts.
+/// What bytes are cut into, with a look at the ranges of values and at the bytes of texts only where these are judged.
 #[tactic(auto, unfolding(crate::specs::Reading::cut, crate::specs::Reading::frame_at))]
-pub(crate) fn cut(bytes: &[u8]) -> Meaning<'_>
-    ensures cut { result ≡ cut bytes.now }
+pub(crate) fn cut(bytes: &[u8], judges: bool) -> Meaning<'_>
+    ensures cut { result ≡ judged_where judges (cut bytes.now) }
     ensures spelled { IfKnown result (λ message. bytes.now ≡ spelling message) }
 {
     let Some((kind, rest)) = u16_at(bytes) else {
@@ -222,15 +229,5 @@ pub(crate) fn cut(bytes: &[u8]) -> Meaning<'_>
     if body.len() != len as usize || body.len() > Limits::BODY {
         return Meaning::Malformed;
     }
-    body_cut(kind, subtype, body)
-}
-
-/// A message, if its values are in their ranges.
-pub(crate) fn judged(meaning: Meaning<'_>) -> Meaning<'_>
-    ensures { result ≡ judged meaning.entry }
-{
-    match meaning {
-        Meaning::Known(message) if !in_ranges(&message) => Meaning::Malformed,
-        meaning => meaning,
-    }
+    body_cut(kind, subtype, body, judges)
 }

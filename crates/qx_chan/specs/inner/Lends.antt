@@ -1,6 +1,6 @@
 -- What lends a row of its own, and ends with what was left in the row.
 use Rattle.std.specs.Prelude.{ℕ, List, Option, Some, slice_set}
-use Rattle.std.specs.Borrow.{LendsIf, Fml, MutBor}
+use Rattle.std.specs.Borrow.{Lends, LendsIf, Fml, MutBor}
 use Rattle.qx_types.specs.declared.names.Proc.{Proc}
 use Rattle.qx_types.specs.declared.names.Thread.{Thread}
 use Rattle.qx_machine.specs.declared.rows.ThreadRow.{ThreadRow}
@@ -22,3 +22,13 @@ lends_process_of lender proc r = LendsIf users.the_row process.the_row lender r 
 -- one thread
 abbrev pub lends_thread_row : MutBor (Users) → Thread → Option (MutBor ThreadRow) → Fml
 lends_thread_row lender thread r = LendsIf users.the_row cell.the_row lender r (λ row. with_thread_row lender.now thread (λ _. row)) lender.now
+
+-- the same of what is there
+abbrev pub lends_processes_there : MutBor (Users) → ℕ → MutBor (List (Option Process)) → Fml
+lends_processes_there lender user r = Lends users.the_row processes.the_row lender r (λ rows. slice_set lender.now user (Some rows))
+
+abbrev pub lends_process_there : MutBor (Users) → Proc → MutBor Process → Fml
+lends_process_there lender proc r = Lends users.the_row process.the_row lender r (λ row. with_process_of lender.now proc (λ _. row))
+
+abbrev pub lends_thread_there : MutBor (Users) → Thread → MutBor ThreadRow → Fml
+lends_thread_there lender thread r = Lends users.the_row cell.the_row lender r (λ row. with_thread_row lender.now thread (λ _. row))

@@ -17,6 +17,9 @@ returns-in_err-priority-clause-rest g c = let none = nodes_in-none g.T.Ranked.ra
 pub unreachable-requires : goal.unreachable-requires
 unreachable-requires g c = highest_some g.T.Ranked.rank c.args.table.now c.args.self.now c.requires.of c.in_ok-priority.priority c.in_ok-priority.ensures.highest (sym c.pop_front.ensures.first ∙ c.in_default.is)
 
+pub assert_unchecked-requires : goal.assert_unchecked-requires
+assert_unchecked-requires g c = absurd (highest_some g.T.Ranked.rank c.args.table.now c.args.self.now c.requires.of c.in_ok-priority.priority c.in_ok-priority.ensures.highest (sym c.pop_front.ensures.first ∙ c.in_default.is))
+
 pub mark-requires-clause-list : goal.mark-requires-clause-list
 mark-requires-clause-list g c = subst (λ table. ContainsList table (list_of c.args.self.now c.in_ok-priority.priority)) (sym c.pop_front.ensures.rest) (ContainsList-with_nodes_same c.args.table.now _ _)
 

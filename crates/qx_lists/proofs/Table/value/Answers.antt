@@ -3,8 +3,8 @@ use Rattle.qx_lists.proofs.ShowsLemmas.{node_there}
 use Rattle.qx_lists.proofs.ValueLemmas.{get-node_values}
 use Rattle.qx_lists.proofs.Table.value.Goals as goal
 
-pub index-requires : goal.index-requires
-index-requires g c = node_there _ c.args.node (rw (← c.self.view_is) at c.requires)
+pub node-requires : goal.node-requires
+node-requires g c = record { there = node_there _ c.args.node (rw (← c.self.view_is) at c.requires) }
 
 pub returns : goal.returns
-returns g c = rw (← c.self.view_is) (get-node_values _ c.args.node ∙ ap (option_map (λ n. n.value)) c.index.ensures)
+returns g c = rw (← c.self.view_is) (get-node_values _ c.args.node ∙ ap (option_map (λ n. n.value)) c.node.ensures.node)

@@ -1,0 +1,2 @@
+-- where the bytes of a message stand
+pub mod Items
