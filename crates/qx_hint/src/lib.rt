@@ -11,7 +11,8 @@ pub fn assert_unchecked(holds: bool)
     requires holds { IsTrue holds }
 {
     if !holds {
-        // no index is within an empty array; what writes there, as the compiler reads it, is never come to
+        // no index is within an empty array, so a proof allows a write there only where control never comes, and the
+        // compiler takes it for that
         let mut none: [&mut u8; 0] = [];
         *none[0] = 0;
     }
