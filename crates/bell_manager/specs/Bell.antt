@@ -12,7 +12,7 @@ use Rattle.qx_machine.specs.declared.rows.WaitingCall.{WaitingCall}
 use Rattle.qx_machine.specs.Functions.{ConnectFunctions, Deed, IoFunctions, Reply, no_connect, no_io}
 use Rattle.qx_machine.specs.Inodes.{new_block}
 use Rattle.qx_machine.specs.Judgements.{◌>>=◌, need}
-use Rattle.qx_machine.specs.Waiting.{waiting_call}
+use Rattle.qx_machine.specs.Waiting.{caller_in, waiting_call}
 use Rattle.qx_machine.specs.Pipes.{PipeAfter, Pipe, nobody_answered, readers_dismissed, with_reader}
 use Rattle.qx_machine.specs.Rows.{put_row}
 use Rattle.qx_shared.specs.Shared.{HasPipe, IsReceived, Shared, pipe_at, callers_thread, with_pipe_after}
@@ -50,7 +50,7 @@ SamePlace k l = (l.user ≡ k.user) × (l.inode ≡ k.inode)
 
 -- the message of an opened connection's caller was received, and no call of it waits
 abbrev pub CanWork : KeptBells → Shared → Opened → Type 0
-CanWork k c opened = IsReceived c (callers_thread k.user opened.caller)
+CanWork k c opened = IsReceived c (callers_thread k.user (caller_in opened))
 
 -- ---- the tables
 
@@ -70,7 +70,7 @@ open_deed bells over flags rest = do
 -- who was asked to unblock does not wait (Writing a Resource Manager: the unblock pulse)
 abbrev pub read_deed : Bells → Opened → ℕ → Result (Deed Bells) Errno
 read_deed bells opened count = do
-  patient ← need (not opened.caller.is_asked) EINTR
+  patient ← need (not opened.is_asked) EINTR
   comes_to None bells.blocks (nobody_answered (with_reader bells.place (waiting_call opened count [])))
 
 -- all who wait are answered with no bytes

@@ -100,7 +100,7 @@ impl Io<Bell, Shared, Bells> for Ringing {
         room: &mut Option<Room>,
     ) -> Result<Done, Errno> {
         let opened = opened?;
-        if opened.caller.is_asked {
+        if opened.is_asked {
             return Err(Errno::EINTR);
         }
         let Some(room) = room.take() else {

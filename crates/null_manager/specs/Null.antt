@@ -33,7 +33,7 @@ Blocks = List (Option Ocb)
 abbrev pub opened_at : Blocks → Caller → Coid → ℕ → ℕ → Result Opened Errno
 opened_at blocks caller coid number moment = do
   block ← found (row_at blocks number) EBADF
-  Ok (record { caller = caller; coid = coid; number = number; moment = moment })
+  Ok (record { process = caller.process; thread = caller.thread; coid = coid; is_asked = caller.is_asked; number = number; call = caller.call; moment = moment })
 
 -- the number of a new block (C Library Reference: open, ENFILE)
 abbrev pub free_number : Blocks → Result ℕ Errno
@@ -114,7 +114,7 @@ null_io = record no_io {
 
 -- that its caller is of a process that may be
 abbrev pub MayArm : Kept → AllEvents → Opened → Type 0
-MayArm k all opened = opened.caller.process ≤ PROCESSES
+MayArm k all opened = opened.process ≤ PROCESSES
 
 -- memory, where there are more events after it
 abbrev pub got_events : Told → Told → Bool

@@ -51,9 +51,12 @@ impl Blocks {
     {
         places::row(self.rows.as_slice(), number as usize).ok_or(Errno::EBADF)?;
         Ok(Opened {
-            caller,
+            process: caller.process,
+            thread: caller.thread,
             coid,
+            is_asked: caller.is_asked,
             number,
+            call: caller.call,
             moment,
         })
     }

@@ -189,7 +189,7 @@ impl Io<Kept, AllEvents, Told> for Null {
             return Ok(Err(Errno::EBADF));
         }
         let event = Event {
-            process: opened.caller.process,
+            process: opened.process,
             block: opened.number,
             conditions: wish.conditions,
             code: wish.code,

@@ -48,6 +48,12 @@ rows-with old keys n key value keyed is = changed (get old key) refl
     changed None e = absurd (no_value (get old key) e (keyed.there n key is))
     changed (Some was) e = rw (row-of old keys n, is, e) written
 
+-- the value of a number that is there changes
+pub rows-changed : (old : Slab Ocb) (keys : List (Option ℕ)) (n key : ℕ) (change : Ocb → Ocb) (block : Ocb) → IsKeyed old keys → row_at keys n ≡ Some key → get old key ≡ Some block → rows_of (with_value old key (change block)) keys ≡ with_row (rows_of old keys) n change
+rows-changed old keys n key change block keyed is had =
+    let there : row_at (rows_of old keys) n ≡ Some block = row-of old keys n ∙ (ap (value_at old) is ∙ had) in
+    rows-with old keys n key (change block) keyed is ∙ (rw there refl)
+
 -- another number than the one that was freed
 still : (old new : Slab Ocb) (keys : List (Option ℕ)) (n key m other : ℕ) → IsKeyed old keys → row_at keys n ≡ Some key → row_at (slice_set keys n None) m ≡ Some other → (m ≢ n) × (row_at keys m ≡ Some other)
 still old new keys n key m other keyed is there = elim (cases_eq m n) [

@@ -1,5 +1,5 @@
 -- The counts beside attributes, as inodes and open control blocks come and go.
-use Rattle.std.proofs.Common.{◌≡◌, ◌≢◌, ℕ, zero, suc, ◌+◌, ◌-◌, ◌<◌, ◌≤◌, Bool, true, false, ◌==◌, ◌&&◌, List, [], ◌∷◌, ◌++◌, length, refl, sym, ap, ◌∙◌, inl, inr, arith, Option, Some, None, map, slice_set, count_by, get_or, ltb, length-append}
+use Rattle.std.proofs.Common.{◌≡◌, ◌≢◌, ℕ, zero, suc, ◌+◌, ◌-◌, ◌<◌, ◌≤◌, Bool, true, false, ◌==◌, ◌&&◌, List, [], ◌∷◌, ◌++◌, length, refl, sym, ap, ◌∙◌, inl, inr, arith, Option, Some, None, IsSome, map, slice_set, count_by, get_or, ltb, length-append}
 use Rattle.std.proofs.Math.ListN.{length-set}
 use Rattle.std.proofs.Math.Seq.{map-set_same}
 use Rattle.std.specs.Prelude.{if◌then◌else◌, option_map}
@@ -10,9 +10,9 @@ use Rattle.std.proofs.lemmas.Option.{unwrap_or-slice_get}
 use Rattle.std.proofs.lemmas.List.Sums.{sum_by-append, sum_by-cons, sum_by-set}
 use Rattle.qx_types.specs.declared.flags.OFlags.{OFlags}
 use Rattle.qx_machine.specs.declared.rows.Ocb.{Ocb}
-use Rattle.qx_machine.specs.Inodes.{is_open, reads, writes}
+use Rattle.qx_machine.specs.Inodes.{is_open, moved_to, reads, writes}
 use Rattle.qx_machine.specs.Rows.{row_at, put_row, with_row}
-use Rattle.qx_machine.proofs.Places.{row_at-set_other}
+use Rattle.qx_machine.proofs.Places.{row_at-set_other, set-row_at}
 use Rattle.qx_attr.specs.declared.attr.Attr.{Attr}
 use Rattle.qx_attr.specs.inner.Counts.{AreCounted, IsCounted, attribute_of, count_in, counted, one, uncounted}
 use Rattle.qx_attr.proofs.TableLemmas.{row-put}
@@ -38,6 +38,11 @@ pub within_table : {A : Type 0} (xs : List (Option A)) (n : ℕ) (x : A) → row
 within_table [] n x e = absurd (cc)
 within_table (y ∷ xs) zero x e = omega arith
 within_table (y ∷ xs) (suc n) x e = let rest = within_table xs n x e in omega (arith, rest)
+
+pub within-attributes : (attrs : List (Option Attr)) (n : ℕ) → IsSome (row_at (map attribute_of attrs) n) → n < length attrs
+within-attributes [] n some = absurd (cc)
+within-attributes (x ∷ xs) zero some = omega arith
+within-attributes (x ∷ xs) (suc n) some = let rest = within-attributes xs n some in omega (arith, rest)
 
 read_row : {A : Type 0} (xs : List (Option A)) (n : ℕ) → row_at xs n ≡ get_or xs n None
 read_row xs n = unwrap_or-slice_get xs n None
@@ -227,3 +232,16 @@ counted_kept attrs blocks n now same_inode same_flags are = by_row (row_at block
       readers_are = λ m. are.readers_are m ∙ sym (as_many reads was m is (cc) (cc));
       writers_are = λ m. are.writers_are m ∙ sym (as_many writes was m is (cc) (cc));
     }
+
+set-none : (blocks : List (Option Ocb)) (n : ℕ) → row_at blocks n ≡ None → slice_set blocks n None ≡ blocks
+set-none blocks n none = ap (slice_set blocks n) (sym none) ∙ set-row_at blocks n
+
+-- where it begins to read or write is not
+pub counted_moved : (attrs : List (Option Attr)) (blocks : List (Option Ocb)) (n offset : ℕ) → AreCounted attrs blocks → AreCounted attrs (with_row blocks n (moved_to offset))
+counted_moved attrs blocks n offset are = by_row (row_at blocks n) refl
+  where
+    by_row : (row : Option Ocb) → row_at blocks n ≡ row → AreCounted attrs (with_row blocks n (moved_to offset))
+    by_row None is = rw (is, set-none blocks n is) are
+    by_row (Some was) is =
+        let kept = counted_kept attrs blocks n (moved_to offset was) (ap (option_map (λ was. was.inode)) is) (ap (option_map (λ was. was.flags)) is) are in
+        rw is (rw is at kept)

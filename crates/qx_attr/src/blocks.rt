@@ -1,7 +1,7 @@
 ghost use Rattle.std.specs.Prelude.{◌≡◌, ◌+◌, ◌-◌, ◌<◌, ◌≤◌, ◌==◌, ◌++◌, ◌^◌, [], ◌∷◌, None, Some, IfOk, IfSome, OnOk, OnErr, OnSome, IsOk, drop, filter, max, not, slice_get, slice_set, take, vec_len, vec_capacity};
 ghost use Rattle.std.specs.Option.{option_copied};
 ghost use Rattle.qx_attr.specs.inner.Blocks.{numbers_of};
-ghost use Rattle.qx_machine.specs.Inodes.{is_clients};
+ghost use Rattle.qx_machine.specs.Inodes.{is_clients, moved_to};
 ghost use Rattle.qx_machine.specs.Rows.{lowest_from, put_row, row_at, with_row};
 
 use crate::growth;
@@ -137,6 +137,16 @@ impl Blocks {
             return;
         };
         self.values[key] = block;
+    }
+
+    /// Moves the block of a number to another offset, if it is there.
+    pub fn set_offset(&mut self, number: u16, offset: u64)
+        ensures moved { self.new ≡ record self.old { rows = with_row self.old.rows number (moved_to offset) } }
+    {
+        let Some(key) = places::row(self.keys.as_slice(), number as usize).copied() else {
+            return;
+        };
+        self.values[key].offset = offset;
     }
 
     /// Takes the block of a number away, and gives it.

@@ -14,6 +14,7 @@ use crate::blocks::Blocks;
 use crate::growth;
 use crate::status::{Status, stat_bytes};
 use bitflags::Flags;
+use qx_hint::as_mut_unchecked;
 use qx_machine::{Attribute, Client, Ocb, Sides};
 use qx_process::places;
 use qx_types::{Errno, Limits, OFlags};
@@ -234,19 +235,14 @@ impl Inodes {
         requires there { IsSome (row_at self.old.inodes.attributes inode) }
         ensures set { self.new ≡ record self.old { inodes = machine.with_attribute self.old.inodes inode attribute } }
     {
-        let Some(attr) = places::row(self.attrs.as_slice(), inode as usize).copied() else {
-            unreachable!()
-        };
-        self.attrs[inode as usize] = Some(Attr { attribute, ..attr });
+        as_mut_unchecked(&mut self.attrs[inode as usize]).attribute = attribute;
     }
 
     /// Moves an open control block to another offset, if it is there.
     pub fn set_offset(&mut self, number: u16, offset: u64)
         ensures moved { self.new ≡ record self.old { inodes = machine.with_offset self.old.inodes number offset } }
     {
-        if let Some(block) = self.block(number).copied() {
-            self.set_block(number, Ocb { offset, ..block });
-        }
+        self.blocks.set_offset(number, offset);
     }
 
     /// One more connection has an open control block (Writing a Resource Manager: `io_dup`; C Library Reference: `dup`).

@@ -29,8 +29,9 @@ enum Items {
 #[derive(Drop)]
 struct Few {
     alloc: Global,
+    // of 4 bytes, so that it stands in one word with the mark of few bytes
+    len: u32,
     places: [u8; PLACES],
-    len: usize,
 }
 
 impl Model for MessageBytes {
@@ -58,8 +59,8 @@ impl MessageBytes {
         MessageBytes {
             items: Items::Few(Few {
                 alloc,
-                places: [0; PLACES],
                 len: 0,
+                places: [0; PLACES],
             }),
         }
     }
@@ -82,8 +83,8 @@ impl MessageBytes {
         MessageBytes {
             items: Items::Few(Few {
                 alloc,
+                len: len as u32,
                 places: few,
-                len,
             }),
         }
     }
@@ -131,7 +132,9 @@ impl MessageBytes {
         if first.len() + second.len() + third.len() > MessageBytes::INLINE {
             return Ok(MessageBytes::many(memory, first, second, third)?);
         }
-        let mut few = zeros();
+        let mut few = [0; PLACES];
+        // the last ones apart: so the compiler keeps the others as words, and none in memory
+        few[32..].copy_from_slice(&[0; 8]);
         let end = append(&mut few, 0, first);
         let end = append(&mut few, end, second);
         let end = append(&mut few, end, third);
@@ -179,7 +182,7 @@ impl MessageBytes {
         ensures bytes { result.now ≡ self.now }
     {
         match &self.items {
-            Items::Few(few) => &few.places[..few.len],
+            Items::Few(few) => &few.places[..few.len as usize],
             Items::Many(items) => items.as_slice(),
         }
     }
@@ -190,17 +193,6 @@ impl MessageBytes {
             Items::Many(items) => items.allocator(),
         }
     }
-}
-
-/// Zero bytes in all places.
-fn zeros() -> [u8; PLACES] {
-    let mut zeros = [0; PLACES];
-    zeros[..8].copy_from_slice(&[0; 8]);
-    zeros[8..16].copy_from_slice(&[0; 8]);
-    zeros[16..24].copy_from_slice(&[0; 8]);
-    zeros[24..32].copy_from_slice(&[0; 8]);
-    zeros[32..].copy_from_slice(&[0; 8]);
-    zeros
 }
 
 /// Puts a piece behind the first bytes of an array, and gives how many they are then.

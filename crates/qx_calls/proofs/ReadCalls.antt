@@ -16,10 +16,10 @@ use Rattle.qx_calls.proofs.ReadForms.{Makes, line_again, one_of_within}
 pub call_again : (config : Configuration) (thread : Thread) (request : Request) → IsConfiguration config.users config.workers → CanBeSaid config.users (call_said thread request)
     → call_in_line config.users (call_said thread request).name (words_for (call_said thread request).form config (call_said thread request).values) ≡ Some (thread, request)
 unfolding call_in_line call_over_of
-call_again config thread (OpenPath path flags mode) valid can = line_again open_line config (thread, (path, (flags, (mode, tt)))) valid can
+call_again config thread (OpenPath flags mode path) valid can = line_again open_line config (thread, (path, (flags, (mode, tt)))) valid can
 call_again config thread (StatPath path) valid can = line_again stat_line config (thread, (path, tt)) valid can
 call_again config thread (Unlink path) valid can = line_again unlink_line config (thread, (path, tt)) valid can
-call_again config thread (Mkdir path mode) valid can = line_again mkdir_line config (thread, (path, (mode, tt))) valid can
+call_again config thread (Mkdir mode path) valid can = line_again mkdir_line config (thread, (path, (mode, tt))) valid can
 call_again config thread (Read coid count) valid can = line_again read_line config (thread, (coid.0, (count, tt))) valid can
 call_again config thread (Write coid bytes) valid can = line_again write_line config (thread, (coid.0, (bytes, tt))) valid can
 call_again config thread (Close coid) valid can = line_again close_line config (thread, (coid.0, tt)) valid can

@@ -22,7 +22,7 @@ abbrev pub line_over : List ℕ → (form : Form) → (Coid → Maker form Reque
 line_over name form request = call_line name (AByte then form) (λ number. request (connection_numbered number))
 
 abbrev pub open_line : Line (Thread × Request)
-open_line = call_line (codes "open") (APath then SomeFlags then AMode then end) OpenPath
+open_line = call_line (codes "open") (APath then SomeFlags then AMode then end) (λ path flags mode. OpenPath flags mode path)
 
 abbrev pub stat_line : Line (Thread × Request)
 stat_line = call_line (codes "stat") (APath then end) StatPath
@@ -31,7 +31,7 @@ abbrev pub unlink_line : Line (Thread × Request)
 unlink_line = call_line (codes "unlink") (APath then end) Unlink
 
 abbrev pub mkdir_line : Line (Thread × Request)
-mkdir_line = call_line (codes "mkdir") (APath then AMode then end) Mkdir
+mkdir_line = call_line (codes "mkdir") (APath then AMode then end) (λ path mode. Mkdir mode path)
 
 abbrev pub read_line : Line (Thread × Request)
 read_line = line_over (codes "read") (AFourByteNumber then end) Read
@@ -90,10 +90,10 @@ name_given (byte ∷ bytes) = Some (byte ∷ bytes)
 
 -- the line that makes the call; of the two that write, the one that has the bytes
 abbrev pub call_said : Thread → Request → Saying
-call_said thread (OpenPath path flags mode) = by open_line (thread, (path, (flags, (mode, tt))))
+call_said thread (OpenPath flags mode path) = by open_line (thread, (path, (flags, (mode, tt))))
 call_said thread (StatPath path) = by stat_line (thread, (path, tt))
 call_said thread (Unlink path) = by unlink_line (thread, (path, tt))
-call_said thread (Mkdir path mode) = by mkdir_line (thread, (path, (mode, tt)))
+call_said thread (Mkdir mode path) = by mkdir_line (thread, (path, (mode, tt)))
 call_said thread (Read coid count) = by read_line (thread, (coid.0, (count, tt)))
 call_said thread (Write coid bytes) = by write_line (thread, (coid.0, (bytes, tt)))
 call_said thread (Close coid) = by close_line (thread, (coid.0, tt))

@@ -130,7 +130,7 @@ fn push_open(
     flags: OFlags,
     mode: u16,
 ) -> Result<(), NoMemory>
-    ensures ok { OnOk result (text.new.items ≡ text.old.items ++ call_text config.now thread (Request.OpenPath path.now flags mode)) }
+    ensures ok { OnOk result (text.new.items ≡ text.old.items ++ call_text config.now thread (Request.OpenPath flags mode path.now)) }
 {
     push_at_path(text, config, b"open", thread, path)?;
     text.extend_from_slice(b" ")?;
@@ -171,7 +171,7 @@ fn push_mkdir(
     path: &Bytes,
     mode: u16,
 ) -> Result<(), NoMemory>
-    ensures ok { OnOk result (text.new.items ≡ text.old.items ++ call_text config.now thread (Request.Mkdir path.now mode)) }
+    ensures ok { OnOk result (text.new.items ≡ text.old.items ++ call_text config.now thread (Request.Mkdir mode path.now)) }
 {
     push_at_path(text, config, b"mkdir", thread, path)?;
     text.extend_from_slice(b" ")?;

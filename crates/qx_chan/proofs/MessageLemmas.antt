@@ -125,11 +125,6 @@ module _ (users : Users) (thread : Thread) (process : Process) (bytes : List ℕ
   pub meaning-served : means ≡ meaning bytes
   meaning-served = is ∙ ap meaning (same_Some given bytes (read ∙ ap (λ place. taken_bytes (thread_of thread.tid place)) there ∙ of.bytes_are))
 
-  pub deed-served : (k : state.Kept) (w : AllTables) (call : Call) (moment : ℕ) → deed_of (told k w) (context_of found (caller_of_call thread call) call.target moment means) means ≡ deed_in k w process (record { thread = thread; call = call; moment = moment }) bytes
-  deed-served k w call moment =
-      ap (λ process. deed_of (told k w) (context_of process (caller_of_call thread call) call.target moment means) means) found-is
-      ∙ ap (λ means. deed_of (told k w) (context_of process (caller_of_call thread call) call.target moment means) means) meaning-served
-
   -- and it is told so
   pub told-served : (k : state.Kept) (w : AllTables) (call : Call) (moment : ℕ)
       → told_by call.target.manager (told k w) (context_of found (caller_of_call thread call) call.target moment means) means (deed_of (told k w) (context_of found (caller_of_call thread call) call.target moment means) means)

@@ -39,7 +39,7 @@ use Rattle.qx_machine.specs.Processes.{Process, answered_thread, lost_servers, s
 use Rattle.qx_machine.specs.Resources.{Resources}
 use Rattle.qx_machine.specs.Rows.{row_at}
 use Rattle.qx_machine.specs.Servers.{in_use, lost_by}
-use Rattle.qx_machine.specs.Waiting.{Pipes, is_gone, offered, waiting_call, wanted}
+use Rattle.qx_machine.specs.Waiting.{caller_in, Pipes, is_gone, offered, waiting_call, wanted}
 use Rattle.qx_machine.proofs.Gives.{Gives, found-row, gives_done, gives_on}
 use Rattle.qx_machine.proofs.Places.{row_at-set_cases}
 use Rattle.qx_machine.proofs.Waiters.{InPipe, InPipes}
@@ -160,7 +160,7 @@ IsOf caller call = (call.process ≡ caller.process) × ((call.thread ≡ caller
 
 -- of a deed: it leaves its message without a reply, and where nobody waits in the pipe all its answers are to the caller's call
 abbrev pub LeavesOwn : Resources → Opened → Result (Deed Resources) Errno → Type 0
-LeavesOwn r opened given = IfOk given (λ deed. (deed.reply ≡ None) × (is_alone (pipe_over r opened) ≡ true → AllByRecursion (λ a. IsOf opened.caller a.0) deed.answers))
+LeavesOwn r opened given = IfOk given (λ deed. (deed.reply ≡ None) × (is_alone (pipe_over r opened) ≡ true → AllByRecursion (λ a. IsOf (caller_in opened) a.0) deed.answers))
 
 -- a list of no length
 none-there : {A : Type 0} (xs : List A) → (length xs == 0) ≡ true → xs ≡ []
@@ -176,7 +176,7 @@ all-of caller own is (first ∷ rest) h = (subst (IsOf caller) (sym h.0) is, all
 module _ (r : Resources) (opened : Opened) where
   -- what LeavesOwn says of the deed
   abbrev OwnDeed : Deed Resources → Type 0
-  OwnDeed deed = (deed.reply ≡ None) × (is_alone (pipe_over r opened) ≡ true → AllByRecursion (λ (a : WaitingCall × Answer). IsOf opened.caller a.0) deed.answers)
+  OwnDeed deed = (deed.reply ≡ None) × (is_alone (pipe_over r opened) ≡ true → AllByRecursion (λ (a : WaitingCall × Answer). IsOf (caller_in opened) a.0) deed.answers)
 
   -- nobody waits in the pipe of what is open
   alone-there : (block : Ocb) (pipe : Pipe WaitingCall) → row_at r.inodes.blocks opened.number ≡ Some block → row_at r.pipes block.inode ≡ Some pipe
@@ -197,7 +197,7 @@ module _ (r : Resources) (opened : Opened) where
         refl,
         λ alone.
             let none = alone-there block pipe (found-row _ _ block there) (found-row _ _ pipe here) alone in
-            all-of opened.caller (waiting_call opened count []) (refl, (refl, refl)) _ (own-read wanted offered is_gone _ (waiting_call opened count []) pipe none.0 none.1),
+            all-of (caller_in opened) (waiting_call opened count []) (refl, (refl, refl)) _ (own-read wanted offered is_gone _ (waiting_call opened count []) pipe none.0 none.1),
       )))) in
       given.gives
 
@@ -212,7 +212,7 @@ module _ (r : Resources) (opened : Opened) where
         refl,
         λ alone.
             let none = alone-there block pipe (found-row _ _ block there) (found-row _ _ pipe here) alone in
-            all-of opened.caller (waiting_call opened 0 bytes) (refl, (refl, refl)) _ (own-write wanted offered is_gone _ (waiting_call opened 0 bytes) pipe none.0 none.1),
+            all-of (caller_in opened) (waiting_call opened 0 bytes) (refl, (refl, refl)) _ (own-write wanted offered is_gone _ (waiting_call opened 0 bytes) pipe none.0 none.1),
       )))) in
       given.gives
 
@@ -355,7 +355,7 @@ told-deed part caller manager coid deed none own =
 
 -- a message over what is open is served in the same way, told so
 pub told-serves : (part : Part) (caller : Caller) (sent : Sent) (coid : Coid) (r : Resources) (opened : Opened) (given : Result (Deed Resources) Errno)
-    → sent.target.over ≡ Existing coid → opened.caller ≡ caller → LeavesOwn r opened given → served_by part caller sent (told_alone r opened given) ≡ served_by part caller sent given
+    → sent.target.over ≡ Existing coid → (caller_in opened) ≡ caller → LeavesOwn r opened given → served_by part caller sent (told_alone r opened given) ≡ served_by part caller sent given
 told-serves part caller sent coid r opened (Err error) over same h = refl
 told-serves part caller sent coid r opened (Ok deed) over same h =
     cond_both (is_alone (pipe_over r opened)) (Ok (replied_alone deed deed.answers)) (Ok deed)

@@ -30,6 +30,7 @@ use crate::call::{Call, TakenMessage};
 use crate::channel::Channel;
 use crate::servers;
 use crate::users::Users;
+use qx_hint::assert_unchecked;
 use qx_machine::{Caller, Client, ServerName};
 use qx_process::{Process, Replied, Reply, Room};
 use qx_resmgr::Done;
@@ -81,7 +82,7 @@ impl Channel {
     /// A call of a thread is asked to unblock by the pulse that a worker performs: if it waits in a pipe, it is answered, and
     /// so are others that can be then (Writing a Resource Manager: the unblock pulse). The user's events that are due give
     /// their pulses.
-    #[inline(never)]
+    #[inline(always)]
     pub fn cancel(&mut self, resources: &mut Resources, thread: Thread, call: u64, moment: u64)
         requires user { resources.old.user ≡ thread.proc.user.0 }
         ensures cancelled { Serves self.old self.new resources.old resources.new (λ part. settled part (or_kept part (serve_pulse part thread.proc.num thread.tid call moment))) }
@@ -100,7 +101,7 @@ impl Channel {
     /// The disconnect pulse of a process' server connection is performed: the open control blocks go that are open over it still,
     /// and then it goes itself; calls that waited and can be answered by that are, and the user's events that are due give
     /// their pulses (Writing a Resource Manager: `_PULSE_CODE_DISCONNECT`). Nothing happens where the process is not there.
-    #[inline(never)]
+    #[inline(always)]
     pub fn disconnect(
         &mut self,
         resources: &mut Resources,
@@ -157,12 +158,15 @@ fn perform(
         moment,
     } = message;
     let Some(processes) = users.processes(thread.proc.user) else {
+        assert_unchecked(false);
         unreachable!();
     };
     let Some(process) = processes.process(thread.proc.num) else {
+        assert_unchecked(false);
         unreachable!();
     };
     let Some(bytes) = received(process, thread.tid) else {
+        assert_unchecked(false);
         unreachable!();
     };
     let meaning = meaning_of(bytes, read);

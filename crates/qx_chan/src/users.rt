@@ -224,6 +224,7 @@ impl Users {
     /// A thread gets an error, which gives back what its call attached, with the room for its replies where that had gone.
     /// Gives the server connection that its process has lost with that.
     #[tactic(auto, using(crate::proofs::ProcessLemmas::lends))]
+    #[inline(always)]
     pub fn fail(
         &mut self,
         thread: Thread,

@@ -263,8 +263,27 @@ fn reserve_places(places: &mut Vec<Option<usize>>, more: usize) -> Result<(), Al
     places.reserve(more.max(24))
 }
 
-/// Puts bytes at an offset into blocks that are there, run by run.
+/// Puts some bytes at an offset into blocks that are there: at once where they stand one behind another, as mostly, and else
+/// run by run.
 fn put_bytes(bytes: &mut [u8], places: &[Option<usize>], in_order: usize, offset: usize, new: &[u8])
+    requires some { 0 < length new.now }
+    requires within { offset + length new.now < 2 ^ 63 }
+    requires stand { Stand (length bytes.old) places.now }
+    requires ordered { InOrder places.now in_order }
+    requires made { HasAll places.now (offset / 512) (blocks_for (offset + length new.now)) }
+    ensures bytes { (n : ℕ) → byte_at bytes.new places.now n ≡ byte_after offset new.now (byte_at bytes.old places.now) n }
+{
+    if run_length(in_order, offset, new.len()) == new.len() {
+        put_run(bytes, places, in_order, offset, new);
+    } else {
+        put_runs(bytes, places, in_order, offset, new);
+    }
+}
+
+/// Puts bytes at an offset into blocks that are there, run by run. A function of its own, so that bytes of one run don't pay for
+/// its loop.
+#[inline(never)]
+fn put_runs(bytes: &mut [u8], places: &[Option<usize>], in_order: usize, offset: usize, new: &[u8])
     requires within { offset + length new.now < 2 ^ 63 }
     requires stand { Stand (length bytes.old) places.now }
     requires ordered { InOrder places.now in_order }
@@ -277,7 +296,7 @@ fn put_bytes(bytes: &mut [u8], places: &[Option<usize>], in_order: usize, offset
     let count = run_length(in_order, offset, new.len());
     let (run, rest) = new.split_at(count);
     put_run(bytes, places, in_order, offset, run);
-    put_bytes(bytes, places, in_order, offset + count, rest);
+    put_runs(bytes, places, in_order, offset + count, rest);
 }
 
 /// Where a block stands that is there; those in order stand under their own number.

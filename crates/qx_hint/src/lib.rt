@@ -9,6 +9,7 @@ ghost use Rattle.std.specs.Option.Follows.{option_follows_value};
 /// and no stop, which `unreachable!` leaves (Rust: `std::hint::assert_unchecked`).
 pub fn assert_unchecked(holds: bool)
     requires holds { IsTrue holds }
+    ensures holds { IsTrue holds }
 {
     if !holds {
         // no index is within an empty array, so a proof allows a write there only where control never comes, and the

@@ -527,7 +527,7 @@ module _ (K : Resources → Told → Type 0) (keeps : (change : ResourceChange) 
         gives_on _ (found (row_at r.inodes.blocks over.number) EBADF) _ (λ block opened.
         gives_on _ (need (reads block.flags) EBADF) _ (λ may allowed.
         gives_on _ (found (row_at r.pipes block.inode) EISDIR) _ (λ pipe here.
-        let manner = manner_of (writers_of r.inodes block.inode) block over.caller.is_asked in
+        let manner = manner_of (writers_of r.inodes block.inode) block over.is_asked in
         let call = waiting_call over count [] in
         gives_done _ _ (came-keeps over count [] was block (found-row _ _ block opened) pipe (found-row _ _ pipe here) (read wanted offered is_gone manner call pipe)
         (read_once wanted offered is_gone manner call pipe) (rests wanted offered _ (read_settled wanted offered is_gone manner call pipe)) (λ short. read_short wanted offered is_gone pipe short manner call)))))
@@ -537,7 +537,7 @@ module _ (K : Resources → Told → Type 0) (keeps : (change : ResourceChange) 
         gives_on _ (found (row_at r.inodes.blocks over.number) EBADF) _ (λ block opened.
         gives_on _ (need (writes block.flags) EBADF) _ (λ may allowed.
         gives_on _ (found (row_at r.pipes block.inode) EBADF) _ (λ pipe here.
-        let manner = manner_of (readers_of r.inodes block.inode) block over.caller.is_asked in
+        let manner = manner_of (readers_of r.inodes block.inode) block over.is_asked in
         let call = waiting_call over 0 bytes in
         gives_done _ _ (came-keeps over 0 bytes was block (found-row _ _ block opened) pipe (found-row _ _ pipe here) (write wanted offered is_gone manner call pipe)
         (write_once wanted offered is_gone manner call pipe) (rests wanted offered _ (write_settled wanted offered is_gone manner call pipe)) (λ short. write_short wanted offered is_gone pipe short manner call)))))

@@ -52,7 +52,7 @@ use Rattle.qx_machine.specs.Processes.{Process, after_effect, after_error, after
 use Rattle.qx_machine.specs.Resources.{Resources}
 use Rattle.qx_machine.specs.Rows.{lowest_from, put_row, row_at, with_row}
 use Rattle.qx_machine.specs.Settling.{has_waiting, is_held, is_kept, processes_left, row_left, stays}
-use Rattle.qx_machine.specs.Waiting.{Pipes, is_call, is_gone, is_of_process}
+use Rattle.qx_machine.specs.Waiting.{caller_in, Pipes, is_call, is_gone, is_of_process}
 use Rattle.qx_machine.specs.Users.{boot_part, client, serve, settle_part, take}
 use Rattle.qx_machine.proofs.Places.{lowest_from_free}
 use Rattle.qx_machine.proofs.Settled.{row_at-left}
@@ -198,7 +198,7 @@ module _ (part mid : Part) (answers : List (WaitingCall × Answer)) (came : List
         ∙ (let none = h.gone p (sym (ended p) ∙ (sym (ended_answers answers mid p) ∙ alive)) in omega (arith, mid_gone (is_of_process p), none));
   }
 
-module _ (part : Part) (h : WaitsOnce part) (number thread : ℕ) (row : ThreadRow) (there : thread_at part number thread ≡ Some row) (sent : Sent) (taken : taken_in row.state ≡ Some sent) (context : Context) (callers : (over : Opened) → context.opened ≡ Ok over → over.caller ≡ caller_of number thread row sent) where
+module _ (part : Part) (h : WaitsOnce part) (number thread : ℕ) (row : ThreadRow) (there : thread_at part number thread ≡ Some row) (sent : Sent) (taken : taken_in row.state ≡ Some sent) (context : Context) (callers : (over : Opened) → context.opened ≡ Ok over → caller_in over ≡ caller_of number thread row sent) where
   its_row : (other : ThreadRow) → thread_at part number thread ≡ Some other → count_state_waiting other.state ≡ 0
   its_row other is = ap (λ (r : ThreadRow). count_state_waiting r.state) (same_Some _ _ (sym is ∙ there)) ∙ taken_none row.state sent taken
 

@@ -75,8 +75,8 @@ pub record IsCall (context : Context) (came : List WaitingCall) : Type 0 where
   pub here : is_gone call ≡ false
   pub opened : Opened
   pub was : context.opened ≡ Ok opened
-  pub process : call.process ≡ opened.caller.process
-  pub thread : call.thread ≡ opened.caller.thread
+  pub process : call.process ≡ opened.process
+  pub thread : call.thread ≡ opened.thread
   pub over : call.block ≡ opened.number
 
 -- a message that is not replied to is a call that came

@@ -103,6 +103,7 @@ impl Store {
     }
 
     /// Moves an open control block to another offset, if it is there.
+    #[inline(always)]
     pub fn set_offset(&mut self, number: u16, offset: u64)
         ensures moved { self.new ≡ record self.old { stored = record self.old.stored { inodes = with_offset self.old.stored.inodes number offset } } }
     {

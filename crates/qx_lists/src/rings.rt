@@ -37,7 +37,7 @@ pub(crate) struct Rings<T> {
 }
 
 impl<T> Rings<T> {
-    ghost use Rattle.qx_lists.specs.inner.RingLends.{lends_ring_value};
+    ghost use Rattle.qx_lists.specs.inner.RingLends.{lends_links, lends_ring_value};
 
     /// The links of a place of the list's ring, which are two looks.
     pub(crate) fn links<M: Ledger>(
@@ -97,11 +97,33 @@ impl<T> Rings<T> {
         ensures* writes_back { sem 𝓛 (lends_ring_value T.row self.entry node result) }
         ensures value { option_map (λ n. n.value) (get self.old.nodes node) ≡ Some result.now }
     {
-        match self.nodes.get_mut(node) {
-            Some(node) => &mut node.value,
+        let Some(node) = self.nodes.get_mut(node) else {
+            assert_unchecked(false);
+            unreachable!();
+        };
+        &mut node.value
+    }
+
+    /// The links of a place of a list's ring, for writing.
+    fn links_mut(&mut self, list: usize, place: Option<usize>) -> &mut Links
+        requires there { IsSome (links_at self.old list place) }
+        ensures* writes_back { sem 𝓛 (lends_links T.row self.entry list place result) }
+        ensures links { links_at self.old list place ≡ Some result.now }
+    {
+        match place {
             None => {
-                assert_unchecked(false);
-                unreachable!()
+                let Some(links) = self.lists.get_mut(list) else {
+                    assert_unchecked(false);
+                    unreachable!();
+                };
+                links
+            }
+            Some(node) => {
+                let Some(node) = self.nodes.get_mut(node) else {
+                    assert_unchecked(false);
+                    unreachable!();
+                };
+                &mut node.links
             }
         }
     }
@@ -118,22 +140,7 @@ impl<T> Rings<T> {
         ensures changes { changes.new ≡ changes.old + 1 }
     {
         changes.tick();
-        match place {
-            None => match self.lists.get_mut(list) {
-                Some(links) => links.next = next,
-                None => {
-                    assert_unchecked(false);
-                    unreachable!()
-                }
-            },
-            Some(node) => match self.nodes.get_mut(node) {
-                Some(node) => node.links.next = next,
-                None => {
-                    assert_unchecked(false);
-                    unreachable!()
-                }
-            },
-        }
+        self.links_mut(list, place).next = next;
     }
 
     fn set_previous<L: Ledger>(
@@ -148,21 +155,6 @@ impl<T> Rings<T> {
         ensures changes { changes.new ≡ changes.old + 1 }
     {
         changes.tick();
-        match place {
-            None => match self.lists.get_mut(list) {
-                Some(links) => links.previous = previous,
-                None => {
-                    assert_unchecked(false);
-                    unreachable!()
-                }
-            },
-            Some(node) => match self.nodes.get_mut(node) {
-                Some(node) => node.links.previous = previous,
-                None => {
-                    assert_unchecked(false);
-                    unreachable!()
-                }
-            },
-        }
+        self.links_mut(list, place).previous = previous;
     }
 }

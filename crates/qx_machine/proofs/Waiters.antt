@@ -55,7 +55,7 @@ use Rattle.qx_machine.specs.RamManager.{emptied, read_file, seek_file, write_fil
 use Rattle.qx_machine.specs.Resources.{Resources, with_empty, without_content}
 use Rattle.qx_machine.specs.Rows.{row_at}
 use Rattle.qx_machine.specs.Servers.{is_numbered}
-use Rattle.qx_machine.specs.Waiting.{Pipes, holds, is_call, is_gone, offered, waiting_call, wanted}
+use Rattle.qx_machine.specs.Waiting.{caller_in, Pipes, holds, is_call, is_gone, offered, waiting_call, wanted}
 use Rattle.qx_machine.proofs.Gives.{Gives, found-row, gives_by, gives_done, gives_error, gives_if, gives_more, gives_on, gives-value}
 use Rattle.qx_machine.proofs.Places.{row_at-set_cases}
 
@@ -499,7 +499,7 @@ module _ (P : WaitingCall → Type 0) (caller : Caller) where
   record DeedKeeps (deed : Deed Resources) : Type 0 where
     keeps : (deed.reply ≡ None → Own) → InDeed P deed
 
-  own-waits : (opened : Opened) (wanted : ℕ) (bytes : List ℕ) → opened.caller ≡ caller → Own → P (waiting_call opened wanted bytes)
+  own-waits : (opened : Opened) (wanted : ℕ) (bytes : List ℕ) → (caller_in opened) ≡ caller → Own → P (waiting_call opened wanted bytes)
   own-waits opened wanted bytes same own = subst (λ who. P (call_of who opened.number wanted bytes)) (sym same) (own opened.number wanted bytes)
 
   quiet-keeps : (deed : Deed Resources) → Quiet (InPipes P) deed → DeedKeeps deed
@@ -516,16 +516,16 @@ module _ (P : WaitingCall → Type 0) (caller : Caller) where
   own-gives (Ok deed) none h = gives_done _ _ (record { keeps = λ own. gives-value (InDeed P) (Ok deed) deed refl (h (own (none deed refl))) })
   own-gives (Err error) none h = gives_error _ _
 
-  module _ (resources : Resources) (h : InPipes P resources.pipes) (context : Context) (callers : (over : Opened) → context.opened ≡ Ok over → over.caller ≡ caller) where
+  module _ (resources : Resources) (h : InPipes P resources.pipes) (context : Context) (callers : (over : Opened) → context.opened ≡ Ok over → caller_in over ≡ caller) where
     pipe-closed : (over : Opened) → Gives DeedKeeps (close_last kind.Pipe resources over)
     pipe-closed over =
         gives_by (InDeed P) _ (close_ocb kind.Pipe resources over.number over.moment) _ (ocb-gives P kind.Pipe resources over.number over.moment h) (λ deed left.
         gives_done _ _ (record { keeps = λ own. record { pipes = left.pipes; answers = left.answers } }))
 
-    read-own : (over : Opened) (count : ℕ) → over.caller ≡ caller → Gives DeedKeeps (read_pipe resources over count)
+    read-own : (over : Opened) (count : ℕ) → caller_in over ≡ caller → Gives DeedKeeps (read_pipe resources over count)
     read-own over count same = own-gives _ (λ deed is. gives-value (λ (d : Deed Resources). d.reply ≡ None) _ deed is (search (gives_on, gives_done))) (λ own. read-gives P resources over count h (own-waits over count [] same own))
 
-    write-own : (over : Opened) (bytes : List ℕ) → over.caller ≡ caller → Gives DeedKeeps (write_pipe resources over bytes)
+    write-own : (over : Opened) (bytes : List ℕ) → caller_in over ≡ caller → Gives DeedKeeps (write_pipe resources over bytes)
     write-own over bytes same = own-gives _ (λ deed is. gives-value (λ (d : Deed Resources). d.reply ≡ None) _ deed is (search (gives_on, gives_done))) (λ own. write-gives P resources over bytes h (own-waits over 0 bytes same own))
 
     pipe-gives : (message : Message) → Gives DeedKeeps (manager_deed managers.Pipe resources context message)
@@ -549,9 +549,9 @@ module _ (P : WaitingCall → Type 0) (caller : Caller) where
     manager-gives managers.Ram message = gives_more (IsAlone resources) DeedKeeps _ (λ deed. alone-keeps resources deed h) (ram-gives resources context message)
     manager-gives managers.Pipe message = pipe-gives message
 
-pub opened_by-caller : (process : Process) (caller : Caller) (target : Target) (moment : ℕ) (old : Option Coid) (over : Opened) → opened_by process caller target moment old ≡ Ok over → over.caller ≡ caller
+pub opened_by-caller : (process : Process) (caller : Caller) (target : Target) (moment : ℕ) (old : Option Coid) (over : Opened) → opened_by process caller target moment old ≡ Ok over → caller_in over ≡ caller
 opened_by-caller process caller target moment old over is =
-    gives-value (λ over. over.caller ≡ caller) _ over is
+    gives-value (λ over. caller_in over ≡ caller) _ over is
     (gives_on _ (works_over target.over old) _ (λ coid is_over.
     gives_on _ (found (row_at process.connections coid.0) EBADF) _ (λ connection there.
     gives_on _ (need (is_numbered (manager_number target.manager) connection.manager) EBADF) _ (λ here is_here.

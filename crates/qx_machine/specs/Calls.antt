@@ -32,10 +32,10 @@ use Rattle.qx_machine.specs.Servers.{in_use}
 
 -- what a request sends; of a path, what is behind its mount
 abbrev pub content_of : Request → List (List ℕ) → Content
-content_of (request.OpenPath path flags mode) rest = Spelled (msg.Open flags mode rest)
+content_of (request.OpenPath flags mode path) rest = Spelled (msg.Open flags mode rest)
 content_of (request.StatPath path) rest = Spelled (msg.Stat rest)
 content_of (request.Unlink path) rest = Spelled (msg.Unlink rest)
-content_of (request.Mkdir path mode) rest = Spelled (msg.Mknod mode rest)
+content_of (request.Mkdir mode path) rest = Spelled (msg.Mknod mode rest)
 content_of (request.Read coid count) rest = Spelled (msg.Read count)
 content_of (request.Write coid bytes) rest = Spelled (msg.Write bytes)
 content_of (request.Close coid) rest = Spelled msg.Close
@@ -71,10 +71,10 @@ pub data Address : Type 0 where
   Duplicates : (coid : ℕ) → Address
 
 abbrev pub address : Request → Address
-address (request.OpenPath path flags mode) = Opens path
+address (request.OpenPath flags mode path) = Opens path
 address (request.StatPath path) = Connects path
 address (request.Unlink path) = Connects path
-address (request.Mkdir path mode) = Connects path
+address (request.Mkdir mode path) = Connects path
 address (request.Read coid count) = Uses coid.0
 address (request.Write coid bytes) = Uses coid.0
 address (request.Close coid) = Uses coid.0

@@ -31,7 +31,7 @@ pulse moment = Receive (record { 0 = 1 }) Ram ∷ Perform (record { 0 = 1 }) mom
 
 -- an open of ann's root, /ann, to read
 abbrev pub open_root : Request
-open_root = OpenPath (47 ∷ 97 ∷ 110 ∷ 110 ∷ []) (record { 0 = 1 }) 0
+open_root = OpenPath (record { 0 = 1 }) 0 (47 ∷ 97 ∷ 110 ∷ 110 ∷ [])
 
 abbrev pub first_script : List Step
 first_script =

@@ -41,7 +41,7 @@ block_conditions r number = conditions_at r (row_at r.inodes.blocks number)
 
 -- the event that a message over a block asks for
 abbrev pub event_of : Opened → PulseWish → Event
-event_of opened wish = record { process = opened.caller.process; block = opened.number; conditions = wish.conditions; code = wish.code; value = wish.value }
+event_of opened wish = record { process = opened.process; block = opened.number; conditions = wish.conditions; code = wish.code; value = wish.value }
 
 -- a notification tells which of the wanted conditions hold, and arms or takes away the event of its block
 abbrev pub notify_block : Resources → Opened → NotifyAction → PulseWish → Result (Deed Resources) Errno

@@ -60,7 +60,7 @@ opened_by process caller target moment old = do
   connection ← found (row_at process.connections coid.0) EBADF
   here ← need (is_numbered (manager_number target.manager) connection.manager) EBADF
   number ← found connection.block EBADF
-  Ok (record { caller = caller; coid = coid; number = number; moment = moment })
+  Ok (record { process = caller.process; thread = caller.thread; coid = coid; is_asked = caller.is_asked; number = number; call = caller.call; moment = moment })
 
 -- a process as a manager knows it; one that has no server connection in use there has none of number 0
 abbrev pub client_at : ℕ → Manager → Process → Client

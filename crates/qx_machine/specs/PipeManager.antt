@@ -48,7 +48,7 @@ read_pipe r opened count = do
   block ← found (row_at r.inodes.blocks opened.number) EBADF
   reading ← need (reads block.flags) EBADF
   pipe ← found (row_at r.pipes block.inode) EISDIR
-  Ok (deed_of_pipe r block.inode opened.moment (read wanted offered is_gone (manner_of (writers_of r.inodes block.inode) block opened.caller.is_asked) (waiting_call opened count []) pipe))
+  Ok (deed_of_pipe r block.inode opened.moment (read wanted offered is_gone (manner_of (writers_of r.inodes block.inode) block opened.is_asked) (waiting_call opened count []) pipe))
 
 -- a WRITE is answered with those who waited, or waits
 abbrev pub write_pipe : Resources → Opened → List ℕ → Result (Deed Resources) Errno
@@ -56,7 +56,7 @@ write_pipe r opened bytes = do
   block ← found (row_at r.inodes.blocks opened.number) EBADF
   writing ← need (writes block.flags) EBADF
   pipe ← found (row_at r.pipes block.inode) EBADF
-  Ok (deed_of_pipe r block.inode opened.moment (write wanted offered is_gone (manner_of (readers_of r.inodes block.inode) block opened.caller.is_asked) (waiting_call opened 0 bytes) pipe))
+  Ok (deed_of_pipe r block.inode opened.moment (write wanted offered is_gone (manner_of (readers_of r.inodes block.inode) block opened.is_asked) (waiting_call opened 0 bytes) pipe))
 
 -- a pipe has no offset (C Library Reference: lseek, ESPIPE), nor has the mount's root
 abbrev pub seek_pipe : Resources → Opened → Whence → ℤ → Result (Deed Resources) Errno

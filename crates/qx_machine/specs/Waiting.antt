@@ -5,6 +5,7 @@ use Rattle.qx_types.specs.declared.flags.TheConstants.OFlags.{NONBLOCK}
 use Rattle.qx_types.specs.declared.limits.TheConstants.Limits.{INODES}
 use Rattle.qx_types.specs.declared.outcome.Answer.{Answer}
 use Rattle.qx_types.specs.declared.outcome.Answer.TheVariants.{Reply, Failed}
+use Rattle.qx_machine.specs.declared.rows.Caller.{Caller}
 use Rattle.qx_machine.specs.declared.rows.Manner.{Manner}
 use Rattle.qx_machine.specs.declared.rows.Ocb.{Ocb}
 use Rattle.qx_machine.specs.declared.rows.Opened.{Opened}
@@ -23,9 +24,13 @@ no_pipes = replicate (INODES + 1) None
 
 -- ---- calls that wait
 
+-- whose message works on what is open
+abbrev pub caller_in : Opened → Caller
+caller_in opened = record { call = opened.call; process = opened.process; thread = opened.thread; is_asked = opened.is_asked }
+
 -- a call that reads so many bytes or writes these
 abbrev pub waiting_call : Opened → ℕ → List ℕ → WaitingCall
-waiting_call opened wanted bytes = record { process = opened.caller.process; thread = opened.caller.thread; call = opened.caller.call; block = opened.number; wanted = wanted; bytes = bytes; is_gone = false }
+waiting_call opened wanted bytes = record { process = opened.process; thread = opened.thread; call = opened.call; block = opened.number; wanted = wanted; bytes = bytes; is_gone = false }
 
 abbrev pub wanted : WaitingCall → ℕ
 wanted call = call.wanted

@@ -127,10 +127,13 @@ pub struct Caller {
 /// block; and the moment at which it does. A dup works on the connection that it names, the old one.
 #[derive(Clone, Copy, Debug, PartialEq, Eq)]
 pub struct Opened {
-    pub moment: u64,
-    pub caller: Caller,
-    pub number: u16,
+    pub process: u8,
+    pub thread: u8,
     pub coid: Coid,
+    pub is_asked: bool,
+    pub number: u16,
+    pub call: u64,
+    pub moment: u64,
 }
 
 /// What a message is served with beside its own fields: where it was sent, by which client, what it has open, or the error if

@@ -1,5 +1,5 @@
 -- A READ and a WRITE where nobody waits.
-use Rattle.std.proofs.Common.{◌≡◌, ℕ, ◌+◌, ◌≤◌, ◌<◌, false, true, [], ◌∷◌, ◌++◌, length, take, drop, refl, sym, ap, ◌∙◌, append-nil}
+use Rattle.std.proofs.Common.{◌≡◌, ℕ, ◌+◌, ◌≤◌, ◌<◌, false, true, [], ◌∷◌, ◌++◌, length, take, drop, refl, ap, ◌∙◌, append-nil}
 use Rattle.std.specs.Prelude.{min, nat_le}
 use Rattle.std.proofs.lemmas.Bool.{cond_both, lt-leb}
 use Rattle.qx_types.specs.declared.limits.TheConstants.Limits.{PIPE}
@@ -10,7 +10,7 @@ use Rattle.qx_machine.specs.Waiting.{is_gone, offered, wanted}
 use Rattle.qx_machine.specs.Pipes.{PipeAfter, Pipe, and_then, answered_first, clean_read, clean_write, nobody_answered, one_answered, read, waiting_unless, write}
 use Rattle.qx_shared.proofs.AfterLemmas.{pipe_at-after}
 use Rattle.qx_shared.specs.Shared.{HasPipe, Shared, passed_to, pipe_at, taken_from, with_pipe_after}
-use Rattle.qx_pipe.specs.Alone.{is_idle, is_one_reply}
+use Rattle.qx_pipe.specs.Alone.{is_one_reply}
 use Rattle.qx_pipe.specs.inner.Turns.{NobodyWaits}
 use Rattle.qx_pipe.proofs.CallLemmas.{not_zero}
 use Rattle.qx_pipe.proofs.TurnLemmas.{clean-alone, read-bytes, settle-alone, write-bytes}
@@ -27,9 +27,6 @@ module _ (manner : Manner) (call : WaitingCall) (p : Pipe WaitingCall) (nobody :
 
   write-clean : write wanted offered is_gone manner call p ≡ clean_write wanted offered manner call p
   write-clean = ap (λ after. and_then after (clean_write wanted offered manner call)) (clean-alone p nobody)
-
-  pub idle-is : is_idle p ≡ true
-  idle-is = rw (nobody.0, nobody.1) refl
 
   -- ---- a READ
 
@@ -58,9 +55,6 @@ module _ (manner : Manner) (call : WaitingCall) (p : Pipe WaitingCall) (nobody :
       ∙ ap (answered_first (taken_from (call ∷ []) p).answers) (settle-alone (taken_from (call ∷ []) p).pipe nobody)
       ∙ ap (λ bytes. one_answered call (Reply (length call.bytes) []) (record p { bytes = p.bytes ++ bytes })) (append-nil call.bytes)
 
-  pub write-broken : (length call.bytes ≡ 0 → ⊥) → manner.has_other_side ≡ false → is_one_reply (write wanted offered is_gone manner call p).answers ≡ false
-  write-broken some broken = ap (λ after. is_one_reply after.answers) write-clean ∙ rw (not_zero _ some, broken) refl
-
   pub write-waits : (length call.bytes ≡ 0 → ⊥) → manner.has_other_side ≡ true → PIPE < length p.bytes + length call.bytes → is_one_reply (write wanted offered is_gone manner call p).answers ≡ false
   write-waits some is_open full =
       let test : nat_le (length p.bytes + length call.bytes) PIPE ≡ false = lt-leb _ _ full in
@@ -70,6 +64,3 @@ module _ (manner : Manner) (call : WaitingCall) (p : Pipe WaitingCall) (nobody :
 module _ (c now : Shared) (user inode : ℕ) (has : HasPipe c user inode) (p : Pipe WaitingCall) (is : now ≡ with_pipe_after c user inode (nobody_answered p)) where
   pub pipe-now : pipe_at now user inode ≡ p
   pipe-now = ap (λ (s : Shared). pipe_at s user inode) is ∙ pipe_at-after c user inode has (nobody_answered p)
-
-  pub left-now : now ≡ with_pipe_after c user inode (nobody_answered (pipe_at now user inode))
-  left-now = is ∙ ap (λ p. with_pipe_after c user inode (nobody_answered p)) (sym pipe-now)

@@ -49,10 +49,10 @@ went_in-count call status is = rw (sym is) (of (status == 0))
 -- what a READ and a WRITE over an open control block do to its pipe
 module _ (s : Stored) (c : Shared) (opened : Opened) (block : Ocb) where
   abbrev pub read-over : ℕ → PipeAfter WaitingCall
-  read-over count = read wanted offered is_gone (manner_of (writers_of s.inodes block.inode) block opened.caller.is_asked) (waiting_call opened count []) (pipe_at c s.user block.inode)
+  read-over count = read wanted offered is_gone (manner_of (writers_of s.inodes block.inode) block opened.is_asked) (waiting_call opened count []) (pipe_at c s.user block.inode)
 
   abbrev pub write-over : List ℕ → PipeAfter WaitingCall
-  write-over bytes = write wanted offered is_gone (manner_of (readers_of s.inodes block.inode) block opened.caller.is_asked) (waiting_call opened 0 bytes) (pipe_at c s.user block.inode)
+  write-over bytes = write wanted offered is_gone (manner_of (readers_of s.inodes block.inode) block opened.is_asked) (waiting_call opened 0 bytes) (pipe_at c s.user block.inode)
 
 module _ (s : Stored) (c : Shared) (r : Resources) (opened : Opened) (block : Ocb) (at : row_at s.inodes.blocks opened.number ≡ Some block) (some : HasPipe c s.user block.inode) where
   abbrev deed : PipeAfter WaitingCall → Deed Resources

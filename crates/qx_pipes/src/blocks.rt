@@ -8,7 +8,7 @@ ghost use Rattle.qx_machine.specs.Inodes.{has};
 ghost use Rattle.qx_machine.specs.PipeManager as machine;
 ghost use Rattle.qx_machine.specs.Resources.{Resources};
 ghost use Rattle.qx_machine.specs.Rows.{with_row};
-ghost use Rattle.qx_machine.specs.Waiting.{holds, is_call};
+ghost use Rattle.qx_machine.specs.Waiting.{caller_in, holds, is_call};
 ghost use Rattle.qx_machine.specs.declared.rows.Kind.TheVariants as kind;
 ghost use Rattle.qx_pipes.specs.Pipes.{Follows, done_of, seen};
 ghost use Rattle.qx_pipes.specs.Told.{bytes_told, status_told, told_alone};
@@ -39,7 +39,7 @@ pub fn read(
     room: &mut Option<Room>,
 ) -> Result<Option<u64>, Errno>
     requires user { store.old.stored.user < length shared.old.pipes }
-    requires received { IsReceived shared.old (callers_thread store.old.stored.user opened.caller) }
+    requires received { IsReceived shared.old (callers_thread store.old.stored.user (caller_in opened)) }
     requires empty { reply.old ≡ [] }
     requires room { IsSome room.old }
     ensures user { store.new.stored.user ≡ store.old.stored.user }
@@ -55,7 +55,7 @@ pub fn read(
     }
     let inode = block.inode;
     let sides = store.inodes().sides(inode);
-    let manner = manner(sides.for_writing, &block, opened.caller.is_asked);
+    let manner = manner(sides.for_writing, &block, opened.is_asked);
     if let Some(status) = qx_pipe::pipe::read_alone(shared, user, inode, wanted, manner, reply) {
         set_size(shared, store, inode, false, opened.moment);
         return Ok(Some(status));
@@ -81,7 +81,7 @@ pub fn write(
     room: &mut Option<Room>,
 ) -> Result<Option<u64>, Errno>
     requires user { store.old.stored.user < length shared.old.pipes }
-    requires received { IsReceived shared.old (callers_thread store.old.stored.user opened.caller) }
+    requires received { IsReceived shared.old (callers_thread store.old.stored.user (caller_in opened)) }
     requires fits { length bytes.now ≤ TRANSFER }
     requires room { IsSome room.old }
     ensures user { store.new.stored.user ≡ store.old.stored.user }
@@ -97,7 +97,7 @@ pub fn write(
     }
     let inode = block.inode;
     let sides = store.inodes().sides(inode);
-    let manner = manner(sides.for_reading, &block, opened.caller.is_asked);
+    let manner = manner(sides.for_reading, &block, opened.is_asked);
     if let Some(status) = qx_pipe::pipe::write_alone(shared, user, inode, bytes, manner) {
         set_size(shared, store, inode, status != 0, opened.moment);
         return Ok(Some(status));

@@ -5,7 +5,7 @@ ghost use Rattle.std.specs.Option.{option_copied};
 ghost use Rattle.qx_machine.specs.Rows.{row_at, lowest_from, put_row};
 
 use arrayvec::ArrayVec;
-use qx_hint::assert_unchecked;
+use qx_hint::unwrap_unchecked;
 use std::alloc::{AllocError, Global};
 
 /// The row under a number.
@@ -24,13 +24,7 @@ pub fn there<T>(places: &[Option<T>], number: usize) -> &T
     requires there { IsSome (row_at places.now number) }
     ensures row { row_at places.now number ≡ Some result.now }
 {
-    match &places[number] {
-        Some(row) => row,
-        None => {
-            assert_unchecked(false);
-            unreachable!()
-        }
-    }
+    unwrap_unchecked(places[number].as_ref())
 }
 
 /// The lowest free number that is not below the first.

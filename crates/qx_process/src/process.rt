@@ -200,6 +200,7 @@ impl Process {
 
     /// A connection goes; gives the server connection that the process has lost with it, if it was the last that is attached to
     /// its manager (C Library Reference: `ConnectDetach`).
+    #[inline(always)]
     pub fn detach(&mut self, coid: Coid) -> Option<ServerName>
         ensures process { self.new ≡ machine.without_connection coid.0 self.old }
         ensures lost { Loses result self.old self.new }
@@ -225,6 +226,7 @@ impl Process {
 
     /// A side connection goes; gives the server connection that the process has lost with it, if it was the last that is
     /// attached to its manager.
+    #[inline(always)]
     pub fn detach_side(&mut self, thread: u8) -> Option<ServerName>
         ensures process { self.new ≡ machine.with_side thread None self.old }
         ensures lost { Loses result self.old self.new }

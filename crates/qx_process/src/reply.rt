@@ -3,6 +3,7 @@ ghost use Rattle.qx_bytes.specs.declared.message.TheConstants.MessageBytes.{INLI
 ghost use Rattle.qx_types.specs.declared.limits.TheConstants.Limits.{BODY};
 
 use crate::room::Room;
+use qx_hint::unwrap_unchecked;
 use qx_types::{Limits, MessageBytes};
 use std::alloc::{AllocError, Global};
 use std::marker::Model;
@@ -113,13 +114,8 @@ impl Reply {
             return None;
         }
         let alloc = *Box::allocator(&self.places);
-        if self.len == 0 {
-            return Some(MessageBytes::new(alloc));
-        }
-        match self.places.first_chunk() {
-            Some(few) => Some(MessageBytes::from_buf_and_len(alloc, *few, self.len)),
-            None => unreachable!(),
-        }
+        let few = *unwrap_unchecked(self.places.first_chunk());
+        Some(MessageBytes::from_buf_and_len(alloc, few, self.len))
     }
 
     /// More than a few bytes, which go with the room that they stand in, while another comes in its place, or else with the

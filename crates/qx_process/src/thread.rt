@@ -7,11 +7,13 @@ ghost use Rattle.qx_machine.specs.Clients.{answer_in};
 ghost use Rattle.qx_machine.specs.Performing.{taken_in};
 ghost use Rattle.qx_machine.specs.Processes.{asked_thread, new_thread, queued_thread, received_in, served_thread, taken_thread, answered_thread, ready_thread, ranked_thread};
 ghost use Rattle.qx_process.specs.Reads.{BringsRoom, IsPriority, has_own_room, is_blocked, queued_in, unanswered_in};
+ghost use Rattle.qx_process.specs.inner.States.{state_of};
 
 use crate::reply::Reply;
 use crate::room::Room;
+use qx_hint::assert_unchecked;
 use qx_machine::{Effect, Sent};
-use qx_types::{Answer, MessageBytes, Prio};
+use qx_types::{Answer, Errno, MessageBytes, Prio};
 use std::alloc::{AllocError, Global};
 use std::marker::Model;
 use std::mem;
@@ -204,9 +206,11 @@ impl ThreadCell {
         ensures row { self.new ≡ served_thread self.old }
     {
         let Some(room) = self.room.take() else {
+            assert_unchecked(false);
             unreachable!();
         };
         let Doing::Sent(stage, sent) = &mut self.doing else {
+            assert_unchecked(false);
             unreachable!();
         };
         *stage = Stage::Waiting;
@@ -234,11 +238,17 @@ impl ThreadCell {
         requires received { IsSome (taken_in self.old.state) }
         ensures row { self.new ≡ answered_thread (TheReply status reply.old) self.old }
     {
+        if reply.as_slice().is_empty() {
+            let none = MessageBytes::new(*memory.allocator());
+            answered(&mut self.doing, Answer::Reply(status, none), memory);
+            return;
+        }
         if let Some(bytes) = reply.inline() {
             answered(&mut self.doing, Answer::Reply(status, bytes), memory);
             return;
         }
         let Some(room) = self.room.take() else {
+            assert_unchecked(false);
             unreachable!();
         };
         self.has_room = false;
@@ -259,13 +269,13 @@ impl ThreadCell {
         ensures answer { result ≡ answer_in self.old.state }
         ensures row { MatchOption result (self.new ≡ self.old) (λ _. self.new ≡ ready_thread self.old) }
     {
-        if !matches!(self.doing, Doing::Answered(_)) {
+        let Doing::Answered(answer) = &mut self.doing else {
             return None;
-        }
-        match mem::replace(&mut self.doing, Doing::Ready) {
-            Doing::Answered(answer) => Some(answer),
-            _ => unreachable!(),
-        }
+        };
+        // moved alone, and not with all that a thread may be doing; what stands in its place goes at once
+        let taken = mem::replace(answer, Answer::Failed(Errno::EINTR));
+        self.doing = Doing::Ready;
+        Some(taken)
     }
 
     /// The bytes of the thread's message if that was received and is not served, and else none, as the thread goes with its
@@ -281,13 +291,15 @@ impl ThreadCell {
     }
 }
 
-/// An answer comes in the place of a message, which leaves its memory for others.
+/// An answer comes in the place of a message that was received, which leaves its memory for others.
 #[inline(always)]
 fn answered(doing: &mut Doing, answer: Answer, memory: &mut Vec<u8>)
+    requires received { IsSome (taken_in (state_of doing.old)) }
     ensures answered { doing.new ≡ Doing.Answered answer }
 {
-    let before = mem::replace(doing, Doing::Answered(answer));
-    if let Doing::Sent(_, sent) = before {
-        sent.bytes.into_memory(memory);
-    }
+    let Doing::Sent(_, sent) = mem::replace(doing, Doing::Answered(answer)) else {
+        assert_unchecked(false);
+        unreachable!();
+    };
+    sent.bytes.into_memory(memory);
 }

@@ -12,7 +12,7 @@ ghost use Rattle.qx_machine.specs.Rows.{row_at, with_row};
 ghost use Rattle.qx_procs.specs.Calls.{has_ended_in, spawn_outcome, spawned, done_or, after_or, with_prio, new_connection_number, with_new_side, EndsAt, LosesAt};
 ghost use Rattle.qx_machine.specs.Parts.{connection_of, thread_of};
 
-use qx_hint::{as_mut_unchecked, assert_unchecked};
+use qx_hint::as_mut_unchecked;
 use qx_machine::{Connection, ServerName};
 use qx_process::{LostServers, Process, ThreadCell, places};
 use qx_types::{Coid, Errno, Limits, Manager, Outcome, Prio};
@@ -94,13 +94,7 @@ impl Processes {
         ensures* writes_back { sem 𝓛 (lends_process_there self.entry process result) }
         ensures row { row_at self.old process ≡ Some result.now }
     {
-        match self.rows.get_mut(process as usize) {
-            Some(place) => as_mut_unchecked(place),
-            None => {
-                assert_unchecked(false);
-                unreachable!()
-            }
-        }
+        as_mut_unchecked(&mut self.rows[process as usize])
     }
 
     /// A thread; none where it is not there.

@@ -60,11 +60,10 @@ impl PipeCall {
     fn new(opened: Opened, work: Work, room: Room) -> Self
         ensures call { result ≡ waiting_call opened (wanted_by work) (written_by work room) }
     {
-        let caller = opened.caller;
         PipeCall {
-            process: caller.process,
-            thread: caller.thread,
-            number: caller.call,
+            process: opened.process,
+            thread: opened.thread,
+            number: opened.call,
             block: opened.number,
             work,
             room,

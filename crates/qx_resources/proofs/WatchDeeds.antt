@@ -65,7 +65,7 @@ read_pipe-settled r over count =
     gives_on _ (need (reads block.flags) EBADF) _ (λ reading may.
     gives_on _ (found (row_at r.pipes block.inode) EISDIR) _ (λ pipe here.
     gives_done _ _ (at-block r _ over.number block (found-row _ _ block is) (pipe-settled r block.inode over.moment
-    (read wanted offered is_gone (manner_of (writers_of r.inodes block.inode) block over.caller.is_asked) (waiting_call over count []) pipe))))))
+    (read wanted offered is_gone (manner_of (writers_of r.inodes block.inode) block over.is_asked) (waiting_call over count []) pipe))))))
 
 pub write_pipe-settled : (r : Resources) (over : Opened) (bytes : List ℕ) → Gives (λ deed. IsSettledAt r over.number deed.state) (write_pipe r over bytes)
 write_pipe-settled r over bytes =
@@ -73,7 +73,7 @@ write_pipe-settled r over bytes =
     gives_on _ (need (writes block.flags) EBADF) _ (λ writing may.
     gives_on _ (found (row_at r.pipes block.inode) EBADF) _ (λ pipe here.
     gives_done _ _ (at-block r _ over.number block (found-row _ _ block is) (pipe-settled r block.inode over.moment
-    (write wanted offered is_gone (manner_of (readers_of r.inodes block.inode) block over.caller.is_asked) (waiting_call over 0 bytes) pipe))))))
+    (write wanted offered is_gone (manner_of (readers_of r.inodes block.inode) block over.is_asked) (waiting_call over 0 bytes) pipe))))))
 
 at-place : (r s : Resources) (place : Option ℕ) (inode : ℕ) → place ≡ Some inode → IsEnough r (watch r inode) s → IsEnough r (watch_place r place) s
 at-place r s place inode is settled lives = ap (λ (place : Option ℕ). watched_settled lives (watch_place r place) s) is ∙ settled lives

@@ -128,7 +128,7 @@ pub fn notify(
     };
     let holding = state.conditions(tables, block.inode);
     let event = Event {
-        process: opened.caller.process,
+        process: opened.process,
         block: opened.number,
         conditions: wish.conditions,
         code: wish.code,

@@ -217,9 +217,12 @@ fn opened_by(
     }
     match connection.block {
         Some(number) => Ok(Opened {
-            caller,
+            process: caller.process,
+            thread: caller.thread,
             coid,
+            is_asked: caller.is_asked,
             number,
+            call: caller.call,
             moment,
         }),
         None => Err(Errno::EBADF),

@@ -137,10 +137,10 @@ impl World {
         ensures outcome { result ≡ (machine.step self.old (Step.TakeReply thread)).outcome }
         ensures world { self.new ≡ (machine.step self.old (Step.TakeReply thread)).world }
     {
-        match self.channel.take_reply(thread) {
-            Some(answer) => outcome_of(answer),
-            None => Outcome::WrongState,
-        }
+        let Some(answer) = self.channel.take_reply(thread) else {
+            return Outcome::WrongState;
+        };
+        outcome_of(answer)
     }
 
     /// A process takes its first pulse, which is gone then (System Architecture: pulses; C Library Reference:

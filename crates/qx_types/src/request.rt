@@ -10,11 +10,12 @@ use std::alloc::AllocError;
 /// path is judged as a path, and a connection by whether it is there.
 #[derive(Debug, Drop, PartialEq, Eq)]
 pub enum Request {
+    // Bytes stand last in each, behind what has place beside the kind: so a request takes 32 bytes.
     /// Opens a name (C Library Reference: `open`). The mode has at most the bits 0777.
     OpenPath {
-        path: Bytes,
         flags: OFlags,
         mode: u16,
+        path: Bytes,
     },
     /// Asks for the status of a name (C Library Reference: `stat`).
     StatPath {
@@ -26,8 +27,8 @@ pub enum Request {
     },
     /// Makes a directory (C Library Reference: `mkdir`). The mode has at most the bits 0777.
     Mkdir {
-        path: Bytes,
         mode: u16,
+        path: Bytes,
     },
     /// Reads at most `count` bytes, of which there may be 0 to 4,096 (C Library Reference: `read`).
     Read {

@@ -211,12 +211,19 @@ fn body_cut(kind: u16, subtype: u16, body: &[u8], judges: bool) -> Meaning<'_>
     }
 }
 
+/// How many bytes a header has.
+const HEADER: usize = 8;
+
 /// What bytes are cut into, with a look at the ranges of values and at the bytes of texts only where these are judged.
 #[tactic(auto, unfolding(crate::specs::Reading::cut, crate::specs::Reading::frame_at))]
 pub(crate) fn cut(bytes: &[u8], judges: bool) -> Meaning<'_>
     ensures cut { result ≡ judged_where judges (cut bytes.now) }
     ensures spelled { IfKnown result (λ message. bytes.now ≡ spelling message) }
 {
+    // asked once, so that none of the next three asks
+    if bytes.len() < HEADER {
+        return Meaning::Malformed;
+    }
     let Some((kind, rest)) = u16_at(bytes) else {
         return Meaning::Malformed;
     };

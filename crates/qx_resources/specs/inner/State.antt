@@ -2,6 +2,7 @@
 use Rattle.std.specs.Prelude.{◌≡◌, ◌≤◌, Result, Ok, Err}
 use Rattle.qx_types.specs.declared.errno.Errno.{Errno}
 use Rattle.qx_types.specs.declared.limits.TheConstants.Limits.{PROCESSES}
+use Rattle.qx_machine.specs.Waiting.{caller_in}
 use Rattle.qx_machine.specs.declared.rows.Opened.{Opened}
 use Rattle.qx_machine.specs.Functions.{Deed}
 use Rattle.qx_machine.specs.Resources.{Resources}
@@ -11,8 +12,8 @@ use Rattle.qx_resources.specs.declared.tables.Tables.{Tables}
 
 -- an opened connection's caller is of a process that may be; its message was received, and no call of it waits
 pub record IsCallerReceived (k : Kept) (w : Tables) (opened : Opened) : Type 0 where
-  pub process : opened.caller.process ≤ PROCESSES
-  pub received : IsReceived w.shared (callers_thread k.user opened.caller)
+  pub process : opened.process ≤ PROCESSES
+  pub received : IsReceived w.shared (callers_thread k.user (caller_in opened))
 
 -- what is kept for a user, and what all share, are as the machine left them
 pub record AreLeft (k : Kept) (w : Tables) (l : Kept) (v : Tables) (deed : Deed Resources) : Type 0 where

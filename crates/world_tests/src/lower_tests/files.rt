@@ -3,7 +3,7 @@
 
 use all_memory::take_all_memory;
 use qx_iofunc::Store;
-use qx_machine::{Caller, Client, Kind, Opened, ServerName, Wish};
+use qx_machine::{Client, Kind, Opened, ServerName, Wish};
 use qx_process::Reply;
 use qx_types::{Coid, Errno, Limits, Manager, OFlags, User, Whence};
 use qx_wire::Rest;
@@ -26,14 +26,12 @@ const CLIENT: Client = Client {
 /// A message over what an open control block has open.
 fn over(number: u16) -> Opened {
     Opened {
-        caller: Caller {
-            process: 1,
-            thread: 1,
-            call: 1,
-            is_asked: false,
-        },
+        process: 1,
+        thread: 1,
         coid: Coid(3),
+        is_asked: false,
         number,
+        call: 1,
         moment: 7,
     }
 }

@@ -1,5 +1,5 @@
 use borrow.Rule.Slice.PartMut.{put_mid}
-use Rattle.std.proofs.Common.{◌≡◌, ◌+◌, ◌-◌, ◌*◌, ◌%◌, ◌++◌, ap, arith, drop, ◌∙◌, sym, length, is_some, take}
+use Rattle.std.proofs.Common.{◌≡◌, ◌+◌, ◌-◌, ◌*◌, ◌%◌, ◌++◌, ap, arith, drop, ◌∙◌, length, take}
 use Rattle.std.proofs.lemmas.List.{drop-drop}
 use Rattle.qx_files.specs.inner.Places.{pasted}
 use Rattle.qx_files.proofs.PlaceLemmas.{byte-put, run_stands, run_within}

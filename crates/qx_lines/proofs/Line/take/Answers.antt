@@ -14,9 +14,6 @@ returns-in_err-priority-clause-first g c = c.from_residual.ensures ∙ sym (ap (
 pub returns-in_err-priority-clause-rest : goal.returns-in_err-priority-clause-rest
 returns-in_err-priority-clause-rest g c = let none = nodes_in-none g.T.Ranked.rank c.args.table.now c.args.self.now c.requires.of c.in_err-priority.ensures.none in none ∙ sym (ap (drop 1) none)
 
-pub unreachable-requires : goal.unreachable-requires
-unreachable-requires g c = highest_some g.T.Ranked.rank c.args.table.now c.args.self.now c.requires.of c.in_ok-priority.priority c.in_ok-priority.ensures.highest (sym c.pop_front.ensures.first ∙ c.in_default.is)
-
 pub assert_unchecked-requires : goal.assert_unchecked-requires
 assert_unchecked-requires g c = absurd (highest_some g.T.Ranked.rank c.args.table.now c.args.self.now c.requires.of c.in_ok-priority.priority c.in_ok-priority.ensures.highest (sym c.pop_front.ensures.first ∙ c.in_default.is))
 
