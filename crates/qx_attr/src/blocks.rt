@@ -5,6 +5,7 @@ ghost use Rattle.qx_machine.specs.Inodes.{is_clients, moved_to};
 ghost use Rattle.qx_machine.specs.Rows.{lowest_from, put_row, row_at, with_row};
 
 use crate::growth;
+use qx_hint::{assert_unchecked, unwrap_unchecked};
 use qx_machine::{Client, Ocb};
 use qx_process::places;
 use slab::Slab;
@@ -62,7 +63,7 @@ impl Blocks {
         ensures row { option_copied result ≡ row_at self.now.rows number }
     {
         let key = *places::row(self.keys.as_slice(), number as usize)?;
-        self.values.get(key)
+        Some(unwrap_unchecked(self.values.get(key)))
     }
 
     /// The number of a client's block, by its place among the client's. No other place has that number.
@@ -146,7 +147,11 @@ impl Blocks {
         let Some(key) = places::row(self.keys.as_slice(), number as usize).copied() else {
             return;
         };
-        self.values[key].offset = offset;
+        let Some(block) = self.values.get_mut(key) else {
+            assert_unchecked(false);
+            unreachable!();
+        };
+        block.offset = offset;
     }
 
     /// Takes the block of a number away, and gives it.

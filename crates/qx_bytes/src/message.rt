@@ -1,6 +1,6 @@
 //! The bytes of a message or of its answer: few stand in the value itself.
 
-ghost use Rattle.std.specs.Prelude.{◌≡◌, ◌+◌, ◌<◌, ◌≤◌, ◌^◌, ◌++◌, [], length, take, IfOk, IsOk};
+ghost use Rattle.std.specs.Prelude.{◌≡◌, ◌+◌, ◌<◌, ◌≤◌, ◌^◌, ◌++◌, [], length, take, IfOk, IsOk, OnOk};
 ghost use Rattle.std.specs.Str.{bytes_eq};
 ghost use Rattle.qx_bytes.specs.declared.message.TheConstants.MessageBytes.{INLINE};
 
@@ -130,7 +130,11 @@ impl MessageBytes {
         ensures few { length (first.now ++ (second.now ++ third.now)) ≤ INLINE → IsOk result }
     {
         if first.len() + second.len() + third.len() > MessageBytes::INLINE {
-            return Ok(MessageBytes::many(memory, first, second, third)?);
+            put_all(memory, first, second, third)?;
+            let none = Vec::new(*memory.allocator());
+            return Ok(MessageBytes {
+                items: Items::Many(mem::replace(memory, none)),
+            });
         }
         let mut few = [0; PLACES];
         // the last ones apart: so the compiler keeps the others as words, and none in memory
@@ -140,25 +144,6 @@ impl MessageBytes {
         let end = append(&mut few, end, third);
         let alloc = *memory.allocator();
         Ok(MessageBytes::from_buf_and_len(alloc, few, end))
-    }
-
-    /// The same in the memory that is there.
-    fn many(
-        memory: &mut Vec<u8>,
-        first: &[u8],
-        second: &[u8],
-        third: &[u8],
-    ) -> Result<Self, AllocError>
-        requires fits { length (first.now ++ (second.now ++ third.now)) < 2 ^ 64 }
-        ensures bytes { IfOk result (λ joined. joined ≡ first.now ++ (second.now ++ third.now)) }
-    {
-        memory.clear();
-        memory.reserve_exact(first.len() + second.len() + third.len())?;
-        memory.extend_from_slice(first)?;
-        memory.extend_from_slice(second)?;
-        memory.extend_from_slice(third)?;
-        let none = Vec::new(*memory.allocator());
-        Ok(MessageBytes::from_vec(mem::replace(memory, none)))
     }
 
     /// The bytes, after which there are none.
@@ -193,6 +178,26 @@ impl MessageBytes {
             Items::Many(items) => items.allocator(),
         }
     }
+}
+
+/// Three pieces come in the place of what stands in memory. A call of its own, and none that gives a message: few bytes would
+/// clear a place for that.
+#[inline(never)]
+fn put_all(
+    memory: &mut Vec<u8>,
+    first: &[u8],
+    second: &[u8],
+    third: &[u8],
+) -> Result<(), AllocError>
+    requires fits { length (first.now ++ (second.now ++ third.now)) < 2 ^ 64 }
+    ensures bytes { OnOk result (memory.new.items ≡ first.now ++ (second.now ++ third.now)) }
+{
+    memory.clear();
+    memory.reserve_exact(first.len() + second.len() + third.len())?;
+    memory.extend_from_slice(first)?;
+    memory.extend_from_slice(second)?;
+    memory.extend_from_slice(third)?;
+    Ok(())
 }
 
 /// Puts a piece behind the first bytes of an array, and gives how many they are then.

@@ -15,7 +15,6 @@ use qx_words::text::{
     push_action, push_bytes, push_conditions, push_flags, push_mode, push_number, push_offset,
     push_thread, push_whence,
 };
-use std::alloc::Global;
 
 /// What a notification is to do, on which conditions, and the code and the value of its pulse.
 #[derive(Clone, Copy)]
@@ -28,7 +27,6 @@ struct Notification {
 
 /// The line that makes a call.
 pub fn push_call(
-    alloc: Global,
     text: &mut Vec<u8>,
     config: &Config,
     thread: Thread,
@@ -44,7 +42,7 @@ pub fn push_call(
         Request::Unlink { path } => push_unlink(text, config, thread, path),
         Request::Mkdir { path, mode } => push_mkdir(text, config, thread, path, *mode),
         Request::Read { coid, count } => push_read(text, config, thread, *coid, *count),
-        Request::Write { coid, bytes } => push_write(alloc, text, config, thread, *coid, bytes),
+        Request::Write { coid, bytes } => push_write(text, config, thread, *coid, bytes),
         Request::Close { coid } => push_close(text, config, thread, *coid),
         Request::Dup { coid } => push_dup(text, config, thread, *coid),
         Request::Seek { coid, whence, by } => {
@@ -68,7 +66,7 @@ pub fn push_call(
             };
             push_notify(text, config, thread, *coid, notification)
         }
-        Request::Raw { coid, bytes } => push_raw(alloc, text, config, thread, *coid, bytes),
+        Request::Raw { coid, bytes } => push_raw(text, config, thread, *coid, bytes),
     }
 }
 
@@ -81,11 +79,11 @@ pub fn push_next_number(text: &mut Vec<u8>, number: u64) -> Result<(), NoMemory>
 }
 
 /// A space and bytes.
-fn push_next_bytes(alloc: Global, text: &mut Vec<u8>, bytes: &Bytes) -> Result<(), NoMemory>
+fn push_next_bytes(text: &mut Vec<u8>, bytes: &Bytes) -> Result<(), NoMemory>
     ensures ok { OnOk result (text.new.items ≡ text.old.items ++ codes " " ++ bytes_text bytes.now) }
 {
     text.extend_from_slice(b" ")?;
-    push_bytes(alloc, text, bytes.as_slice())
+    push_bytes(text, bytes.as_slice())
 }
 
 /// A line's first word, a thread and a path.
@@ -194,7 +192,6 @@ fn push_read(
 
 #[tactic(auto, unfolding(crate::specs::Calls::call_text))]
 fn push_write(
-    alloc: Global,
     text: &mut Vec<u8>,
     config: &Config,
     thread: Thread,
@@ -204,7 +201,7 @@ fn push_write(
     ensures ok { OnOk result (text.new.items ≡ text.old.items ++ call_text config.now thread (Request.Write coid bytes.now)) }
 {
     push_over(text, config, b"write", thread, coid)?;
-    push_next_bytes(alloc, text, bytes)
+    push_next_bytes(text, bytes)
 }
 
 #[tactic(auto, unfolding(crate::specs::Calls::call_text))]
@@ -324,7 +321,6 @@ fn push_notification(text: &mut Vec<u8>, notification: Notification) -> Result<(
 
 #[tactic(auto, unfolding(crate::specs::Calls::call_text))]
 fn push_raw(
-    alloc: Global,
     text: &mut Vec<u8>,
     config: &Config,
     thread: Thread,
@@ -334,5 +330,5 @@ fn push_raw(
     ensures ok { OnOk result (text.new.items ≡ text.old.items ++ call_text config.now thread (Request.Raw coid bytes.now)) }
 {
     push_over(text, config, b"raw", thread, coid)?;
-    push_next_bytes(alloc, text, bytes)
+    push_next_bytes(text, bytes)
 }

@@ -35,18 +35,13 @@ pub fn play(alloc: Global, config: Config, commands: Vec<Command>) -> Result<Vec
     let mut text = Vec::new(alloc);
     let mut lines = commands.into_iter();
     'lines: while let Some(command) = lines.next() {
-        play_line(alloc, &mut traced, &mut text, command)?;
+        play_line(&mut traced, &mut text, command)?;
     }
     Ok(text)
 }
 
 /// Runs one line.
-fn play_line(
-    alloc: Global,
-    traced: &mut Traced,
-    text: &mut Vec<u8>,
-    command: Command,
-) -> Result<(), NoMemory>
+fn play_line(traced: &mut Traced, text: &mut Vec<u8>, command: Command) -> Result<(), NoMemory>
     ensures config { traced.new.config ≡ traced.old.config }
     ensures steps { OnOk result (traced.new.steps ≡ (played_line traced.old.config (record { steps = traced.old.steps; text = text.old.items }) command).steps) }
     ensures text { OnOk result (text.new.items ≡ (played_line traced.old.config (record { steps = traced.old.steps; text = text.old.items }) command).text) }
@@ -56,24 +51,19 @@ fn play_line(
         Command::Serve(moment) => serve(traced, moment),
         Command::Do(moment, thread, request) => call(traced, moment, thread, request),
         Command::Show(user) => {
-            text::push_transcript(alloc, text, traced.config(), traced.entries(), user)
+            text::push_transcript(text, traced.config(), traced.entries(), user)
         }
-        Command::Erased(user) => push_erased(alloc, text, traced, user),
-        Command::Trace => text::push_trace(alloc, text, traced.config(), traced.entries()),
+        Command::Erased(user) => push_erased(text, traced, user),
+        Command::Trace => text::push_trace(text, traced.config(), traced.entries()),
     }
 }
 
 /// Runs the steps anew that were taken by or for a user, and gives the text of what the user receives.
-fn push_erased(
-    alloc: Global,
-    text: &mut Vec<u8>,
-    traced: &Traced,
-    user: User,
-) -> Result<(), NoMemory>
+fn push_erased(text: &mut Vec<u8>, traced: &Traced, user: User) -> Result<(), NoMemory>
     ensures text { OnOk result (text.new.items ≡ text.old.items ++ transcript_text traced.now.config (received user.0 (run traced.now.config (erase user.0 traced.now.config traced.now.steps)).entries)) }
 {
     let erased = traced.erased(user)?;
-    text::push_transcript(alloc, text, erased.config(), erased.entries(), user)
+    text::push_transcript(text, erased.config(), erased.entries(), user)
 }
 
 /// Takes a step.

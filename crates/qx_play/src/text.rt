@@ -10,11 +10,9 @@ use qx_machine::Entry;
 use qx_script::text::push_step;
 use qx_types::{Actor, Config, Item, NoMemory, Outcome, User};
 use qx_words::text::{push_bytes, push_number, push_process, push_thread, push_user};
-use std::alloc::Global;
 
 /// The lines of what the steps gave to a user.
 pub fn push_transcript(
-    alloc: Global,
     text: &mut Vec<u8>,
     config: &Config,
     entries: &[Entry],
@@ -23,22 +21,17 @@ pub fn push_transcript(
     ensures ok { OnOk result (text.new.items ≡ text.old.items ++ transcript_text config.now (received user.0 entries.now)) }
 {
     'lines: for entry in entries {
-        push_seen_by(alloc, text, config, entry, user)?;
+        push_seen_by(text, config, entry, user)?;
     }
     Ok(())
 }
 
 /// The lines of all steps, numbered from 1.
-pub fn push_trace(
-    alloc: Global,
-    text: &mut Vec<u8>,
-    config: &Config,
-    entries: &[Entry],
-) -> Result<(), NoMemory>
+pub fn push_trace(text: &mut Vec<u8>, config: &Config, entries: &[Entry]) -> Result<(), NoMemory>
     ensures ok { OnOk result (text.new.items ≡ text.old.items ++ trace_text config.now entries.now) }
 {
     'lines: for (index, entry) in entries.iter().enumerate() {
-        push_entry(alloc, text, config, index as u64 + 1, entry)?;
+        push_entry(text, config, index as u64 + 1, entry)?;
     }
     Ok(())
 }
@@ -46,7 +39,6 @@ pub fn push_trace(
 /// One line: the step's number, the step, and what came of it.
 #[tactic(auto, unfolding(crate::specs::Printed::entry_text))]
 fn push_entry(
-    alloc: Global,
     text: &mut Vec<u8>,
     config: &Config,
     number: u64,
@@ -56,16 +48,15 @@ fn push_entry(
 {
     push_number(text, number)?;
     text.extend_from_slice(b" ")?;
-    push_step(alloc, text, config, &entry.step)?;
+    push_step(text, config, &entry.step)?;
     text.extend_from_slice(b" -> ")?;
-    push_outcome(alloc, text, config, &entry.outcome)?;
+    push_outcome(text, config, &entry.outcome)?;
     text.extend_from_slice(b"\n")?;
     Ok(())
 }
 
 /// The line of a step, if it is a client step of the user.
 fn push_seen_by(
-    alloc: Global,
     text: &mut Vec<u8>,
     config: &Config,
     entry: &Entry,
@@ -74,9 +65,7 @@ fn push_seen_by(
     ensures ok { OnOk result (text.new.items ≡ text.old.items ++ transcript_text config.now (seen_by user.0 entry.now.outcome (actor_of entry.now.step))) }
 {
     match entry.step.actor() {
-        Some(actor) if actor.user() == user => {
-            push_seen(alloc, text, config, actor, &entry.outcome)
-        }
+        Some(actor) if actor.user() == user => { push_seen(text, config, actor, &entry.outcome) }
         _ => Ok(()),
     }
 }
@@ -84,7 +73,6 @@ fn push_seen_by(
 /// One line: who, and what came of it.
 #[tactic(auto, unfolding(crate::specs::Printed::seen_text))]
 fn push_seen(
-    alloc: Global,
     text: &mut Vec<u8>,
     config: &Config,
     actor: Actor,
@@ -94,7 +82,7 @@ fn push_seen(
 {
     push_actor(text, config, actor)?;
     text.extend_from_slice(b" ")?;
-    push_outcome(alloc, text, config, outcome)?;
+    push_outcome(text, config, outcome)?;
     text.extend_from_slice(b"\n")?;
     Ok(())
 }
@@ -131,12 +119,7 @@ fn push_item(text: &mut Vec<u8>, config: &Config, item: Item) -> Result<(), NoMe
 }
 
 #[tactic(auto, unfolding(crate::specs::Printed::outcome_text))]
-fn push_outcome(
-    alloc: Global,
-    text: &mut Vec<u8>,
-    config: &Config,
-    outcome: &Outcome,
-) -> Result<(), NoMemory>
+fn push_outcome(text: &mut Vec<u8>, config: &Config, outcome: &Outcome) -> Result<(), NoMemory>
     ensures ok { OnOk result (text.new.items ≡ text.old.items ++ outcome_text config.now outcome.now) }
 {
     match outcome {
@@ -150,7 +133,7 @@ fn push_outcome(
         }
         Outcome::Done => Ok(text.extend_from_slice(b"done")?),
         Outcome::Sent => Ok(text.extend_from_slice(b"sent")?),
-        Outcome::Reply(status, bytes) => push_reply(alloc, text, *status, bytes.as_slice()),
+        Outcome::Reply(status, bytes) => push_reply(text, *status, bytes.as_slice()),
         Outcome::Failed(error) => {
             text.extend_from_slice(b"error ")?;
             Ok(text.extend_from_slice(error.name().as_bytes())?)
@@ -169,13 +152,13 @@ fn push_outcome(
     }
 }
 
-fn push_reply(alloc: Global, text: &mut Vec<u8>, status: u64, bytes: &[u8]) -> Result<(), NoMemory>
+fn push_reply(text: &mut Vec<u8>, status: u64, bytes: &[u8]) -> Result<(), NoMemory>
     ensures ok { OnOk result (text.new.items ≡ text.old.items ++ (codes "reply " ++ decimal status ++ codes " " ++ bytes_text bytes.now)) }
 {
     text.extend_from_slice(b"reply ")?;
     push_number(text, status)?;
     text.extend_from_slice(b" ")?;
-    push_bytes(alloc, text, bytes)
+    push_bytes(text, bytes)
 }
 
 fn push_pulse(text: &mut Vec<u8>, code: u8, value: u32) -> Result<(), NoMemory>

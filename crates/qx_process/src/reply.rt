@@ -1,4 +1,4 @@
-ghost use Rattle.std.specs.Prelude.{◌≡◌, ◌+◌, ◌<◌, ◌≤◌, ◌++◌, [], IfOk, IfSome, is_some, length, nat_le};
+ghost use Rattle.std.specs.Prelude.{◌≡◌, ◌+◌, ◌<◌, ◌≤◌, ◌++◌, ◌==◌, [], IfOk, IfSome, is_some, length, nat_le};
 ghost use Rattle.qx_bytes.specs.declared.message.TheConstants.MessageBytes.{INLINE};
 ghost use Rattle.qx_types.specs.declared.limits.TheConstants.Limits.{BODY};
 
@@ -19,7 +19,7 @@ const PLACES: usize = Limits::BODY;
 pub struct Reply {
     /// The bytes that came in pieces stand first; what stands behind them is of earlier messages.
     places: Box<[u8; PLACES]>,
-    /// How many these are.
+    /// How many bytes there are, wherever they stand.
     len: usize,
     /// Whether the bytes stand in the room.
     is_in_room: bool,
@@ -39,6 +39,7 @@ impl Model for Reply {
       places : length r.places.value ≡ BODY;
       few : r.len ≤ BODY;
       many : IsTrue r.is_in_room → INLINE < length r.room;
+      as_many : IsTrue r.is_in_room → r.len ≡ length r.room;
     } };
 }
 
@@ -91,6 +92,7 @@ impl Reply {
             self.is_in_room = true;
         }
         self.room.push(bytes);
+        self.len += bytes.len();
     }
 
     /// The first bytes, which are more than a few.
@@ -102,6 +104,7 @@ impl Reply {
         ensures kept { self.new ≡ bytes.now }
     {
         self.room.keep(bytes);
+        self.len = bytes.len();
         self.is_in_room = true;
     }
 
@@ -110,7 +113,7 @@ impl Reply {
         ensures few { is_some result ≡ nat_le (length self.now) INLINE }
         ensures bytes { IfSome result (λ bytes. bytes ≡ self.now) }
     {
-        if self.is_in_room || self.len > MessageBytes::INLINE {
+        if self.len > MessageBytes::INLINE {
             return None;
         }
         let alloc = *Box::allocator(&self.places);
@@ -130,6 +133,13 @@ impl Reply {
             return mem::replace(&mut self.room, other).into_bytes();
         }
         other.filled(&self.places[..self.len])
+    }
+
+    /// Whether there are none.
+    pub fn is_empty(&self) -> bool
+        ensures none { result ≡ (length self.now == 0) }
+    {
+        self.len == 0
     }
 
     /// The bytes.

@@ -171,6 +171,11 @@ impl ThreadCell {
         if self.room.is_none() {
             self.room = Some(Room::new(alloc)?);
         }
+        if !matches!(self.doing, Doing::Ready) {
+            self.doing = Doing::Ready;
+        }
+        // so the compiler needs no look at what goes
+        assert_unchecked(matches!(self.doing, Doing::Ready));
         self.doing = Doing::Sent(Stage::Queued, sent);
         self.calls += 1;
         self.has_room = true;
@@ -238,7 +243,7 @@ impl ThreadCell {
         requires received { IsSome (taken_in self.old.state) }
         ensures row { self.new ≡ answered_thread (TheReply status reply.old) self.old }
     {
-        if reply.as_slice().is_empty() {
+        if reply.is_empty() {
             let none = MessageBytes::new(*memory.allocator());
             answered(&mut self.doing, Answer::Reply(status, none), memory);
             return;

@@ -9,15 +9,9 @@ ghost use Rattle.qx_script.specs.StepText.{step_text};
 use qx_calls::text::{push_at_path, push_call, push_next_number};
 use qx_types::{Bytes, Config, Manager, NoMemory, Prio, Proc, Request, Step, Thread, User, Worker};
 use qx_words::text::{push_manager, push_process, push_thread, push_user};
-use std::alloc::Global;
 
 /// The line that takes a step.
-pub fn push_step(
-    alloc: Global,
-    text: &mut Vec<u8>,
-    config: &Config,
-    step: &Step,
-) -> Result<(), NoMemory>
+pub fn push_step(text: &mut Vec<u8>, config: &Config, step: &Step) -> Result<(), NoMemory>
     ensures ok { OnOk result (text.new.items ≡ text.old.items ++ step_text config.now step.now) }
 {
     match step {
@@ -27,7 +21,7 @@ pub fn push_step(
             prio,
         } => push_spawn(text, config, *user, *threads, *prio),
         Step::Exit { proc } => push_exit(text, config, *proc),
-        Step::Call { thread, request } => push_call_step(alloc, text, config, *thread, request),
+        Step::Call { thread, request } => push_call_step(text, config, *thread, request),
         Step::TakeReply { thread } => push_reply(text, config, *thread),
         Step::TakePulse { proc } => push_pulse(text, config, *proc),
         Step::SetPrio { thread, prio } => push_prio(text, config, *thread, *prio),
@@ -68,7 +62,6 @@ fn push_exit(text: &mut Vec<u8>, config: &Config, process: Proc) -> Result<(), N
 
 #[tactic(auto, unfolding(crate::specs::StepText::step_text, qx_calls::specs::Calls::call_text))]
 fn push_call_step(
-    alloc: Global,
     text: &mut Vec<u8>,
     config: &Config,
     thread: Thread,
@@ -76,7 +69,7 @@ fn push_call_step(
 ) -> Result<(), NoMemory>
     ensures ok { OnOk result (text.new.items ≡ text.old.items ++ step_text config.now (Step.Call thread request.now)) }
 {
-    push_call(alloc, text, config, thread, request)
+    push_call(text, config, thread, request)
 }
 
 #[tactic(auto, unfolding(crate::specs::StepText::step_text))]

@@ -3,7 +3,6 @@
 ghost use Rattle.std.specs.Prelude.{◌≡◌, ◌∷◌, ◌↔◌, ◌≢◌, None, Some, Ok, Err, IfOk, IsErr, IsOk, IsTrue, IsFalse, OnOk, OnErr, IsErrOf, length, is_some, option_map, replicate, slice_set, MatchOption};
 ghost use Rattle.std.specs.Option.{option_copied};
 ghost use Rattle.qx_types.specs.declared.outcome.Outcome.TheVariants as outcome;
-ghost use Rattle.qx_machine.specs.Clients as clients;
 ghost use Rattle.qx_machine.specs.Laws.{IsSettled, is_refusal};
 ghost use Rattle.qx_machine.specs.Machine as machine;
 ghost use Rattle.qx_machine.specs.Calls.{can_send, content_of};
@@ -23,6 +22,7 @@ ghost use Rattle.qx_steps.specs.Steps.{target_in, HasMemory};
 use crate::performing::{free_ended, free_one, named_thread, perform, set_mark};
 use crate::work::{PerformFault, Work, WorkRef};
 use qx_chan::Channel;
+use qx_hint::assert_unchecked;
 use qx_machine::{Addressed, Held, OwnItem, Queued, Sent};
 use qx_process::{Reply, places};
 use qx_requests::{Refusal, encoded, target_by};
@@ -140,7 +140,14 @@ impl World {
         let Some(answer) = self.channel.take_reply(thread) else {
             return Outcome::WrongState;
         };
-        outcome_of(answer)
+        // an error leaves first, so that the bytes of a reply are moved once
+        if let Answer::Failed(error) = &answer {
+            return Outcome::Failed(*error);
+        }
+        let Answer::Reply(status, bytes) = answer else {
+            unreachable!();
+        };
+        Outcome::Reply(status, bytes)
     }
 
     /// A process takes its first pulse, which is gone then (System Architecture: pulses; C Library Reference:
@@ -420,7 +427,9 @@ impl World {
             &mut self.reply,
             &mut self.memory,
         )?;
-        places::free(&mut self.hands, worker.0 as usize);
+        let place = worker.0 as usize;
+        assert_unchecked(place < self.hands.len());
+        places::free(&mut self.hands, place);
         free_ended(
             &mut self.channel,
             self.hands.as_slice(),
@@ -591,16 +600,6 @@ fn handled_outcome() -> Result<Outcome, NoMemory>
     ensures { result ≡ Ok outcome.Handled }
 {
     Ok(Outcome::Handled)
-}
-
-/// What a thread that takes its answer is told.
-fn outcome_of(answer: Answer) -> Outcome
-    ensures { result ≡ clients.outcome_of answer }
-{
-    match answer {
-        Answer::Reply(status, bytes) => Outcome::Reply(status, bytes),
-        Answer::Failed(error) => Outcome::Failed(error),
-    }
 }
 
 /// An item as it is shown.

@@ -10,10 +10,21 @@ use itoa::Buffer;
 use qx_types::{
     Bytes, Conds, Config, Manager, NoMemory, NotifyAction, OFlags, Proc, Thread, User, Whence,
 };
-use std::alloc::Global;
 
 /// A number in decimal digits.
+#[tactic(auto, using(std::proofs::lemmas::Fmt::decimal_digit))]
 pub fn push_number(text: &mut Vec<u8>, number: u64) -> Result<(), NoMemory>
+    ensures ok { OnOk result (text.new.items ≡ text.old.items ++ decimal number) }
+{
+    if number < 10 {
+        return Ok(text.push(b'0' + number as u8)?);
+    }
+    push_digits(text, number)
+}
+
+/// The same of any number. A function of its own, so that one digit doesn't pay for it.
+#[inline(never)]
+fn push_digits(text: &mut Vec<u8>, number: u64) -> Result<(), NoMemory>
     ensures ok { OnOk result (text.new.items ≡ text.old.items ++ decimal number) }
 {
     let mut buffer = Buffer::new();
@@ -40,35 +51,44 @@ pub fn push_user(text: &mut Vec<u8>, config: &Config, user: User) -> Result<(), 
 }
 
 /// A process, as `ann.1`.
+#[inline(always)]
 #[tactic(auto, unfolding(crate::specs::WordText::process_text))]
 pub fn push_process(text: &mut Vec<u8>, config: &Config, process: Proc) -> Result<(), NoMemory>
     ensures ok { OnOk result (text.new.items ≡ text.old.items ++ process_text config.now process) }
 {
     push_user(text, config, process.user)?;
-    text.extend_from_slice(b".")?;
+    text.push(b'.')?;
     push_number(text, process.num as u64)
 }
 
 /// A thread, as `ann.1.2`.
+#[inline(always)]
 #[tactic(auto, unfolding(crate::specs::WordText::thread_text))]
 pub fn push_thread(text: &mut Vec<u8>, config: &Config, thread: Thread) -> Result<(), NoMemory>
     ensures ok { OnOk result (text.new.items ≡ text.old.items ++ thread_text config.now thread) }
 {
     push_process(text, config, thread.proc)?;
-    text.extend_from_slice(b".")?;
+    text.push(b'.')?;
     push_number(text, thread.tid as u64)
 }
 
 /// Hexadecimal digits, or `-` for no bytes.
 #[tactic(auto, unfolding(crate::specs::WordText::bytes_text))]
-pub fn push_bytes(alloc: Global, text: &mut Vec<u8>, bytes: &[u8]) -> Result<(), NoMemory>
+pub fn push_bytes(text: &mut Vec<u8>, bytes: &[u8]) -> Result<(), NoMemory>
     ensures ok { OnOk result (text.new.items ≡ text.old.items ++ bytes_text bytes.now) }
 {
     if bytes.is_empty() {
-        return Ok(text.extend_from_slice(b"-")?);
+        return Ok(text.push(b'-')?);
     }
-    let digits = hex::encode(alloc, bytes)?;
-    Ok(text.extend_from_slice(digits.as_bytes())?)
+    let start = text.len();
+    let Some(end) = start.checked_add(2 * bytes.len()) else {
+        return Err(NoMemory);
+    };
+    text.resize(end, 0)?;
+    match hex::encode_to_slice(bytes, &mut text[start..]) {
+        Ok(()) => Ok(()),
+        Err(_) => unreachable!(),
+    }
 }
 
 /// A manager.

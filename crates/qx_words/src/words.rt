@@ -58,6 +58,21 @@ fn number(word: &[u8], greatest: u64) -> Option<u64>
     ensures number { result ≡ number_of greatest word.now }
     ensures bound { IfSome result (λ number. number ≤ greatest) }
 {
+    match word {
+        [digit @ b'0'..=b'9'] if (*digit - b'0') as u64 <= greatest => {
+            Some((*digit - b'0') as u64)
+        }
+        _ => any_number(word, greatest),
+    }
+}
+
+/// The same of a word of any length. A function of its own, so that one digit doesn't pay for it.
+#[inline(never)]
+#[tactic(auto, unfolding(crate::specs::Words::number_of))]
+fn any_number(word: &[u8], greatest: u64) -> Option<u64>
+    ensures number { result ≡ number_of greatest word.now }
+    ensures bound { IfSome result (λ number. number ≤ greatest) }
+{
     if is_numeral(word) {
         parsed(numeral_text(word), greatest)
     } else {

@@ -115,6 +115,7 @@ impl Traced {
     }
 
     /// Takes a step and stores it with its outcome, or hands it back.
+    #[inline(always)]
     pub fn store(&mut self, step: Step) -> Result<(), Unstored>
         ensures after { IsAfter self.old step (is_ok result) self.new }
         ensures handed_back { IfErr result (λ unstored. unstored.step ≡ step) }
@@ -124,14 +125,12 @@ impl Traced {
             return Err(Unstored { step });
         }
         let owner = self.world.owner(&step);
-        match take(&mut self.world, &step) {
-            Ok(outcome) => {
-                self.entries.push_reserved(Entry { step, outcome });
-                self.owners.push_reserved(owner);
-                Ok(())
-            }
-            Err(_) => Err(Unstored { step }),
-        }
+        let Ok(outcome) = take(&mut self.world, &step) else {
+            return Err(Unstored { step });
+        };
+        self.entries.push_reserved(Entry { step, outcome });
+        self.owners.push_reserved(owner);
+        Ok(())
     }
 
     /// The outcome of the last step.
@@ -264,7 +263,8 @@ fn told(stored: Result<(), Unstored>, run: &Traced) -> Result<&Outcome, Unstored
     }
 }
 
-/// Takes a step of any kind.
+/// Takes a step of any kind. A call of its own: where it is compiled in place, a step that is stored is taken to pieces first.
+#[inline(never)]
 fn take(world: &mut World, step: &Step) -> Result<Outcome, NoMemory>
     ensures outcome { IfOk result (λ outcome. outcome ≡ (machine.step world.old step.now).outcome) }
     ensures world { OnOk result (world.new ≡ (machine.step world.old step.now).world) }

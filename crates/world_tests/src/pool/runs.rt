@@ -252,6 +252,6 @@ fn shown(alloc: Global, traced: &Traced, user: User) -> Result<Vec<u8>, NoMemory
         entries.push(Entry { step, outcome })?;
     }
     let mut text = Vec::new(alloc);
-    push_transcript(alloc, &mut text, traced.config(), &entries, user)?;
+    push_transcript(&mut text, traced.config(), &entries, user)?;
     Ok(text)
 }

@@ -1,15 +1,22 @@
-use Rattle.std.proofs.Common.{◌≡◌, Ok, refl}
+use Rattle.std.proofs.Common.{◌≡◌, Ok, refl, rules}
 use Rattle.std.specs.Option.{option_copied}
 use Rattle.qx_machine.specs.Machine.{item_to_do}
 use Rattle.qx_machine.specs.Rows.{row_at}
+use Rattle.qx_chan.proofs.RowReads.{row_within}
 use Rattle.qx_steps.specs.inner.Parts.{world_of}
 use Rattle.qx_steps.proofs.PerformLemmas.{performed, performed-quiet, performed-sound}
-use Rattle.qx_steps.proofs.WorkerLemmas.{held-read, perform-handled}
+use Rattle.qx_steps.proofs.WorkerLemmas.{held-read, holds, perform-handled}
 use Rattle.qx_steps.proofs.world.World.perform_item.Goals as goal
 
 pub perform-requires-clause-read : goal.perform-requires-clause-read
 perform-requires-clause-read c =
     held-read c.self.inside.config c.self.inside.channel c.self.inside.resources c.self.inside.hands.items c.self.invariant.users (option_copied c.args.read) c.args.worker.0 c.args.held (rw (← c.self.view_is) at c.requires.held) (rw (← c.self.view_is) at c.requires.read)
+
+pub assert_unchecked-requires : goal.assert_unchecked-requires
+assert_unchecked-requires c =
+    let w = world_of c.self.inside.config c.self.inside.channel c.self.inside.resources c.self.inside.hands.items in
+    let within = row_within c.self.inside.hands.items c.args.worker.0 c.args.held (holds w c.args.worker.0 c.args.held (rw (← c.self.view_is) at c.requires.held)).1 in
+    search rules
 
 pub free_ended-requires : goal.free_ended-requires
 free_ended-requires c = record {

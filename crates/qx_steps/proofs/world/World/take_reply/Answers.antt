@@ -11,6 +11,15 @@ returns-in_default-clause-outcome c = rw (← c.self.view_is, take_reply-step c.
 pub returns-in_default-clause-world : goal.returns-in_default-clause-world
 returns-in_default-clause-world c = rw (← c.self.view_is, take_reply-step c.self.inside.config c.self.inside.channel c.self.inside.resources c.self.inside.hands.items c.self.invariant c.args.thread, c.take_reply.ensures.taken)
 
+pub invariant_of-self-in-Failed : goal.invariant_of-self-in-Failed
+invariant_of-self-in-Failed c = rw c.take_reply.ensures.taken (take_reply-sound c.self.inside.config c.self.inside.channel c.self.inside.resources c.self.inside.hands.items c.self.invariant c.args.thread)
+
+pub returns-in-Failed-clause-outcome : goal.returns-in-Failed-clause-outcome
+returns-in-Failed-clause-outcome c = rw (← c.self.view_is, take_reply-step c.self.inside.config c.self.inside.channel c.self.inside.resources c.self.inside.hands.items c.self.invariant c.args.thread) (search rules)
+
+pub returns-in-Failed-clause-world : goal.returns-in-Failed-clause-world
+returns-in-Failed-clause-world c = rw (← c.self.view_is, take_reply-step c.self.inside.config c.self.inside.channel c.self.inside.resources c.self.inside.hands.items c.self.invariant c.args.thread, c.take_reply.ensures.taken)
+
 pub invariant_of-self-2 : goal.invariant_of-self-2
 invariant_of-self-2 c = rw c.take_reply.ensures.taken (take_reply-sound c.self.inside.config c.self.inside.channel c.self.inside.resources c.self.inside.hands.items c.self.invariant c.args.thread)
 
