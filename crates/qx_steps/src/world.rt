@@ -140,7 +140,7 @@ impl World {
         let Some(answer) = self.channel.take_reply(thread) else {
             return Outcome::WrongState;
         };
-        // an error leaves first, so that the bytes of a reply are moved once
+        // an error leaves first: what two ways give in one place is moved once more where they meet
         if let Answer::Failed(error) = &answer {
             return Outcome::Failed(*error);
         }
