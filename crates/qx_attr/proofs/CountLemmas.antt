@@ -205,6 +205,14 @@ has_inode attrs blocks n block are is none =
     let no : 0 ≡ count_by (is_open (λ flags. true) block.inode) blocks = ap (count_in (λ attr. attr.blocks)) (sym none) ∙ are.blocks_are block.inode in
     absurd (omega (arith, freed, own, no))
 
+-- so that is there
+pub inode_there : (attrs : List (Option Attr)) (blocks : List (Option Ocb)) (n : ℕ) (block : Ocb) → AreCounted attrs blocks → row_at blocks n ≡ Some block → IsSome (row_at attrs block.inode)
+inode_there attrs blocks n block are is = by_row (row_at attrs block.inode) refl
+  where
+    by_row : (row : Option Attr) → row_at attrs block.inode ≡ row → IsSome row
+    by_row None none = absurd (has_inode attrs blocks n block are is none)
+    by_row (Some attr) there = refl
+
 pub few_rows : {A : Type 0} (rows : List (Option A)) (n most : ℕ) (row : A) → n ≤ most → length rows ≤ most + 1 → length (put_row rows n row) ≤ most + 1
 few_rows rows n most row small few = by_size (ltb n (length rows)) refl
   where

@@ -1,10 +1,12 @@
 -- Tables of rows that are seen through a function of their places.
 use Rattle.std.proofs.Common.{◌≤◌, ◌<◌, ◌≡◌, ◌≢◌, ◌⊎◌, ℕ, zero, suc, ◌+◌, Bool, true, false, List, [], ◌∷◌, ◌++◌, length, refl, sym, ap, ◌∙◌, inl, inr, arith, subst, Option, Some, None, IsSome, map, nat_lt, slice_set, length-append}
 use Rattle.std.proofs.Math.ListN.{length-set}
-use Rattle.std.proofs.lemmas.Bool.{ltb-false, ltb-true}
-use Rattle.std.specs.Prelude.{if◌then◌else◌}
+use Rattle.std.proofs.lemmas.Bool.{leb-true, ltb-false, ltb-true}
+use Rattle.std.specs.Prelude.{Ok, Err, nat_le, if◌then◌else◌}
 use Rattle.qx_machine.proofs.Places.{row_at-set_other}
+use Rattle.qx_machine.specs.Inodes.{number_within}
 use Rattle.qx_machine.specs.Rows.{row_at, lowest_from, put_row, taken_places}
+use Rattle.qx_types.specs.declared.errno.Errno.{Errno}
 
 pub same_map : {A B : Type 0} (f g : Option A → Option B) (keys : List (Option A)) → ((m : ℕ) → g (row_at keys m) ≡ f (row_at keys m)) → map g keys ≡ map f keys
 same_map f g [] same = refl
@@ -29,6 +31,16 @@ no_value None e some = cc
 no_value (Some value) e some = cc
 
 -- ---- the lowest free number
+
+-- a number that is given is within its limit
+pub number_given : (limit number : ℕ) (error : Errno) (given : ℕ) → number_within limit number error ≡ Ok given → (given ≡ number) × (given ≤ limit)
+number_given limit number error given is = by_test (nat_le number limit) refl is
+  where
+    by_test : (few : Bool) → nat_le number limit ≡ few → (if few then Ok number else Err error) ≡ Ok given → (given ≡ number) × (given ≤ limit)
+    by_test true few e =
+        let same : given ≡ number = cc in
+        (same, subst (λ n. n ≤ limit) (sym same) (leb-true _ _ few))
+    by_test false few e = absurd (cc)
 
 taken-some : {A B : Type 0} (value : Option B) (rows : List (Option B)) (keys : List (Option A)) → IsSome value → taken_places rows ≡ taken_places keys → taken_places (value ∷ rows) ≡ taken_places keys + 1
 taken-some {B = B} None rows keys some e = absurd (no_value {A = B} None refl some)

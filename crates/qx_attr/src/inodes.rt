@@ -1,4 +1,4 @@
-ghost use Rattle.std.specs.Prelude.{◌≡◌, ℕ, ◌+◌, ◌-◌, ◌<◌, ◌≤◌, ◌==◌, ◌++◌, ◌^◌, [], ◌∷◌, Bool, None, Some, IfOk, IfSome, OnOk, OnErr, OnSome, IsOk, IsSome, drop, filter, length, max, not, option_map, slice_get, slice_set, take, if◌then◌else◌};
+ghost use Rattle.std.specs.Prelude.{◌≡◌, ℕ, ◌+◌, ◌-◌, ◌<◌, ◌≤◌, ◌==◌, ◌++◌, ◌^◌, [], ◌∷◌, Bool, None, Ok, Some, IfOk, IfSome, OnOk, OnErr, OnSome, IsOk, IsSome, drop, filter, length, max, not, option_map, slice_get, slice_set, take, if◌then◌else◌};
 ghost use Rattle.std.specs.Option.{option_copied};
 ghost use Rattle.std.specs.Result.{result_map_both};
 ghost use Rattle.qx_attr.specs.Counts.{with_number};
@@ -190,7 +190,7 @@ impl Inodes {
         match self.inode_number() {
             Ok(number) => {
                 self.reserve(1)?;
-                self.put_inode(number, attribute);
+                self.add_inode(number, attribute);
                 Ok(Ok(number))
             }
             Err(errno) => Ok(Err(errno)),
@@ -216,18 +216,40 @@ impl Inodes {
         match self.block_number() {
             Ok(number) => {
                 self.reserve(1)?;
-                let block = Ocb {
-                    inode,
-                    flags,
-                    offset: 0,
-                    uses: 1,
-                    client,
-                };
-                self.put_block(number, block);
+                self.add_block(number, inode, flags, client);
                 Ok(Ok(number))
             }
             Err(errno) => Ok(Err(errno)),
         }
+    }
+
+    /// Makes an inode as `new_inode` does, under the number that `inode_number` gave; there is room for it.
+    pub fn add_inode(&mut self, number: u32, attribute: Attribute)
+        requires room { 0 < self.old.room }
+        requires number { machine.inode_number self.old.inodes ≡ Ok number }
+        ensures made { with_number self.new.inodes (Ok number) ≡ machine.new_inode self.old.inodes attribute }
+        ensures room { self.new.room ≡ self.old.room - 1 }
+    {
+        places::put_reserved(&mut self.attrs, number as usize, Attr::new(attribute));
+        self.blocks.give_up_room();
+    }
+
+    /// Opens an inode for a client as `open_block` does, under the number that `block_number` gave; there is room for it.
+    pub fn add_block(&mut self, number: u16, inode: u32, flags: OFlags, client: Client)
+        requires there { IsSome (row_at self.old.inodes.attributes inode) }
+        requires room { 0 < self.old.room }
+        requires number { machine.block_number self.old.inodes ≡ Ok number }
+        ensures opened { with_number self.new.inodes (Ok number) ≡ machine.open_block self.old.inodes inode flags client }
+        ensures room { self.new.room ≡ self.old.room - 1 }
+    {
+        let block = Ocb {
+            inode,
+            flags,
+            offset: 0,
+            uses: 1,
+            client,
+        };
+        self.put_block(number, block);
     }
 
     /// Gives an inode another attribute.
@@ -297,9 +319,7 @@ impl Inodes {
         let Some(block) = self.blocks.remove(number) else {
             return;
         };
-        let Some(attr) = places::row(self.attrs.as_slice(), block.inode as usize).copied() else {
-            unreachable!()
-        };
+        let attr = *places::there(self.attrs.as_slice(), block.inode as usize);
         self.attrs[block.inode as usize] = Some(attr.uncounted(block.flags));
     }
 
@@ -340,17 +360,6 @@ impl Inodes {
         Some(stat_bytes(inode, &attr.attribute))
     }
 
-    /// Puts an inode under a free number, for which there is room.
-    fn put_inode(&mut self, number: u32, attribute: Attribute)
-        requires room { 0 < self.old.room }
-        requires few { number ≤ INODES }
-        requires free { row_at self.old.inodes.attributes number ≡ None }
-        ensures { self.new ≡ record { inodes = record self.old.inodes { attributes = put_row self.old.inodes.attributes number attribute }; room = self.old.room - 1 } }
-    {
-        places::put_reserved(&mut self.attrs, number as usize, Attr::new(attribute));
-        self.blocks.give_up_room();
-    }
-
     /// Puts an open control block under the lowest free number, for which there is room, and counts it.
     fn put_block(&mut self, number: u16, block: Ocb)
         requires room { 0 < self.old.room }
@@ -359,10 +368,8 @@ impl Inodes {
         requires there { IsSome (row_at self.old.inodes.attributes block.inode) }
         ensures { self.new ≡ record { inodes = record self.old.inodes { blocks = put_row self.old.inodes.blocks number block; made = self.old.inodes.made ++ number ∷ [] }; room = self.old.room - 1 } }
     {
-        let Some(attr) = places::row(self.attrs.as_slice(), block.inode as usize).copied() else {
-            unreachable!()
-        };
         self.blocks.put(number, block);
+        let attr = *places::there(self.attrs.as_slice(), block.inode as usize);
         self.attrs[block.inode as usize] = Some(attr.counted(block.flags));
     }
 }

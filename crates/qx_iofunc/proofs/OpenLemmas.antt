@@ -5,8 +5,8 @@ use Rattle.std.specs.Prelude.{nat_le, is_some, if◌then◌else◌}
 use Rattle.qx_attr.specs.Counts.{with_number}
 use Rattle.qx_iofunc.proofs.FitLemmas.{block_fits}
 use Rattle.qx_iofunc.specs.Fits.{Fits}
-use Rattle.qx_iofunc.specs.inner.Makes.{may_open, may_make_directory}
-use Rattle.qx_iofunc.specs.Makes.{may_make}
+use Rattle.qx_iofunc.specs.inner.Makes.{may_make_directory}
+use Rattle.qx_iofunc.specs.Makes.{may_make, may_open}
 use Rattle.qx_iofunc.specs.Store.{Stored, with_stored}
 use Rattle.qx_iofunc.specs.inner.Store.{with_made}
 use Rattle.qx_iofunc.proofs.StoreLemmas.{emptied_in, emptied_is}
@@ -22,7 +22,6 @@ use Rattle.qx_machine.specs.declared.rows.Wish.{Wish}
 use Rattle.qx_machine.specs.Defaults.{allows, open_existing, opened, open_missing, writable}
 use Rattle.qx_machine.specs.Files.{Files}
 use Rattle.qx_machine.specs.Functions.{Deed, reply_alone}
-use Rattle.qx_machine.specs.Events.{no_events}
 use Rattle.qx_machine.specs.Inodes.{Inodes, Numbered, block_number, has, new_block, open_block, writes, inode_number, may}
 use Rattle.qx_machine.specs.Judgements.{◌>>=◌, found, need}
 use Rattle.qx_machine.specs.Names.{Names, is_directory, Spot, Key, is_empty, root_key, search, spot, start, under, walk}
@@ -33,7 +32,6 @@ use Rattle.qx_types.specs.declared.errno.Errno.{Errno}
 use Rattle.qx_types.specs.declared.errno.Errno.TheVariants.{EACCES, EEXIST, EISDIR, ENFILE, ENOENT}
 use Rattle.qx_types.specs.declared.flags.OFlags.{OFlags}
 use Rattle.qx_types.specs.declared.flags.TheConstants.OFlags.{CREAT, EXCL, TRUNC}
-use Rattle.qx_types.specs.declared.names.Manager.TheVariants as manager
 use Rattle.qx_types.specs.declared.limits.TheConstants.Limits.{BLOCKS}
 use Rattle.std.specs.FinMap.{insert, get}
 use Rattle.qx_iofunc.specs.declared.found.New.{New}
@@ -80,12 +78,6 @@ none_in (name ∷ names) e = let none : length (name ∷ names) ≡ 0 = eqb-true
 abbrev the : (A : Type 0) → A → A
 the A value = value
 
-abbrev pub done : Unit {0}
-done = tt
-
-no_value : (error : Errno) → IsOk (the (Result (Deed Resources) Errno) (Err error)) → ⊥
-no_value error is = absurd (cc)
-
 -- an open control block is made under a number
 abbrev with_block : Inodes → Ocb → ℕ → Inodes
 with_block inodes block number = record inodes { blocks = put_row inodes.blocks number block; made = inodes.made ++ number ∷ [] }
@@ -97,21 +89,21 @@ opened_by over flags inode after number =
 
 judged : (last : Result ℕ Errno → Result (Deed Resources) Errno) → ((error : Errno) → last (Err error) ≡ Err error) → (shared fits may : Bool) (number : Result ℕ Errno)
     → (need shared EEXIST >>= (λ _. need fits EISDIR >>= (λ _. need may EACCES >>= (λ _. last number))))
-    ≡ ((need shared EEXIST >>= (λ _. need fits EISDIR >>= (λ _. need may EACCES >>= (λ _. number >>= (λ _. Ok done))))) >>= (λ _. last number))
+    ≡ ((need shared EEXIST >>= (λ _. need fits EISDIR >>= (λ _. need may EACCES >>= (λ _. number)))) >>= (λ _. last number))
 judged last refused true true true (Err error) = refused error
 judged last refused shared fits may number = refl
 
 module _ (inodes : Inodes) (user inode : ℕ) (flags : OFlags) where
-  -- is there, and has a number
-  pub may_open_is : (nothing : Unit {0}) → may_open inodes user inode flags ≡ Ok nothing → IsSome (row_at inodes.attributes inode) × IsOk (block_number inodes)
-  may_open_is nothing is = by_row (row_at inodes.attributes inode) is
+  -- is there, and has that number
+  pub may_open_is : (block : ℕ) → may_open inodes user inode flags ≡ Ok block → IsSome (row_at inodes.attributes inode) × (block_number inodes ≡ Ok block)
+  may_open_is block is = by_row (row_at inodes.attributes inode) is
     where
-      by_parts : (shared fits may : Bool) (number : Result ℕ Errno) → (need shared EEXIST >>= (λ _. need fits EISDIR >>= (λ _. need may EACCES >>= (λ _. number >>= (λ _. Ok done))))) ≡ Ok nothing → IsOk number
-      by_parts true true true (Ok n) e = refl
+      by_parts : (shared fits may : Bool) (number : Result ℕ Errno) → (need shared EEXIST >>= (λ _. need fits EISDIR >>= (λ _. need may EACCES >>= (λ _. number)))) ≡ Ok block → number ≡ Ok block
+      by_parts true true true number e = e
       by_parts shared fits may number e = absurd (cc)
 
-      by_row : (row : Option Attribute) → (found row ENOENT >>= (λ a. need (not (has flags CREAT && has flags EXCL)) EEXIST >>= (λ _. need (not (is_directory a.kind && writes flags)) EISDIR >>= (λ _. need (allows a user flags) EACCES >>= (λ _. block_number inodes >>= (λ _. Ok done)))))) ≡ Ok nothing
-          → IsSome row × IsOk (block_number inodes)
+      by_row : (row : Option Attribute) → (found row ENOENT >>= (λ a. need (not (has flags CREAT && has flags EXCL)) EEXIST >>= (λ _. need (not (is_directory a.kind && writes flags)) EISDIR >>= (λ _. need (allows a user flags) EACCES >>= (λ _. block_number inodes))))) ≡ Ok block
+          → IsSome row × (block_number inodes ≡ Ok block)
       by_row None e = absurd (cc)
       by_row (Some a) e = (refl, by_parts (not (has flags CREAT && has flags EXCL)) (not (is_directory a.kind && writes flags)) (allows a user flags) (block_number inodes) e)
 
@@ -130,42 +122,23 @@ module _ (r : Resources) (over : NewOpen) (inode : ℕ) (wish : Wish) where
     where
       by_row : (row : Option Attribute) (empties : Bool)
           → (found row ENOENT >>= (λ a. need (not (has wish.flags CREAT && has wish.flags EXCL)) EEXIST >>= (λ _. need (not (is_directory a.kind && writes wish.flags)) EISDIR >>= (λ _. need (allows a r.user wish.flags) EACCES >>= (λ _. opened over wish.flags inode (if empties then with_bytes inode wish.moment [] r else r))))))
-          ≡ ((found row ENOENT >>= (λ a. need (not (has wish.flags CREAT && has wish.flags EXCL)) EEXIST >>= (λ _. need (not (is_directory a.kind && writes wish.flags)) EISDIR >>= (λ _. need (allows a r.user wish.flags) EACCES >>= (λ _. block_number r.inodes >>= (λ _. Ok done))))))
+          ≡ ((found row ENOENT >>= (λ a. need (not (has wish.flags CREAT && has wish.flags EXCL)) EEXIST >>= (λ _. need (not (is_directory a.kind && writes wish.flags)) EISDIR >>= (λ _. need (allows a r.user wish.flags) EACCES >>= (λ _. block_number r.inodes)))))
           >>= (λ _. opened over wish.flags inode (if empties then with_bytes inode wish.moment [] r else r)))
       by_row None empties = refl
       by_row (Some a) true = judged (opened_by over wish.flags inode (with_bytes inode wish.moment [] r)) (λ error. refl) (not (has wish.flags CREAT && has wish.flags EXCL)) (not (is_directory a.kind && writes wish.flags)) (allows a r.user wish.flags) (block_number r.inodes)
       by_row (Some a) false = judged (opened_by over wish.flags inode r) (λ error. refl) (not (has wish.flags CREAT && has wish.flags EXCL)) (not (is_directory a.kind && writes wish.flags)) (allows a r.user wish.flags) (block_number r.inodes)
 
-  pub existing_judged : (given : Result (Unit {0}) Errno) → may_open r.inodes r.user inode wish.flags ≡ given → open_existing r over inode wish ≡ (given >>= (λ _. opened over wish.flags inode (emptied wish.flags inode wish.moment r)))
+  pub existing_judged : (given : Result ℕ Errno) → may_open r.inodes r.user inode wish.flags ≡ given → open_existing r over inode wish ≡ (given >>= (λ _. opened over wish.flags inode (emptied wish.flags inode wish.moment r)))
   existing_judged given is = existing_is ∙ ap (λ judged. judged >>= (λ _. opened over wish.flags inode (emptied wish.flags inode wish.moment r))) is
 
-  pub existing_allowed : (nothing : Unit {0}) → may_open r.inodes r.user inode wish.flags ≡ Ok nothing → IsOk (open_existing r over inode wish)
-  existing_allowed nothing may =
-      let number = (may_open_is r.inodes r.user inode wish.flags nothing may).1 in
-      subst IsOk (sym (existing_judged (Ok nothing) may))
+  pub existing_allowed : (block : ℕ) → may_open r.inodes r.user inode wish.flags ≡ Ok block → IsOk (open_existing r over inode wish)
+  existing_allowed block may =
+      let number : IsOk (block_number r.inodes) = rw (may_open_is r.inodes r.user inode wish.flags block may).1 refl in
+      subst IsOk (sym (existing_judged (Ok block) may))
       (elim (has wish.flags TRUNC && writes wish.flags && is_some (row_at r.files inode)) as (λ empties. IsOk (opened over wish.flags inode (if empties then with_bytes inode wish.moment [] r else r))) [
         | true ↦ opened_ok over wish.flags inode (with_bytes inode wish.moment [] r) number
         | false ↦ opened_ok over wish.flags inode r number
       ])
-
-  -- whatever may be opened was judged so
-  allowed_may : IsOk (open_existing r over inode wish) → may_open r.inodes r.user inode wish.flags ≡ Ok done
-  allowed_may allowed = by_judged (may_open r.inodes r.user inode wish.flags) refl
-    where
-      by_judged : (judged : Result (Unit {0}) Errno) → may_open r.inodes r.user inode wish.flags ≡ judged → judged ≡ Ok done
-      by_judged (Ok nothing) is = refl
-      by_judged (Err error) is = absurd (no_value error (subst IsOk (existing_judged (Err error) is) allowed))
-
--- whatever managers have beside a store
-beside : Stored → Resources
-beside s = record { user = s.user; mounts = []; inodes = s.inodes; names = s.names; files = s.files; pipes = []; events = no_events }
-
--- an open of whatever client
-some_open : NewOpen
-some_open = record { coid = record { 0 = 0 }; client = record { process = 0; server = record { manager = manager.Ram; number = 0 } }; root = 0 }
-
-pub all_allowed : (s : Stored) (inode : ℕ) (wish : Wish) → ((r : Resources) (over : NewOpen) → IsOk (open_existing (with_stored r s) over inode wish)) → may_open s.inodes s.user inode wish.flags ≡ Ok done
-all_allowed s inode wish allowed = allowed_may (with_stored (beside s) s) some_open inode wish (allowed (beside s) some_open)
 
 -- ---- once it is open
 
@@ -198,11 +171,11 @@ not_made : (kind : Kind) (number inode : ℕ) (r : Resources) → given.with_pip
 not_made Pipe number inode r = refl
 not_made kind number inode r = refl
 
-pub existing_done : (s : Stored) (now : Inodes) (number inode : ℕ) (over : NewOpen) (wish : Wish) → may_open s.inodes s.user inode wish.flags ≡ Ok done → with_number now (Ok number) ≡ open_block (emptied_in wish.flags inode wish.moment s).inodes inode wish.flags over.client → (r : Resources) (own : Kind)
+pub existing_done : (s : Stored) (now : Inodes) (number inode : ℕ) (over : NewOpen) (wish : Wish) → may_open s.inodes s.user inode wish.flags ≡ Ok number → with_number now (Ok number) ≡ open_block (emptied_in wish.flags inode wish.moment s).inodes inode wish.flags over.client → (r : Resources) (own : Kind)
     → open_existing (with_stored r s) over inode wish
     ≡ Ok (given.open_given over.coid own (record { number = number; inode = inode; is_new = false }) (with_stored r (record (emptied_in wish.flags inode wish.moment s) { inodes = now })))
 existing_done s now number inode over wish may is r own =
-    existing_judged (with_stored r s) over inode wish (Ok done) may
+    existing_judged (with_stored r s) over inode wish (Ok number) may
     ∙ (ap (λ (after : Resources). opened over wish.flags inode after) (emptied_is wish.flags inode wish.moment s r)
     ∙ (opened_deed over (with_stored r (emptied_in wish.flags inode wish.moment s)) now number inode wish.flags is
     ∙ ap (λ (after : Resources). Ok (reply_alone over.coid.0 [] (Opens over.coid number) after))
@@ -236,30 +209,29 @@ makes_directory inodes user parent there new is = by_parts there (writable inode
         record { missing = refl; parent_is = writable_row inodes user parent attribute w ∙ ap (λ (n : New). Some n.parent) same; number_is = n ∙ ap (λ (n : New). Ok n.inode) same }
     by_parts there attribute number w n e = absurd (cc)
 
-pub record Makes (inodes : Inodes) (user parent : ℕ) (flags : OFlags) (new : New) : Type 0 where
+pub record Makes (inodes : Inodes) (user parent : ℕ) (flags : OFlags) (new : New) (block : ℕ) : Type 0 where
   pub creates : has flags CREAT ≡ true
   pub writable_is : writable inodes user parent ≡ Ok new.parent
   pub parent_is : row_at inodes.attributes parent ≡ Some new.parent
-  pub block : ℕ
   pub block_is : block_number inodes ≡ Ok block
   pub number_is : inode_number inodes ≡ Ok new.inode
 
-pub missing_makes : (inodes : Inodes) (user parent : ℕ) (new : New) (flags : OFlags) → may_make inodes user parent flags ≡ Ok new → Makes inodes user parent flags new
-missing_makes inodes user parent new flags is = by_parts (has flags CREAT) (writable inodes user parent) (block_number inodes) (inode_number inodes) refl refl refl refl is
+pub missing_makes : (inodes : Inodes) (user parent : ℕ) (new : New) (block : ℕ) (flags : OFlags) → may_make inodes user parent flags ≡ Ok (new, block) → Makes inodes user parent flags new block
+missing_makes inodes user parent new block flags is = by_parts (has flags CREAT) (writable inodes user parent) (block_number inodes) (inode_number inodes) refl refl refl refl is
   where
-    by_parts : (creates : Bool) (attribute : Result Attribute Errno) (block number : Result ℕ Errno) → has flags CREAT ≡ creates → writable inodes user parent ≡ attribute → block_number inodes ≡ block → inode_number inodes ≡ number
-        → (need creates ENOENT >>= (λ _. attribute >>= (λ attribute. block >>= (λ _. number >>= (λ number. Ok (the New (record { inode = number; parent = attribute }))))))) ≡ Ok new → Makes inodes user parent flags new
-    by_parts true (Ok attribute) (Ok block) (Ok number) c w b n e =
-        let same : record { inode = number; parent = attribute } ≡ new = cc in
+    by_parts : (creates : Bool) (attribute : Result Attribute Errno) (free number : Result ℕ Errno) → has flags CREAT ≡ creates → writable inodes user parent ≡ attribute → block_number inodes ≡ free → inode_number inodes ≡ number
+        → (need creates ENOENT >>= (λ _. attribute >>= (λ attribute. free >>= (λ free. number >>= (λ number. Ok (the (New × ℕ) (record { inode = number; parent = attribute }, free))))))) ≡ Ok (new, block) → Makes inodes user parent flags new block
+    by_parts true (Ok attribute) (Ok free) (Ok number) c w b n e =
+        let both : the (New × ℕ) (record { inode = number; parent = attribute }, free) ≡ (new, block) = cc in
+        let same : record { inode = number; parent = attribute } ≡ new = ap (λ (both : New × ℕ). both.0) both in
         record {
           creates = c;
           writable_is = w ∙ ap (λ (n : New). Ok n.parent) same;
           parent_is = writable_row inodes user parent attribute w ∙ ap (λ (n : New). Some n.parent) same;
-          block = block;
-          block_is = b;
+          block_is = b ∙ ap (λ (both : New × ℕ). Ok both.1) both;
           number_is = n ∙ ap (λ (n : New). Ok n.inode) same;
         }
-    by_parts creates attribute block number c w b n e = absurd (cc)
+    by_parts creates attribute free number c w b n e = absurd (cc)
 
 -- ---- it is made, and opened
 
@@ -278,20 +250,20 @@ module _ (r : Resources) (s : Stored) (over : NewOpen) (at : Spot) (own : Kind) 
   after_is Pipe new number now = refl
   after_is kind new number now = refl
 
-  missing_is : (new : New) → may_make s.inodes s.user at.parent wish.flags ≡ Ok new → open_missing own (with_stored r s) over at wish ≡ opened over wish.flags new.inode (after own new)
-  missing_is new may = let it = missing_makes s.inodes s.user at.parent new wish.flags may in rw (it.creates, it.writable_is, it.block_is, it.number_is) refl
+  missing_is : (new : New) (block : ℕ) → may_make s.inodes s.user at.parent wish.flags ≡ Ok (new, block) → open_missing own (with_stored r s) over at wish ≡ opened over wish.flags new.inode (after own new)
+  missing_is new block may = let it = missing_makes s.inodes s.user at.parent new block wish.flags may in rw (it.creates, it.writable_is, it.block_is, it.number_is) refl
 
-  pub missing_done : (new : New) (now : Inodes) (number : ℕ) → may_make s.inodes s.user at.parent wish.flags ≡ Ok new
+  pub missing_done : (new : New) (now : Inodes) (number : ℕ) → may_make s.inodes s.user at.parent wish.flags ≡ Ok (new, number)
       → with_number now (Ok number) ≡ open_block (with_made at new.inode new.parent own wish.mode wish.moment s).inodes new.inode wish.flags over.client
       → open_missing own (with_stored r s) over at wish
       ≡ Ok (given.open_given over.coid own (record { number = number; inode = new.inode; is_new = true }) (with_stored r (record (with_made at new.inode new.parent own wish.mode wish.moment s) { inodes = now })))
   missing_done new now number may is =
-      missing_is new may
+      missing_is new number may
       ∙ (opened_deed over (after own new) now number new.inode wish.flags (is ∙ ap (λ (from : Inodes). open_block from new.inode wish.flags over.client) (sym (after_inodes own new)))
       ∙ ap (λ (after : Resources). Ok (reply_alone over.coid.0 [] (Opens over.coid number) after)) (after_is own new number now))
 
-  pub missing_allowed : (new : New) → may_make s.inodes s.user at.parent wish.flags ≡ Ok new → IsOk (open_missing own (with_stored r s) over at wish)
-  missing_allowed new may =
-      let free = (missing_makes s.inodes s.user at.parent new wish.flags may).block_is in
+  pub missing_allowed : (new : New) (block : ℕ) → may_make s.inodes s.user at.parent wish.flags ≡ Ok (new, block) → IsOk (open_missing own (with_stored r s) over at wish)
+  missing_allowed new block may =
+      let free = (missing_makes s.inodes s.user at.parent new block wish.flags may).block_is in
       let number : IsOk (block_number s.inodes) = rw free refl in
-      subst IsOk (sym (missing_is new may)) (opened_ok over wish.flags new.inode (after own new) (subst (λ (inodes : Inodes). IsOk (block_number inodes)) (sym (after_inodes own new)) number))
+      subst IsOk (sym (missing_is new block may)) (opened_ok over wish.flags new.inode (after own new) (subst (λ (inodes : Inodes). IsOk (block_number inodes)) (sym (after_inodes own new)) number))

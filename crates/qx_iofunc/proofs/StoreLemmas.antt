@@ -1,10 +1,10 @@
 -- What each change leaves of how names, inodes and the bytes of files stand together.
-use Rattle.std.proofs.Common.{◌≡◌, ◌≢◌, inl, inr, ℕ, suc, ◌+◌, ◌<◌, ◌≤◌, ◌&&◌, Bool, true, false, List, [], length, refl, sym, ap, ◌∙◌, subst, arith, Option, Some, None, Result, Ok, Err, IfOk, IsOk, IsSome, option_map, replicate, slice_set}
+use Rattle.std.proofs.Common.{◌≡◌, ◌≢◌, inl, inr, ℕ, suc, ◌+◌, ◌<◌, ◌≤◌, ◌&&◌, Bool, true, false, List, [], length, refl, sym, ap, ◌∙◌, subst, arith, Option, Some, None, Result, Ok, Err, IfOk, IsSome, option_map, replicate, slice_set}
 use Rattle.std.specs.FinMap.{empty, get, insert, remove}
-use Rattle.std.specs.Prelude.{◌-◌, OnErr, nat_le, nat_lt, is_some, if◌then◌else◌}
+use Rattle.std.specs.Prelude.{◌-◌, OnErr, nat_lt, is_some, if◌then◌else◌}
 use Rattle.std.specs.Result.{result_map_both}
 use Rattle.std.proofs.Math.ListN.{length-set}
-use Rattle.std.proofs.lemmas.Bool.{leb-true}
+use Rattle.qx_attr.proofs.TableLemmas.{number_given}
 use Rattle.std.proofs.lemmas.List.{length-replicate}
 use Rattle.qx_attr.proofs.CountLemmas.{row-set_same, within_table}
 use Rattle.qx_attr.proofs.TableLemmas.{row-put}
@@ -77,13 +77,7 @@ kept_fits inodes names files inode was now is links size fits =
 -- ---- the number of the next inode
 
 number_is : (inodes : Inodes) (number : ℕ) → inode_number inodes ≡ Ok number → (number ≡ lowest_from 1 inodes.attributes) × (number ≤ INODES)
-number_is inodes number is = by_test (nat_le (lowest_from 1 inodes.attributes) INODES) refl is
-  where
-    by_test : (few : Bool) → nat_le (lowest_from 1 inodes.attributes) INODES ≡ few → (if few then Ok (lowest_from 1 inodes.attributes) else Err ENOSPC) ≡ Ok number → (number ≡ lowest_from 1 inodes.attributes) × (number ≤ INODES)
-    by_test true few e =
-        let same : number ≡ lowest_from 1 inodes.attributes = cc in
-        (same, subst (λ n. n ≤ INODES) (sym same) (leb-true _ _ few))
-    by_test false few e = absurd (cc)
+number_is inodes number is = number_given INODES (lowest_from 1 inodes.attributes) ENOSPC number is
 
 pub number_free : (inodes : Inodes) (number : ℕ) → inode_number inodes ≡ Ok number → row_at inodes.attributes number ≡ None
 number_free inodes number is = ap (row_at inodes.attributes) (number_is inodes number is).0 ∙ lowest_from_free 1 inodes.attributes
@@ -98,9 +92,9 @@ number_within : (inodes : Inodes) (number : ℕ) → 0 < length inodes.attribute
 number_within inodes number some is = subst (λ n. n ≤ length inodes.attributes) (sym (number_is inodes number is).0) (lowest_within inodes.attributes some)
 
 -- the inode that is made, where room was made before
-pub made_from : (inodes reserved now : Inodes) (attribute : Attribute) (number : ℕ) → reserved ≡ inodes → inode_number inodes ≡ Ok number → with_number now (inode_number reserved) ≡ new_inode reserved attribute
+pub made_from : (inodes reserved now : Inodes) (attribute : Attribute) (number : ℕ) → reserved ≡ inodes → inode_number inodes ≡ Ok number → with_number now (Ok number) ≡ new_inode reserved attribute
     → now ≡ record inodes { attributes = put_row inodes.attributes number attribute }
-made_from inodes reserved now attribute number same is made = ap inodes_of (rw is at (subst (λ (from : Inodes). with_number now (inode_number from) ≡ new_inode from attribute) same made))
+made_from inodes reserved now attribute number same is made = ap inodes_of (rw is at (subst (λ (from : Inodes). with_number now (Ok number) ≡ new_inode from attribute) same made))
   where
     inodes_of : Result Numbered Errno → Inodes
     inodes_of (Ok one) = one.inodes
@@ -256,8 +250,8 @@ module _ (flags : OFlags) (inode moment : ℕ) (s : Stored) where
       by_row None some = absurd (cc)
       by_row (Some attribute) some = refl
 
-  pub emptied_number : IsOk (block_number s.inodes) → IsOk (block_number (emptied_in flags inode moment s).inodes)
-  emptied_number free = by_emptied (λ now. IsOk (block_number now.inodes)) free free
+  pub emptied_number : (block : ℕ) → block_number s.inodes ≡ Ok block → block_number (emptied_in flags inode moment s).inodes ≡ Ok block
+  emptied_number block free = by_emptied (λ now. block_number now.inodes ≡ Ok block) free free
 
 -- ---- an open control block changes, and keeps its inode
 

@@ -1,18 +1,16 @@
 //! What may be opened and made, and how attributes change with the entries of a directory.
 
-ghost use Rattle.std.specs.Prelude.{◌≡◌, ◌<◌, ◌-◌, Ok, IsOk, IsSome};
-ghost use Rattle.qx_attr.specs.Counts.{with_number};
-ghost use Rattle.qx_iofunc.specs.Makes.{may_make};
-ghost use Rattle.qx_iofunc.specs.inner.Makes.{may_make_directory, may_open};
+ghost use Rattle.std.specs.Prelude.{◌≡◌};
+ghost use Rattle.qx_iofunc.specs.Makes.{may_make, may_open};
+ghost use Rattle.qx_iofunc.specs.inner.Makes.{may_make_directory};
 ghost use Rattle.qx_machine.specs.Inodes as of_inodes;
 ghost use Rattle.qx_machine.specs.Attributes as attributes;
 ghost use Rattle.qx_machine.specs.Defaults as machine;
-ghost use Rattle.qx_machine.specs.Rows.{row_at};
 
 use crate::found::New;
 use bitflags::Flags;
 use qx_attr::{Inodes, check_access};
-use qx_machine::{Access, Attribute, Client, Kind};
+use qx_machine::{Access, Attribute, Kind};
 use qx_names::Spot;
 use qx_types::{Errno, OFlags, User};
 
@@ -23,8 +21,8 @@ pub fn is_own(own: Kind, kind: Kind) -> bool
     kind == Kind::Directory || kind == own
 }
 
-/// Whether what is there may be opened so.
-pub fn may_open(inodes: &Inodes, user: User, inode: u32, flags: OFlags) -> Result<(), Errno>
+/// The number of an open control block of what is there, where that may be opened so.
+pub fn may_open(inodes: &Inodes, user: User, inode: u32, flags: OFlags) -> Result<u16, Errno>
     ensures may { result ≡ may_open inodes.now.inodes user.0 inode flags }
 {
     let Some(attr) = inodes.attr(inode) else {
@@ -43,23 +41,28 @@ pub fn may_open(inodes: &Inodes, user: User, inode: u32, flags: OFlags) -> Resul
     if flags.contains(OFlags::WRITE) {
         check_access(&attribute, user, Access::Write)?;
     }
-    inodes.block_number()?;
-    Ok(())
+    inodes.block_number()
 }
 
-/// What is to be made, where that may be made and opened so in a directory.
-pub fn may_make(inodes: &Inodes, user: User, directory: u32, flags: OFlags) -> Result<New, Errno>
+/// What is to be made, where that may be made and opened so in a directory, and the number of its open control block.
+pub fn may_make(
+    inodes: &Inodes,
+    user: User,
+    directory: u32,
+    flags: OFlags,
+) -> Result<(New, u16), Errno>
     ensures may { result ≡ may_make inodes.now.inodes user.0 directory flags }
 {
     if !flags.contains(OFlags::CREAT) {
         return Err(Errno::ENOENT);
     }
     let parent = writable(inodes, user, directory)?;
-    inodes.block_number()?;
-    Ok(New {
+    let block = inodes.block_number()?;
+    let new = New {
         inode: inodes.inode_number()?,
         parent,
-    })
+    };
+    Ok((new, block))
 }
 
 /// What a directory will be, where one may be made.
@@ -136,32 +139,5 @@ pub fn root_attribute(user: User) -> Attribute
         size: 0,
         mtime: 0,
         ctime: 0,
-    }
-}
-
-/// Makes an inode, for which there is a number and room.
-pub fn made(inodes: &mut Inodes, attribute: Attribute)
-    requires room { 0 < inodes.old.room }
-    requires number { IsOk (of_inodes.inode_number inodes.old.inodes) }
-    ensures made { with_number inodes.new.inodes (of_inodes.inode_number inodes.old.inodes) ≡ of_inodes.new_inode inodes.old.inodes attribute }
-    ensures room { inodes.new.room ≡ inodes.old.room - 1 }
-{
-    match inodes.new_inode(attribute) {
-        Ok(Ok(_)) => {}
-        _ => unreachable!(),
-    }
-}
-
-/// Opens an inode for a client, for which there is a number and room.
-pub fn opened(inodes: &mut Inodes, inode: u32, flags: OFlags, client: Client) -> u16
-    requires there { IsSome (row_at inodes.old.inodes.attributes inode) }
-    requires room { 0 < inodes.old.room }
-    requires number { IsOk (of_inodes.block_number inodes.old.inodes) }
-    ensures opened { with_number inodes.new.inodes (Ok result) ≡ of_inodes.open_block inodes.old.inodes inode flags client }
-    ensures room { inodes.new.room ≡ inodes.old.room - 1 }
-{
-    match inodes.open_block(inode, flags, client) {
-        Ok(Ok(number)) => number,
-        _ => unreachable!(),
     }
 }

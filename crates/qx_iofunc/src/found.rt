@@ -1,11 +1,12 @@
 use qx_machine::Attribute;
 use qx_names::Spot;
 
-/// What an open of a path opens: an inode that is there, or one that is to be made at a spot.
+/// What an open of a path opens, an inode that is there or one that is to be made at a spot, and the number of the open control
+/// block that it will have.
 #[derive(Clone, Copy)]
 pub enum Lookup<'a> {
-    Found(u32),
-    Missing { at: Spot<'a>, new: New },
+    Found { inode: u32, block: u16 },
+    Missing { at: Spot<'a>, new: New, block: u16 },
 }
 
 /// What is to be made: the number of its inode, and the attribute of its directory.

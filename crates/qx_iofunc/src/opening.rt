@@ -1,10 +1,10 @@
 //! An open of a path, in two phases: a manager makes between them what it needs, while everything is as it was.
 
-ghost use Rattle.std.specs.Prelude.{◌≡◌, ◌-◌, ◌≤◌, ℕ, None, Ok, IfOk, IsOk, OnOk, OnErr, max};
+ghost use Rattle.std.specs.Prelude.{◌≡◌, ◌-◌, ◌≤◌, ℕ, None, Ok, IfOk, OnOk, OnErr, max};
 ghost use Rattle.std.specs.FinMap.{get};
 ghost use Rattle.qx_iofunc.specs.Given as given;
 ghost use Rattle.qx_iofunc.specs.Lookups.{IsAllowed, open_looked_up, needed, open_found};
-ghost use Rattle.qx_iofunc.specs.Makes.{may_make};
+ghost use Rattle.qx_iofunc.specs.Makes.{may_make, may_open};
 ghost use Rattle.qx_iofunc.specs.Store.{with_stored};
 ghost use Rattle.qx_machine.specs.Defaults as machine;
 ghost use Rattle.qx_machine.specs.Names.{under};
@@ -16,7 +16,7 @@ ghost use Rattle.qx_names.specs.Paths.{HasPath, path_of};
 ghost use Rattle.qx_names.specs.Spots.{spot_of};
 ghost use Rattle.qx_types.specs.declared.names.Coid.{Coid as AnyCoid};
 
-use crate::entries::{may_make, may_open, opened};
+use crate::entries::{may_make, may_open};
 use crate::found::{Lookup, New, Opening};
 use crate::store::Store;
 use bitflags::Flags;
@@ -47,8 +47,13 @@ impl Store {
         match at.inode {
             Some(inode) => self.found(inode, flags),
             None => {
-                let new = may_make(&self.tables.inodes, self.tables.user, at.parent, flags)?;
-                Ok(Lookup::Missing { at, new })
+                let (new, block) = may_make(
+                    &self.tables.inodes,
+                    self.tables.user,
+                    at.parent,
+                    flags,
+                )?;
+                Ok(Lookup::Missing { at, new, block })
             }
         }
     }
@@ -58,8 +63,8 @@ impl Store {
         ensures opens { (r : Resources) (over : AnyOpen) (own : AnyKind) (mode moment : ℕ) → machine.open_existing (with_stored r self.now.stored) over inode (record { flags = flags; mode = mode; moment = moment }) ≡ open_looked_up own (with_stored r self.now.stored) over result (record { flags = flags; mode = mode; moment = moment }) }
         ensures allowed { IfOk result (IsAllowed self.now.stored flags) }
     {
-        may_open(&self.tables.inodes, self.tables.user, inode, flags)?;
-        Ok(Lookup::Found(inode))
+        let block = may_open(&self.tables.inodes, self.tables.user, inode, flags)?;
+        Ok(Lookup::Found { inode, block })
     }
 
     /// Opens for a client what a lookup found, or makes what is missing, of the manager's own kind, and opens it; an open for
@@ -80,8 +85,10 @@ impl Store {
         ensures spare { self.new.room ≤ max self.old.room (needed lookup.entry) }
     {
         match lookup {
-            Lookup::Found(inode) => self.open_existing(client, inode, wish),
-            Lookup::Missing { at, new } => self.open_missing(own, client, at, new, wish),
+            Lookup::Found { inode, block } => self.open_existing(client, inode, block, wish),
+            Lookup::Missing { at, new, block } => {
+                self.open_missing(own, client, at, new, block, wish)
+            }
         }
     }
 
@@ -90,9 +97,10 @@ impl Store {
         &mut self,
         client: Client,
         inode: u32,
+        block: u16,
         wish: Wish,
     ) -> Result<Opening, AllocError>
-        requires allowed { (r : Resources) (over : AnyOpen) → IsOk (machine.open_existing (with_stored r self.old.stored) over inode wish) }
+        requires judged { may_open self.old.stored.inodes self.old.stored.user inode wish.flags ≡ Ok block }
         ensures user { self.new.stored.user ≡ self.old.stored.user }
         ensures opened { IfOk result (λ o. (r : Resources) (coid : AnyCoid) (root : ℕ) (own : AnyKind) → machine.open_existing (with_stored r self.old.stored) (record { coid = coid; client = client; root = root }) inode wish ≡ Ok (given.open_given coid own o (with_stored r self.new.stored))) }
         ensures err { OnErr result (self.new.stored ≡ self.old.stored) }
@@ -103,8 +111,11 @@ impl Store {
         if wish.flags.contains(OFlags::TRUNC) && wish.flags.contains(OFlags::WRITE) {
             self.tables.truncate(inode, wish.moment);
         }
+        self.tables
+            .inodes
+            .add_block(block, inode, wish.flags, client);
         Ok(Opening {
-            number: opened(&mut self.tables.inodes, inode, wish.flags, client),
+            number: block,
             inode,
             is_new: false,
         })
@@ -117,11 +128,12 @@ impl Store {
         client: Client,
         at: Spot<'_>,
         new: New,
+        block: u16,
         wish: Wish,
     ) -> Result<Opening, AllocError>
         requires parent { HasPath self.old.stored.names at.parent }
         requires missing { get self.old.stored.names (under (path_of self.old.stored.names at.parent) at.name.now) ≡ None }
-        requires judged { may_make self.old.stored.inodes self.old.stored.user at.parent wish.flags ≡ Ok new }
+        requires judged { may_make self.old.stored.inodes self.old.stored.user at.parent wish.flags ≡ Ok (new, block) }
         ensures user { self.new.stored.user ≡ self.old.stored.user }
         ensures opened { IfOk result (λ o. (r : Resources) (coid : AnyCoid) (root : ℕ) → machine.open_missing own (with_stored r self.old.stored) (record { coid = coid; client = client; root = root }) (spot_of self.old.stored.names at.entry) wish ≡ Ok (given.open_given coid own o (with_stored r self.new.stored))) }
         ensures err { OnErr result (self.new.stored ≡ self.old.stored) }
@@ -130,8 +142,11 @@ impl Store {
     {
         self.tables.inodes.reserve(2)?;
         self.tables.make(at, new, own, wish.mode, wish.moment)?;
+        self.tables
+            .inodes
+            .add_block(block, new.inode, wish.flags, client);
         Ok(Opening {
-            number: opened(&mut self.tables.inodes, new.inode, wish.flags, client),
+            number: block,
             inode: new.inode,
             is_new: true,
         })

@@ -10,7 +10,7 @@ ghost use Rattle.qx_machine.specs.Resources.{Resources};
 ghost use Rattle.qx_machine.specs.Rows.{row_at, with_row};
 ghost use Rattle.qx_types.specs.declared.limits.TheConstants.Limits.{FILE, FILES};
 
-use crate::entries::{made, root_attribute};
+use crate::entries::root_attribute;
 use crate::tables::Tables;
 use qx_attr::Inodes;
 use qx_files::Files;
@@ -53,7 +53,7 @@ impl Store {
     {
         let mut inodes = Inodes::new(alloc)?;
         inodes.reserve(1)?;
-        made(&mut inodes, root_attribute(user));
+        inodes.add_inode(TOP_INODE, root_attribute(user));
         let mut names = Names::new(alloc);
         names.add_root(TOP_INODE)?;
         let files = Files::new(alloc)?;
@@ -98,7 +98,9 @@ impl Store {
     {
         self.tables.inodes.reserve(1)?;
         self.tables.names.add_root(root)?;
-        made(&mut self.tables.inodes, root_attribute(self.tables.user));
+        self.tables
+            .inodes
+            .add_inode(root, root_attribute(self.tables.user));
         Ok(())
     }
 

@@ -8,7 +8,7 @@ ghost use Rattle.qx_machine.specs.Rows.{row_at};
 ghost use Rattle.qx_names.specs.Paths.{HasPath, HasNoPath, path_of};
 ghost use Rattle.qx_names.specs.Spots.{spot_of};
 
-use crate::entries::{changed, made, new_attribute};
+use crate::entries::{changed, new_attribute};
 use crate::found::New;
 use qx_attr::Inodes;
 use qx_files::Files;
@@ -66,10 +66,8 @@ impl Tables {
     {
         self.inodes.numbered();
         self.names.insert(at.parent, at.name, new.inode)?;
-        made(
-            &mut self.inodes,
-            new_attribute(kind, mode, self.user, moment),
-        );
+        self.inodes
+            .add_inode(new.inode, new_attribute(kind, mode, self.user, moment));
         self.inodes
             .set_attribute(at.parent, changed(moment, new.parent));
         if kind == Kind::File {

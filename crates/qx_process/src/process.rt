@@ -194,8 +194,7 @@ impl Process {
             block: None,
         };
         places::put_within(&mut self.connections, coid.0 as usize, connection);
-        let is_attached = servers::is_attached(manager, self.connections.as_slice(), &self.sides);
-        servers::settle(&mut self.servers, manager, is_attached);
+        servers::settle(&mut self.servers, manager, true);
     }
 
     /// A connection goes; gives the server connection that the process has lost with it, if it was the last that is attached to

@@ -15,7 +15,7 @@ use std::test::Fail;
 const TOP: u32 = 1;
 
 /// As the manager knows the caller.
-const CLIENT: Client = Client {
+pub const CLIENT: Client = Client {
     process: 1,
     server: ServerName {
         manager: Manager::Ram,

@@ -1,9 +1,14 @@
 //! What takes memory: each thing made as it should be, wherever memory is had.
 
+use crate::lower_tests::files::CLIENT;
+use qx_attr::Inodes;
 use qx_lists::Table;
+use qx_machine::{Attribute, Kind};
 use qx_paths::{Mount, Mounts, read_path};
 use qx_procs::Processes;
-use qx_types::{Answer, Bytes, Config, Manager, MessageBytes, NoMemory, Outcome, Prio, User};
+use qx_types::{
+    Answer, Bytes, Config, Manager, MessageBytes, NoMemory, OFlags, Outcome, Prio, User,
+};
 use qx_wire::{Message, Rest, encode, in_ranges};
 use std::alloc::{AllocError, Global};
 
@@ -19,11 +24,12 @@ pub enum Thing {
     Joined,
     Mounted,
     Spawned,
+    Numbered,
     Linked,
 }
 
 /// All of them.
-pub const THINGS: [Thing; 10] = [
+pub const THINGS: [Thing; 11] = [
     Thing::Text,
     Thing::Received,
     Thing::Names,
@@ -33,6 +39,7 @@ pub const THINGS: [Thing; 10] = [
     Thing::Joined,
     Thing::Mounted,
     Thing::Spawned,
+    Thing::Numbered,
     Thing::Linked,
 ];
 
@@ -48,6 +55,7 @@ pub fn is_made(alloc: Global, thing: Thing) -> Result<bool, NoMemory> {
         Thing::Joined => joined(alloc),
         Thing::Mounted => mounted(alloc),
         Thing::Spawned => spawned(alloc),
+        Thing::Numbered => numbered(alloc),
         Thing::Linked => linked(alloc),
     }
 }
@@ -150,6 +158,28 @@ fn mounted(alloc: Global) -> Result<bool, NoMemory> {
 
 fn spawned(alloc: Global) -> Result<bool, NoMemory> {
     Ok(Processes::new(alloc)?.spawn(2, Prio(10))? == Outcome::Spawned(1))
+}
+
+/// A file of user 1.
+const ATTRIBUTE: Attribute = Attribute {
+    kind: Kind::File,
+    mode: 0o600,
+    links: 1,
+    owner: 1,
+    size: 0,
+    mtime: 5,
+    ctime: 5,
+};
+
+/// An inode and an open control block, each under the first number.
+fn numbered(alloc: Global) -> Result<bool, NoMemory> {
+    let mut inodes = Inodes::new(alloc)?;
+    let inode = inodes.new_inode(ATTRIBUTE)?;
+    if inode != Ok(1) || inodes.attr(1).is_none() {
+        return Ok(false);
+    }
+    let block = inodes.open_block(1, OFlags::READ, CLIENT)?;
+    Ok(block == Ok(1) && inodes.block(1).is_some())
 }
 
 fn linked(alloc: Global) -> Result<bool, NoMemory> {

@@ -3,7 +3,7 @@ use Rattle.std.proofs.Math.ListN.{length-set}
 use Rattle.qx_machine.specs.Rows.{row_at}
 use Rattle.qx_attr.specs.inner.Counts.{uncounted}
 use Rattle.qx_attr.proofs.BlockLemmas.{nothing-freed}
-use Rattle.qx_attr.proofs.CountLemmas.{counted_close, has_inode, same_attributes}
+use Rattle.qx_attr.proofs.CountLemmas.{counted_close, inode_there, same_attributes, within_table}
 use Rattle.qx_attr.proofs.inodes.Inodes.close_block.Goals as goal
 
 -- no block is there, and none goes
@@ -15,23 +15,24 @@ invariant_of-self c =
 pub returns-in_default : goal.returns-in_default
 returns-in_default c = rw (c.remove.ensures.row, ← c.self.view_is) (record { closed = refl })
 
-pub unreachable-requires : goal.unreachable-requires
-unreachable-requires c =
+pub there-attr-requires : goal.there-attr-requires
+there-attr-requires c =
     let is : row_at c.self.inside.blocks.rows c.args.number ≡ Some c.in-Some.block = cc in
-    let none : row_at c.self.inside.attrs.items c.in-Some.block.inode ≡ None = cc in
-    has_inode c.self.inside.attrs.items c.self.inside.blocks.rows c.args.number c.in-Some.block c.self.invariant.counted is none
+    let there = inode_there c.self.inside.attrs.items c.self.inside.blocks.rows c.args.number c.in-Some.block c.self.invariant.counted is in
+    record { there = rw c.as_slice.ensures.value there }
 
 pub invariant_of-self-2 : goal.invariant_of-self-2
 invariant_of-self-2 c =
     let attrs = c.self.inside.attrs.items in
     let rows = c.self.inside.blocks.rows in
     let is : row_at rows c.args.number ≡ Some c.in-Some.block = cc in
-    let there : row_at attrs c.in-Some.block.inode ≡ Some c.in-Some-copied.attr = cc in
+    let attr = c.there-attr.result.now in
+    let there : row_at attrs c.in-Some.block.inode ≡ Some attr = cc in
     let long = length-set rows c.args.number None in
     let few = c.self.invariant.few in
-    let same = length-set attrs c.in-Some.block.inode (Some (uncounted c.in-Some.block.flags c.in-Some-copied.attr)) in
+    let same = length-set attrs c.in-Some.block.inode (Some (uncounted c.in-Some.block.flags attr)) in
     rw (c.remove.ensures.row, c.uncounted.ensures) (record {
-      counted = counted_close attrs rows c.args.number c.in-Some.block c.in-Some-copied.attr there c.self.invariant.counted is;
+      counted = counted_close attrs rows c.args.number c.in-Some.block attr there c.self.invariant.counted is;
       few = omega (arith, long, few);
       few_inodes = omega (arith, same);
       numbers = c.self.invariant.numbers;
@@ -41,9 +42,13 @@ invariant_of-self-2 c =
 pub returns : goal.returns
 returns c =
     let attrs = c.self.inside.attrs.items in
-    let there : row_at attrs c.in-Some.block.inode ≡ Some c.in-Some-copied.attr = cc in
-    let same = same_attributes attrs c.in-Some.block.inode c.in-Some-copied.attr (uncounted c.in-Some.block.flags c.in-Some-copied.attr) there refl in
+    let attr = c.there-attr.result.now in
+    let there : row_at attrs c.in-Some.block.inode ≡ Some attr = cc in
+    let same = same_attributes attrs c.in-Some.block.inode attr (uncounted c.in-Some.block.flags attr) there refl in
     let blocks = c.self.inside.blocks in
     rw (c.remove.ensures.row, c.uncounted.ensures, ← c.self.view_is) (record {
       closed = λ i. record { inodes = record { attributes = same i; blocks = slice_set blocks.rows c.args.number None; made = filter (λ other. not (other == c.args.number)) blocks.made }; room = blocks.room };
     })
+
+pub index_mut-requires : goal.index_mut-requires
+index_mut-requires c = rw c.as_slice.ensures.len at (within_table c.as_slice.result.now c.in-Some.block.inode c.there-attr.result.now c.there-attr.ensures.row)

@@ -12,12 +12,13 @@ pub invariant_of-self : goal.invariant_of-self
 invariant_of-self c =
     let attrs = c.self.inside.attrs.items in
     let rows = c.self.inside.blocks.rows in
-    let there : row_at attrs c.args.block.inode ≡ Some c.in-Some.attr = cc in
+    let attr = c.there-attr.result.now in
+    let there : row_at attrs c.args.block.inode ≡ Some attr = cc in
     let is : c.args.number ≡ lowest_from 1 rows = c.requires.lowest ∙ ap (λ (all : Reserved). lowest_from 1 all.inodes.blocks) (sym c.self.view_is) in
     let free : row_at rows c.args.number ≡ None = ap (row_at rows) is ∙ lowest_from_free 1 rows in
-    let long = length-set attrs c.args.block.inode (Some (counted c.args.block.flags c.in-Some.attr)) in
+    let long = length-set attrs c.args.block.inode (Some (counted c.args.block.flags attr)) in
     rw (c.put.ensures.row, c.counted.ensures) (record {
-      counted = counted_open attrs rows c.args.number c.args.block c.in-Some.attr there c.self.invariant.counted free;
+      counted = counted_open attrs rows c.args.number c.args.block attr there c.self.invariant.counted free;
       few = few_rows rows c.args.number BLOCKS c.args.block c.requires.few c.self.invariant.few;
       few_inodes = omega (arith, long);
       numbers = omega arith;
@@ -27,6 +28,7 @@ invariant_of-self c =
 pub returns : goal.returns
 returns c =
     let attrs = c.self.inside.attrs.items in
-    let there : row_at attrs c.args.block.inode ≡ Some c.in-Some.attr = cc in
-    let same = same_attributes attrs c.args.block.inode c.in-Some.attr (counted c.args.block.flags c.in-Some.attr) there refl in
+    let attr = c.there-attr.result.now in
+    let there : row_at attrs c.args.block.inode ≡ Some attr = cc in
+    let same = same_attributes attrs c.args.block.inode attr (counted c.args.block.flags attr) there refl in
     rw (c.put.ensures.row, c.counted.ensures, ← c.self.view_is) (λ i. record { inodes = record { attributes = same i; blocks = put_row c.self.inside.blocks.rows c.args.number c.args.block; made = c.self.inside.blocks.made ++ c.args.number ∷ [] }; room = c.self.inside.blocks.room - 1 })

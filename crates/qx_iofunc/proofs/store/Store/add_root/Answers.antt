@@ -20,5 +20,5 @@ invariant_of-self-2 c =
     let fits : StoreFits s = rw (← c.self-inside.view_is) at c.self.invariant in
     let next : inode_number s.inodes ≡ Ok c.args.root = rw (← c.self.view_is, ← c.self-inside.view_is) at c.requires.next in
     let reserved : c.reserve.new.self.inodes ≡ s.inodes = ap (λ (r : Reserved). r.inodes) c.in_ok-reserve.ensures.ok in
-    let made = made_from s.inodes c.reserve.new.self.inodes c.made.new.inodes.inodes c.root_attribute.result c.args.root reserved next c.made.ensures.made in
+    let made = made_from s.inodes c.reserve.new.self.inodes c.add_inode.new.self.inodes c.root_attribute.result c.args.root reserved next c.add_inode.ensures.made in
     rw (made, c.root_attribute.ensures, c.in_ok-add_root.ensures.ok) (root_fits c.args.root s next fits)

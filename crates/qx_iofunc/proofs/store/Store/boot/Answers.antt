@@ -11,5 +11,5 @@ add_root-requires c = record { new = rw c.new-names.ensures.none (none_named 1) 
 pub invariant_of-result : goal.invariant_of-result
 invariant_of-result c =
     let reserved : c.reserve.new.self.inodes ≡ no_inodes = ap (λ (r : Reserved). r.inodes) c.in_ok-reserve.ensures.ok ∙ ap (λ (r : Reserved). r.inodes) c.in_ok-inodes.ensures.none in
-    let made = made_from no_inodes c.reserve.new.self.inodes c.made.new.inodes.inodes c.root_attribute.result 1 reserved refl c.made.ensures.made in
+    let made = made_from no_inodes c.reserve.new.self.inodes c.add_inode.new.self.inodes c.root_attribute.result 1 reserved refl c.add_inode.ensures.made in
     rw (made, c.root_attribute.ensures, c.in_ok-add_root.ensures.ok, c.new-names.ensures.none, c.in_ok-files.ensures.none) (boot_fits c.args.user.0)

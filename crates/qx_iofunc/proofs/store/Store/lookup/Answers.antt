@@ -17,9 +17,10 @@ returns-in_ok-new-in-None-clause-allowed c =
     let at = c.in_ok-at.at in
     let new = c.in_ok-new-in-None.new in
     let free = at_spot inside.inodes.inodes inside.names inside.user.0 c.args.root c.args.rest.now ENOENT (spot_of inside.names at) c.in_ok-at.ensures.spot in
-    let judged = subst (λ (store : Store). Ok new ≡ may_make store.stored.inodes store.stored.user at.parent c.args.flags) view c.in_ok-new-in-None.ensures.may in
+    let block = c.in_ok-new-in-None.block in
+    let judged = subst (λ (store : Store). Ok (new, block) ≡ may_make store.stored.inodes store.stored.user at.parent c.args.flags) view c.in_ok-new-in-None.ensures.may in
     record {
-      free = subst (λ (store : Store). HasFreeName store.stored.names (Missing at new)) view (c.in_ok-at.ensures.parent, sym free ∙ c.in-None.is);
+      free = subst (λ (store : Store). HasFreeName store.stored.names (Missing at new block)) view (c.in_ok-at.ensures.parent, sym free ∙ c.in-None.is);
       judged = sym judged;
-      opens = λ r over own mode moment. missing_allowed r stored over (spot_of stored.names at) own (record { flags = c.args.flags; mode = mode; moment = moment }) new (sym judged);
+      opens = λ r over own mode moment. missing_allowed r stored over (spot_of stored.names at) own (record { flags = c.args.flags; mode = mode; moment = moment }) new block (sym judged);
     }

@@ -6,4 +6,4 @@ use Rattle.qx_iofunc.proofs.store.Store.open.Goals as goal
 pub open_existing-requires : goal.open_existing-requires
 open_existing-requires c =
     let allowed = subst (λ (lookup : Lookup). IsAllowed c.args.self.now.stored c.args.wish.flags lookup) c.in-Found.is c.requires.allowed in
-    record { allowed = λ r over. allowed.opens r over c.args.own c.args.wish.mode c.args.wish.moment }
+    record { judged = allowed.judged }

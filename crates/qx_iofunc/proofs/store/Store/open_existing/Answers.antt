@@ -1,9 +1,8 @@
 use Rattle.std.proofs.Common.{◌≡◌, ◌∙◌, Ok, false, ap, refl, subst, sym}
 use Rattle.std.specs.Option.{IsSome}
-use Rattle.std.specs.Result.{IsOk}
 use Rattle.qx_attr.specs.Counts.{Reserved, with_number}
 use Rattle.qx_iofunc.proofs.StoreLemmas.{StoreFits, emptied_fits, emptied_in, emptied_number, emptied_there}
-use Rattle.qx_iofunc.proofs.OpenLemmas.{all_allowed, done, existing_done, may_open_is, opened_fits}
+use Rattle.qx_iofunc.proofs.OpenLemmas.{existing_done, may_open_is, opened_fits}
 use Rattle.qx_iofunc.specs.declared.store.Store.TheInside.{Inside}
 use Rattle.qx_iofunc.specs.Store.{Store, Stored, with_stored}
 use Rattle.qx_iofunc.specs.inner.Store.{with_truncated}
@@ -35,26 +34,26 @@ emptied c =
     ]
 
 -- and it may still be opened
-opens : (c : Joined-contains) → IsSome (row_at c.if-contains.self-inside.tables.stored.inodes.attributes c.args.inode) × IsOk (block_number c.if-contains.self-inside.tables.stored.inodes)
+opens : (c : Joined-contains) → IsSome (row_at c.if-contains.self-inside.tables.stored.inodes.attributes c.args.inode) × (block_number c.if-contains.self-inside.tables.stored.inodes ≡ Ok c.args.block)
 opens c =
     let stored = c.args.self.now.stored in
     let wish = c.args.wish in
-    let may = may_open_is stored.inodes stored.user c.args.inode wish.flags done (all_allowed stored c.args.inode wish c.requires.allowed) in
-    subst (λ (s : Stored). IsSome (row_at s.inodes.attributes c.args.inode) × IsOk (block_number s.inodes)) (sym (emptied c))
-    (emptied_there wish.flags c.args.inode wish.moment stored may.0, emptied_number wish.flags c.args.inode wish.moment stored may.1)
+    let may = may_open_is stored.inodes stored.user c.args.inode wish.flags c.args.block c.requires.judged in
+    subst (λ (s : Stored). IsSome (row_at s.inodes.attributes c.args.inode) × (block_number s.inodes ≡ Ok c.args.block)) (sym (emptied c))
+    (emptied_there wish.flags c.args.inode wish.moment stored may.0, emptied_number wish.flags c.args.inode wish.moment stored c.args.block may.1)
 
-pub opened-requires-clause-there : goal.opened-requires-clause-there
-opened-requires-clause-there c = rw (← c.self-inside-2.view_is) at (opens (goal.at.opened-requires-clause-there c).Joined-contains).0
+pub add_block-requires-clause-there : goal.add_block-requires-clause-there
+add_block-requires-clause-there c = rw (← c.self-inside-2.view_is) at (opens (goal.at.add_block-requires-clause-there c).Joined-contains).0
 
-pub opened-requires-clause-number : goal.opened-requires-clause-number
-opened-requires-clause-number c = rw (← c.self-inside-2.view_is) at (opens (goal.at.opened-requires-clause-number c).Joined-contains).1
+pub add_block-requires-clause-number : goal.add_block-requires-clause-number
+add_block-requires-clause-number c = rw (← c.self-inside-2.view_is) at (opens (goal.at.add_block-requires-clause-number c).Joined-contains).1
 
 pub invariant_of-self-2 : goal.invariant_of-self-2
 invariant_of-self-2 c =
     let inside = c.self-inside-2.inside.0.0 in
     let before = subst (λ (store : Store). StoreFits store.stored) c.self.view_is c.self.invariant in
     let fits = subst StoreFits (sym (emptied (goal.at.invariant_of-self-2 c).Joined-contains)) (emptied_fits c.args.wish.flags c.args.inode c.args.wish.moment c.args.self.now.stored before) in
-    opened_fits inside.inodes.inodes c.opened.new.inodes.inodes c.args.inode c.opened.result c.args.wish.flags c.args.client c.opened.ensures.opened inside.names inside.files.files (rw (← c.self-inside-2.view_is) at fits)
+    opened_fits inside.inodes.inodes c.add_block.new.self.inodes c.args.inode c.args.block c.args.wish.flags c.args.client c.add_block.ensures.opened inside.names inside.files.files (rw (← c.self-inside-2.view_is) at fits)
 
 pub returns-clause-opened : goal.returns-clause-opened
 returns-clause-opened c = λ r coid root own.
@@ -62,10 +61,9 @@ returns-clause-opened c = λ r coid root own.
     let wish = c.args.wish in
     let inode = c.args.inode in
     let stored = c.args.self.now.stored in
-    let number = c.opened.result in
-    let now = c.opened.new.inodes.inodes in
+    let number = c.args.block in
+    let now = c.add_block.new.self.inodes in
     let after = ap (λ (inside : Inside). inside.tables.stored) c.self-inside-2.view_is ∙ emptied (goal.at.returns-clause-opened c).Joined-contains in
-    let opened = subst (λ (stored : Stored). with_number now (Ok number) ≡ open_block stored.inodes inode wish.flags c.args.client) after c.opened.ensures.opened in
-    let may = all_allowed stored inode wish c.requires.allowed in
+    let opened = subst (λ (stored : Stored). with_number now (Ok number) ≡ open_block stored.inodes inode wish.flags c.args.client) after c.add_block.ensures.opened in
     subst (λ (after : Stored). open_existing (with_stored r stored) over inode wish ≡ Ok (given.open_given coid own (record { number = number; inode = inode; is_new = false }) (with_stored r (record after { inodes = now })))) (sym after)
-    (existing_done stored now number inode over wish may opened r own)
+    (existing_done stored now number inode over wish c.requires.judged opened r own)

@@ -23,11 +23,11 @@ stored c = let t = c.self-inside.inside.0.0 in record { user = t.user.0; inodes 
 fits : (c : In_ok-reserve) → StoreFits (stored c)
 fits c = rw (← c.self-inside.view_is) at c.self.invariant
 
-judged : (c : In_ok-reserve) → may_make (stored c).inodes (stored c).user c.args.at.parent c.args.wish.flags ≡ Ok c.args.new
+judged : (c : In_ok-reserve) → may_make (stored c).inodes (stored c).user c.args.at.parent c.args.wish.flags ≡ Ok (c.args.new, c.args.block)
 judged c = rw (← c.self.view_is, ← c.self-inside.view_is) at c.requires.judged
 
-makes : (c : In_ok-reserve) → Makes (stored c).inodes (stored c).user c.args.at.parent c.args.wish.flags c.args.new
-makes c = missing_makes (stored c).inodes (stored c).user c.args.at.parent c.args.new c.args.wish.flags (judged c)
+makes : (c : In_ok-reserve) → Makes (stored c).inodes (stored c).user c.args.at.parent c.args.wish.flags c.args.new c.args.block
+makes c = missing_makes (stored c).inodes (stored c).user c.args.at.parent c.args.new c.args.block c.args.wish.flags (judged c)
 
 fresh : (c : In_ok-reserve) → HasNoPath (stored c).names c.args.new.inode × (row_at (stored c).files c.args.new.inode ≡ None)
 fresh c = number_fresh (stored c) c.args.new.inode (makes c).number_is (fits c)
@@ -47,12 +47,12 @@ made c =
     ap (λ (store : Store). store.stored) c.in_ok-make.ensures.ok
     ∙ ap (λ (reserve : Reserved). with_made (spot_of t.names c.args.at) c.args.new.inode c.args.new.parent c.args.own wish.mode wish.moment (record { user = t.user.0; inodes = reserve.inodes; names = t.names; files = t.files.files })) c.in_ok-reserve.ensures.ok
 
-pub opened-requires-clause-there : goal.opened-requires-clause-there
-opened-requires-clause-there c =
-    let after = ap (λ (inside : Inside). inside.tables.stored) c.self-inside-2.view_is ∙ made (goal.at.opened-requires-clause-there c).In_ok-make in
+pub add_block-requires-clause-there : goal.add_block-requires-clause-there
+add_block-requires-clause-there c =
+    let after = ap (λ (inside : Inside). inside.tables.stored) c.self-inside-2.view_is ∙ made (goal.at.add_block-requires-clause-there c).In_ok-make in
     let new = c.args.new in
     let wish = c.args.wish in
-    let before = (goal.at.opened-requires-clause-there c).In_ok-reserve in
+    let before = (goal.at.add_block-requires-clause-there c).In_ok-reserve in
     subst (λ (stored : Stored). IsSome (row_at stored.inodes.attributes new.inode)) (sym after)
     (made_there (stored before) (spot_of (stored before).names c.args.at) new.inode new.parent c.args.own wish.mode wish.moment (makes before).number_is (makes before).parent_is (fits before))
 
@@ -64,7 +64,7 @@ invariant_of-self-2 c =
     let wish = c.args.wish in
     let before = (goal.at.invariant_of-self-2 c).In_ok-reserve in
     let made_fit = made_fits (stored before) (spot_of (stored before).names c.args.at) new.inode new.parent c.args.own wish.mode wish.moment (makes before).number_is (makes before).parent_is (fits before) in
-    opened_fits inside.inodes.inodes c.opened.new.inodes.inodes new.inode c.opened.result wish.flags c.args.client c.opened.ensures.opened inside.names inside.files.files (subst StoreFits (sym after) made_fit)
+    opened_fits inside.inodes.inodes c.add_block.new.self.inodes new.inode c.args.block wish.flags c.args.client c.add_block.ensures.opened inside.names inside.files.files (subst StoreFits (sym after) made_fit)
 
 pub returns-clause-opened : goal.returns-clause-opened
 returns-clause-opened c =
@@ -73,9 +73,9 @@ returns-clause-opened c =
     let at = spot_of (stored before).names c.args.at in
     let new = c.args.new in
     let wish = c.args.wish in
-    let number = c.opened.result in
-    let now = c.opened.new.inodes.inodes in
-    let opened = subst (λ (stored : Stored). with_number now (Ok number) ≡ open_block stored.inodes new.inode wish.flags c.args.client) after c.opened.ensures.opened in
+    let number = c.args.block in
+    let now = c.add_block.new.self.inodes in
+    let opened = subst (λ (stored : Stored). with_number now (Ok number) ≡ open_block stored.inodes new.inode wish.flags c.args.client) after c.add_block.ensures.opened in
     rw (← c.self.view_is, ← c.self-inside.view_is) (λ r coid root.
     let over : NewOpen = record { coid = coid; client = c.args.client; root = root } in
     subst (λ (after : Stored). open_missing c.args.own (with_stored r (stored before)) over at wish ≡ Ok (given.open_given coid c.args.own (record { number = number; inode = new.inode; is_new = true }) (with_stored r (record after { inodes = now })))) (sym after)

@@ -1,4 +1,4 @@
-use Rattle.std.proofs.Common.{◌≡◌, ◌≢◌, ℕ, Bool, List, Option, None, refl, sym, ap, ◌∙◌}
+use Rattle.std.proofs.Common.{◌≡◌, ◌≢◌, ℕ, Bool, List, Option, None, true, refl, sym, ap, ◌∙◌}
 use Rattle.qx_types.specs.Managers.{manager_number}
 use Rattle.qx_types.specs.declared.names.Manager.{Manager}
 use Rattle.qx_machine.specs.declared.rows.Connection.{Connection}
@@ -27,9 +27,12 @@ module _ (c : goal.After-settle) where
   elsewhere : (number : ℕ) → number ≢ manager_number manager → after number ≡ before number
   elsewhere number differs = put_elsewhere c.self.inside.connections.items c.self.inside.sides c.args.coid.0 (record { manager = manager; block = None }) free number differs
 
+  attached : after (manager_number manager) ≡ true
+  attached = put_here c.self.inside.connections.items c.self.inside.sides c.args.coid.0 (record { manager = manager; block = None })
+
   servers : c.settle.new.servers.items ≡ with_line c.self.inside.servers.items (manager_number manager) (servers_while (after (manager_number manager)))
   servers = c.settle.ensures.servers ∙ ap (λ attached. with_line c.self.inside.servers.items (manager_number manager) (servers_while attached))
-      (c.is_attached-is_attached.ensures.attached ∙ ap (λ all. is_attached (manager_number manager) all c.self.inside.sides) (c.as_slice.ensures.value ∙ c.put_within.ensures.row))
+      (sym attached)
 
 pub invariant_of-self : goal.invariant_of-self
 invariant_of-self c = rw c.put_within.ensures.row (stays_settled (manager c) c.self.inside.servers.items (before c) (after c) c.self.invariant.1 c.self.invariant.0 (elsewhere c) c.settle.new.servers.items (servers c))
@@ -42,4 +45,4 @@ returns-clause-process c =
 pub returns-clause-uses : goal.returns-clause-uses
 returns-clause-uses c = rw (← c.self.view_is)
     (uses (manager c) c.self.inside.servers.items (before c) (after c) c.self.invariant.1 c.self.invariant.0 (elsewhere c) _ _ refl (servers c)
-    (λ was. put_here c.self.inside.connections.items c.self.inside.sides c.args.coid.0 (record { manager = c.args.manager; block = None })))
+    (λ was. attached c))
