@@ -170,33 +170,11 @@ fn four_users(alloc: Global) -> anyhow::Result<Config> {
 
 /// Takes a step in the world; a perform by the work that the plain rows say is held.
 fn take(world: &mut World, plain: &Plain, step: &Step) -> anyhow::Result<Outcome> {
-    match step {
-        Step::Spawn {
-            user,
-            threads,
-            prio,
-        } => Ok(world.spawn(*user, *threads, *prio)?),
-        Step::Exit { proc } => Ok(world.exit(*proc)),
-        Step::Call { thread, request } => taken(world.call(*thread, request)),
-        Step::TakeReply { thread } => Ok(world.take_reply(*thread)),
-        Step::TakePulse { proc } => Ok(world.take_pulse(*proc)),
-        Step::SetPrio { thread, prio } => Ok(world.set_prio(*thread, *prio)),
-        Step::Interrupt { thread } => Ok(world.interrupt(*thread)),
-        Step::Mount {
-            thread,
-            path,
-            manager,
-        } => taken(world.mount(*thread, path, *manager)),
-        Step::Receive { worker, manager } => Ok(world.receive(*worker, *manager)),
-        Step::Perform { worker, moment } => {
-            let work = held_work(plain, *worker)?;
-            Ok(world.perform(*worker, &work, *moment)?)
-        }
+    if let Step::Perform { worker, moment } = step {
+        let work = held_work(plain, *worker)?;
+        return Ok(world.perform(*worker, &work, *moment)?);
     }
-}
-
-fn taken(given: Result<Outcome, NoMemory>) -> anyhow::Result<Outcome> {
-    match given {
+    match world.step(step) {
         Ok(outcome) => Ok(outcome),
         Err(_) => bail!("out of memory"),
     }

@@ -221,8 +221,8 @@ Leaves pipes meant = IfOk meant (λ deed. deed.state.pipes ≡ pipes)
 existing-keeps : (r : Resources) (over : NewOpen) (inode : ℕ) (wish : Wish) → Leaves r.pipes (open_existing r over inode wish)
 existing-keeps r over inode wish = grind (arith, common_steps)
 
-missing-makes : (r : Resources) (over : NewOpen) (at : Spot) (wish : Wish) (new : New) → may_make r.inodes r.user at.parent wish.flags ≡ Ok new → Leaves (slice_set r.pipes new.inode (Some no_bytes)) (open_missing kind.Pipe r over at wish)
-missing-makes r over at wish new may = grind (arith, common_steps)
+missing-makes : (r : Resources) (over : NewOpen) (at : Spot) (wish : Wish) (new : New) (block : ℕ) → may_make r.inodes r.user at.parent wish.flags ≡ Ok (new, block) → Leaves (slice_set r.pipes new.inode (Some no_bytes)) (open_missing kind.Pipe r over at wish)
+missing-makes r over at wish new block may = grind (arith, common_steps)
 
 -- what the machine gives, and what follows it
 pub record IsTold (s new : Stored) (c left : Shared) (r : Resources) (status : ℕ) (effect : Effect) (meant : Result (Deed Resources) Errno) : Type 0 where
@@ -255,10 +255,10 @@ module _ (s new : Stored) (c left : Shared) (r : Resources) (inside : s.user < l
     missing parent key = record { parent = parent; key = key; inode = None }
 
     -- what is missing is made with an empty pipe, under a key in its directory
-    pub missing-told : (parent : ℕ) (key : Key) (made : New) → may_make s.inodes s.user parent wish.flags ≡ Ok made → open_missing kind.Pipe (seen r s c) over (missing parent key) wish ≡ Ok (given.open_given over.coid kind.Pipe o now)
+    pub missing-told : (parent : ℕ) (key : Key) (made : New) (block : ℕ) → may_make s.inodes s.user parent wish.flags ≡ Ok (made, block) → open_missing kind.Pipe (seen r s c) over (missing parent key) wish ≡ Ok (given.open_given over.coid kind.Pipe o now)
         → left ≡ with_row_at c s.user made.inode (Some no_bytes) → IsTold s new c left r over.coid.0 (Opens over.coid o.number) (open_missing kind.Pipe (seen r s c) over (missing parent key) wish)
-    missing-told parent key made may is left_is =
-        opened-told _ (slice_set (pipes_of c s.user) made.inode (Some no_bytes)) is (missing-makes (seen r s c) over (missing parent key) wish made may) (left_is ∙ given-row c s.user made.inode (Some no_bytes))
+    missing-told parent key made block may is left_is =
+        opened-told _ (slice_set (pipes_of c s.user) made.inode (Some no_bytes)) is (missing-makes (seen r s c) over (missing parent key) wish made block may) (left_is ∙ given-row c s.user made.inode (Some no_bytes))
 
   -- the pipe of an inode that went goes
   pub unlinked-told : (meant : Result (Deed Resources) Errno) (gone : Option ℕ) → given.unlink_given kind.Pipe now (Ok gone) ≡ meant → MatchOption gone (left ≡ c) (λ inode. left ≡ with_row_at c s.user inode None) → IsTold s new c left r 0 Keeps meant

@@ -6,7 +6,7 @@ use crate::lines::{command, user, workers};
 use crate::script::Script;
 use qx_types::{Limits, NoMemory};
 use qx_words::Users;
-use qx_words::words::words;
+use qx_words::words::split_words;
 use std::alloc::Global;
 use std::marker::Model;
 
@@ -43,16 +43,22 @@ impl Reading {
         }
     }
 
-    /// Reads one more line, and says whether it is a good one. An empty line and a comment want no memory.
+    /// Reads one more line, and says whether it is a good one. Its words stand in the place of those that are there. An empty
+    /// line and a comment want no memory.
     #[tactic(auto, unfolding(crate::specs::Script::after_line))]
-    pub fn read(&mut self, alloc: Global, line: &[u8]) -> Result<bool, NoMemory>
+    pub fn read<'a>(
+        &mut self,
+        alloc: Global,
+        words: &mut Vec<&'a [u8]>,
+        line: &'a [u8],
+    ) -> Result<bool, NoMemory>
         ensures read { IfOk result (λ good. (if good then Some self.new else None) ≡ after_line self.old line.now) }
         ensures skipped { IsTrue (is_skipped line.now) → IsOk result }
     {
         if is_skipped(line) {
             return Ok(true);
         }
-        let words = words(alloc, line)?;
+        split_words(words, line)?;
         self.read_words(alloc, words.as_slice())
     }
 

@@ -23,8 +23,9 @@ pub fn parse(alloc: Global, text: &[u8]) -> Result<Script, NoMemory>
 {
     let lines = lines(alloc, text)?;
     let mut reading = Reading::new(alloc);
+    let mut words = Vec::new(alloc);
     'lines: for (index, line) in lines.iter().enumerate() {
-        if !reading.read(alloc, *line)? {
+        if !reading.read(alloc, &mut words, *line)? {
             return Ok(Script::Bad(index as u64 + 1));
         }
     }

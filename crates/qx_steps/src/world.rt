@@ -103,6 +103,37 @@ impl World {
         })
     }
 
+    /// Takes a step of any kind; a perform does what the worker holds. A call of its own: where it is compiled in place, a step that
+    /// is stored is taken to pieces first.
+    #[inline(never)]
+    pub fn step(&mut self, step: &Step) -> Result<Outcome, NoMemory>
+        ensures outcome { IfOk result (λ outcome. outcome ≡ (machine.step self.old step.now).outcome) }
+        ensures world { OnOk result (self.new ≡ (machine.step self.old step.now).world) }
+        ensures err { OnErr result (self.new ≡ self.old) }
+        ensures sure { IsFalse (wants_memory self.old step.now) → IsOk result }
+    {
+        match step {
+            Step::Spawn {
+                user,
+                threads,
+                prio,
+            } => Ok(self.spawn(*user, *threads, *prio)?),
+            Step::Exit { proc } => Ok(self.exit(*proc)),
+            Step::Call { thread, request } => self.call(*thread, request),
+            Step::TakeReply { thread } => Ok(self.take_reply(*thread)),
+            Step::TakePulse { proc } => Ok(self.take_pulse(*proc)),
+            Step::SetPrio { thread, prio } => Ok(self.set_prio(*thread, *prio)),
+            Step::Interrupt { thread } => Ok(self.interrupt(*thread)),
+            Step::Mount {
+                thread,
+                path,
+                manager,
+            } => self.mount(*thread, path, *manager),
+            Step::Receive { worker, manager } => Ok(self.receive(*worker, *manager)),
+            Step::Perform { worker, moment } => self.perform_held(*worker, *moment),
+        }
+    }
+
     /// Starts a process of 1 to 4 ready threads of a priority from 1 to 63 (System Architecture: processes and threads).
     /// EINVAL for other numbers; EAGAIN where the user has 16 processes; `WrongState` for a user who is not configured. A
     /// spawn that is refused wants no memory.

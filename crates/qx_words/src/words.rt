@@ -1,4 +1,4 @@
-ghost use Rattle.std.specs.Prelude.{true, ◌≡◌, ◌==◌, ◌<◌, ◌≤◌, ◌^◌, IfOk, IfSome, length, map, option_map, position};
+ghost use Rattle.std.specs.Prelude.{true, ◌≡◌, ◌==◌, ◌<◌, ◌≤◌, ◌^◌, IfOk, IfSome, OnOk, length, map, option_map, position};
 ghost use Rattle.std.specs.Char.{is_ascii_digit};
 ghost use Rattle.std.specs.List.{list_all};
 ghost use Rattle.qx_types.specs.Configuration.{is_user_name};
@@ -17,20 +17,17 @@ pub fn lines(alloc: Global, text: &[u8]) -> Result<Vec<&[u8]>, AllocError>
     text.split(|byte| *byte == b'\n').collect(alloc)
 }
 
-/// As many words as most lines have at the most: room for so many is made at once.
-const MOST_WORDS: usize = 8;
-
-/// The words of a line.
-pub fn words(alloc: Global, line: &[u8]) -> Result<Vec<&[u8]>, AllocError>
-    ensures words { IfOk result (λ words. map (λ word. word.now) words.items ≡ words_of line.now) }
+/// The words of a line come in the place of those that are there, and take their memory.
+pub fn split_words<'a>(words: &mut Vec<&'a [u8]>, line: &'a [u8]) -> Result<(), AllocError>
+    ensures words { OnOk result (map (λ word. word.now) words.new.items ≡ words_of line.now) }
 {
-    let mut words = Vec::with_capacity(alloc, MOST_WORDS)?;
+    words.clear();
     for word in line.split(|byte| *byte == b' ') {
         if !word.is_empty() {
             words.push(word)?;
         }
     }
-    Ok(words)
+    Ok(())
 }
 
 /// Whether there are only digits.

@@ -125,7 +125,7 @@ impl Traced {
             return Err(Unstored { step });
         }
         let owner = self.world.owner(&step);
-        let Ok(outcome) = take(&mut self.world, &step) else {
+        let Ok(outcome) = self.world.step(&step) else {
             return Err(Unstored { step });
         };
         self.entries.push_reserved(Entry { step, outcome });
@@ -260,36 +260,6 @@ fn told(stored: Result<(), Unstored>, run: &Traced) -> Result<&Outcome, Unstored
     match stored {
         Ok(()) => Ok(run.last()),
         Err(unstored) => Err(unstored),
-    }
-}
-
-/// Takes a step of any kind. A call of its own: where it is compiled in place, a step that is stored is taken to pieces first.
-#[inline(never)]
-fn take(world: &mut World, step: &Step) -> Result<Outcome, NoMemory>
-    ensures outcome { IfOk result (λ outcome. outcome ≡ (machine.step world.old step.now).outcome) }
-    ensures world { OnOk result (world.new ≡ (machine.step world.old step.now).world) }
-    ensures err { OnErr result (world.new ≡ world.old) }
-    ensures sure { IsFalse (wants_memory world.old step.now) → IsOk result }
-{
-    match step {
-        Step::Spawn {
-            user,
-            threads,
-            prio,
-        } => Ok(world.spawn(*user, *threads, *prio)?),
-        Step::Exit { proc } => Ok(world.exit(*proc)),
-        Step::Call { thread, request } => world.call(*thread, request),
-        Step::TakeReply { thread } => Ok(world.take_reply(*thread)),
-        Step::TakePulse { proc } => Ok(world.take_pulse(*proc)),
-        Step::SetPrio { thread, prio } => Ok(world.set_prio(*thread, *prio)),
-        Step::Interrupt { thread } => Ok(world.interrupt(*thread)),
-        Step::Mount {
-            thread,
-            path,
-            manager,
-        } => world.mount(*thread, path, *manager),
-        Step::Receive { worker, manager } => Ok(world.receive(*worker, *manager)),
-        Step::Perform { worker, moment } => world.perform_held(*worker, *moment),
     }
 }
 

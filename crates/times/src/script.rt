@@ -72,6 +72,7 @@ fn answers(outcome: &Outcome) -> u64 {
     }
 }
 
+/// What `World::step` does, compiled in place, so that what is counted are the calls themselves.
 fn take(world: &mut World, step: &Step) -> Result<Outcome, NoMemory> {
     match step {
         Step::Spawn {

@@ -19,9 +19,10 @@ returns-in-Ok c =
     let shared = c.args.shared.now in
     let new = c.in-Missing.new in
     let opened = rw c.in-Missing.is at c.in-Ok.ensures.opened in
-    let may : may_make store.inodes store.user c.in-Missing.at.parent c.args.wish.flags ≡ Ok new = rw c.in-Missing.is at c.requires.allowed.judged in
+    let block = c.in-Missing.block in
+    let may : may_make store.inodes store.user c.in-Missing.at.parent c.args.wish.flags ≡ Ok (new, block) = rw c.in-Missing.is at c.requires.allowed.judged in
     let made = rw c.user-user.ensures at (c.empty.ensures ∙ c.in_ok-is_made.ensures.stands.others (Some no_bytes)) in
-    let told = λ (r : Resources). missing-told store c.open-2.new.self.stored shared _ r c.requires.user c.in-Ok.ensures.user c.args.over c.args.wish c.in-Ok.opening c.in-Missing.at.parent _ new may (opened (seen r store shared) c.args.over.coid c.args.over.root) made in
+    let told = λ (r : Resources). missing-told store c.open-2.new.self.stored shared _ r c.requires.user c.in-Ok.ensures.user c.args.over c.args.wish c.in-Ok.opening c.in-Missing.at.parent _ new block may (opened (seen r store shared) c.args.over.coid c.args.over.root) made in
     rw c.in-Missing.is (record { user = c.in-Ok.ensures.user; opened = λ r. sym (told r).told; left = λ r. (told r).follow; err = tt })
 
 pub returns-then-is_made-clause-err : goal.returns-then-is_made-clause-err

@@ -4,10 +4,10 @@ use Rattle.std.proofs.lemmas.Iterator.Consumers.{YieldsList-end}
 use Rattle.std.proofs.lemmas.Iterator.Splits.{YieldsList-from_slice_split}
 use Rattle.std.proofs.lemmas.List.{append-nil, map-append}
 use Rattle.std.proofs.lemmas.List.Elements.{filter-append}
-use Rattle.qx_words.proofs.words.words.Goals as goal
+use Rattle.qx_words.proofs.words.split_words.Goals as goal
 
 pub loop-word-init : goal.loop-word-init
-loop-word-init c = ap (map (λ word. word.now)) c.in_ok-words.ensures.items
+loop-word-init c = ap (map (λ word. word.now)) c.clear.ensures.items
 
 abbrev named : List ℕ → Bool
 named word = not (length word == 0)
@@ -19,8 +19,8 @@ one_more pieces piece some = filter-append named pieces (piece ∷ []) ∙ rw so
 none_more : (pieces : List (List ℕ)) (piece : List ℕ) → (length piece == 0) ≡ true → filter named (pieces ++ piece ∷ []) ≡ filter named pieces
 none_more pieces piece none = filter-append named pieces (piece ∷ []) ∙ rw none (append-nil (filter named pieces))
 
-pub loop-word-preserved-in-Continue-branch-2 : goal.loop-word-preserved-in-Continue-branch-2
-loop-word-preserved-in-Continue-branch-2 c =
+pub loop-word-preserved-in-Continue-1 : goal.loop-word-preserved-in-Continue-1
+loop-word-preserved-in-Continue-1 c =
     rw (c.in_ok-push.ensures.items, map-append (λ word. word.now) c.loop-word.words.items (c.in-Some.word ∷ []), map-append (λ word. word.now) c.loop-word.yielded (c.in-Some.word ∷ []))
     (ap (λ words. words ++ c.in-Some.word.now ∷ []) c.loop-word.invariant ∙ sym (one_more (map (λ word. word.now) c.loop-word.yielded) c.in-Some.word.now (cc)))
 

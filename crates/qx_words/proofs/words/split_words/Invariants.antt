@@ -1,5 +1,5 @@
 use Rattle.std.proofs.Common.{◌≡◌, ◌==◌, filter, length, map, not}
-use Rattle.qx_words.proofs.words.words.Given as goal
+use Rattle.qx_words.proofs.words.split_words.Given as goal
 
 -- the words so far are the pieces so far that are not empty
 abbrev pub invariant-loop-word : goal.invariant-loop-word
