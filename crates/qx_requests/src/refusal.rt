@@ -22,8 +22,11 @@ impl Model for Refusal {
     ghost view = { λ r. outcome_of r.error };
 }
 
+// Refusals are made by calls that are told to be seldom, so what they need stays off the way of a call that is sent.
 impl Refusal {
     /// The thread is not there, or not ready.
+    #[cold]
+    #[inline(never)]
     pub fn wrong_state() -> Refusal
         ensures refusal { result ≡ outcome.WrongState }
     {
@@ -31,6 +34,8 @@ impl Refusal {
     }
 
     /// The call is refused with an error.
+    #[cold]
+    #[inline(never)]
     pub fn refused(error: Errno) -> Refusal
         ensures refusal { result ≡ outcome.Refused error }
     {
