@@ -20,9 +20,7 @@ use erased::compare_erased;
 use marks::Before;
 use plain_machine::steps::{Dice, next_exit, next_guest, next_step, next_visit};
 use plain_machine::{Held, Plain, State};
-use qx_types::{
-    Bytes, Config, Manager, MessageBytes, NoMemory, Outcome, Proc, Step, Thread, User, Worker,
-};
+use qx_types::{Bytes, Config, Manager, MessageBytes, Outcome, Proc, Step, Thread, User, Worker};
 use qx_wire::Parsed;
 use qx_world::{PerformFault, Work, WorkRef, World};
 use std::alloc::{AllocError, Global};
