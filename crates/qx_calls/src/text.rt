@@ -74,7 +74,7 @@ pub fn push_call(
 pub fn push_next_number(text: &mut Vec<u8>, number: u64) -> Result<(), NoMemory>
     ensures ok { OnOk result (text.new.items ≡ text.old.items ++ codes " " ++ decimal number) }
 {
-    text.extend_from_slice(b" ")?;
+    text.push(b' ')?;
     push_number(text, number)
 }
 
@@ -82,7 +82,7 @@ pub fn push_next_number(text: &mut Vec<u8>, number: u64) -> Result<(), NoMemory>
 fn push_next_bytes(text: &mut Vec<u8>, bytes: &Bytes) -> Result<(), NoMemory>
     ensures ok { OnOk result (text.new.items ≡ text.old.items ++ codes " " ++ bytes_text bytes.now) }
 {
-    text.extend_from_slice(b" ")?;
+    text.push(b' ')?;
     push_bytes(text, bytes.as_slice())
 }
 
@@ -97,9 +97,9 @@ pub fn push_at_path(
     ensures ok { OnOk result (text.new.items ≡ text.old.items ++ name.now ++ codes " " ++ thread_text config.now thread ++ codes " " ++ path.now) }
 {
     text.extend_from_slice(name)?;
-    text.extend_from_slice(b" ")?;
+    text.push(b' ')?;
     push_thread(text, config, thread)?;
-    text.extend_from_slice(b" ")?;
+    text.push(b' ')?;
     Ok(text.extend_from_slice(path.as_slice())?)
 }
 
@@ -114,7 +114,7 @@ fn push_over(
     ensures ok { OnOk result (text.new.items ≡ text.old.items ++ name.now ++ codes " " ++ thread_text config.now thread ++ codes " " ++ decimal coid.0) }
 {
     text.extend_from_slice(name)?;
-    text.extend_from_slice(b" ")?;
+    text.push(b' ')?;
     push_thread(text, config, thread)?;
     push_next_number(text, coid.0 as u64)
 }
@@ -131,9 +131,9 @@ fn push_open(
     ensures ok { OnOk result (text.new.items ≡ text.old.items ++ call_text config.now thread (Request.OpenPath flags mode path.now)) }
 {
     push_at_path(text, config, b"open", thread, path)?;
-    text.extend_from_slice(b" ")?;
+    text.push(b' ')?;
     push_flags(text, flags)?;
-    text.extend_from_slice(b" ")?;
+    text.push(b' ')?;
     push_mode(text, mode)
 }
 
@@ -172,7 +172,7 @@ fn push_mkdir(
     ensures ok { OnOk result (text.new.items ≡ text.old.items ++ call_text config.now thread (Request.Mkdir mode path.now)) }
 {
     push_at_path(text, config, b"mkdir", thread, path)?;
-    text.extend_from_slice(b" ")?;
+    text.push(b' ')?;
     push_mode(text, mode)
 }
 
@@ -242,9 +242,9 @@ fn push_seek(
 fn push_place(text: &mut Vec<u8>, whence: Whence, by: i64) -> Result<(), NoMemory>
     ensures ok { OnOk result (text.new.items ≡ text.old.items ++ codes " " ++ whence_text whence ++ codes " " ++ signed_decimal by) }
 {
-    text.extend_from_slice(b" ")?;
+    text.push(b' ')?;
     push_whence(text, whence)?;
-    text.extend_from_slice(b" ")?;
+    text.push(b' ')?;
     push_offset(text, by)
 }
 
@@ -274,7 +274,7 @@ fn push_list(
     if after.is_empty() {
         return Ok(());
     }
-    text.extend_from_slice(b" ")?;
+    text.push(b' ')?;
     Ok(text.extend_from_slice(after.as_slice())?)
 }
 
@@ -289,7 +289,7 @@ fn push_chmod(
     ensures ok { OnOk result (text.new.items ≡ text.old.items ++ call_text config.now thread (Request.Chmod coid mode)) }
 {
     push_over(text, config, b"chmod", thread, coid)?;
-    text.extend_from_slice(b" ")?;
+    text.push(b' ')?;
     push_mode(text, mode)
 }
 
@@ -304,7 +304,7 @@ fn push_notify(
     ensures ok { OnOk result (text.new.items ≡ text.old.items ++ call_text config.now thread (Request.Notify coid notification.action notification.conds notification.code notification.value)) }
 {
     push_over(text, config, b"notify", thread, coid)?;
-    text.extend_from_slice(b" ")?;
+    text.push(b' ')?;
     push_notification(text, notification)
 }
 
@@ -313,7 +313,7 @@ fn push_notification(text: &mut Vec<u8>, notification: Notification) -> Result<(
     ensures ok { OnOk result (text.new.items ≡ text.old.items ++ join_with_byte 32 (action_text notification.action ∷ conditions_text notification.conds ∷ decimal notification.code ∷ decimal notification.value ∷ [])) }
 {
     push_action(text, notification.action)?;
-    text.extend_from_slice(b" ")?;
+    text.push(b' ')?;
     push_conditions(text, notification.conds)?;
     push_next_number(text, notification.code as u64)?;
     push_next_number(text, notification.value as u64)

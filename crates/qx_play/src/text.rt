@@ -47,11 +47,11 @@ fn push_entry(
     ensures ok { OnOk result (text.new.items ≡ text.old.items ++ entry_text config.now number entry.now) }
 {
     push_number(text, number)?;
-    text.extend_from_slice(b" ")?;
+    text.push(b' ')?;
     push_step(text, config, &entry.step)?;
     text.extend_from_slice(b" -> ")?;
     push_outcome(text, config, &entry.outcome)?;
-    text.extend_from_slice(b"\n")?;
+    text.push(b'\n')?;
     Ok(())
 }
 
@@ -81,9 +81,9 @@ fn push_seen(
     ensures ok { OnOk result (text.new.items ≡ text.old.items ++ seen_text config.now (record { actor = actor; outcome = outcome.now })) }
 {
     push_actor(text, config, actor)?;
-    text.extend_from_slice(b" ")?;
+    text.push(b' ')?;
     push_outcome(text, config, outcome)?;
-    text.extend_from_slice(b"\n")?;
+    text.push(b'\n')?;
     Ok(())
 }
 
@@ -118,6 +118,7 @@ fn push_item(text: &mut Vec<u8>, config: &Config, item: Item) -> Result<(), NoMe
     }
 }
 
+#[inline(always)]
 #[tactic(auto, unfolding(crate::specs::Printed::outcome_text))]
 fn push_outcome(text: &mut Vec<u8>, config: &Config, outcome: &Outcome) -> Result<(), NoMemory>
     ensures ok { OnOk result (text.new.items ≡ text.old.items ++ outcome_text config.now outcome.now) }
@@ -152,12 +153,13 @@ fn push_outcome(text: &mut Vec<u8>, config: &Config, outcome: &Outcome) -> Resul
     }
 }
 
+#[inline(always)]
 fn push_reply(text: &mut Vec<u8>, status: u64, bytes: &[u8]) -> Result<(), NoMemory>
     ensures ok { OnOk result (text.new.items ≡ text.old.items ++ (codes "reply " ++ decimal status ++ codes " " ++ bytes_text bytes.now)) }
 {
     text.extend_from_slice(b"reply ")?;
     push_number(text, status)?;
-    text.extend_from_slice(b" ")?;
+    text.push(b' ')?;
     push_bytes(text, bytes)
 }
 
@@ -166,6 +168,6 @@ fn push_pulse(text: &mut Vec<u8>, code: u8, value: u32) -> Result<(), NoMemory>
 {
     text.extend_from_slice(b"pulse ")?;
     push_number(text, code as u64)?;
-    text.extend_from_slice(b" ")?;
+    text.push(b' ')?;
     push_number(text, value as u64)
 }

@@ -121,7 +121,7 @@ fn push_mount(
     ensures ok { OnOk result (text.new.items ≡ text.old.items ++ step_text config.now (Step.Mount thread path.now manager)) }
 {
     push_at_path(text, config, b"mount", thread, path)?;
-    text.extend_from_slice(b" ")?;
+    text.push(b' ')?;
     push_manager(text, manager)
 }
 
@@ -131,7 +131,7 @@ fn push_receive(text: &mut Vec<u8>, worker: Worker, manager: Manager) -> Result<
 {
     text.extend_from_slice(b"receive")?;
     push_next_number(text, worker.0 as u64)?;
-    text.extend_from_slice(b" ")?;
+    text.push(b' ')?;
     push_manager(text, manager)
 }
 

@@ -2,6 +2,7 @@
 
 ghost use Rattle.std.specs.Prelude.{◌≡◌, ◌++◌, OnOk, decimal, filter};
 ghost use Rattle.std.specs.Fmt.{signed_decimal};
+ghost use Rattle.hex.specs.Hex.{encode_lower};
 ghost use Rattle.qx_words.specs.FixedWords.{action_text, conditions_text, manager_text, whence_text};
 ghost use Rattle.qx_words.specs.WordText.{bytes_text, flags_text, is_given, last_octal_digit, mode_text, process_text, thread_text, user_text};
 
@@ -61,15 +62,21 @@ pub fn push_process(text: &mut Vec<u8>, config: &Config, process: Proc) -> Resul
     push_number(text, process.num as u64)
 }
 
-/// A thread, as `ann.1.2`.
+/// A thread, as `ann.1.2`. Numbers of one digit, as most have, are put at once.
 #[inline(always)]
 #[tactic(auto, unfolding(crate::specs::WordText::thread_text))]
 pub fn push_thread(text: &mut Vec<u8>, config: &Config, thread: Thread) -> Result<(), NoMemory>
     ensures ok { OnOk result (text.new.items ≡ text.old.items ++ thread_text config.now thread) }
 {
-    push_process(text, config, thread.proc)?;
+    let Thread { proc, tid } = thread;
+    if proc.num < 10 && tid < 10 {
+        push_user(text, config, proc.user)?;
+        let numbers = [b'.', b'0' + proc.num, b'.', b'0' + tid];
+        return Ok(text.extend_from_slice(&numbers)?);
+    }
+    push_process(text, config, proc)?;
     text.push(b'.')?;
-    push_number(text, thread.tid as u64)
+    push_number(text, tid as u64)
 }
 
 /// Hexadecimal digits, or `-` for no bytes.
@@ -80,6 +87,14 @@ pub fn push_bytes(text: &mut Vec<u8>, bytes: &[u8]) -> Result<(), NoMemory>
     if bytes.is_empty() {
         return Ok(text.push(b'-')?);
     }
+    push_hexadecimal(text, bytes)
+}
+
+/// The same of some bytes. A function of its own, so that no bytes don't pay for it.
+#[inline(never)]
+fn push_hexadecimal(text: &mut Vec<u8>, bytes: &[u8]) -> Result<(), NoMemory>
+    ensures ok { OnOk result (text.new.items ≡ text.old.items ++ encode_lower bytes.now) }
+{
     let start = text.len();
     let Some(end) = start.checked_add(2 * bytes.len()) else {
         return Err(NoMemory);
