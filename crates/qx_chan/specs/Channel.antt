@@ -1,5 +1,5 @@
 -- What contracts see of a channel, and what its calls make of it.
-use Rattle.std.specs.Prelude.{⊤, ℕ, ◌+◌, [], ◌∷◌, ◌++◌, List, Option, Some, None, drop, get_or, length, map, option_map, replicate, slice_get, slice_set}
+use Rattle.std.specs.Prelude.{⊤, ℕ, ◌+◌, [], ◌∷◌, ◌++◌, List, Option, Some, None, drop, get_or, if◌then◌else◌, is_some, length, map, option_map, replicate, slice_get, slice_set}
 use Rattle.qx_types.specs.Configuration.{Configuration}
 use Rattle.qx_types.specs.Managers.{manager_number}
 use Rattle.qx_types.specs.declared.errno.Errno.{Errno}
@@ -21,6 +21,7 @@ use Rattle.qx_machine.specs.declared.rows.OwnItem.TheVariants as item
 use Rattle.qx_machine.specs.declared.rows.Pulse.{Pulse}
 use Rattle.qx_machine.specs.declared.rows.Queued.{Queued}
 use Rattle.qx_machine.specs.declared.rows.Sent.{Sent}
+use Rattle.qx_machine.specs.declared.rows.ThreadRow.{ThreadRow}
 use Rattle.qx_machine.specs.Attributes.{top_inode}
 use Rattle.qx_machine.specs.Clients.{dropped, spawn_number, with_abandoned}
 use Rattle.qx_machine.specs.Events.{Events, first_pulse, no_events, without_first_pulse, without_pulses}
@@ -135,6 +136,15 @@ withdrawn c thread (Some call) = record c {
 -- once the message of a thread that stands in a line is gone, and with it what its call attached
 abbrev pub after_withdrawing : Channel → Thread → Channel
 after_withdrawing c thread = withdrawn c thread (queued_call (thread_row c.users thread))
+
+-- once a thread is asked to unblock
+abbrev pub after_interrupt : Channel → Thread → Channel
+after_interrupt c thread = if is_some (queued_call (thread_row c.users thread)) then after_withdrawing c thread else after_asking c thread
+
+-- the outcome for that thread
+abbrev pub interrupt_outcome : Option ThreadRow → Outcome
+interrupt_outcome None = WrongState
+interrupt_outcome (Some row) = Done
 
 abbrev pub readied : Channel → Thread → Option Answer → Channel
 readied c thread None = c

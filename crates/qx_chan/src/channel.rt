@@ -11,7 +11,7 @@ ghost use Rattle.qx_process.specs.Reads.{CanCall, CanGo, IsPriority};
 ghost use Rattle.qx_procs.specs.Calls.{CanAttachAt, spawn_outcome};
 ghost use Rattle.qx_chan.specs.Calls.{answer_of, queued_call, unasked_call};
 ghost use Rattle.qx_chan.specs.inner.Calls.{taken_call};
-ghost use Rattle.qx_chan.specs.Channel.{IsExisting, after_asking, after_pulse, after_ranking, after_receive, after_send, after_spawn, after_taking, after_withdrawing, channel_events, channel_line, boot_channel, pulse_outcome};
+ghost use Rattle.qx_chan.specs.Channel.{IsExisting, after_asking, after_interrupt, after_pulse, after_ranking, after_receive, after_send, after_spawn, after_taking, after_withdrawing, channel_events, channel_line, boot_channel, interrupt_outcome, pulse_outcome};
 ghost use Rattle.qx_chan.specs.Nodes.{room_for};
 ghost use Rattle.qx_chan.specs.Users.{IsThreadReady, prio_outcome_in, process_of, spawn_number_in, thread_row};
 
@@ -183,15 +183,31 @@ impl Channel {
         Some(first)
     }
 
-    /// Asks to unblock a thread whose message was received or whose call waits, once a call: the message is marked, and a pulse goes into its
-    /// line with its priority (C Library Reference: `ChannelCreate`, `_NTO_CHF_UNBLOCK`). Nothing happens to any other
-    /// thread.
-    pub fn ask_unblock(&mut self, thread: Thread)
+    /// Asks to unblock a thread: a message that stands in a line is taken out of that, and one that was received, or whose call
+    /// waits, is asked for by a pulse, once a call. `WrongState` where the thread is not there; nothing happens where it waits
+    /// for nothing.
+    pub fn interrupt(&mut self, thread: Thread) -> Outcome
+        ensures outcome { result ≡ interrupt_outcome (thread_row self.old.users thread) }
+        ensures interrupted { self.new ≡ after_interrupt self.old thread }
+    {
+        let Some(cell) = self.users.thread(thread) else {
+            return Outcome::WrongState;
+        };
+        if let Some(call) = call::queued(cell) {
+            self.withdraw(thread, call);
+        } else if let Some(call) = call::unasked(cell) {
+            self.ask_unblock(thread, call);
+        }
+        Outcome::Done
+    }
+
+    /// Asks to unblock a thread whose message was received or whose call waits, by the call: the message is marked, and a pulse
+    /// goes into its line with its priority (C Library Reference: `ChannelCreate`, `_NTO_CHF_UNBLOCK`).
+    fn ask_unblock(&mut self, thread: Thread, call: Call)
+        requires unasked { Some call ≡ unasked_call (thread_row self.old.users thread) }
+        requires priority { IsPriority call.target.prio.0 }
         ensures asked { self.new ≡ after_asking self.old thread }
     {
-        let Some(call) = self.unasked(thread) else {
-            return;
-        };
         let target = call.target;
         self.tables
             .shared
@@ -199,15 +215,13 @@ impl Channel {
         self.users.ask_unblock(thread);
     }
 
-    /// Takes a thread's message out of the line that it stands in: the thread is answered EINTR, and what its call attached
-    /// goes, with the disconnect pulse of a process that has lost its last connection by that (C Library Reference: `MsgSend`,
-    /// EINTR). Nothing happens where no message of the thread stands in a line.
-    pub fn withdraw(&mut self, thread: Thread)
+    /// Takes a thread's message out of the line that it stands in, by the call: the thread is answered EINTR, and what its call
+    /// attached goes, with the disconnect pulse of a process that has lost its last connection by that (C Library Reference:
+    /// `MsgSend`, EINTR).
+    fn withdraw(&mut self, thread: Thread, call: Call)
+        requires queued { Some call ≡ queued_call (thread_row self.old.users thread) }
         ensures withdrawn { self.new ≡ after_withdrawing self.old thread }
     {
-        let Some(call) = self.queued(thread) else {
-            return;
-        };
         self.tables.shared.withdraw(call.target.manager, thread);
         let lost = self
             .users
@@ -254,25 +268,10 @@ impl Channel {
         processes.set_prio(thread.proc.num, thread.tid, prio)
     }
 
-    /// The call of a thread whose message stands in a line.
-    fn queued(&self, thread: Thread) -> Option<Call>
-        ensures call { result ≡ queued_call (thread_row self.now.users thread) }
-    {
-        call::queued(self.users.thread(thread)?)
-    }
-
     /// The call of a thread whose message was received and is not served.
     pub(crate) fn taken(&self, thread: Thread) -> Option<Call>
         ensures call { result ≡ taken_call (thread_row self.now.users thread) }
     {
         call::taken(self.users.thread(thread)?)
-    }
-
-    /// The call of a thread whose message was received, is not answered and is not asked to unblock it.
-    fn unasked(&self, thread: Thread) -> Option<Call>
-        ensures call { result ≡ unasked_call (thread_row self.now.users thread) }
-        ensures priority { IfSome result (λ call. IsPriority call.target.prio.0) }
-    {
-        call::unasked(self.users.thread(thread)?)
     }
 }

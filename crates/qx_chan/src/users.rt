@@ -175,11 +175,10 @@ impl Users {
     /// A thread's message, which was received, is asked to unblock it.
     #[tactic(auto, using(crate::proofs::ProcessLemmas::lends))]
     pub fn ask_unblock(&mut self, thread: Thread)
+        requires there { IsSome (thread_row self.old thread) }
         ensures asked { self.new ≡ with_thread_row self.old thread asked_thread }
     {
-        if let Some(cell) = self.thread_mut(thread) {
-            cell.ask_unblock();
-        }
+        self.thread_there(thread).ask_unblock()
     }
 
     /// A thread's message, which was received, is served and left without a reply, and leaves its memory for others; gives the

@@ -1,6 +1,6 @@
 -- A client's step, by what the channel makes of it.
-use Rattle.std.proofs.Common.{◌≡◌, inl, inr, ℕ, List, [], Option, Some, None, Result, Ok, Err, slice_set, refl, sym, ap, ◌∙◌, Bool, false}
-use Rattle.std.specs.Prelude.{IfOk, IsErr, IsTrue, option_map}
+use Rattle.std.proofs.Common.{◌≡◌, inl, inr, ℕ, List, [], Option, Some, None, Result, Ok, Err, slice_set, refl, sym, ap, ◌∙◌, Bool, false, true}
+use Rattle.std.specs.Prelude.{IfOk, IsErr, IsTrue, is_some, option_map}
 use Rattle.std.proofs.lemmas.Bool.{cases_Bool}
 use Rattle.qx_types.specs.Configuration.{Configuration}
 use Rattle.qx_types.specs.declared.errno.Errno.TheVariants.{EINTR}
@@ -36,19 +36,20 @@ use Rattle.qx_machine.proofs.Living.{message-keeps}
 use Rattle.qx_process.proofs.RowLemmas.{set-row, with_row-none}
 use Rattle.qx_resources.specs.State.{told, Kept}
 use Rattle.qx_procs.specs.Calls.{after_or, spawn_outcome, spawned, with_prio}
-use Rattle.qx_chan.specs.Calls.{answer_of}
+use Rattle.qx_chan.specs.Calls.{answer_of, queued_call}
 use Rattle.qx_process.specs.Reads.{queued_in}
-use Rattle.qx_chan.specs.Channel.{Channel, IsExisting, after_asking, after_ranking, after_send, after_spawn, after_taking, after_withdrawing, failed, lists}
+use Rattle.qx_chan.specs.Channel.{Channel, IsExisting, after_asking, after_interrupt, after_ranking, after_send, after_spawn, after_taking, after_withdrawing, failed, interrupt_outcome, lists}
 use Rattle.qx_chan.specs.Users.{prio_outcome_in, spawn_number_in, thread_row, IsThreadReady}
 use Rattle.qx_requests.specs.Targets.{HasRest}
 use Rattle.qx_steps.specs.inner.Parts.{parts_of, told_all, told_world, world_of, AreResourcesOf, IsSound}
 use Rattle.qx_steps.specs.inner.Steps.{sent_to}
 use Rattle.qx_steps.specs.Steps.{target_in}
+use Rattle.qx_chan.proofs.CallLemmas.{queued_is}
 use Rattle.qx_chan.proofs.RowReads.{option_cases}
 use Rattle.qx_steps.proofs.LeftLemmas.{AreLeft, left-kept, left-put, left-thread, queued-keeps, starts}
 use Rattle.qx_steps.proofs.OwnerLemmas.{Owner, exits, nobody, others_kept, owner, sound-step}
 use Rattle.qx_steps.proofs.SettledLemmas.{settled-processes}
-use Rattle.qx_steps.proofs.StillLemmas.{still-asking, still-ranking, still-send, still-spawn, still-taking, still-withdrawing, world-told}
+use Rattle.qx_steps.proofs.StillLemmas.{still-asking, still-interrupting, still-ranking, still-send, still-spawn, still-taking, still-withdrawing, world-told}
 use Rattle.qx_steps.proofs.PartsLemmas.{result_cases}
 
 -- what a thread is told that takes its answer, if it has one
@@ -218,7 +219,7 @@ module _ (config : Configuration) (c : Channel) (ks : List (Option Kept)) (hands
 
   -- ---- interrupt
 
-  pub interrupt-nobody : (thread : Thread) → thread_row c.users thread ≡ None → step w (Interrupt thread) ≡ record { world = w; outcome = WrongState }
+  interrupt-nobody : (thread : Thread) → thread_row c.users thread ≡ None → step w (Interrupt thread) ≡ record { world = w; outcome = WrongState }
   unfolding step client
   interrupt-nobody thread none = elim (option_cases (row_at c.users thread.proc.user.0)) [
     | inl nobody ↦ rw (none_there thread.proc.user.0 nobody) refl
@@ -283,13 +284,13 @@ module _ (config : Configuration) (c : Channel) (ks : List (Option Kept)) (hands
     | inr ps ↦ record { ps = ps.0; o = the_owner thread.proc.user.0 ps.0 ps.1; its = row_in c thread ps.0 row ps.1 is }
   ]
 
-  pub interrupt-queued : (thread : Thread) (row : ThreadRow) (sent : Message) → thread_row c.users thread ≡ Some row → row.state ≡ state.Queued sent
+  interrupt-queued : (thread : Thread) (row : ThreadRow) (sent : Message) → thread_row c.users thread ≡ Some row → row.state ≡ state.Queued sent
       → step w (Interrupt thread) ≡ record { world = world_of config (after_withdrawing c thread) ks hands; outcome = Done }
   interrupt-queued thread row sent there is =
       let it = there_by thread row there in
       by_channel (Interrupt thread) (after_withdrawing c thread) Done (still-withdrawing c ks sound.users thread).waits (dismisses thread row it.ps it.o it.its sent is)
 
-  pub interrupt-unqueued : (thread : Thread) (row : ThreadRow) → thread_row c.users thread ≡ Some row → queued_in row.state ≡ None
+  interrupt-unqueued : (thread : Thread) (row : ThreadRow) → thread_row c.users thread ≡ Some row → queued_in row.state ≡ None
       → step w (Interrupt thread) ≡ record { world = world_of config (after_asking c thread) ks hands; outcome = Done }
   interrupt-unqueued thread row there unqueued = by_channel (Interrupt thread) (after_asking c thread) Done (still-asking c ks sound.users thread).waits (by_state row.state refl unqueued)
     where
@@ -302,6 +303,21 @@ module _ (config : Configuration) (c : Channel) (ks : List (Option Kept)) (hands
       by_state (state.Taken sent) same is = asks thread row it.ps it.o it.its sent same
       by_state (state.Waiting sent) same is = asks_waiting thread row it.ps it.o it.its sent same
       by_state (state.Answered answer) same is = unasked-answered thread row it.ps it.o it.its answer same
+
+  pub interrupt-step : (thread : Thread) → step w (Interrupt thread) ≡ record { world = world_of config (after_interrupt c thread) ks hands; outcome = interrupt_outcome (thread_row c.users thread) }
+  interrupt-step thread = elim (option_cases (thread_row c.users thread)) [
+    | inl none ↦ rw none (interrupt-nobody thread none)
+    | inr row ↦
+        let told : interrupt_outcome (thread_row c.users thread) ≡ Done = rw row.1 refl in
+        elim (option_cases (queued_in row.0.state)) [
+          | inl none ↦
+              let unqueued : is_some (queued_call (thread_row c.users thread)) ≡ false = rw (row.1, none) refl in
+              rw (unqueued, told) (interrupt-unqueued thread row.0 row.1 none)
+          | inr sent ↦
+              let queued : is_some (queued_call (thread_row c.users thread)) ≡ true = rw (row.1, sent.1) refl in
+              rw (queued, told) (interrupt-queued thread row.0 sent.0 row.1 (queued_is row.0.state sent.0 sent.1))
+        ]
+  ]
 
   -- ---- what is sound still
 
@@ -320,11 +336,8 @@ module _ (config : Configuration) (c : Channel) (ks : List (Option Kept)) (hands
   pub call-sound : (thread : Thread) (request : Request) (addressed : Addressed) → target_in w thread request ≡ Ok addressed → IsSound config (after_send c thread (sent_to addressed request)) ks hands marks
   call-sound thread request addressed is = after_sound _ _ _ (λ user. refl) (still-send c ks sound.users thread (sent_to addressed request)) (call-sent thread request addressed is)
 
-  pub withdrawn-sound : (thread : Thread) (row : ThreadRow) (sent : Message) → thread_row c.users thread ≡ Some row → row.state ≡ state.Queued sent → IsSound config (after_withdrawing c thread) ks hands marks
-  withdrawn-sound thread row sent there is = after_sound _ _ _ (λ user. refl) (still-withdrawing c ks sound.users thread).of (interrupt-queued thread row sent there is)
-
-  pub asked-sound : (thread : Thread) (row : ThreadRow) → thread_row c.users thread ≡ Some row → queued_in row.state ≡ None → IsSound config (after_asking c thread) ks hands marks
-  asked-sound thread row there unqueued = after_sound _ _ _ (λ user. refl) (still-asking c ks sound.users thread).of (interrupt-unqueued thread row there unqueued)
+  pub interrupt-sound : (thread : Thread) → IsSound config (after_interrupt c thread) ks hands marks
+  interrupt-sound thread = after_sound _ _ _ (λ user. refl) (still-interrupting c ks sound.users thread).of (interrupt-step thread)
 
 -- a spawn that is refused
 pub spawn-refused : (number : Result ℕ Outcome) → IsTrue (is_refusal (spawn_outcome number)) → IsErr number

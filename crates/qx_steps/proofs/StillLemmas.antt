@@ -1,6 +1,7 @@
 -- Resources are still those of the channel's users once the channel has changed, where its pipes and events are as before, and where a pulse is taken.
-use Rattle.std.proofs.Common.{length, ◌≡◌, ℕ, List, Option, Some, None, refl, ap}
-use Rattle.std.specs.Prelude.{map, option_map, slice_get}
+use Rattle.std.proofs.Common.{length, ◌≡◌, inl, inr, ℕ, List, Option, Some, None, refl, ap}
+use Rattle.std.specs.Prelude.{is_some, map, option_map, slice_get}
+use Rattle.std.proofs.lemmas.Bool.{cases_Bool}
 use Rattle.qx_types.specs.Configuration.{Configuration}
 use Rattle.qx_types.specs.declared.errno.Errno.TheVariants.{EINTR}
 use Rattle.qx_types.specs.declared.names.Manager.{Manager}
@@ -21,7 +22,7 @@ use Rattle.qx_machine.specs.Settling.{processes_left}
 use Rattle.qx_procs.specs.Calls.{after_or, spawned, with_prio}
 use Rattle.qx_resources.specs.State.{told, Kept}
 use Rattle.qx_chan.specs.Calls.{answer_of, queued_call, unasked_call}
-use Rattle.qx_chan.specs.Channel.{Channel, after_asking, after_exit, after_pulse, after_ranking, after_receive, after_send, after_spawn, after_taking, after_withdrawing, asked, channel_events, channel_line, channel_pipes, ended_in, failed, lists, readied, with_first_taken, with_pulse_taken, withdrawn}
+use Rattle.qx_chan.specs.Channel.{Channel, after_asking, after_exit, after_interrupt, after_pulse, after_ranking, after_receive, after_send, after_spawn, after_taking, after_withdrawing, asked, channel_events, channel_line, channel_pipes, ended_in, failed, lists, readied, with_first_taken, with_pulse_taken, withdrawn}
 use Rattle.qx_chan.specs.declared.call.Call.{Call}
 use Rattle.qx_chan.specs.Users.{process_of, thread_row}
 use Rattle.qx_steps.specs.inner.Parts.{told_all, told_world, world_of, AreResourcesOf, SameUsers}
@@ -98,6 +99,12 @@ module _ (c : Channel) (ks : List (Option Kept)) (of : AreResourcesOf c ks) wher
 
   pub still-withdrawing : (thread : Thread) → Still c (after_withdrawing c thread) ks
   still-withdrawing thread = withdrawn_by thread (queued_call (thread_row c.users thread))
+
+  pub still-interrupting : (thread : Thread) → Still c (after_interrupt c thread) ks
+  still-interrupting thread = elim (cases_Bool (is_some (queued_call (thread_row c.users thread)))) [
+    | inl queued ↦ rw queued (still-withdrawing thread)
+    | inr unqueued ↦ rw unqueued (still-asking thread)
+  ]
 
   readied_by : (thread : Thread) (answer : Option Answer) → Still c (readied c thread answer) ks
   readied_by thread None = record { of = of; waits = refl }

@@ -208,14 +208,7 @@ impl World {
         ensures outcome { result ≡ (machine.step self.old (Step.Interrupt thread)).outcome }
         ensures world { self.new ≡ (machine.step self.old (Step.Interrupt thread)).world }
     {
-        let Some(cell) = self.channel.thread(thread) else {
-            return Outcome::WrongState;
-        };
-        match cell.queued() {
-            Some(_) => self.channel.withdraw(thread),
-            None => self.channel.ask_unblock(thread),
-        }
-        Outcome::Done
+        self.channel.interrupt(thread)
     }
 
     /// A client's request goes as a message into its manager's line, and the thread is blocked (C Library Reference:

@@ -1,6 +1,6 @@
 //! A world with the steps that it took from boot, each with its outcome.
 
-ghost use Rattle.std.specs.Prelude.{◌≡◌, ◌≢◌, ◌≤◌, ◌<◌, ◌++◌, ◌∷◌, [], List, length, IfOk, IfErr, OnOk, OnErr, IsOk, IsErrOf, ◌↔◌, IsFalse, option_map, None, slice_index_or, is_ok, Err};
+ghost use Rattle.std.specs.Prelude.{◌≡◌, ◌≢◌, ◌≤◌, ◌<◌, ◌++◌, ◌∷◌, [], List, length, IfOk, IfErr, OnOk, IsOk, IsErrOf, ◌↔◌, IsFalse, option_map, None, slice_index_or, is_ok, Err};
 ghost use Rattle.std.specs.Option.{option_to_list};
 ghost use Rattle.std.specs.Borrow.{sem};
 ghost use Rattle.qx_types.specs.declared.step.Step.{Step};

@@ -15,29 +15,29 @@ use Rattle.qx_chan.proofs.RoomLemmas.{queued-brings}
 use Rattle.qx_chan.proofs.channel.Channel.withdraw.Goals as goal
 
 pub fail-lost-requires : goal.fail-lost-requires
-fail-lost-requires c = record { room = queued-brings EINTR (thread_row c.self.inside.users c.args.thread) c.in-Some.call (rw (← c.self.view_is) at c.in-Some.ensures.call) }
+fail-lost-requires c = record { room = queued-brings EINTR (thread_row c.self.inside.users c.args.thread) c.args.call (rw (← c.self.view_is) at c.requires.queued) }
 
 pub disconnect-requires : goal.disconnect-requires
 disconnect-requires c = record { there = rw c.withdraw.ensures.withdrawn (lost-there c.self.inside.users c.self.inside.tables.shared c.args.thread.proc _ c.fail-lost.result (c.self.invariant.shared.servers c.args.thread.proc) c.fail-lost.ensures.lost) }
 
 pub invariant_of-self : goal.invariant_of-self
 invariant_of-self c =
-    let queued : Some c.in-Some.call ≡ queued_call (thread_row c.self.inside.users c.args.thread) = rw (← c.self.view_is) at c.in-Some.ensures.call in
-    let f = failed c.args.thread.tid EINTR c.in-Some.call.target.over in
+    let queued : Some c.args.call ≡ queued_call (thread_row c.self.inside.users c.args.thread) = rw (← c.self.view_is) at c.requires.queued in
+    let f = failed c.args.thread.tid EINTR c.args.call.target.over in
     record {
       spare = c.self.invariant.spare;
       shared = rw (c.disconnect.ensures.disconnected, c.withdraw.ensures.withdrawn, c.fail-lost.ensures.failed)
-          (Kept-withdrawn c.self.inside.users c.self.inside.tables.shared c.args.thread c.in-Some.call queued c.self.invariant.shared f (Failed EINTR) (fails c.args.thread.tid EINTR _) c.withdraw.ensures.gone c.fail-lost.result (rw c.fail-lost.ensures.failed at c.fail-lost.ensures.lost));
+          (Kept-withdrawn c.self.inside.users c.self.inside.tables.shared c.args.thread c.args.call queued c.self.invariant.shared f (Failed EINTR) (fails c.args.thread.tid EINTR _) c.withdraw.ensures.gone c.fail-lost.result (rw c.fail-lost.ensures.failed at c.fail-lost.ensures.lost));
       events = c.self.invariant.events
           ∙ sym (ap (λ (q : Shared). length q.pipes) c.disconnect.ensures.disconnected ∙ lost-fields c.args.thread.proc (λ q. length q.pipes) (λ q server. refl) (option_to_list c.fail-lost.result) c.withdraw.new.self ∙ ap (λ (q : Shared). length q.pipes) c.withdraw.ensures.withdrawn);
     }
 
 pub returns : goal.returns
 returns c =
-    let queued : Some c.in-Some.call ≡ queued_call (thread_row c.self.inside.users c.args.thread) = rw (← c.self.view_is) at c.in-Some.ensures.call in
-    let f = failed c.args.thread.tid EINTR c.in-Some.call.target.over in
+    let queued : Some c.args.call ≡ queued_call (thread_row c.self.inside.users c.args.thread) = rw (← c.self.view_is) at c.requires.queued in
+    let f = failed c.args.thread.tid EINTR c.args.call.target.over in
     record {
       withdrawn = rw (← c.self.view_is, ← queued, c.disconnect.ensures.disconnected, c.withdraw.ensures.withdrawn, c.fail-lost.ensures.failed)
-          (shown-lost c.self.inside.users c.args.thread.proc f (with_shared_line c.self.inside.tables.shared (manager_number c.in-Some.call.target.manager) (line_without c.args.thread.proc.user.0 (item.Message c.args.thread.proc.num c.args.thread.tid)))
+          (shown-lost c.self.inside.users c.args.thread.proc f (with_shared_line c.self.inside.tables.shared (manager_number c.args.call.target.manager) (line_without c.args.thread.proc.user.0 (item.Message c.args.thread.proc.num c.args.thread.tid)))
           c.self.inside.tables.mounts c.self.inside.tables.events.events c.fail-lost.result (rw c.fail-lost.ensures.failed at c.fail-lost.ensures.lost));
     }
