@@ -34,6 +34,8 @@ mod SendLemmas
 mod ToldLemmas
 -- what a received message that was done comes to
 mod OutcomeLemmas
+-- and once its thread is answered and due events have given their pulses
+mod PerformLemmas
 -- a deed to a user's resources, in what all users share and in the channel
 mod ServeLemmas
 -- a message is served, as in the machine

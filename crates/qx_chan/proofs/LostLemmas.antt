@@ -25,7 +25,7 @@ use Rattle.qx_queues.specs.Queues.{disconnect_of, stands, unblock_call}
 use Rattle.qx_shared.specs.Shared.{Shared, has_disconnect_node, has_thread, waiting_in, with_shared_disconnect}
 use Rattle.qx_procs.specs.Calls.{LosesAt}
 use Rattle.qx_chan.specs.Users.{Users, process_of, thread_row, with_process_of}
-use Rattle.qx_chan.specs.inner.Kept.{HasServerNodes, IsWaiting, StandTogether, asked_call, lost_of, nodes_for, stands_at, with_lost}
+use Rattle.qx_chan.specs.inner.Kept.{HasServerNodes, HasServerNodesOf, IsWaiting, StandTogether, asked_call, nodes_for, stands_at, with_lost}
 use Rattle.qx_chan.specs.Nodes.{served_at}
 use Rattle.qx_queues.proofs.EntryLemmas.{line_at-other, line_at-same}
 use Rattle.qx_queues.proofs.LineLemmas.{call-disconnected, stands-disconnected}
@@ -38,12 +38,6 @@ use Rattle.qx_chan.proofs.ProcessLemmas.{process_of-same}
 use Rattle.qx_chan.proofs.ServeLemmas.{shown}
 
 -- ---- what is lost, as the machine tells it
-
-pub lost-listed : (lost : Option ServerName) (before after : Option Process) → LosesAt lost before after → lost_of before after ≡ option_to_list lost
-lost-listed lost (Some before) (Some after) loses = loses.lost_is
-lost-listed lost None None none = rw none refl
-lost-listed lost (Some before) None loses = absurd loses
-lost-listed lost None (Some after) loses = absurd loses
 
 first-listed : (lost : Option ServerName) → take 1 (option_to_list lost) ≡ option_to_list lost
 first-listed None = refl
@@ -175,10 +169,10 @@ Kept-lost users queues proc before lost beside had loses =
     (λ manager. lost-node proc lost queues manager ∙ ap (λ b. b && not (is_at manager lost)) (had manager) ∙ sym (lost-served lost before (process_of users proc) loses manager))
 
 -- what is lost has its node
-pub lost-there : (users : Users) (queues : Shared) (proc : Proc) (after : Option Process) (lost : Option ServerName) → HasServerNodes users queues proc → LosesAt lost (process_of users proc) after
+pub lost-there : (queues : Shared) (proc : Proc) (before after : Option Process) (lost : Option ServerName) → HasServerNodesOf before queues proc → LosesAt lost before after
     → IfSome lost (λ server. IsTrue (has_disconnect_node queues proc (manager_number server.manager)))
-lost-there users queues proc after None nodes loses = tt
-lost-there users queues proc after (Some server) nodes loses = nodes server.manager ∙ lost-used (Some server) (process_of users proc) after loses
+lost-there queues proc before after None nodes loses = tt
+lost-there queues proc before after (Some server) nodes loses = nodes server.manager ∙ lost-used (Some server) before after loses
 
 -- the channel, once the pulse of what is lost stands in its line
 pub shown-lost : (users : Users) (proc : Proc) (f : Process → Process) (queues : Shared) (mounts : List (List MountPoint)) (events : List Events) (lost : Option ServerName) → LosesAt lost (process_of users proc) (process_of (with_process_of users proc f) proc)

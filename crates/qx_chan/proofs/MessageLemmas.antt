@@ -1,14 +1,12 @@
 -- A received message is performed: what its thread's row and the queues tell before, and what comes of that, as in the machine.
 use Rattle.std.proofs.Common.{◌≡◌, ◌≤◌, inl, inr, ℕ, List, Option, Some, None, Ok, Err, refl, sym, ◌∙◌, ap}
 use Rattle.std.specs.Prelude.{[], IfOk, IsSome, Result}
-use Rattle.std.proofs.lemmas.Option.{same_Some}
 use Rattle.qx_types.specs.Managers.{manager_number}
 use Rattle.qx_types.specs.declared.errno.Errno.{Errno}
 use Rattle.qx_types.specs.declared.errno.Errno.TheVariants.{EBADF}
 use Rattle.qx_types.specs.declared.limits.TheConstants.Limits.{PROCESSES}
 use Rattle.qx_types.specs.declared.names.Coid.{Coid}
 use Rattle.qx_types.specs.declared.names.Thread.{Thread}
-use Rattle.qx_wire.specs.declared.message.Meaning.{Meaning}
 use Rattle.qx_wire.specs.Reading.{meaning}
 use Rattle.qx_machine.specs.declared.rows.Sent.{Sent}
 use Rattle.qx_machine.specs.declared.rows.State.TheVariants.{Taken}
@@ -28,13 +26,13 @@ use Rattle.qx_resmgr.specs.declared.functions.Done.TheVariants.{NoReply, Reply}
 use Rattle.qx_resources.specs.State as state
 use Rattle.qx_resources.specs.inner.State.{IsCallerReceived}
 use Rattle.qx_resources.specs.State.{told}
-use Rattle.qx_resources.specs.Told.{told_by}
 use Rattle.qx_resources.specs.declared.tables.Tables.{Tables as AllTables}
-use Rattle.qx_chan.specs.inner.Calls.{taken_bytes, taken_call}
+use Rattle.qx_chan.specs.Calls.{call_with}
+use Rattle.qx_chan.specs.inner.Calls.{taken_call}
 use Rattle.qx_chan.specs.inner.Kept.{StandTogether}
-use Rattle.qx_chan.specs.inner.Serving.{Sends, caller_of_call, deed_in, told_in}
+use Rattle.qx_chan.specs.inner.Serving.{caller_of_call, deed_in}
 use Rattle.qx_chan.specs.Serving.{Serves, part_in, settled}
-use Rattle.qx_chan.specs.Users.{Users, process_of_user, process_of, thread_row}
+use Rattle.qx_chan.specs.Users.{Users, process_of_user, thread_row}
 use Rattle.qx_chan.specs.declared.call.Call.{Call}
 use Rattle.qx_chan.proofs.AnswerLemmas.{taken-stands, taken-unwaiting}
 use Rattle.qx_chan.proofs.CallLemmas.{taken_is, waits}
@@ -81,58 +79,30 @@ pub record Received (users : Users) (thread : Thread) (call : Call) : Type 0 whe
   pub at : row_at process.threads thread.tid ≡ Some row
   pub sent : Sent
   pub is : row.state ≡ Taken sent
-  pub call_is : record { target = sent.target; number = row.calls; is_asked = sent.is_asked } ≡ call
+  pub call_is : call_with row sent ≡ call
 
-pub received : (users : Users) (thread : Thread) (call : Call) → Some call ≡ taken_call (thread_row users thread) → Received users thread call
-received users thread call is = elim (option_cases (row_at users thread.proc.user.0)) [
-  | inl none ↦ let clash : Some call ≡ None = rw none at is in absurd (cc)
-  | inr processes ↦ elim (option_cases (row_at processes.0 thread.proc.num)) [
-    | inl none ↦ let clash : Some call ≡ None = rw (processes.1, none) at is in absurd (cc)
-    | inr process ↦
-        let it = waits taken_in (row_at process.0.threads thread.tid) call (rw (processes.1, process.1) at is) in
-        record {
-          processes = processes.0;
-          user = processes.1;
-          process = process.0;
-          there = process.1;
-          row = it.row;
-          at = it.there;
-          sent = it.sent;
-          is = taken_is it.row.state it.sent it.is;
-          call_is = λ i. record { target = sym it.target i; number = sym it.number i; is_asked = sym it.asked i };
-        }
-  ]
-]
-
--- its process, and its bytes
-pub sends : (users : Users) (thread : Thread) (call : Call) (its : Received users thread call) → Sends users thread its.process its.sent.bytes
-sends users thread call its = record {
-  there = ap (process_of_user thread.proc.num) its.user ∙ its.there;
-  bytes_are = rw (its.user, its.there, its.at, its.is) refl;
+-- where these were read, one after the other
+abbrev pub received : (users : Users) (thread : Thread) (processes : List (Option Process)) → Some processes ≡ row_at users thread.proc.user.0 → (process : Process) → Some process ≡ row_at processes thread.proc.num
+    → (row : ThreadRow) → Some row ≡ row_at process.threads thread.tid → (sent : Sent) → Some sent ≡ taken_in row.state → (call : Call) → call ≡ call_with row sent → Received users thread call
+received users thread processes user process there row at sent is call call_is = record {
+  processes = processes;
+  user = sym user;
+  process = process;
+  there = sym there;
+  row = row;
+  at = sym at;
+  sent = sent;
+  is = taken_is row.state sent (sym is);
+  call_is = sym call_is;
 }
+
+pub taken-received : (users : Users) (thread : Thread) (call : Call) → Received users thread call → Some call ≡ taken_call (thread_row users thread)
+taken-received users thread call its = rw (its.user, its.there, its.at, its.is) (ap Some (sym its.call_is))
 
 -- what the machine serves
 pub serves-message : (part : Part) (number thread moment : ℕ) (process : Process) (row : ThreadRow) (sent : Sent) → row_at part.processes number ≡ Some process → row_at process.threads thread ≡ Some row → taken_in row.state ≡ Some sent
     → serve_message part number thread moment ≡ Ok (served_by part (caller_of number thread row sent) sent (deed_of part.resources (context_of process (caller_of number thread row sent) sent.target moment (meaning sent.bytes)) (meaning sent.bytes)))
 serves-message part number thread moment process row sent there at is = rw (there, at, is) refl
-
--- its bytes are those that are read, and it comes to what these mean
-module _ (users : Users) (thread : Thread) (process : Process) (bytes : List ℕ) (of : Sends users thread process bytes) (found : Process) (there : Some found ≡ process_of users thread.proc) (given : List ℕ)
-    (read : Some given ≡ taken_bytes (thread_of thread.tid (Some found))) (means : Meaning) (is : means ≡ meaning given) where
-  found-is : found ≡ process
-  found-is = same_Some found process (there ∙ of.there)
-
-  pub meaning-served : means ≡ meaning bytes
-  meaning-served = is ∙ ap meaning (same_Some given bytes (read ∙ ap (λ place. taken_bytes (thread_of thread.tid place)) there ∙ of.bytes_are))
-
-  -- and it is told so
-  pub told-served : (k : state.Kept) (w : AllTables) (call : Call) (moment : ℕ)
-      → told_by call.target.manager (told k w) (context_of found (caller_of_call thread call) call.target moment means) means (deed_of (told k w) (context_of found (caller_of_call thread call) call.target moment means) means)
-      ≡ told_in k w process (record { thread = thread; call = call; moment = moment }) bytes
-  told-served k w call moment =
-      let tells = λ (process : Process) (means : Meaning).
-      told_by call.target.manager (told k w) (context_of process (caller_of_call thread call) call.target moment means) means (deed_of (told k w) (context_of process (caller_of_call thread call) call.target moment means) means) in
-      ap (λ process. tells process means) found-is ∙ ap (tells process) meaning-served
 
 -- ---- after
 
@@ -161,10 +131,10 @@ module _ (thread : Thread) (moment : ℕ) where
 
 -- whether doing a received message may want memory is told by its call
 pub received-wants : (users : Users) (w : AllTables) (k : state.Kept) (thread : Thread) (call : Call) (its : Received users thread call) → k.user ≡ thread.proc.user.0 → (moment : ℕ)
-    → thread_wants_memory (part_in (shown users w.shared w.mounts w.events.events) k) thread.proc.num thread.tid moment ≡ bytes_want_memory call.target.manager (told k w) (meaning its.sent.bytes) (deed_in k w its.process (record { thread = thread; call = call; moment = moment }) its.sent.bytes)
+    → thread_wants_memory (part_in (shown users w.shared w.mounts w.events.events) k) thread.proc.num thread.tid moment ≡ bytes_want_memory call.target.manager (told k w) (meaning its.sent.bytes) (deed_in k w its.process thread call moment its.sent.bytes)
 received-wants users w k thread call its of moment =
     rw (ap (row_at users) of ∙ its.user, its.there, its.at, ap taken_in its.is)
-    (ap (λ (call : Call). bytes_want_memory call.target.manager (told k w) (meaning its.sent.bytes) (deed_in k w its.process (record { thread = thread; call = call; moment = moment }) its.sent.bytes)) its.call_is)
+    (ap (λ (call : Call). bytes_want_memory call.target.manager (told k w) (meaning its.sent.bytes) (deed_in k w its.process thread call moment its.sent.bytes)) its.call_is)
 
 -- the spare room is there still, where there is a reply
 pub room-there : {R : Type 0} (before room : Option R) (given : Result Done Errno) → IsSome before → HasRoomAfter before room given → IsReplied given → IsSome room

@@ -1,6 +1,6 @@
 -- The room for nodes: a disconnect node comes out of it as a server connection comes into use, and goes back once its pulse is received.
 use Rattle.std.proofs.Common.{◌≡◌, ◌-◌, ℕ, ◌&&◌, Bool, true, false, List, Result, Ok, Err, length, ap, refl, ◌∙◌}
-use Rattle.std.specs.Prelude.{if◌then◌else◌, max}
+use Rattle.std.specs.Prelude.{Option, Some, if◌then◌else◌, max, slice_set}
 use Rattle.std.proofs.lemmas.Bool.{cond_both}
 use Rattle.qx_types.specs.Managers.{manager_number}
 use Rattle.qx_types.specs.declared.errno.Errno.{Errno}
@@ -10,6 +10,7 @@ use Rattle.qx_types.specs.declared.outcome.Answer.{Answer}
 use Rattle.qx_types.specs.declared.outcome.Outcome.{Outcome}
 use Rattle.qx_paths.specs.Prefixes.{MountPoint}
 use Rattle.qx_machine.specs.declared.rows.Over.{Over}
+use Rattle.qx_machine.specs.declared.rows.OwnItem.TheVariants as item
 use Rattle.qx_machine.specs.declared.rows.Queued.{Queued}
 use Rattle.qx_machine.specs.declared.rows.Sent.{Sent}
 use Rattle.qx_machine.specs.declared.rows.ServerName.{ServerName}
@@ -17,25 +18,26 @@ use Rattle.qx_machine.specs.declared.rows.WaitingCall.{WaitingCall}
 use Rattle.qx_machine.specs.Events.{Events}
 use Rattle.qx_machine.specs.Functions.{Deed}
 use Rattle.qx_machine.specs.Lines.{into, with_line}
-use Rattle.qx_machine.specs.Machine.{rank}
-use Rattle.qx_machine.specs.Processes.{with_queued}
+use Rattle.qx_machine.specs.Machine.{line_without, rank}
+use Rattle.qx_machine.specs.Processes.{Process, lost_servers, with_queued}
 use Rattle.qx_machine.specs.Resources.{Resources}
+use Rattle.qx_machine.specs.Rows.{row_at, with_row}
 use Rattle.qx_machine.specs.Waiting.{Pipes}
 use Rattle.qx_queues.specs.Queues.{message_of}
-use Rattle.qx_shared.specs.Shared.{Shared, has_disconnect_node, shared_after, with_pipes, with_shared_line, with_shared_server}
+use Rattle.qx_shared.specs.Shared.{Shared, has_disconnect_node, shared_after, with_pipes, with_shared_disconnect, with_shared_line, with_shared_server}
 use Rattle.qx_resmgr.specs.declared.functions.Done.{Done}
 use Rattle.qx_resmgr.specs.declared.functions.Done.TheVariants.{NoReply, Reply}
 use Rattle.qx_resources.specs.State.{Kept}
 use Rattle.qx_resources.specs.declared.tables.Tables.{Tables}
-use Rattle.qx_chan.specs.inner.Answers.{answered_queues}
+use Rattle.qx_chan.specs.inner.Answers.{answered_queues, without_pulse}
 use Rattle.qx_chan.specs.Channel.{after_send}
-use Rattle.qx_chan.specs.inner.Kept.{StandTogether, lost_of, with_attached, with_lost, with_room}
+use Rattle.qx_chan.specs.inner.Kept.{StandTogether, with_room, with_sent}
 use Rattle.qx_chan.specs.inner.Serving.{Comes}
 use Rattle.qx_chan.specs.Nodes.{attaches, room_for, room_used, served_at}
 use Rattle.qx_chan.specs.Users.{Users, UsesAt, process_of, with_process_of}
 use Rattle.qx_chan.specs.declared.call.Call.{Call}
 use Rattle.qx_chan.proofs.LostLemmas.{lost-fields}
-use Rattle.qx_chan.proofs.SendLemmas.{and_second, uses-unmade}
+use Rattle.qx_chan.proofs.SendLemmas.{and_second, left-called, users-called, uses-called, uses-unmade}
 use Rattle.qx_chan.proofs.ServeLemmas.{shown}
 
 room_made : (room : ℕ) (before after : Bool) → after ≡ true → (if before then room else room - 1) ≡ room_used room before after
@@ -66,7 +68,7 @@ module _ (users : Users) (queues : Shared) (thread : Thread) (sent : Sent) (kept
   with_message = with_shared_line (with_room over queues) number change
 
   abbrev sent_queues : Shared
-  sent_queues = with_attached thread.proc (process_of sent_users thread.proc) sent.target with_message
+  sent_queues = with_sent thread sent (process_of sent_users thread.proc) queues
 
   abbrev was_served : Bool
   was_served = served_at sent.target.manager (process_of users thread.proc)
@@ -87,10 +89,10 @@ module _ (users : Users) (queues : Shared) (thread : Thread) (sent : Sent) (kept
   had_node : has_disconnect_node with_message thread.proc number ≡ was_served
   had_node = cond_both {A = Shared} (attaches over) _ _ (λ d. has_disconnect_node d thread.proc number ≡ was_served) (λ does. kept.servers thread.proc sent.target.manager) (λ not. kept.servers thread.proc sent.target.manager)
 
-  pub places-sent : UsesAt sent.target (process_of users thread.proc) (process_of sent_users thread.proc) → length sent_queues.pipes ≡ length queues.pipes
-  places-sent uses = ap length (sent-fields (λ c. c.pipes) (λ c. refl) refl)
+  places-sent : length sent_queues.pipes ≡ length queues.pipes
+  places-sent = ap length (sent-fields (λ c. c.pipes) (λ c. refl) refl)
 
-  pub shown-sent : UsesAt sent.target (process_of users thread.proc) (process_of sent_users thread.proc) → (mounts : List (List MountPoint)) (events : List Events) → shown sent_users sent_queues mounts events ≡ after_send (shown users queues mounts events) thread sent
+  shown-sent : UsesAt sent.target (process_of users thread.proc) (process_of sent_users thread.proc) → (mounts : List (List MountPoint)) (events : List Events) → shown sent_users sent_queues mounts events ≡ after_send (shown users queues mounts events) thread sent
   shown-sent uses mounts events = λ i. record { users = sent_users; lines = lines i; pipes = pipes i; events = events; mounts = mounts; room = room i }
     where
       lines : sent_queues.lines ≡ with_line queues.lines number change
@@ -106,15 +108,33 @@ module _ (users : Users) (queues : Shared) (thread : Thread) (sent : Sent) (kept
           ∙ room_made (room_for over queues.room) was_served is_served (and_second (attaches over) is_served does))
           (λ not. spared_room ∙ room_same (room_for over queues.room) was_served is_served (uses-unmade sent.target _ _ uses not))
 
--- what is lost makes and frees no node
-pub room-lost : (proc : Proc) (lost : List ServerName) (c : Shared) → (with_lost proc lost c).room ≡ c.room
-room-lost proc lost c = lost-fields proc (λ c. c.room) (λ c server. refl) lost c
+-- the same on the processes of the thread's user, as they are lent for its call
+module _ (users : Users) (thread : Thread) (rows : List (Option Process)) (there : row_at users thread.proc.user.0 ≡ Some rows) (queues : Shared) (sent : Sent) (after : List (Option Process)) (left : Shared)
+    (changed : after ≡ with_row rows thread.proc.num (with_queued thread.tid sent))
+    (uses : UsesAt sent.target (row_at rows thread.proc.num) (row_at after thread.proc.num))
+    (put : left ≡ with_sent thread sent (row_at after thread.proc.num) queues)
+    (kept : StandTogether users queues) where
+  pub places-called : length left.pipes ≡ length queues.pipes
+  places-called = rw (left-called users thread rows there queues sent after left changed uses put) (places-sent users queues thread sent kept)
 
--- nor does a message that is answered, or is left without a reply
-pub room-answered : (queues : Shared) (before after : Users) (thread : Thread) (call : Call) (given : Result Done Errno) → (answered_queues queues before after thread call given).room ≡ queues.room
-room-answered queues before after thread call (Ok NoReply) = refl
-room-answered queues before after thread call (Ok (Reply status effect)) = room-lost thread.proc (lost_of (process_of before thread.proc) (process_of after thread.proc)) _
-room-answered queues before after thread call (Err error) = room-lost thread.proc (lost_of (process_of before thread.proc) (process_of after thread.proc)) _
+  pub shown-called : (mounts : List (List MountPoint)) (events : List Events) → shown (slice_set users thread.proc.user.0 (Some after)) left mounts events ≡ after_send (shown users queues mounts events) thread sent
+  shown-called mounts events =
+      rw (users-called users thread rows there queues sent after left changed uses put, left-called users thread rows there queues sent after left changed uses put)
+      (shown-sent users queues thread sent kept (uses-called users thread rows there queues sent after left changed uses put) mounts events)
+
+-- a message that is answered, or is left without a reply, touches nothing else of what is shared than lines and disconnect nodes
+module _ {A : Type 0} (read : Shared → A) (lost_same : (c : Shared) (proc : Proc) (server : ServerName) → read (with_shared_disconnect c proc server) ≡ read c)
+    (line_same : (c : Shared) (number : ℕ) (change : List Queued → List Queued) → read (with_shared_line c number change) ≡ read c) where
+  replied-fields : (queues : Shared) (before after : Process) (thread : Thread) (call : Call) → read (without_pulse queues before after thread call) ≡ read queues
+  replied-fields queues before after thread call =
+      let number = manager_number call.target.manager in
+      let change = line_without thread.proc.user.0 (item.Unblock thread.proc.num thread.tid call.number) in
+      lost-fields thread.proc read (λ c server. lost_same c thread.proc server) (lost_servers before after) (with_shared_line queues number change) ∙ line_same queues number change
+
+  pub answered-fields : (queues : Shared) (before after : Process) (thread : Thread) (call : Call) (given : Result Done Errno) → read (answered_queues queues before after thread call given) ≡ read queues
+  answered-fields queues before after thread call (Ok NoReply) = refl
+  answered-fields queues before after thread call (Ok (Reply status effect)) = replied-fields queues before after thread call
+  answered-fields queues before after thread call (Err error) = replied-fields queues before after thread call
 
 -- what a function does to a user's resources touches nothing else of what is shared than the user's pipes and the answers to calls in them
 pub did-fields : {A : Type 0} (read : Shared → A) → ((c : Shared) (user : ℕ) (pipes : Pipes) (answers : List (WaitingCall × Answer)) → read (with_pipes c user pipes answers) ≡ read c)

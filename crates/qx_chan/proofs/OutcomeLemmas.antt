@@ -3,7 +3,7 @@
 use Rattle.std.proofs.Common.{◌≡◌, ◌⊎◌, subst, inl, inr, ℕ, ◌∷◌, ◌++◌, [], true, false, List, Option, Some, None, Result, Ok, Err, map, refl, sym, ◌∙◌, ap, ap₂}
 use Rattle.std.proofs.lemmas.Bool.{eq-eqb}
 use Rattle.std.specs.Option.{option_to_list}
-use Rattle.std.specs.Prelude.{if◌then◌else◌, is_some, option_map, take, unwrap_or}
+use Rattle.std.specs.Prelude.{if◌then◌else◌, is_some, option_map, take}
 use Rattle.std.proofs.lemmas.List.{append-nil}
 use Rattle.std.proofs.lemmas.Result.{IfOk-at_ok}
 use Rattle.qx_types.specs.Managers.{manager_number}
@@ -48,20 +48,20 @@ use Rattle.qx_resources.specs.State as state
 use Rattle.qx_resources.specs.State.{told}
 use Rattle.qx_resources.specs.declared.tables.Tables.{Tables as AllTables}
 use Rattle.qx_resources.proofs.ToldLemmas.{RepliedAlone, ToldAlone, alone-cases, told-cases}
+use Rattle.qx_process.specs.Reads.{Loses}
 use Rattle.qx_procs.specs.Calls.{LosesAt}
-use Rattle.qx_chan.specs.inner.Answers.{answered_queues, answered_users, given_lines, given_users, without_pulse}
-use Rattle.qx_chan.specs.inner.Calls.{taken_call}
+use Rattle.qx_chan.specs.inner.Answers.{answered_process, answered_queues, given_lines, given_users, without_pulse}
 use Rattle.qx_chan.specs.Channel.{failed}
 use Rattle.qx_chan.specs.inner.Channel.{process_replied}
 use Rattle.qx_chan.specs.inner.Kept.{Answering, StandTogether, with_lost, asked_call, is_asked_at, is_queued_at, is_waiting_for, stands_at, waits_for}
 use Rattle.qx_chan.specs.Serving.{Serves, settled}
 use Rattle.qx_chan.specs.inner.Serving.{Comes, Leaves, caller_of_call, deed_in, told_in}
-use Rattle.qx_chan.specs.Users.{Users, lives_in, process_of_user, process_of, thread_row, with_process_of, with_thread_row}
+use Rattle.qx_chan.specs.Users.{Users, process_of_user, process_of, thread_row, with_process_of, with_thread_row}
 use Rattle.qx_chan.specs.declared.call.Call.{Call}
 use Rattle.qx_chan.proofs.AnswerLemmas.{IsAnswer, fails, replies}
 use Rattle.qx_chan.proofs.GivenLemmas.{resources-machine}
-use Rattle.qx_chan.proofs.LostLemmas.{lost-fields, lost-lines, lost-listed, lost-pulses, none-lost}
-use Rattle.qx_chan.proofs.MessageLemmas.{Received, received, serves-message}
+use Rattle.qx_chan.proofs.LostLemmas.{lost-fields, lost-lines, lost-pulses, none-lost}
+use Rattle.qx_chan.proofs.MessageLemmas.{Received, serves-message, taken-received}
 use Rattle.qx_chan.proofs.ServeLemmas.{Answering-left, Serves-given, Waits, given_all, left-same, nothing_done, shown, waits-before}
 use Rattle.qx_chan.proofs.ProcessLemmas.{process_of-same}
 use Rattle.qx_chan.proofs.ToldLemmas.{KeepsPipes, LeavesOwn, asked-existing, asked-own, asked-pipes, told-serves}
@@ -107,10 +107,7 @@ pipe_or_ram : (manager : Manager) → (manager ≡ Pipe) ⊎ (manager ≡ Ram)
 pipe_or_ram Pipe = inl refl
 pipe_or_ram Ram = inr refl
 
-module _ (users : Users) (w : AllTables) (thread : Thread) (call : Call) (taken : Some call ≡ taken_call (thread_row users thread)) (kept : StandTogether users w.shared) where
-  abbrev its : Received users thread call
-  its = received users thread call taken
-
+module _ (users : Users) (w : AllTables) (thread : Thread) (call : Call) (its : Received users thread call) (kept : StandTogether users w.shared) where
   abbrev user : ℕ
   user = thread.proc.user.0
 
@@ -121,7 +118,7 @@ module _ (users : Users) (w : AllTables) (thread : Thread) (call : Call) (taken 
   drop_pulse = line_without user (item.Unblock thread.proc.num thread.tid call.number)
 
   -- no unblock pulse of the call is left
-  abbrev Gone : Shared → Type 0
+  abbrev pub Gone : Shared → Type 0
   Gone d = unblock_call (line_at d.lines (manager_number manager)) thread ≡ Some call.number → unblock_call (drop_pulse (line_at d.lines (manager_number manager))) thread ≡ None
 
   -- ---- the message is served
@@ -152,7 +149,7 @@ module _ (users : Users) (w : AllTables) (thread : Thread) (call : Call) (taken 
     part = record { processes = its.processes; resources = told k w }
 
     abbrev meant : Result (Deed Resources) Errno
-    meant = deed_in k w its.process (record { thread = thread; call = call; moment = moment }) its.sent.bytes
+    meant = deed_in k w its.process thread call moment its.sent.bytes
 
     -- what it is served with
     abbrev context : Context
@@ -160,7 +157,7 @@ module _ (users : Users) (w : AllTables) (thread : Thread) (call : Call) (taken 
 
     -- how it is told
     abbrev told_so : Result (Deed Resources) Errno
-    told_so = told_in k w its.process (record { thread = thread; call = call; moment = moment }) its.sent.bytes
+    told_so = told_in k w its.process thread call moment its.sent.bytes
 
     abbrev served : Part → Served
     served part = or_kept part (serve_message part thread.proc.num thread.tid moment)
@@ -173,11 +170,8 @@ module _ (users : Users) (w : AllTables) (thread : Thread) (call : Call) (taken 
     served_by r = record { part = after_answer part thread.proc.num thread.tid call.target.over r; changes = served_changes manager (caller_of_call thread call) (lost_by r) r }
 
     -- the disconnect pulse of what is lost
-    lost_pulses : (f : Process → Process) (lost : Option ServerName) → LosesAt lost (process_of users thread.proc) (process_of (with_process_of users thread.proc f) thread.proc)
-        → disconnects thread.proc.num f (row_at part.processes thread.proc.num) ≡ map (disconnect thread.proc.num) (option_to_list lost)
-    lost_pulses f lost loses =
-        ap (disconnects thread.proc.num f) (sym (ap (process_of_user thread.proc.num) its.user))
-        ∙ lost-pulses thread.proc.num f (process_of users thread.proc) lost (subst (LosesAt lost (process_of users thread.proc)) (process_of-same users thread.proc f) loses)
+    lost_pulses : (f : Process → Process) (lost : Option ServerName) → Loses lost its.process (f its.process) → disconnects thread.proc.num f (row_at part.processes thread.proc.num) ≡ map (disconnect thread.proc.num) (option_to_list lost)
+    lost_pulses f lost loses = lost-pulses thread.proc.num f (row_at part.processes thread.proc.num) lost (rw its.there loses)
 
     -- what is left without a reply loses nothing
     nothing_lost : (deed : Deed Resources) → None ≡ deed.reply → [] ≡ lost_by (Ok deed)
@@ -189,10 +183,10 @@ module _ (users : Users) (w : AllTables) (thread : Thread) (call : Call) (taken 
 
     served_is : served part ≡ served_by meant
     served_is = subst (λ (c : Call). served part ≡ record {
-      part = after_answer part thread.proc.num thread.tid c.target.over (deed_in k w its.process (record { thread = thread; call = c; moment = moment }) its.sent.bytes);
+      part = after_answer part thread.proc.num thread.tid c.target.over (deed_in k w its.process thread c moment its.sent.bytes);
       changes = served_changes c.target.manager (caller_of_call thread c)
-          (disconnects thread.proc.num (after_message thread.tid c.target.over (deed_in k w its.process (record { thread = thread; call = c; moment = moment }) its.sent.bytes)) (row_at part.processes thread.proc.num))
-          (deed_in k w its.process (record { thread = thread; call = c; moment = moment }) its.sent.bytes);
+          (disconnects thread.proc.num (after_message thread.tid c.target.over (deed_in k w its.process thread c moment its.sent.bytes)) (row_at part.processes thread.proc.num))
+          (deed_in k w its.process thread c moment its.sent.bytes);
     }) its.call_is
         (ap (or_kept part) (serves-message part thread.proc.num thread.tid moment its.process its.row its.sent its.there its.at (ap taken_in its.is)))
 
@@ -223,12 +217,12 @@ module _ (users : Users) (w : AllTables) (thread : Thread) (call : Call) (taken 
 
       -- the thread is answered too
       answered : (f : Process → Process) (given : Answer) → IsAnswer thread.tid given f → InDeed (Waits users k.user) deed → Gone v.shared
-          → (lost : Option ServerName) → LosesAt lost (process_of users thread.proc) (process_of (with_process_of users thread.proc f) thread.proc)
+          → (lost : Option ServerName) → Loses lost its.process (f its.process)
           → given_users (with_process_of users thread.proc f) (map (users_given user) deed.answers) ≡ with_row users user (λ _. (served_by r).part.processes)
           → given_lines (lines_after user (with_line w.shared.lines (manager_number manager) drop_pulse) (map (disconnect thread.proc.num) (option_to_list lost))) (map (users_given user) deed.answers) ≡ lines_after user w.shared.lines (served_by r).changes
-          → After (with_process_of users thread.proc f) (without_pulse v.shared users (with_process_of users thread.proc f) thread call) v.mounts v.events.events k l served
-      answered f given answers keeps gone lost loses rows_are lines_are = rw (lost-listed lost (process_of users thread.proc) (process_of rows thread.proc) loses) (
-        Answering-answered users v.shared thread call taken (Answering-left users k.user w.shared v.shared deed kept left.shared keeps) f given answers gone lost loses,
+          → After (with_process_of users thread.proc f) (without_pulse v.shared its.process (f its.process) thread call) v.mounts v.events.events k l served
+      answered f given answers keeps gone lost loses rows_are lines_are = rw loses.lost_is (
+        Answering-answered users v.shared thread call (taken-received users thread call its) (Answering-left users k.user w.shared v.shared deed kept left.shared keeps) f given answers gone lost loses_there,
         serves rows after (lost-fields thread.proc (λ c. c.answered) (λ c server. refl) (option_to_list lost) dropped) (lost-fields thread.proc (λ c. c.pipes) (λ c server. refl) (option_to_list lost) dropped) rows_are
             (ap (λ lines. given_lines lines (map (users_given user) deed.answers))
             (lost-lines thread.proc (option_to_list lost) dropped ∙ ap (λ q. lines_after user (with_line q.lines (manager_number manager) drop_pulse) (map (disconnect thread.proc.num) (option_to_list lost))) left.shared)
@@ -244,6 +238,9 @@ module _ (users : Users) (w : AllTables) (thread : Thread) (call : Call) (taken 
           after : Shared
           after = with_lost thread.proc (option_to_list lost) dropped
 
+          loses_there : LosesAt lost (process_of users thread.proc) (process_of rows thread.proc)
+          loses_there = rw (process_of-same users thread.proc f, its.user, its.there) loses
+
     module _ (deed : Deed Resources) (left : Leaves (is_living its.processes) k w l v deed) (same : served_by meant ≡ served_by (Ok deed)) where
       -- the rows and the lines, by the reply
       rows_by : (reply : Option Reply) → reply ≡ deed.reply → given_users (with_process_of users thread.proc (after_serving thread.tid call.target.over reply)) (map (users_given user) deed.answers) ≡ with_row users user (λ _. (served_by (Ok deed)).part.processes)
@@ -254,8 +251,8 @@ module _ (users : Users) (w : AllTables) (thread : Thread) (call : Call) (taken 
       lines_by reply lost reply_is lost_is = ap₂ (λ r pulses. lines_after user w.shared.lines ((if is_some r then own_change manager (caller_of_call thread call) ∷ [] else []) ++ pulses ++ answered_changes manager deed.answers)) reply_is lost_is
 
       reply_after : InDeed (Waits users k.user) deed → (manager ≡ Pipe) ⊎ (deed.answers ≡ []) → (status : ℕ) (bytes : List ℕ) (effect : Effect) → Some (record { status = status; bytes = bytes; effect = effect }) ≡ deed.reply → Gone v.shared
-          → (lost : Option ServerName) → LosesAt lost (process_of users thread.proc) (process_of (with_process_of users thread.proc (process_replied thread.tid effect status bytes call.target.over)) thread.proc)
-          → After (with_process_of users thread.proc (process_replied thread.tid effect status bytes call.target.over)) (without_pulse v.shared users (with_process_of users thread.proc (process_replied thread.tid effect status bytes call.target.over)) thread call) v.mounts v.events.events k l served
+          → (lost : Option ServerName) → Loses lost its.process (process_replied thread.tid effect status bytes call.target.over its.process)
+          → After (with_process_of users thread.proc (process_replied thread.tid effect status bytes call.target.over)) (without_pulse v.shared its.process (process_replied thread.tid effect status bytes call.target.over its.process) thread call) v.mounts v.events.events k l served
       reply_after keeps of_pipe status bytes effect reply_is gone lost loses =
           let reply : Reply = record { status = status; bytes = bytes; effect = effect } in
           let pulses = map (disconnect thread.proc.num) (option_to_list lost) in
@@ -276,8 +273,8 @@ module _ (users : Users) (w : AllTables) (thread : Thread) (call : Call) (taken 
 
   -- it is refused, and nothing of the resources or what is shared is different
   error_after : (k : state.Kept) (of : k.user ≡ user) (moment : ℕ) (error : Errno) → meant k k w of moment ≡ Err error → Gone w.shared
-      → (lost : Option ServerName) → LosesAt lost (process_of users thread.proc) (process_of (with_process_of users thread.proc (failed thread.tid error call.target.over)) thread.proc)
-      → After (with_process_of users thread.proc (failed thread.tid error call.target.over)) (without_pulse w.shared users (with_process_of users thread.proc (failed thread.tid error call.target.over)) thread call) w.mounts w.events.events k k (served k k w of moment)
+      → (lost : Option ServerName) → Loses lost its.process (failed thread.tid error call.target.over its.process)
+      → After (with_process_of users thread.proc (failed thread.tid error call.target.over)) (without_pulse w.shared its.process (failed thread.tid error call.target.over its.process) thread call) w.mounts w.events.events k k (served k k w of moment)
   error_after k of moment error is gone lost loses =
       let pulses = map (disconnect thread.proc.num) (option_to_list lost) in
       answered k k w of moment (nothing_done (told k w)) (left-same (is_living its.processes) k w) (Err error) (ap (served_by k k w of moment) is) refl (failed thread.tid error call.target.over) (answer.Failed error) (fails thread.tid error call.target.over)
@@ -287,18 +284,18 @@ module _ (users : Users) (w : AllTables) (thread : Thread) (call : Call) (taken 
       ∙ ap (lines_after user w.shared.lines) (append-nil (own_change manager (caller_of_call thread call) ∷ pulses))
       ∙ ap (λ lost. lines_after user w.shared.lines (own_change manager (caller_of_call thread call) ∷ lost)) (sym (lost_pulses k k w of moment (failed thread.tid error call.target.over) lost loses)))
 
-  -- the rows and what is shared once the message is answered, unless it is left without a reply
-  abbrev rows_then : List ℕ → Result Done Errno → Users
-  rows_then bytes given = answered_users users thread call.target.over bytes given
+  -- the process once the message is answered, unless it is left without a reply
+  abbrev answer_by : List ℕ → Result Done Errno → Process → Process
+  answer_by bytes given = answered_process thread.tid call.target.over bytes given
 
   abbrev Outcome : state.Kept → state.Kept → AllTables → ℕ → List ℕ → Result Done Errno → Type 0
   Outcome k l v moment bytes given =
-      After (rows_then bytes given) (answered_queues v.shared users (rows_then bytes given) thread call given) v.mounts v.events.events k l
+      After (with_process_of users thread.proc (answer_by bytes given)) (answered_queues v.shared its.process (answer_by bytes given its.process) thread call given) v.mounts v.events.events k l
       (λ part. or_kept part (serve_message part thread.proc.num thread.tid moment))
 
   -- its process has lost a server connection by that or none
   abbrev pub HasLost : List ℕ → Result Done Errno → Type 0
-  HasLost bytes given = (lost : Option ServerName) × LosesAt lost (process_of users thread.proc) (process_of (rows_then bytes given) thread.proc)
+  HasLost bytes given = (lost : Option ServerName) × Loses lost its.process (answer_by bytes given its.process)
 
   outcome_by : (k l : state.Kept) (v : AllTables) (of : k.user ≡ thread.proc.user.0) (moment : ℕ) (bytes : List ℕ) (given : Result Done Errno) (r : Result (Deed Resources) Errno) → meant k l v of moment ≡ r
       → Comes (is_living its.processes) k w l v bytes given r → (IsReplied given → Gone v.shared) → (IsReplied given → HasLost bytes given) → Outcome k l v moment bytes given
@@ -350,9 +347,9 @@ module _ (users : Users) (w : AllTables) (thread : Thread) (call : Call) (taken 
       by_given (Err error) did gone lost = absurd did
 
   -- what is told is meant, or told alone
-  told_by_cases : (k l : state.Kept) (v : AllTables) (of : k.user ≡ thread.proc.user.0) (moment : ℕ) (bytes : List ℕ) (given : Result Done Errno)
+  pub outcome : (k l : state.Kept) (v : AllTables) (of : k.user ≡ thread.proc.user.0) (moment : ℕ) (bytes : List ℕ) (given : Result Done Errno)
       → Comes (is_living its.processes) k w l v bytes given (told_so k l v of moment) → (IsReplied given → Gone v.shared) → (IsReplied given → HasLost bytes given) → Outcome k l v moment bytes given
-  told_by_cases k l v of moment bytes given did gone lost = elim (told-cases manager (told k w) (context k l v of moment) (meaning its.sent.bytes) (meant k l v of moment)) [
+  outcome k l v of moment bytes given did gone lost = elim (told-cases manager (told k w) (context k l v of moment) (meaning its.sent.bytes) (meant k l v of moment)) [
     | inl same ↦ outcome_by k l v of moment bytes given (told_so k l v of moment) (sym same) did gone lost
     | inr it ↦ by_meant it (meant k l v of moment) refl
   ]
@@ -365,8 +362,3 @@ module _ (users : Users) (w : AllTables) (thread : Thread) (call : Call) (taken 
             | inl same ↦ outcome_by k l v of moment bytes given (told_so k l v of moment) (is ∙ sym (told_is ∙ same)) did gone lost
             | inr one ↦ alone_by k l v of moment bytes given deed is it one (subst (Comes (is_living its.processes) k w l v bytes given) told_is did) gone lost
           ]
-
-  pub outcome : (k l : state.Kept) (v : AllTables) (of : k.user ≡ thread.proc.user.0) (moment : ℕ) (bytes : List ℕ) (given : Result Done Errno) (r : Result (Deed Resources) Errno) → told_so k l v of moment ≡ r
-      → Comes (lives_in users thread.proc.user.0) k w l v bytes given r → (IsReplied given → Gone v.shared) → (IsReplied given → HasLost bytes given) → Outcome k l v moment bytes given
-  outcome k l v of moment bytes given r is did =
-      told_by_cases k l v of moment bytes given (subst (Comes (is_living its.processes) k w l v bytes given) (sym is) (subst (λ lives. Comes lives k w l v bytes given r) (ap (λ rows. is_living (unwrap_or rows [])) its.user) did))

@@ -117,6 +117,12 @@ with_thread-put users thread g row there = elim (option_cases (row_at users thre
   ]
 ]
 
+-- a process that was lent from its user's, and is put back as it was
+pub process-put_back : (users : Users) (proc : Proc) (rows : List (Option Process)) (process : Process) → Some rows ≡ row_at users proc.user.0 → Some process ≡ row_at rows proc.num → slice_set users proc.user.0 (Some (slice_set rows proc.num (Some process))) ≡ users
+process-put_back users proc rows process user there = rw (set-row rows proc.num process (sym there)) (set-row users proc.user.0 rows (sym user))
+
+pub ruleset puts_back = (set-row, process-put_back)
+
 pub ruleset lends = (with_process-same, with_process-none, with_thread-none, with_row-none)
 
 -- a row that a refused call put back

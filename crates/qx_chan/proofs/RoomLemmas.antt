@@ -1,39 +1,25 @@
 -- Where the room for a thread's reply is, and which answers bring it.
-use Rattle.std.proofs.Common.{◌≡◌, List, ℕ, Bool, true, false, ◌&&◌, Option, Some, None, refl}
+use Rattle.std.proofs.Common.{◌≡◌, List, ℕ, true, Option, Some, None, refl}
 use Rattle.std.proofs.lemmas.Bool.{false≢true}
-use Rattle.std.specs.Prelude.{IfSome, IsFalse, IsTrue, is_some}
+use Rattle.std.specs.Prelude.{IfSome, IsTrue, is_some}
 use Rattle.qx_types.specs.declared.errno.Errno.{Errno}
 use Rattle.qx_types.specs.declared.outcome.Answer.{Answer}
 use Rattle.qx_types.specs.declared.outcome.Answer.TheVariants.{Failed}
-use Rattle.qx_machine.specs.declared.rows.Over.{Over}
-use Rattle.qx_machine.specs.declared.rows.Over.TheVariants.{Existing, New, Side}
 use Rattle.qx_machine.specs.declared.rows.State.{State}
 use Rattle.qx_machine.specs.declared.rows.State.TheVariants as state
 use Rattle.qx_machine.specs.declared.rows.ThreadRow.{ThreadRow}
 use Rattle.qx_machine.specs.Performing.{taken_in}
 use Rattle.qx_machine.specs.Processes.{keeps_room}
-use Rattle.qx_process.specs.Reads.{AwaitsReply, BringsRoom, BringsRoomIn, has_own_room, is_waiting}
+use Rattle.qx_process.specs.Reads.{AwaitsReply, BringsRoom, BringsRoomIn, is_waiting}
 use Rattle.qx_process.specs.Reads.{queued_in}
 use Rattle.qx_chan.specs.Calls.{queued_call}
 use Rattle.qx_chan.specs.inner.Calls.{taken_call}
-use Rattle.qx_chan.specs.Channel.{IsExisting}
-use Rattle.qx_chan.specs.Nodes.{attaches}
 use Rattle.qx_chan.specs.inner.Kept.{is_waiting_for, waits_for}
-use Rattle.qx_chan.specs.Users.{IsThreadReady}
 use Rattle.qx_chan.specs.declared.call.Call.{Call}
 use Rattle.qx_chan.proofs.CallLemmas.{queued_is, waits}
 
 abbrev Waits : Option ThreadRow → Type 0
 Waits place = IfSome place (λ row. IsTrue (is_waiting row.state))
-
--- a ready thread has its room with it
-pub ready-room : (place : Option ThreadRow) → IsThreadReady place → IfSome place (λ row. IsTrue row.has_room) → IfSome place (λ row. IsTrue (has_own_room row))
-ready-room None ready room = absurd ready
-ready-room (Some row) ready room = rw ready (by_room row.has_room room)
-  where
-    by_room : (b : Bool) → IsTrue b → IsTrue (b && true)
-    by_room true is = is
-    by_room false is = is
 
 -- an error to a thread whose message stands in a line brings none
 pub queued-brings : (error : Errno) (place : Option ThreadRow) (call : Call) → Some call ≡ queued_call place → BringsRoom (Failed error) None place
@@ -70,9 +56,3 @@ pub taken_awaits : (place : Option ThreadRow) (call : Call) → Some call ≡ ta
 taken_awaits place call is =
     let it = waits taken_in place call is in
     rw (it.there, it.is) refl
-
--- what goes over a connection that is there attaches nothing
-pub existing-attaches : (over : Over) → IsExisting over → IsFalse (attaches over)
-existing-attaches (Existing coid) existing = refl
-existing-attaches (New coid) existing = absurd existing
-existing-attaches Side existing = absurd existing

@@ -31,6 +31,10 @@ row_within xs n x is = elim (cases_lt n (length xs)) [
   | inr beyond ↦ let clash : None ≡ Some x = sym (row_at-past xs n beyond) ∙ is in absurd (cc)
 ]
 
+-- a row that is put where one was
+pub row_at-put : {A : Type 0} (xs : List (Option A)) (n : ℕ) (x y : A) → row_at xs n ≡ Some x → row_at (slice_set xs n (Some y)) n ≡ Some y
+row_at-put xs n x y there = row_at-set_same xs n (Some y) (row_within xs n x there)
+
 -- a row that changes
 
 pub length-with_row : {A : Type 0} (xs : List (Option A)) (n : ℕ) (f : A → A) → length (with_row xs n f) ≡ length xs

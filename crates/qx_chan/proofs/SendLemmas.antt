@@ -1,6 +1,6 @@
 -- Rows, lines and nodes stand together still as a message goes out.
-use Rattle.std.proofs.Common.{◌≡◌, ◌≢◌, inl, inr, eq-eqb, ℕ, ◌||◌, ◌&&◌, Bool, true, false, List, Option, Some, None, is_some, refl, sym, ◌∙◌, ap}
-use Rattle.std.specs.Prelude.{option_map}
+use Rattle.std.proofs.Common.{◌≡◌, ◌≢◌, inl, inr, eq-eqb, ℕ, ◌||◌, ◌&&◌, Bool, true, false, List, Option, Some, None, is_some, refl, subst, sym, ◌∙◌, ap}
+use Rattle.std.specs.Prelude.{IsTrue, option_map, slice_set}
 use Rattle.std.proofs.lemmas.Bool.{cases_eq, cond_both, false≢true}
 use Rattle.qx_types.specs.Managers.{manager_number}
 use Rattle.qx_types.specs.declared.names.Manager.{Manager}
@@ -10,23 +10,28 @@ use Rattle.qx_machine.specs.declared.rows.Over.{Over}
 use Rattle.qx_machine.specs.declared.rows.Over.TheVariants.{Existing, New, Side}
 use Rattle.qx_machine.specs.declared.rows.Queued.{Queued}
 use Rattle.qx_machine.specs.declared.rows.Sent.{Sent}
+use Rattle.qx_machine.specs.declared.rows.State.TheVariants.{Ready}
 use Rattle.qx_machine.specs.declared.rows.Target.{Target}
 use Rattle.qx_machine.specs.declared.rows.ThreadRow.{ThreadRow}
 use Rattle.qx_machine.specs.Lines.{into, line_at}
 use Rattle.qx_machine.specs.Machine.{rank}
+use Rattle.qx_machine.specs.Parts.{thread_of}
 use Rattle.qx_machine.specs.Processes.{Process, queued_thread, with_queued, with_thread}
+use Rattle.qx_machine.specs.Rows.{row_at, with_row}
 use Rattle.qx_machine.specs.Servers.{in_use, is_numbered}
 use Rattle.qx_process.specs.Reads.{UsesBy, is_served}
 use Rattle.qx_queues.specs.Queues.{has_answer_among, message_of, stands, unblock_call}
 use Rattle.qx_shared.specs.Shared.{HasNoCall, Shared, has_disconnect_node, has_thread, waiting_in, with_shared_server, with_shared_line}
-use Rattle.qx_chan.specs.Users.{IsThreadReady, Users, UsesAt, process_of, thread_row, with_process_of}
-use Rattle.qx_chan.specs.inner.Kept.{HasServerNodes, StandTogether, asked_call, is_queued_at, stands_at, waits_for, with_attached, with_room}
+use Rattle.qx_chan.specs.Users.{IsThreadReady, Users, UsesAt, process_of, process_of_user, thread_row, with_process_of}
+use Rattle.qx_chan.specs.inner.Kept.{HasServerNodes, StandTogether, asked_call, is_queued_at, stands_at, waits_for, with_attached, with_room, with_sent}
 use Rattle.qx_chan.specs.Nodes.{attaches, served_at}
 use Rattle.qx_queues.proofs.EntryLemmas.{is_same_thread-differs, is_same_thread-self, or_false, or_true}
 use Rattle.qx_queues.proofs.LineLemmas.{call-sent, stands-sent}
 use Rattle.qx_queues.proofs.SetLemmas.{has-server, is_same_server-differs}
 use Rattle.qx_chan.proofs.AttachedLemmas.{held-connected, eqb-differs, same_server-self, threads-connected}
 use Rattle.qx_chan.proofs.LostLemmas.{Kept-beside, StandBeside}
+use Rattle.qx_chan.proofs.ProcessLemmas.{process_of-same}
+use Rattle.qx_chan.proofs.RowReads.{row_at-with_same}
 use Rattle.qx_chan.proofs.ThreadLemmas.{Kept-room, OneThread, Own, beside, nodes-there, one_thread, waits-told}
 use Rattle.qx_chan.proofs.WaitLemmas.{no-call, no-wait}
 
@@ -63,9 +68,17 @@ calls-nowhere users queues thread ready kept = record {
   answered = ap (λ answers. has_answer_among answers thread) kept.answered;
 }
 
+-- what is judged so comes from a thread that is ready
+judged-ready : (row : Option ThreadRow) → option_map (λ row. row.state) row ≡ Some Ready → IsThreadReady row
+judged-ready (Some row) is = let ready : row.state ≡ Ready = cc in ready
+judged-ready None is = let clash : None ≡ Some Ready = is in absurd (cc)
+
 -- room for the disconnect node of what a message goes over changes nothing else
-pub Kept-with_room : (users : Users) (queues : Shared) (over : Over) → StandTogether users queues → StandTogether users (with_room over queues)
+Kept-with_room : (users : Users) (queues : Shared) (over : Over) → StandTogether users queues → StandTogether users (with_room over queues)
 Kept-with_room users queues over kept = cond_both {A = Shared} (attaches over) _ _ (λ q. StandTogether users q) (λ does. Kept-room users queues _ kept) (λ not. kept)
+
+pub own-with_room : (queues : Shared) (over : Over) (thread : Thread) → IsTrue (has_thread queues thread) → IsTrue (has_thread (with_room over queues) thread)
+own-with_room queues over thread own = cond_both {A = Shared} (attaches over) _ _ (λ q. IsTrue (has_thread q thread)) (λ does. own) (λ not. own)
 
 -- the disconnect node of what a message goes over
 
@@ -193,7 +206,39 @@ module _ (users : Users) (queues : Shared) (thread : Thread) (sent : Sent) (read
         })
         (λ none. beside users new queues thread f (queued_thread sent) one kept sent.target.manager change own)
 
-    pub Kept-sent : StandTogether (with_process_of users thread.proc (with_queued thread.tid sent))
+    Kept-sent : StandTogether (with_process_of users thread.proc (with_queued thread.tid sent))
         (with_attached thread.proc (process_of (with_process_of users thread.proc (with_queued thread.tid sent)) thread.proc) sent.target
         (with_shared_line queues (manager_number sent.target.manager) (λ line. into rank line (message_of thread sent.target.prio.0))))
     Kept-sent = Kept-beside new queues_attached thread.proc beside_attached attached_nodes
+
+-- ---- the processes of the thread's user, as they are lent for its call
+
+module _ (users : Users) (thread : Thread) (rows : List (Option Process)) (there : row_at users thread.proc.user.0 ≡ Some rows) where
+  pub ready-lent : option_map (λ row. row.state) (thread_of thread.tid (row_at rows thread.proc.num)) ≡ Some Ready → IsThreadReady (thread_row users thread)
+  ready-lent is = judged-ready (thread_row users thread) (rw there is)
+
+  module _ (queues : Shared) (sent : Sent) (after : List (Option Process)) (left : Shared)
+      (changed : after ≡ with_row rows thread.proc.num (with_queued thread.tid sent))
+      (uses : UsesAt sent.target (row_at rows thread.proc.num) (row_at after thread.proc.num))
+      (put : left ≡ with_sent thread sent (row_at after thread.proc.num) queues) where
+    abbrev users_after : Users
+    users_after = with_process_of users thread.proc (with_queued thread.tid sent)
+
+    -- they are put back with the process that has sent its message
+    pub users-called : slice_set users thread.proc.user.0 (Some after) ≡ users_after
+    users-called = rw (changed, there) refl
+
+    process-called : row_at after thread.proc.num ≡ process_of users_after thread.proc
+    process-called =
+        ap (λ rows. row_at rows thread.proc.num) changed
+        ∙ row_at-with_same rows thread.proc.num (with_queued thread.tid sent)
+        ∙ sym (process_of-same users thread.proc (with_queued thread.tid sent) ∙ ap (λ rows. option_map (with_queued thread.tid sent) (process_of_user thread.proc.num rows)) there)
+
+    pub uses-called : UsesAt sent.target (process_of users thread.proc) (process_of users_after thread.proc)
+    uses-called = subst (λ process. UsesAt sent.target (process_of users thread.proc) process) process-called (rw there uses)
+
+    pub left-called : left ≡ with_sent thread sent (process_of users_after thread.proc) queues
+    left-called = put ∙ ap (λ process. with_sent thread sent process queues) process-called
+
+    pub Kept-called : IsThreadReady (thread_row users thread) → StandTogether users queues → StandTogether (slice_set users thread.proc.user.0 (Some after)) left
+    Kept-called ready kept = rw (users-called, left-called) (Kept-sent users (with_room sent.target.over queues) thread sent ready (Kept-with_room users queues sent.target.over kept) uses-called)

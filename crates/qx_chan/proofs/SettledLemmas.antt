@@ -81,7 +81,7 @@ none_due lives k w watched due =
     ∙ (λ i. record w { events = record { events = set-get_or w.events.events k.user no_events i; room = same_room w.events.room (event_count (events_of w.events k.user)) i } })
 
 -- what is open is there
-abbrev IsOpenThere : Kept → Type 0
+abbrev pub IsOpenThere : Kept → Type 0
 IsOpenThere k = (number : ℕ) (block : Ocb) → row_at k.inodes.blocks number ≡ Some block → IsSome (row_at k.inodes.attributes block.inode)
 
 -- a message was done

@@ -1,5 +1,5 @@
 -- The processes of all users, and one process or thread among them.
-use Rattle.std.specs.Prelude.{◌≡◌, ⊤, ℕ, Bool, [], ◌∷◌, List, Option, Some, None, Result, Err, replicate, unwrap_or}
+use Rattle.std.specs.Prelude.{◌≡◌, ⊤, ℕ, [], ◌∷◌, List, Option, Some, None, Result, Err, replicate}
 use Rattle.qx_types.specs.declared.names.Proc.{Proc}
 use Rattle.qx_types.specs.declared.names.Thread.{Thread}
 use Rattle.qx_types.specs.declared.outcome.Outcome.{Outcome}
@@ -11,7 +11,6 @@ use Rattle.qx_machine.specs.Clients.{spawn_number}
 use Rattle.qx_machine.specs.Parts.{thread_of}
 use Rattle.qx_machine.specs.Processes.{Process, with_thread}
 use Rattle.qx_machine.specs.Rows.{row_at, with_row}
-use Rattle.qx_machine.specs.Settling.{is_living}
 use Rattle.qx_process.specs.Reads.{UsesBy}
 use Rattle.qx_procs.specs.Calls.{done_or, with_prio}
 
@@ -57,10 +56,6 @@ prio_outcome_in process thread prio (Some processes) = done_or (with_prio proces
 abbrev pub IsThreadReady : Option ThreadRow → Type 0
 IsThreadReady None = ⊥
 IsThreadReady (Some row) = row.state ≡ Ready
-
--- which processes of a user live
-abbrev pub lives_in : Users → ℕ → ℕ → Bool
-lives_in users user = is_living (unwrap_or (row_at users user) [])
 
 -- ---- server connections
 

@@ -1,13 +1,11 @@
 //! The call that a thread waits for, and its message as it is served.
 
 ghost use Rattle.std.specs.Prelude.{◌≡◌, IfSome};
-ghost use Rattle.qx_machine.specs.Performing.{taken_in};
 ghost use Rattle.qx_process.specs.Reads.{IsPriority, queued_in};
 ghost use Rattle.qx_chan.specs.Calls.{call_by, call_with, unasked_in};
 
 use qx_machine::{Sent, Target};
 use qx_process::ThreadCell;
-use qx_types::Thread;
 
 /// A call of a thread: where its message went, the call's number, and whether it was asked to unblock its thread.
 #[derive(Clone, Copy, Debug, PartialEq, Eq)]
@@ -17,26 +15,11 @@ pub struct Call {
     pub is_asked: bool,
 }
 
-/// A message that was received, as it is served: whose it is, which call sent it, and the moment.
-#[derive(Clone, Copy, Debug, PartialEq, Eq)]
-pub struct TakenMessage {
-    pub thread: Thread,
-    pub call: Call,
-    pub moment: u64,
-}
-
 /// The call whose message stands in a line.
 pub fn queued(thread: &ThreadCell) -> Option<Call>
     ensures call { result ≡ call_by queued_in thread.now }
 {
     Some(call_of(thread, thread.queued()?))
-}
-
-/// The call whose message was received and is not served.
-pub fn taken(thread: &ThreadCell) -> Option<Call>
-    ensures call { result ≡ call_by taken_in thread.now }
-{
-    Some(call_of(thread, thread.taken()?))
 }
 
 /// The call whose message was received, is not answered and is not asked to unblock its thread.
@@ -51,7 +34,7 @@ pub fn unasked(thread: &ThreadCell) -> Option<Call>
 }
 
 /// The call that sent a thread's message.
-fn call_of(thread: &ThreadCell, sent: &Sent) -> Call
+pub fn call_of(thread: &ThreadCell, sent: &Sent) -> Call
     ensures call { result ≡ call_with thread.now sent.now }
 {
     Call {

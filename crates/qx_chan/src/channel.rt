@@ -2,18 +2,22 @@
 //! of message passing: what stands beside a thread's message, the room for its reply, and its place in a line change
 //! together.
 
-ghost use Rattle.std.specs.Prelude.{◌≡◌, ◌*◌, ◌<◌, ◌≤◌, Ok, length, max, slice_get, IfOk, IfSome, IsErr, IsOk, IsTrue, OnOk, OnErr};
+ghost use Rattle.std.specs.Prelude.{◌≡◌, ◌*◌, ◌≤◌, ℕ, Ok, false, length, max, slice_get, IfOk, IfSome, IsErr, IsOk, IsTrue, OnOk, OnErr};
 ghost use Rattle.std.specs.Option.{option_copied};
 ghost use Rattle.qx_machine.specs.Events.{first_pulse};
-ghost use Rattle.qx_machine.specs.Processes.{living};
-ghost use Rattle.qx_machine.specs.Rows.{row_at};
-ghost use Rattle.qx_process.specs.Reads.{CanCall, CanGo, IsPriority};
+ghost use Rattle.qx_machine.specs.Parts.{thread_of};
+ghost use Rattle.qx_machine.specs.Processes.{living, with_queued};
+ghost use Rattle.qx_machine.specs.Rows.{row_at, with_row};
+ghost use Rattle.qx_process.specs.Reads.{CanCall, CanGo, IsPriority, has_own_room};
 ghost use Rattle.qx_procs.specs.Calls.{CanAttachAt, spawn_outcome};
+ghost use Rattle.qx_queues.specs.Queues.{stands};
+ghost use Rattle.qx_shared.specs.Shared.{HasNoCall, has_thread, shared_line};
 ghost use Rattle.qx_chan.specs.Calls.{answer_of, queued_call, unasked_call};
-ghost use Rattle.qx_chan.specs.inner.Calls.{taken_call};
-ghost use Rattle.qx_chan.specs.Channel.{IsExisting, after_asking, after_interrupt, after_pulse, after_ranking, after_receive, after_send, after_spawn, after_taking, after_withdrawing, channel_events, channel_line, boot_channel, interrupt_outcome, pulse_outcome};
+ghost use Rattle.qx_chan.specs.Channel.{IsExisting, after_asking, after_interrupt, after_pulse, after_ranking, after_receive, after_spawn, after_taking, after_withdrawing, channel_events, channel_line, boot_channel, interrupt_outcome, pulse_outcome};
 ghost use Rattle.qx_chan.specs.Nodes.{room_for};
-ghost use Rattle.qx_chan.specs.Users.{IsThreadReady, prio_outcome_in, process_of, spawn_number_in, thread_row};
+ghost use Rattle.qx_chan.specs.Sending.{HasMemory, after_call, call_target, told_of};
+ghost use Rattle.qx_chan.specs.Users.{UsesAt, prio_outcome_in, process_of, spawn_number_in, thread_row};
+ghost use Rattle.qx_chan.specs.inner.Kept.{with_sent};
 
 use crate::call::{self, Call};
 use crate::servers;
@@ -21,8 +25,12 @@ use crate::users::Users;
 use qx_machine::{OwnItem, Queued, Sent};
 use qx_process::{Process, Room, ThreadCell};
 use qx_procs::Processes;
+use qx_requests::{Refusal, encoded, target_by};
 use qx_resources::Tables;
-use qx_types::{Answer, Config, Errno, Manager, NoMemory, Outcome, Prio, Proc, Thread, User};
+use qx_shared::Shared;
+use qx_types::{
+    Answer, Config, Errno, Manager, NoMemory, Outcome, Prio, Proc, Request, Thread, User,
+};
 use std::alloc::{AllocError, Global};
 use std::marker::Model;
 
@@ -142,25 +150,43 @@ impl Channel {
         Ok(())
     }
 
-    /// A thread's message goes into its manager's line with its priority, and the thread is blocked, with room for the
-    /// reply; what the message goes over is attached (C Library Reference: `MsgSend`). Over a connection that is there, a
-    /// thread that has its room wants no memory.
-    pub fn send(&mut self, alloc: Global, thread: Thread, sent: Sent) -> Result<(), AllocError>
-        requires ready { IsThreadReady (thread_row self.old.users thread) }
-        requires countable { CanCall (thread_row self.old.users thread) }
-        requires target { CanGo sent.target }
-        requires place { CanAttachAt (process_of self.old.users thread.proc) sent.target }
-        ensures ok { OnOk result (self.new ≡ after_send self.old thread sent) }
-        ensures had_room { IsExisting sent.target.over → IfSome (thread_row self.old.users thread) (λ row. IsTrue row.has_room) → IsOk result }
+    /// A thread's request goes as a message into its manager's line with the thread's priority, and the thread is blocked, with
+    /// room for the reply; what the message goes over is attached (C Library Reference: `MsgSend`). `WrongState` where the
+    /// thread is not there or not ready; then EINVAL for fields out of their ranges, EAGAIN where the thread's calls are used
+    /// up; for a path, the errors of `read_path`, EACCES and ENOENT by whose name is its first; for a connection, EBADF where it
+    /// is not there; EMFILE where no connection is free for a new one; EAGAIN where the user has all its server connections at
+    /// the manager. A call that is refused wants no memory, nor does one over a connection that is there, with a message of few
+    /// bytes, of a thread that has room for the reply; more bytes take the memory that is there.
+    #[inline(always)]
+    pub fn call(
+        &mut self,
+        alloc: Global,
+        config: &Config,
+        thread: Thread,
+        request: &Request,
+        memory: &mut Vec<u8>,
+    ) -> Result<Result<(), Refusal>, NoMemory>
+        ensures outcome { IfOk result (λ told. told ≡ told_of (call_target config.now self.old thread request.now)) }
+        ensures ok { OnOk result (self.new ≡ after_call self.old thread request.now (call_target config.now self.old thread request.now)) }
+        ensures sure { IsErr (call_target config.now self.old thread request.now) → IsOk result }
+        ensures had_room { IfOk (call_target config.now self.old thread request.now) (HasMemory (thread_row self.old.users thread) request.now) → IsOk result }
         ensures err { OnErr result (self.new ≡ record self.old { room = self.new.room }) }
-        ensures spare { OnErr result (self.new.room ≤ room_for sent.target.over self.old.room) }
+        ensures spare { OnErr result (IfOk (call_target config.now self.old thread request.now) (λ addressed. self.new.room ≤ room_for addressed.target.over self.old.room)) }
     {
-        let target = sent.target;
-        servers::reserve(&mut self.tables.shared, target.over)?;
-        self.users.send(alloc, thread, sent)?;
-        self.tables.shared.send(target.manager, thread, target.prio);
-        servers::attach(&mut self.tables.shared, &self.users, thread.proc, target);
-        Ok(())
+        let Some(processes) = self.users.processes_mut(thread.proc.user) else {
+            return Ok(Err(Refusal::wrong_state()));
+        };
+        let addressed = match target_by(config, &self.tables.mounts, processes, thread, request) {
+            Ok(addressed) => addressed,
+            Err(refusal) => return Ok(Err(refusal)),
+        };
+        let sent = Sent {
+            target: addressed.target,
+            is_asked: false,
+            bytes: encoded(memory, request, &addressed.rest)?,
+        };
+        send_on(processes, &mut self.tables.shared, alloc, thread, sent)?;
+        Ok(Ok(()))
     }
 
     /// Takes the first item of a manager's line; the thread whose message it is waits for its answer (C Library Reference:
@@ -183,9 +209,9 @@ impl Channel {
         Some(first)
     }
 
-    /// Asks to unblock a thread: a message that stands in a line is taken out of that, and one that was received, or whose call
-    /// waits, is asked for by a pulse, once a call. `WrongState` where the thread is not there; nothing happens where it waits
-    /// for nothing.
+    /// Asks to unblock a thread (System Architecture: the unblock pulse; C Library Reference: `MsgSend`, EINTR): a message that
+    /// stands in a line is taken out of that, and one that was received, or whose call waits, is asked for by a pulse, once a
+    /// call. `WrongState` where the thread is not there; nothing happens where it waits for nothing.
     pub fn interrupt(&mut self, thread: Thread) -> Outcome
         ensures outcome { result ≡ interrupt_outcome (thread_row self.old.users thread) }
         ensures interrupted { self.new ≡ after_interrupt self.old thread }
@@ -267,11 +293,37 @@ impl Channel {
         };
         processes.set_prio(thread.proc.num, thread.tid, prio)
     }
+}
 
-    /// The call of a thread whose message was received and is not served.
-    pub(crate) fn taken(&self, thread: Thread) -> Option<Call>
-        ensures call { result ≡ taken_call (thread_row self.now.users thread) }
-    {
-        call::taken(self.users.thread(thread)?)
-    }
+/// A message of a thread goes out, on the processes of its user: there is room for the disconnect node of what it goes over
+/// first, then the thread is queued and what the message goes over is attached, and then the message stands in its manager's
+/// line, and the process has its disconnect node.
+fn send_on(
+    processes: &mut Processes,
+    shared: &mut Shared,
+    alloc: Global,
+    thread: Thread,
+    sent: Sent,
+) -> Result<(), AllocError>
+    requires call { CanCall (thread_of thread.tid (row_at processes.old thread.proc.num)) }
+    requires target { CanGo sent.target }
+    requires place { CanAttachAt (row_at processes.old thread.proc.num) sent.target }
+    requires own { IsTrue (has_thread shared.old thread) }
+    requires idle { (number : ℕ) → stands (shared_line shared.old number) thread ≡ false }
+    requires no_call { HasNoCall shared.old thread }
+    ensures ok { OnOk result (processes.new ≡ with_row processes.old thread.proc.num (with_queued thread.tid sent)) }
+    ensures uses { OnOk result (UsesAt sent.target (row_at processes.old thread.proc.num) (row_at processes.new thread.proc.num)) }
+    ensures sent { OnOk result (shared.new ≡ with_sent thread sent (row_at processes.new thread.proc.num) shared.old) }
+    ensures had_room { IsExisting sent.target.over → IfSome (thread_of thread.tid (row_at processes.old thread.proc.num)) (λ row. IsTrue (has_own_room row)) → IsOk result }
+    ensures err { OnErr result (processes.new ≡ processes.old) }
+    ensures unsent { OnErr result (shared.new ≡ record shared.old { room = shared.new.room }) }
+    ensures spare { OnErr result (shared.new.room ≤ room_for sent.target.over shared.old.room) }
+{
+    let target = sent.target;
+    servers::reserve(shared, target.over)?;
+    let process = processes.process_there(thread.proc.num);
+    process.send(alloc, thread.tid, sent)?;
+    shared.send(target.manager, thread, target.prio);
+    servers::attach(shared, process, thread.proc, target);
+    Ok(())
 }

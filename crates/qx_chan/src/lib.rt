@@ -12,15 +12,16 @@
 //!   unblock
 //! - `servers.rt`: the disconnect nodes of a process, as what it has attached comes and goes
 //!
-//! What contracts see is `Channel.antt`, over `Users.antt` and `Calls.antt`, and of serving `Serving.antt` and
-//! `Answers.antt`. That rows, lines and nodes stand together is the crate's own (`Kept.antt`), and no layer above
-//! speaks of a node.
+//! What contracts see is `Channel.antt`, over `Users.antt` and `Calls.antt`, of a call that is judged and sent
+//! `Sending.antt`, and of serving `Serving.antt` and `Answers.antt`. That rows, lines and nodes stand together is the
+//! crate's own (`Kept.antt`), and no layer above speaks of a node.
 //!
 //! In `proofs/`, that they stand together still is in a file for each call: `StartLemmas.antt`, `SendLemmas.antt`,
 //! `ReceiveLemmas.antt`, `AnswerLemmas.antt`, `AskLemmas.antt`, `GivenLemmas.antt`, `PrioLemmas.antt`, `EndLemmas.antt`; what a process
 //! that takes a pulse leaves, in `TakePulseLemmas.antt`. That serving follows the machine: `MessageLemmas.antt`,
-//! `OutcomeLemmas.antt`, `ServeLemmas.antt`, `ServedLemmas.antt`, `PulseLemmas.antt`, and `SettledLemmas.antt` for the
-//! events that are due then. The others stand below these: one row that changes, the calls that wait, what is attached.
+//! `OutcomeLemmas.antt`, `ServeLemmas.antt`, `ServedLemmas.antt`, `PulseLemmas.antt`, `SettledLemmas.antt` for the
+//! events that are due then, and `PerformLemmas.antt` for all of a perform. The others stand below these: one row that
+//! changes, the calls that wait, what is attached.
 #![tactic(auto)]
 
 mod answers;

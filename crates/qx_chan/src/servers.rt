@@ -1,20 +1,18 @@
 //! The disconnect nodes of server connections, which come with what a process attaches, and go into lines as pulses.
 
-ghost use Rattle.std.specs.Prelude.{◌≡◌, ◌≤◌, IfSome, IsFalse, IsOk, IsTrue, OnOk, OnErr};
+ghost use Rattle.std.specs.Prelude.{◌≡◌, ◌≤◌, IfSome, IsFalse, IsOk, IsTrue, OnOk, OnErr, Some};
 ghost use Rattle.std.specs.List.{flat_map};
 ghost use Rattle.std.specs.Option.{option_to_list};
 ghost use Rattle.qx_types.specs.Managers.{manager_number};
 ghost use Rattle.qx_shared.specs.Shared.{HasThread, has_disconnect_node};
 ghost use Rattle.qx_chan.specs.inner.Ending.{AllHaveNodes};
 ghost use Rattle.qx_chan.specs.inner.Kept.{with_attached, with_lost, with_room};
-ghost use Rattle.qx_chan.specs.Nodes.{attaches, served_at};
-ghost use Rattle.qx_chan.specs.Users.{process_of};
+ghost use Rattle.qx_chan.specs.Nodes.{attaches};
 
-use crate::users::Users;
 use qx_machine::{Over, ServerName, Target};
-use qx_process::LostServers;
+use qx_process::{LostServers, Process};
 use qx_shared::Shared;
-use qx_types::{Manager, Proc};
+use qx_types::Proc;
 use std::alloc::AllocError;
 
 /// Makes room for the disconnect node of what a message goes over.
@@ -31,15 +29,15 @@ pub fn reserve(queues: &mut Shared, over: Over) -> Result<(), AllocError>
 
 /// A process has the disconnect node of the server connection that is in use, once its call has attached what the message goes
 /// over. There is room for one.
-pub fn attach(queues: &mut Shared, users: &Users, proc: Proc, target: Target)
+pub fn attach(queues: &mut Shared, process: &Process, proc: Proc, target: Target)
     requires started { HasThread queues.old proc }
     requires room { IsTrue (attaches target.over) → 1 ≤ queues.old.room }
-    ensures attached { queues.new ≡ with_attached proc (process_of users.now proc) target queues.old }
+    ensures attached { queues.new ≡ with_attached proc (Some process.now) target queues.old }
 {
     if let Over::Existing(_) = target.over {
         return;
     }
-    if !is_served(users, proc, target.manager) {
+    if !process.is_served(target.manager) {
         return;
     }
     match queues.add_server(proc, target.manager) {
@@ -56,16 +54,6 @@ pub fn disconnect_all(queues: &mut Shared, proc: Proc, lost: LostServers)
     let [first, second] = lost;
     disconnect(queues, proc, first);
     disconnect(queues, proc, second);
-}
-
-/// Whether a process has a server connection in use at a manager.
-fn is_served(users: &Users, proc: Proc, manager: Manager) -> bool
-    ensures served { result ≡ served_at manager (process_of users.now proc) }
-{
-    match users.process(proc) {
-        Some(process) => process.is_served(manager),
-        None => false,
-    }
 }
 
 /// The disconnect pulse of a process that has lost a server connection goes into its manager's line (Writing a Resource

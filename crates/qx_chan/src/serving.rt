@@ -1,40 +1,36 @@
 //! Messages and unblock pulses, as a worker performs them.
 
-ghost use Rattle.std.specs.Prelude.{◌≡◌, false, List, ℕ, Option, Some, IfOk, IfSome, IsFalse, IsOk, IsSome, IsTrue, None, OnErr, OnOk};
+ghost use Rattle.std.specs.Prelude.{◌≡◌, false, Ok, Option, Some, IfSome, IsFalse, IsOk, IsSome, None, OnErr, OnOk};
 ghost use Rattle.std.specs.Option.{option_copied};
 ghost use Rattle.qx_types.specs.Managers.{manager_number};
 ghost use Rattle.qx_wire.specs.Reading as reading;
 ghost use Rattle.qx_machine.specs.Machine.{line_without};
 ghost use Rattle.qx_machine.specs.Performing.{or_kept, serve_disconnect, serve_message, serve_pulse};
-ghost use Rattle.qx_machine.specs.Processes as machine;
 ghost use Rattle.qx_machine.specs.Rows.{row_at};
-ghost use Rattle.qx_machine.specs.Wants.{bytes_want_memory, thread_wants_memory};
+ghost use Rattle.qx_machine.specs.Wants.{thread_wants_memory};
 ghost use Rattle.qx_machine.specs.declared.rows.OwnItem.TheVariants as item;
 ghost use Rattle.qx_machine.specs.declared.rows.ServerName.{ServerName as AnyServer};
 ghost use Rattle.qx_queues.specs.Queues.{unblock_call};
-ghost use Rattle.qx_shared.specs.Shared.{IsReceived, shared_line, with_shared_line};
-ghost use Rattle.qx_resmgr.specs.Deeds.{HasRoomAfter, IsReplied};
+ghost use Rattle.qx_process.specs.Reads.{Loses};
+ghost use Rattle.qx_shared.specs.Shared.{shared_line, with_shared_line};
+ghost use Rattle.qx_resmgr.specs.Deeds.{IsReplied};
 ghost use Rattle.qx_resources.specs.Ranges.{IsInRanges};
-ghost use Rattle.qx_resources.specs.State.{HasUser, told};
-ghost use Rattle.qx_procs.specs.Calls.{LosesAt};
-ghost use Rattle.qx_chan.specs.inner.Answers.{answered_queues, answered_users};
-ghost use Rattle.qx_chan.specs.inner.Calls.{taken_bytes, taken_call};
+ghost use Rattle.qx_chan.specs.inner.Answers.{answered_process, answered_queues};
+ghost use Rattle.qx_chan.specs.inner.Calls.{taken_call};
 ghost use Rattle.qx_chan.specs.Calls.{taken_of};
 ghost use Rattle.qx_chan.specs.Serving.{IsReadOf, Serves, part_in, settled};
-ghost use Rattle.qx_chan.specs.inner.Kept.{HasServerNodes};
-ghost use Rattle.qx_chan.specs.inner.Serving.{Comes, Sends, caller_of_call, deed_in, told_in};
-ghost use Rattle.qx_chan.specs.Users.{lives_in, process_of, thread_row};
+ghost use Rattle.qx_chan.specs.inner.Kept.{HasServerNodesOf};
+ghost use Rattle.qx_chan.specs.inner.Serving.{caller_of_call};
+ghost use Rattle.qx_chan.specs.Users.{thread_row};
 
 use crate::answers::give_answers;
-use crate::call::{Call, TakenMessage};
+use crate::call::{self, Call};
 use crate::channel::Channel;
 use crate::servers;
-use crate::users::Users;
-use qx_hint::assert_unchecked;
 use qx_machine::{Caller, Client, ServerName};
 use qx_process::{Process, Replied, Reply, Room};
 use qx_resmgr::Done;
-use qx_resources::{Resources, Tables, context_of};
+use qx_resources::{Resources, context_of};
 use qx_shared::Shared;
 use qx_types::{Errno, MessageBytes, Proc, Thread};
 use qx_wire::{Meaning, Parsed, meaning};
@@ -46,6 +42,7 @@ impl Channel {
     /// Reference: `MsgReply`, `MsgError`). An unblock pulse of a call that is answered is in its line no more, and the user's
     /// events that are due give their pulses (`iofunc_notify_trigger`). Nothing happens to a thread with no such message. The
     /// bytes may have been read before; more than a few leave their memory for others.
+    #[tactic(auto, using(crate::proofs::ProcessLemmas::puts_back))]
     #[inline(always)]
     pub fn serve(
         &mut self,
@@ -63,19 +60,36 @@ impl Channel {
         ensures err { OnErr result ((self.new ≡ self.old) × (resources.new ≡ resources.old)) }
         ensures sure { IsFalse (thread_wants_memory (part_in self.old resources.old) thread.proc.num thread.tid moment) → IsOk result }
     {
-        let Some(call) = self.taken(thread) else {
-            return Ok(());
+        let Some(processes) = self.users.processes_mut(thread.proc.user) else {
+            return nothing();
         };
-        let message = TakenMessage {
+        let Some(process) = processes.process_mut(thread.proc.num) else {
+            return nothing();
+        };
+        let Some(cell) = process.thread(thread.tid) else {
+            return nothing();
+        };
+        let Some(sent) = cell.taken() else {
+            return nothing();
+        };
+        let call = call::call_of(cell, sent);
+        let (tables, spare) = (&mut self.tables, &mut self.spare);
+        let meaning = meaning_of(&sent.bytes, read);
+        let context = context_of(process, caller(thread, call), call.target, moment, &meaning);
+        let watched = resources.watch_message(tables, &meaning, context.opened);
+        let given = resources.perform(tables, context, meaning, reply, spare)?;
+        answer(
+            process,
+            &mut tables.shared,
             thread,
             call,
-            moment,
-        };
-        let (users, tables, spare) = (&mut self.users, &mut self.tables, &mut self.spare);
-        let given = perform(users, tables, resources, message, read, reply, spare)?;
-        let queues = &mut tables.shared;
-        answer(users, queues, message, given, reply, spare, memory);
-        give_answers(users, queues);
+            given,
+            reply,
+            spare,
+            memory,
+        );
+        resources.trigger(tables, processes, watched);
+        give_answers(&mut self.users, &mut tables.shared);
         Ok(())
     }
 
@@ -130,95 +144,41 @@ impl Channel {
     }
 }
 
-/// Does what a message asks its manager for, which was received and is served by that, and events that are due give their
-/// pulses; the spare room goes with a message that is left without a reply.
-fn perform(
-    users: &Users,
-    tables: &mut Tables,
-    resources: &mut Resources,
-    message: TakenMessage,
-    read: Option<&Parsed>,
-    reply: &mut Reply,
-    spare: &mut Option<Room>,
-) -> Result<Result<Done, Errno>, AllocError>
-    requires user { resources.old.user ≡ message.thread.proc.user.0 }
-    requires fits { HasUser resources.old tables.old }
-    requires taken { Some message.call ≡ taken_call (thread_row users.now message.thread) }
-    requires received { IsReceived tables.old.shared message.thread }
-    requires read { IsReadOf (option_copied read) (taken_of (thread_row users.now message.thread)) }
-    requires spare { IsSome spare.old }
-    ensures did { (process : machine.Process) (bytes : List ℕ) → Sends users.now message.thread process bytes → IfOk result (λ given. Comes (lives_in users.now message.thread.proc.user.0) resources.old tables.old resources.new tables.new reply.new given (told_in resources.old tables.old process message bytes)) }
-    ensures room { IfOk result (λ given. HasRoomAfter spare.old spare.new given) }
-    ensures err { OnErr result ((tables.new ≡ tables.old) × (resources.new ≡ resources.old) × (spare.new ≡ spare.old)) }
-    ensures wanted { (process : machine.Process) (bytes : List ℕ) → Sends users.now message.thread process bytes → OnErr result (IsTrue (bytes_want_memory message.call.target.manager (told resources.old tables.old) (reading.meaning bytes) (deed_in resources.old tables.old process message bytes))) }
-{
-    let TakenMessage {
-        thread,
-        call,
-        moment,
-    } = message;
-    let Some(processes) = users.processes(thread.proc.user) else {
-        assert_unchecked(false);
-        unreachable!();
-    };
-    let Some(process) = processes.process(thread.proc.num) else {
-        assert_unchecked(false);
-        unreachable!();
-    };
-    let Some(bytes) = received(process, thread.tid) else {
-        assert_unchecked(false);
-        unreachable!();
-    };
-    let meaning = meaning_of(bytes, read);
-    let context = context_of(process, caller(thread, call), call.target, moment, &meaning);
-    let watched = resources.watch_message(tables, &meaning, context.opened);
-    let given = resources.perform(tables, context, meaning, reply, spare)?;
-    resources.trigger(tables, processes, watched);
-    Ok(given)
-}
-
-/// The bytes of a thread's message that was received and is not served.
-fn received(process: &Process, thread: u8) -> Option<&MessageBytes>
-    ensures bytes { option_copied result ≡ taken_bytes (row_at process.now.threads thread) }
-{
-    Some(&process.thread(thread)?.taken()?.bytes)
-}
-
 /// A thread whose message was served is answered with what that came to, unless it is left without a reply: the message does
 /// what it does to the connection that it came over, a side connection goes, a new one goes with an error, and an unblock
 /// pulse of the call is in the line no more. There is a spare room again.
 #[tactic(auto, using(crate::proofs::RoomLemmas::taken_awaits))]
 fn answer(
-    users: &mut Users,
+    process: &mut Process,
     queues: &mut Shared,
-    message: TakenMessage,
+    thread: Thread,
+    call: Call,
     given: Result<Done, Errno>,
     reply: &mut Reply,
     spare: &mut Option<Room>,
     memory: &mut Vec<u8>,
 )
-    requires taken { Some message.call ≡ taken_call (thread_row users.old message.thread) }
+    requires taken { Some call ≡ taken_call (row_at process.old.threads thread.tid) }
     requires room { IsReplied given → IsSome spare.old }
-    requires nodes { HasServerNodes users.old queues.old message.thread.proc }
-    requires unasked { message.call.is_asked ≡ false → unblock_call (shared_line queues.old (manager_number message.call.target.manager)) message.thread ≡ None }
-    ensures users { users.new ≡ answered_users users.old message.thread message.call.target.over reply.old given }
-    ensures queues { queues.new ≡ answered_queues queues.old users.old users.new message.thread message.call given }
-    ensures lost { IsReplied given → (lost : Option AnyServer) × LosesAt lost (process_of users.old message.thread.proc) (process_of users.new message.thread.proc) }
-    ensures gone { IsReplied given → unblock_call (shared_line queues.old (manager_number message.call.target.manager)) message.thread ≡ Some message.call.number → unblock_call (line_without message.thread.proc.user.0 (item.Unblock message.thread.proc.num message.thread.tid message.call.number) (shared_line queues.old (manager_number message.call.target.manager))) message.thread ≡ None }
+    requires nodes { HasServerNodesOf (Some process.old) queues.old thread.proc }
+    requires unasked { call.is_asked ≡ false → unblock_call (shared_line queues.old (manager_number call.target.manager)) thread ≡ None }
+    ensures process { process.new ≡ answered_process thread.tid call.target.over reply.old given process.old }
+    ensures queues { queues.new ≡ answered_queues queues.old process.old process.new thread call given }
+    ensures lost { IsReplied given → (lost : Option AnyServer) × Loses lost process.old process.new }
+    ensures gone { IsReplied given → unblock_call (shared_line queues.old (manager_number call.target.manager)) thread ≡ Some call.number → unblock_call (line_without thread.proc.user.0 (item.Unblock thread.proc.num thread.tid call.number) (shared_line queues.old (manager_number call.target.manager))) thread ≡ None }
     ensures spare { IsSome spare.new }
 {
-    let TakenMessage { thread, call, .. } = message;
     let over = call.target.over;
     let lost = match given {
         Ok(Done::NoReply) => {
-            *spare = Some(users.wait(thread, memory));
+            *spare = Some(process.thread_there(thread.tid).wait(memory));
             return;
         }
         Ok(Done::Reply { status, effect }) => {
             let replied = Replied { status, effect };
-            users.reply(thread, over, replied, reply, memory)
+            process.reply(thread.tid, over, replied, reply, memory)
         }
-        Err(error) => users.fail(thread, over, error, None),
+        Err(error) => process.fail(thread.tid, over, error, None),
     };
     drop_pulse(queues, thread, call);
     servers::disconnect(queues, thread.proc, lost);
@@ -258,4 +218,13 @@ fn meaning_of<'a>(bytes: &'a MessageBytes, read: Option<&'a Parsed>) -> Meaning<
         Some(read) => read.meaning(),
         None => meaning(bytes.as_slice()),
     }
+}
+
+/// Nothing is served. Told to be seldom, so that the compiler puts in place what comes behind.
+#[cold]
+#[inline(never)]
+fn nothing() -> Result<(), AllocError>
+    ensures { result ≡ Ok tt }
+{
+    Ok(())
 }

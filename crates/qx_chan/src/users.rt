@@ -1,26 +1,24 @@
 //! The processes of all users, from 1: a place for each number.
 
-ghost use Rattle.std.specs.Prelude.{◌≡◌, ◌≤◌, IfOk, IfSome, IsOk, IsSome, IsTrue, OnOk, OnErr, OnSome, None, Some, slice_set};
+ghost use Rattle.std.specs.Prelude.{◌≡◌, ◌≤◌, IfOk, IsSome, OnOk, OnErr, OnSome, None, Some, slice_set};
 ghost use Rattle.std.specs.Option.{option_copied, option_copied_mut};
 ghost use Rattle.std.specs.Borrow.{sem};
 ghost use Rattle.qx_types.specs.declared.limits.TheConstants.Limits.{PROCESSES};
 ghost use Rattle.qx_types.specs.declared.outcome.Answer.TheVariants.{Failed};
 ghost use Rattle.qx_machine.specs.Clients.{spawn_number};
-ghost use Rattle.qx_machine.specs.Processes.{answered_thread, asked_thread, ended, living, served_thread, taken_thread, with_queued, without_server};
+ghost use Rattle.qx_machine.specs.Processes.{answered_thread, asked_thread, ended, living, taken_thread, without_server};
 ghost use Rattle.qx_machine.specs.Rows.{row_at, with_row};
-ghost use Rattle.qx_process.specs.Reads.{AwaitsReply, BringsRoom, CanCall, CanGo, has_own_room};
-ghost use Rattle.qx_procs.specs.Calls.{CanAttachAt, EndsAt, LosesAt, spawned};
-ghost use Rattle.qx_chan.specs.inner.Calls.{taken_bytes};
+ghost use Rattle.qx_process.specs.Reads.{BringsRoom};
+ghost use Rattle.qx_procs.specs.Calls.{EndsAt, LosesAt, spawned};
 ghost use Rattle.qx_chan.specs.Channel.{failed};
-ghost use Rattle.qx_chan.specs.inner.Channel.{process_replied};
 ghost use Rattle.qx_chan.specs.inner.Users.{HasPlace};
-ghost use Rattle.qx_chan.specs.Users.{UsesAt, no_processes, process_of, thread_row, with_process_of, with_thread_row};
+ghost use Rattle.qx_chan.specs.Users.{no_processes, process_of, thread_row, with_process_of, with_thread_row};
 
 use qx_hint::as_mut_unchecked;
-use qx_machine::{Over, Sent, ServerName};
-use qx_process::{LostServers, Process, Replied, Reply, Room, ThreadCell, places};
+use qx_machine::{Over, ServerName};
+use qx_process::{LostServers, Process, Room, ThreadCell, places};
 use qx_procs::Processes;
-use qx_types::{Answer, Errno, MessageBytes, Prio, Proc, Thread, User};
+use qx_types::{Answer, Errno, Prio, Proc, Thread, User};
 use std::alloc::{AllocError, Global};
 use std::marker::Model;
 
@@ -148,21 +146,6 @@ impl Users {
         Ok(())
     }
 
-    /// A message of a thread goes out.
-    #[tactic(auto, using(crate::proofs::ProcessLemmas::lends))]
-    pub fn send(&mut self, alloc: Global, thread: Thread, sent: Sent) -> Result<(), AllocError>
-        requires call { CanCall (thread_row self.old thread) }
-        requires target { CanGo sent.target }
-        requires place { CanAttachAt (process_of self.old thread.proc) sent.target }
-        ensures ok { OnOk result (self.new ≡ with_process_of self.old thread.proc (with_queued thread.tid sent)) }
-        ensures uses { OnOk result (UsesAt sent.target (process_of self.old thread.proc) (process_of self.new thread.proc)) }
-        ensures had_room { IfSome (thread_row self.old thread) (λ row. IsTrue (has_own_room row)) → IsOk result }
-        ensures err { OnErr result (self.new ≡ self.old) }
-    {
-        self.process_there(thread.proc)
-            .send(alloc, thread.tid, sent)
-    }
-
     /// A thread's message is received.
     #[tactic(auto, using(crate::proofs::ProcessLemmas::lends))]
     pub fn take(&mut self, thread: Thread)
@@ -181,15 +164,6 @@ impl Users {
         self.thread_there(thread).ask_unblock()
     }
 
-    /// A thread's message, which was received, is served and left without a reply, and leaves its memory for others; gives the
-    /// room for the reply.
-    pub fn wait(&mut self, thread: Thread, memory: &mut Vec<u8>) -> Room
-        requires received { IsSome (taken_bytes (thread_row self.old thread)) }
-        ensures served { self.new ≡ with_thread_row self.old thread served_thread }
-    {
-        self.thread_there(thread).wait(memory)
-    }
-
     /// A thread whose call waited gets the answer, with the room for its replies, unless the answer took that along.
     #[tactic(auto, using(crate::proofs::ProcessLemmas::lends))]
     pub fn answer(&mut self, thread: Thread, answer: Answer, room: Option<Room>)
@@ -199,25 +173,6 @@ impl Users {
         if let Some(cell) = self.thread_mut(thread) {
             cell.answer(answer, room);
         }
-    }
-
-    /// A thread whose message was received gets a reply, and the message does what it does to what it came over, and leaves its
-    /// memory for others. Gives the server connection that its process has lost with that.
-    #[tactic(auto, using(crate::proofs::ProcessLemmas::lends))]
-    pub fn reply(
-        &mut self,
-        thread: Thread,
-        over: Over,
-        replied: Replied,
-        reply: &mut Reply,
-        memory: &mut Vec<u8>,
-    ) -> Option<ServerName>
-        requires received { AwaitsReply (thread_row self.old thread) }
-        ensures replied { self.new ≡ with_process_of self.old thread.proc (process_replied thread.tid replied.effect replied.status reply.old over) }
-        ensures lost { LosesAt result (process_of self.old thread.proc) (process_of self.new thread.proc) }
-    {
-        self.process_there(thread.proc)
-            .reply(thread.tid, over, replied, reply, memory)
     }
 
     /// A thread gets an error, which gives back what its call attached, with the room for its replies where that had gone.

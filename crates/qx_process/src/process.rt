@@ -298,6 +298,7 @@ impl Process {
 
     /// A thread gets an error, with the room for its replies where that had gone; what its call attached goes (C Library
     /// Reference: `MsgError`). Gives the server connection that the process has lost with that.
+    #[inline(always)]
     pub fn fail(
         &mut self,
         thread: u8,

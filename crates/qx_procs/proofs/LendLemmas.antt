@@ -1,6 +1,6 @@
 -- A row that was lent and is left as it was.
 use Rattle.std.proofs.Common.{◌≡◌, ℕ, List, Option, Some, None, refl}
-use Rattle.std.specs.Prelude.{option_map, slice_set}
+use Rattle.std.specs.Prelude.{OnSome, option_map, slice_set}
 use Rattle.qx_machine.specs.declared.rows.ThreadRow.{ThreadRow}
 use Rattle.qx_machine.specs.Parts.{thread_of}
 use Rattle.qx_machine.specs.Processes.{Process}
@@ -15,6 +15,11 @@ put_thread_same rows number thread row there = by_process (row_at rows number) r
     by_process : (place : Option Process) → row_at rows number ≡ place → thread_of thread place ≡ Some row → with_row rows number (put_thread thread row) ≡ rows
     by_process None is of = rw (with_row-none rows number (put_thread thread row) is) refl
     by_process (Some process) is of = rw (is, set-row process.threads thread row of, set-row rows number process is) refl
+
+-- what holds anyway holds of what is there
+pub if_there : {A : Type 0} {P : Type 0} (place : Option A) → P → OnSome place P
+if_there None holds = tt
+if_there (Some row) holds = holds
 
 -- where no row is there
 pub set_none : {A : Type 0} (rows : List (Option A)) (number : ℕ) (change : A → A) → row_at rows number ≡ None → slice_set rows number (option_map change (row_at rows number)) ≡ rows

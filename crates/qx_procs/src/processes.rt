@@ -84,6 +84,7 @@ impl Processes {
     pub fn process_mut(&mut self, process: u8) -> Option<&mut Process>
         ensures* writes_back { sem 𝓛 (lends_process self.entry process result) }
         ensures row { option_copied_mut result ≡ row_at self.old process }
+        ensures within { OnSome result (process ≤ PROCESSES) }
     {
         self.rows.get_mut(process as usize)?.as_mut()
     }

@@ -1,6 +1,6 @@
 -- A client's step, by what the channel makes of it.
-use Rattle.std.proofs.Common.{◌≡◌, inl, inr, ℕ, List, [], Option, Some, None, Result, Ok, Err, slice_set, refl, sym, ap, ◌∙◌, Bool, false, true}
-use Rattle.std.specs.Prelude.{IfOk, IsErr, IsTrue, is_some, option_map}
+use Rattle.std.proofs.Common.{◌≡◌, ◌≢◌, inl, inr, ℕ, List, Option, Some, None, Result, Ok, Err, slice_set, refl, sym, ap, ◌∙◌, Bool, false, true}
+use Rattle.std.specs.Prelude.{⊤, IfOk, IsErr, IsTrue, is_some}
 use Rattle.std.proofs.lemmas.Bool.{cases_Bool}
 use Rattle.qx_types.specs.Configuration.{Configuration}
 use Rattle.qx_types.specs.declared.errno.Errno.TheVariants.{EINTR}
@@ -17,8 +17,6 @@ use Rattle.qx_paths.specs.Prefixes.{MountPoint}
 use Rattle.qx_paths.specs.Mounts.{mounts_of}
 use Rattle.qx_machine.specs.declared.rows.Addressed.{Addressed}
 use Rattle.qx_machine.specs.declared.rows.Held.{Held}
-use Rattle.qx_machine.specs.declared.rows.Over.{Over}
-use Rattle.qx_machine.specs.declared.rows.Over.TheVariants.{Existing, New, Side}
 use Rattle.qx_machine.specs.declared.rows.OwnItem.{OwnItem}
 use Rattle.qx_machine.specs.declared.rows.Sent.{Sent as Message}
 use Rattle.qx_machine.specs.declared.rows.State.{State}
@@ -38,11 +36,11 @@ use Rattle.qx_resources.specs.State.{told, Kept}
 use Rattle.qx_procs.specs.Calls.{after_or, spawn_outcome, spawned, with_prio}
 use Rattle.qx_chan.specs.Calls.{answer_of, queued_call}
 use Rattle.qx_process.specs.Reads.{queued_in}
-use Rattle.qx_chan.specs.Channel.{Channel, IsExisting, after_asking, after_interrupt, after_ranking, after_send, after_spawn, after_taking, after_withdrawing, failed, interrupt_outcome, lists}
-use Rattle.qx_chan.specs.Users.{prio_outcome_in, spawn_number_in, thread_row, IsThreadReady}
-use Rattle.qx_requests.specs.Targets.{HasRest}
+use Rattle.qx_chan.specs.Channel.{Channel, after_asking, after_interrupt, after_ranking, after_send, after_spawn, after_taking, after_withdrawing, failed, interrupt_outcome, lists}
+use Rattle.qx_chan.specs.Sending.{HasMemory, after_call, call_target, sent_to, told_of}
+use Rattle.qx_chan.specs.Users.{prio_outcome_in, spawn_number_in, thread_row}
+use Rattle.qx_steps.specs.Reads.{row_among_parts}
 use Rattle.qx_steps.specs.inner.Parts.{parts_of, told_all, told_world, world_of, AreResourcesOf, IsSound}
-use Rattle.qx_steps.specs.inner.Steps.{sent_to}
 use Rattle.qx_steps.specs.Steps.{target_in}
 use Rattle.qx_chan.proofs.CallLemmas.{queued_is}
 use Rattle.qx_chan.proofs.RowReads.{option_cases}
@@ -50,12 +48,17 @@ use Rattle.qx_steps.proofs.LeftLemmas.{AreLeft, left-kept, left-put, left-thread
 use Rattle.qx_steps.proofs.OwnerLemmas.{Owner, exits, nobody, others_kept, owner, sound-step}
 use Rattle.qx_steps.proofs.SettledLemmas.{settled-processes}
 use Rattle.qx_steps.proofs.StillLemmas.{still-asking, still-interrupting, still-ranking, still-send, still-spawn, still-taking, still-withdrawing, world-told}
-use Rattle.qx_steps.proofs.PartsLemmas.{result_cases}
+use Rattle.qx_steps.proofs.PartsLemmas.{result_cases, thread_row-told}
 
 -- what a thread is told that takes its answer, if it has one
 abbrev pub taken_outcome : Option Answer → Outcome
 taken_outcome None = WrongState
 taken_outcome (Some answer) = outcome_of answer
+
+-- what a client is told of a call, by where it goes
+abbrev pub call_outcome : Result Addressed Outcome → Outcome
+call_outcome (Ok addressed) = Sent
+call_outcome (Err outcome) = outcome
 
 -- a thread's row among a user's processes
 row_in : (c : Channel) (thread : Thread) (ps : List (Option Process)) (row : ThreadRow) → row_at c.users thread.proc.user.0 ≡ Some ps → thread_row c.users thread ≡ Some row → thread_of thread.tid (row_at ps thread.proc.num) ≡ Some row
@@ -169,16 +172,16 @@ module _ (config : Configuration) (c : Channel) (ks : List (Option Kept)) (hands
 
   -- ---- call
 
-  pub judged : (thread : Thread) (request : Request) (ps : List (Option Process)) (given : Result Addressed Outcome) → row_at c.users thread.proc.user.0 ≡ Some ps
-      → given ≡ target_by config thread.proc.user.0 (mounts_of c.mounts thread.proc.user.0) ps thread request → given ≡ target_in w thread request
-  judged thread request ps given user by =
-      let o = the_owner thread.proc.user.0 ps user in
-      rw o.part (by ∙ ap (λ number. target_by config thread.proc.user.0 (mounts_of c.mounts number) ps thread request) (sym o.own))
+  -- where a call goes in the channel, it goes in the world
+  call_target-told : (thread : Thread) (request : Request) → call_target config c thread request ≡ target_in w thread request
+  call_target-told thread request = elim (option_cases (row_at c.users thread.proc.user.0)) [
+    | inl none ↦ rw (none, none_there thread.proc.user.0 none) refl
+    | inr ps ↦
+        let o = the_owner thread.proc.user.0 ps.0 ps.1 in
+        rw (ps.1, o.part) (ap (λ number. target_by config thread.proc.user.0 (mounts_of c.mounts number) ps.0 thread request) (sym o.own))
+  ]
 
-  pub judged-nobody : (thread : Thread) (request : Request) → row_at c.users thread.proc.user.0 ≡ None → Err WrongState ≡ target_in w thread request
-  judged-nobody thread request none = rw (none_there thread.proc.user.0 none) refl
-
-  pub call-refused : (thread : Thread) (request : Request) (outcome : Outcome) → target_in w thread request ≡ Err outcome → step w (Call thread request) ≡ record { world = w; outcome = outcome }
+  call-refused : (thread : Thread) (request : Request) (outcome : Outcome) → target_in w thread request ≡ Err outcome → step w (Call thread request) ≡ record { world = w; outcome = outcome }
   unfolding step client
   call-refused thread request outcome is = elim (option_cases (row_at c.users thread.proc.user.0)) [
     | inl none ↦
@@ -202,7 +205,7 @@ module _ (config : Configuration) (c : Channel) (ks : List (Option Kept)) (hands
     ]
   ]
 
-  pub call-sent : (thread : Thread) (request : Request) (addressed : Addressed) → target_in w thread request ≡ Ok addressed
+  call-sent : (thread : Thread) (request : Request) (addressed : Addressed) → target_in w thread request ≡ Ok addressed
       → step w (Call thread request) ≡ record { world = world_of config (after_send c thread (sent_to addressed request)) ks hands; outcome = Sent }
   unfolding step client
   call-sent thread request addressed is = elim (option_cases (row_at c.users thread.proc.user.0)) [
@@ -216,6 +219,17 @@ module _ (config : Configuration) (c : Channel) (ks : List (Option Kept)) (hands
         let left = left-kept (held thread.proc.user.0 ps.0 o) (r thread.proc.user.0 ps.0 o).pipes ps.0 thread.proc.num thread.tid row.0 (with_queued thread.tid sent) o.left row.1 (queued-keeps thread.tid sent) in
         rw (o.part, its, ps.1, ended_with thread.proc.user.0 ps.0 o after left, changed thread.proc.user.0 ps.0 o after) refl
   ]
+
+  pub call-step : (thread : Thread) (request : Request) → step w (Call thread request)
+      ≡ record { world = world_of config (after_call c thread request (call_target config c thread request)) ks hands; outcome = call_outcome (call_target config c thread request) }
+  call-step thread request = elim (result_cases (call_target config c thread request)) [
+    | inl goes ↦ rw goes.1 (call-sent thread request goes.0 (sym (call_target-told thread request) ∙ goes.1))
+    | inr refused ↦ rw refused.1 (call-refused thread request refused.0 (sym (call_target-told thread request) ∙ refused.1))
+  ]
+
+  -- a call that has its memory in the world has it in the channel
+  pub has-memory : (thread : Thread) (request : Request) → IfOk (target_in w thread request) (HasMemory (row_among_parts w.parts thread) request) → IfOk (call_target config c thread request) (HasMemory (thread_row c.users thread) request)
+  has-memory thread request has = rw (call_target-told thread request, ← thread_row-told c ks thread sound.users) has
 
   -- ---- interrupt
 
@@ -333,8 +347,12 @@ module _ (config : Configuration) (c : Channel) (ks : List (Option Kept)) (hands
   pub set_prio-sound : (thread : Thread) (prio : Prio) → IsSound config (after_ranking c thread prio.0) ks hands marks
   set_prio-sound thread prio = after_sound _ _ _ (λ user. refl) (still-ranking c ks sound.users thread prio.0) (set_prio-step thread prio)
 
-  pub call-sound : (thread : Thread) (request : Request) (addressed : Addressed) → target_in w thread request ≡ Ok addressed → IsSound config (after_send c thread (sent_to addressed request)) ks hands marks
-  call-sound thread request addressed is = after_sound _ _ _ (λ user. refl) (still-send c ks sound.users thread (sent_to addressed request)) (call-sent thread request addressed is)
+  still_called : (thread : Thread) (request : Request) (given : Result Addressed Outcome) → AreResourcesOf (after_call c thread request given) ks
+  still_called thread request (Ok addressed) = still-send c ks sound.users thread (sent_to addressed request)
+  still_called thread request (Err outcome) = sound.users
+
+  pub call-sound : (thread : Thread) (request : Request) → IsSound config (after_call c thread request (call_target config c thread request)) ks hands marks
+  call-sound thread request = after_sound _ _ _ (λ user. refl) (still_called thread request (call_target config c thread request)) (call-step thread request)
 
   pub interrupt-sound : (thread : Thread) → IsSound config (after_interrupt c thread) ks hands marks
   interrupt-sound thread = after_sound _ _ _ (λ user. refl) (still-interrupting c ks sound.users thread).of (interrupt-step thread)
@@ -344,14 +362,16 @@ pub spawn-refused : (number : Result ℕ Outcome) → IsTrue (is_refusal (spawn_
 spawn-refused (Ok number) refusal = refusal
 spawn-refused (Err outcome) refusal = refl
 
--- what is judged so comes from a thread that is ready
-pub judged-ready : (given : Result Addressed Outcome) (row : Option ThreadRow) → IfOk given (λ _. option_map (λ row. row.state) row ≡ Some state.Ready) → IfOk given (λ _. IsThreadReady row)
-judged-ready (Ok addressed) (Some row) is = let ready : row.state ≡ state.Ready = cc in ready
-judged-ready (Ok addressed) None is = cc
-judged-ready (Err outcome) row is = tt
+-- a call that is refused
+pub call-refusal : (given : Result Addressed Outcome) → IsTrue (is_refusal (call_outcome given)) → IsErr given
+call-refusal (Ok addressed) refusal = refusal
+call-refusal (Err outcome) refusal = refl
 
--- a message over a connection that is there names no path
-pub no-rest : (over : Over) (rest : List (List ℕ)) → IsExisting over → HasRest over rest → rest ≡ []
-no-rest (Existing coid) rest existing none = none
-no-rest (New coid) rest existing none = absurd existing
-no-rest Side rest existing none = absurd existing
+-- what the channel tells of a call, as the client is told of it
+pub told-sent : (given : Result Addressed Outcome) (told : Result ⊤ Outcome) → told ≡ told_of given → ((outcome : Outcome) → told ≢ Err outcome) → call_outcome given ≡ Sent
+told-sent (Ok addressed) told is sent = refl
+told-sent (Err outcome) told is sent = absurd (sent outcome is)
+
+pub told-refused : (given : Result Addressed Outcome) (outcome : Outcome) → Err outcome ≡ told_of given → call_outcome given ≡ outcome
+told-refused (Ok addressed) outcome is = absurd (cc)
+told-refused (Err refused) outcome is = cc

@@ -5,27 +5,23 @@ ghost use Rattle.std.specs.Option.{option_copied};
 ghost use Rattle.qx_types.specs.declared.outcome.Outcome.TheVariants as outcome;
 ghost use Rattle.qx_machine.specs.Laws.{IsSettled, is_refusal};
 ghost use Rattle.qx_machine.specs.Machine as machine;
-ghost use Rattle.qx_machine.specs.Calls.{can_send, content_of};
 ghost use Rattle.qx_machine.specs.Rows.{row_at};
 ghost use Rattle.qx_machine.specs.Wants.{wants_memory};
-ghost use Rattle.qx_process.specs.Reads.{is_thread_blocked, CanCall, CanGo};
+ghost use Rattle.qx_process.specs.Reads.{is_thread_blocked};
 ghost use Rattle.qx_chan.specs.Calls.{answer_of};
-ghost use Rattle.qx_chan.specs.Users.{IsThreadReady};
-ghost use Rattle.qx_procs.specs.Calls.{CanAttachAt};
-ghost use Rattle.qx_requests.specs.Targets.{HasRest};
+ghost use Rattle.qx_chan.specs.Sending.{HasMemory};
 ghost use Rattle.qx_steps.specs.Held.{bytes_of_work, held_work, received_bytes, work_now, IsReadFor, IsStale};
 ghost use Rattle.qx_steps.specs.Reads.{is_thread_answered, process_among_parts, row_among_parts};
 ghost use Rattle.qx_steps.specs.inner.Reads.{is_thread_ready};
 ghost use Rattle.qx_steps.specs.inner.Steps.{after_mount, mount_in, CanMount};
-ghost use Rattle.qx_steps.specs.Steps.{target_in, HasMemory};
+ghost use Rattle.qx_steps.specs.Steps.{target_in};
 
 use crate::performing::{free_ended, free_one, named_thread, perform, set_mark};
 use crate::work::{PerformFault, Work, WorkRef};
 use qx_chan::Channel;
 use qx_hint::assert_unchecked;
-use qx_machine::{Addressed, Held, OwnItem, Queued, Sent};
+use qx_machine::{Held, OwnItem, Queued};
 use qx_process::{Reply, places};
-use qx_requests::{Refusal, encoded, target_by};
 use qx_resources::{AllResources, NewMount};
 use qx_types::{
     Answer, Bytes, Config, Item, Manager, MessageBytes, NoMemory, Outcome, Prio, Proc, Request,
@@ -224,35 +220,18 @@ impl World {
         ensures had_room { IfOk (target_in self.old thread request.now) (HasMemory (row_among_parts self.old.parts thread) request.now) → IsOk result }
         ensures err { OnErr result (self.new ≡ self.old) }
     {
-        let addressed = match self.judge(thread, request) {
-            Ok(addressed) => addressed,
-            Err(refusal) => return Ok(refusal.outcome()),
-        };
-        let sent = Sent {
-            target: addressed.target,
-            is_asked: false,
-            bytes: encoded(&mut self.memory, request, &addressed.rest)?,
-        };
-        self.channel.send(self.alloc, thread, sent)?;
+        let called = self.channel.call(
+            self.alloc,
+            &self.config,
+            thread,
+            request,
+            &mut self.memory,
+        )?;
+        // refusals leave first: what two ways give in one place is moved once more where they meet
+        if let Err(refusal) = called {
+            return Ok(refusal.outcome());
+        }
         sent_outcome()
-    }
-
-    /// Where a call goes, or why it goes nowhere.
-    fn judge<'a>(&self, thread: Thread, request: &'a Request) -> Result<Addressed<'a>, Refusal>
-        ensures ready { IfOk result (λ _. IsThreadReady (row_among_parts self.now.parts thread)) }
-        ensures countable { IfOk result (λ _. CanCall (row_among_parts self.now.parts thread)) }
-        ensures goes { IfOk result (λ addressed. CanGo addressed.target) }
-        ensures sendable { IfOk result (λ addressed. IsTrue (can_send (content_of request.now addressed.rest))) }
-        ensures rest { IfOk result (λ addressed. HasRest addressed.target.over addressed.rest) }
-        ensures place { IfOk result (λ addressed. CanAttachAt (process_among_parts self.now.parts thread.proc) addressed.target) }
-        ensures target { result ≡ target_in self.now thread request.now }
-    {
-        let user = thread.proc.user;
-        let Some(processes) = self.channel.processes(user) else {
-            return Err(Refusal::wrong_state());
-        };
-        let mounts = self.channel.mounts();
-        target_by(&self.config, mounts, processes, thread, request)
     }
 
     /// A manager is attached at a path of the thread's user, with a root of its own (C Library Reference:

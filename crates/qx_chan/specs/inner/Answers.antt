@@ -9,29 +9,29 @@ use Rattle.qx_machine.specs.declared.rows.OwnItem.TheVariants as item
 use Rattle.qx_machine.specs.declared.rows.Queued.{Queued}
 use Rattle.qx_machine.specs.Lines.{with_line}
 use Rattle.qx_machine.specs.Machine.{line_without}
-use Rattle.qx_machine.specs.Processes.{answered_thread, served_thread}
+use Rattle.qx_machine.specs.Performing.{after_serving}
+use Rattle.qx_machine.specs.Processes.{Process, answered_thread, lost_servers}
 use Rattle.qx_queues.specs.Queues.{UsersAnswer}
 use Rattle.qx_shared.specs.Shared.{Shared, with_shared_line}
+use Rattle.qx_resmgr.specs.Deeds.{reply_with}
 use Rattle.qx_resmgr.specs.declared.functions.Done.{Done}
 use Rattle.qx_resmgr.specs.declared.functions.Done.TheVariants.{Reply, NoReply}
 use Rattle.qx_chan.specs.Channel.{failed}
-use Rattle.qx_chan.specs.inner.Channel.{process_replied}
-use Rattle.qx_chan.specs.inner.Kept.{lost_of, with_lost}
-use Rattle.qx_chan.specs.Users.{Users, process_of, with_process_of, with_thread_row}
+use Rattle.qx_chan.specs.inner.Kept.{with_lost}
+use Rattle.qx_chan.specs.Users.{Users, with_thread_row}
 use Rattle.qx_chan.specs.declared.call.Call.{Call}
 
 -- the thread of a message that was received is answered with what that came to, or waits, where it is left without a reply
-abbrev pub answered_users : Users → Thread → Over → List ℕ → Result Done Errno → Users
-answered_users users thread over bytes (Ok NoReply) = with_thread_row users thread served_thread
-answered_users users thread over bytes (Ok (Reply status effect)) = with_process_of users thread.proc (process_replied thread.tid effect status bytes over)
-answered_users users thread over bytes (Err error) = with_process_of users thread.proc (failed thread.tid error over)
+abbrev pub answered_process : ℕ → Over → List ℕ → Result Done Errno → Process → Process
+answered_process thread over bytes (Ok done) = after_serving thread over (reply_with bytes done)
+answered_process thread over bytes (Err error) = failed thread error over
 
 -- its call has no unblock pulse any more, and the disconnect pulse of what its process has lost by that stands in its line
-abbrev pub without_pulse : Shared → Users → Users → Thread → Call → Shared
+abbrev pub without_pulse : Shared → Process → Process → Thread → Call → Shared
 without_pulse queues before after thread call =
-    with_lost thread.proc (lost_of (process_of before thread.proc) (process_of after thread.proc)) (with_shared_line queues (manager_number call.target.manager) (line_without thread.proc.user.0 (item.Unblock thread.proc.num thread.tid call.number)))
+    with_lost thread.proc (lost_servers before after) (with_shared_line queues (manager_number call.target.manager) (line_without thread.proc.user.0 (item.Unblock thread.proc.num thread.tid call.number)))
 
-abbrev pub answered_queues : Shared → Users → Users → Thread → Call → Result Done Errno → Shared
+abbrev pub answered_queues : Shared → Process → Process → Thread → Call → Result Done Errno → Shared
 answered_queues queues before after thread call (Ok NoReply) = queues
 answered_queues queues before after thread call (Ok (Reply status effect)) = without_pulse queues before after thread call
 answered_queues queues before after thread call (Err error) = without_pulse queues before after thread call

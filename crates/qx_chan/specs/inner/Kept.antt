@@ -8,18 +8,20 @@ use Rattle.qx_types.specs.declared.names.TheConstants.Manager.{COUNT}
 use Rattle.qx_types.specs.declared.names.Proc.{Proc}
 use Rattle.qx_types.specs.declared.names.Thread.{Thread}
 use Rattle.qx_machine.specs.declared.rows.Over.{Over}
+use Rattle.qx_machine.specs.declared.rows.Sent.{Sent}
 use Rattle.qx_machine.specs.declared.rows.ServerName.{ServerName}
 use Rattle.qx_machine.specs.declared.rows.State.{State}
 use Rattle.qx_machine.specs.declared.rows.State.TheVariants.{Queued, Taken, Waiting}
 use Rattle.qx_machine.specs.declared.rows.Target.{Target}
 use Rattle.qx_machine.specs.declared.rows.ThreadRow.{ThreadRow}
-use Rattle.qx_machine.specs.Lines.{line_at}
+use Rattle.qx_machine.specs.Lines.{into, line_at}
+use Rattle.qx_machine.specs.Machine.{rank}
 use Rattle.qx_machine.specs.Parts.{thread_of}
-use Rattle.qx_machine.specs.Processes.{Process, has_ended, lost_servers}
+use Rattle.qx_machine.specs.Processes.{Process, has_ended}
 use Rattle.qx_machine.specs.Rows.{row_at}
-use Rattle.qx_queues.specs.Queues.{UsersAnswer, UsersCall, caller, stands, unblock_call}
+use Rattle.qx_queues.specs.Queues.{UsersAnswer, UsersCall, caller, message_of, stands, unblock_call}
 use Rattle.qx_resources.specs.declared.tables.Tables.{Tables}
-use Rattle.qx_shared.specs.Shared.{Shared, has_disconnect_node, has_thread, waiting_in, with_shared_disconnect, with_shared_server}
+use Rattle.qx_shared.specs.Shared.{Shared, has_disconnect_node, has_thread, waiting_in, with_shared_disconnect, with_shared_line, with_shared_server}
 use Rattle.qx_chan.specs.Nodes.{attaches, served_at}
 use Rattle.qx_procs.specs.Calls.{has_ended_in}
 use Rattle.qx_chan.specs.Users.{Users, process_of, thread_row}
@@ -73,8 +75,12 @@ abbrev pub nodes_for : Users → Thread → Bool
 nodes_for processes thread = has_nodes thread.tid (process_of processes thread.proc)
 
 -- a process has a disconnect node at a manager exactly while it has a server connection in use there
+abbrev pub HasServerNodesOf : Option Process → Shared → Proc → Type 0
+HasServerNodesOf process queues proc = (manager : Manager) → has_disconnect_node queues proc (manager_number manager) ≡ served_at manager process
+
+-- the same of the process under its number
 abbrev pub HasServerNodes : Users → Shared → Proc → Type 0
-HasServerNodes processes queues proc = (manager : Manager) → has_disconnect_node queues proc (manager_number manager) ≡ served_at manager (process_of processes proc)
+HasServerNodes processes queues proc = HasServerNodesOf (process_of processes proc) queues proc
 
 -- a thread has nodes exactly from its start until its process is freed, its message stands in a line exactly if its row says so, an unblock
 -- pulse only while its call is asked for, and its call in a pipe only while it waits for the answer, or after its process has ended; no
@@ -105,11 +111,6 @@ abbrev pub with_lost : Proc → List ServerName → Shared → Shared
 with_lost proc [] queues = queues
 with_lost proc (server ∷ servers) queues = with_lost proc servers (with_shared_disconnect queues proc server)
 
--- what a process that was like that and is like this has lost
-abbrev pub lost_of : Option Process → Option Process → List ServerName
-lost_of (Some before) (Some after) = lost_servers before after
-lost_of _ _ = []
-
 -- the disconnect node of a process once its call has attached what the message goes over
 abbrev pub with_attached : Proc → Option Process → Target → Shared → Shared
 with_attached proc process target queues = if attaches target.over && served_at target.manager process then with_shared_server queues proc (manager_number target.manager) else queues
@@ -117,3 +118,8 @@ with_attached proc process target queues = if attaches target.over && served_at 
 -- room for the disconnect node of what a message goes over
 abbrev pub with_room : Over → Shared → Shared
 with_room over queues = if attaches over then record queues { room = max queues.room 2 } else queues
+
+-- once a message stands in its manager's line, with the disconnect node of what the process has in use then
+abbrev pub with_sent : Thread → Sent → Option Process → Shared → Shared
+with_sent thread sent process queues =
+    with_attached thread.proc process sent.target (with_shared_line (with_room sent.target.over queues) (manager_number sent.target.manager) (λ line. into rank line (message_of thread sent.target.prio.0)))

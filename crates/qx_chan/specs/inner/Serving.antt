@@ -1,5 +1,5 @@
 -- What only the proofs need of Serving.
-use Rattle.std.specs.Prelude.{◌≡◌, ℕ, Bool, List, Some, Result, Ok, Err, slice_set}
+use Rattle.std.specs.Prelude.{◌≡◌, ℕ, Bool, List, Result, Ok, Err, slice_set}
 use Rattle.qx_types.specs.declared.errno.Errno.{Errno}
 use Rattle.qx_types.specs.declared.names.Thread.{Thread}
 use Rattle.qx_wire.specs.Reading.{meaning}
@@ -15,29 +15,21 @@ use Rattle.qx_resmgr.specs.declared.functions.Done.{Done}
 use Rattle.qx_resources.specs.State.{told, Kept}
 use Rattle.qx_resources.specs.Told.{told_by}
 use Rattle.qx_resources.specs.declared.tables.Tables.{Tables}
-use Rattle.qx_chan.specs.inner.Calls.{taken_bytes}
-use Rattle.qx_chan.specs.Users.{Users, process_of, thread_row}
 use Rattle.qx_chan.specs.declared.call.Call.{Call}
-use Rattle.qx_chan.specs.declared.call.TakenMessage.{TakenMessage}
-
--- the process of a thread, and the bytes of its message, which was received and is not served
-pub record Sends (users : Users) (thread : Thread) (process : Process) (bytes : List ℕ) : Type 0 where
-  pub there : process_of users thread.proc ≡ Some process
-  pub bytes_are : taken_bytes (thread_row users thread) ≡ Some bytes
 
 -- whose call it is
 abbrev pub caller_of_call : Thread → Call → Caller
 caller_of_call thread call = record { process = thread.proc.num; thread = thread.tid; call = call.number; is_asked = call.is_asked }
 
 -- what a message of a process with these bytes comes to
-abbrev pub deed_in : Kept → Tables → Process → TakenMessage → List ℕ → Result (Deed Resources) Errno
-deed_in resources waits process message bytes =
-    deed_of (told resources waits) (context_of process (caller_of_call message.thread message.call) message.call.target message.moment (meaning bytes)) (meaning bytes)
+abbrev pub deed_in : Kept → Tables → Process → Thread → Call → ℕ → List ℕ → Result (Deed Resources) Errno
+deed_in resources waits process thread call moment bytes =
+    deed_of (told resources waits) (context_of process (caller_of_call thread call) call.target moment (meaning bytes)) (meaning bytes)
 
 -- and how it is told
-abbrev pub told_in : Kept → Tables → Process → TakenMessage → List ℕ → Result (Deed Resources) Errno
-told_in resources waits process message bytes =
-    told_by message.call.target.manager (told resources waits) (context_of process (caller_of_call message.thread message.call) message.call.target message.moment (meaning bytes)) (meaning bytes) (deed_in resources waits process message bytes)
+abbrev pub told_in : Kept → Tables → Process → Thread → Call → ℕ → List ℕ → Result (Deed Resources) Errno
+told_in resources waits process thread call moment bytes =
+    told_by call.target.manager (told resources waits) (context_of process (caller_of_call thread call) call.target moment (meaning bytes)) (meaning bytes) (deed_in resources waits process thread call moment bytes)
 
 -- what a deed to a user's resources leaves, once the events that are due by it have given their pulses to the processes that live: its answers
 -- are on their way, and of the room for events nothing is said

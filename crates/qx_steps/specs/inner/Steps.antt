@@ -1,16 +1,12 @@
 -- What only the proofs need of Steps.
-use Rattle.std.specs.Prelude.{◌≡◌, ℕ, false, List, Option, Some, None, Result, Ok, Err}
+use Rattle.std.specs.Prelude.{◌≡◌, ℕ, List, Option, Some, None, Result, Ok, Err}
 use Rattle.qx_types.specs.Configuration.{Configuration}
 use Rattle.qx_types.specs.declared.names.Manager.{Manager}
 use Rattle.qx_types.specs.declared.names.Thread.{Thread}
 use Rattle.qx_types.specs.declared.outcome.Outcome.{Outcome}
 use Rattle.qx_types.specs.declared.outcome.Outcome.TheVariants.{WrongState}
-use Rattle.qx_types.specs.declared.request.Request.{Request}
 use Rattle.qx_paths.specs.Mounts.{mount_fault}
 use Rattle.qx_paths.specs.Prefixes.{MountPoint}
-use Rattle.qx_machine.specs.declared.rows.Addressed.{Addressed}
-use Rattle.qx_machine.specs.declared.rows.Sent.{Sent}
-use Rattle.qx_machine.specs.Calls.{bytes_of, content_of}
 use Rattle.qx_machine.specs.Clients.{mount_by}
 use Rattle.qx_machine.specs.Inodes.{inode_number}
 use Rattle.qx_machine.specs.Machine.{World}
@@ -18,10 +14,6 @@ use Rattle.qx_machine.specs.Mounting.{with_mount}
 use Rattle.qx_machine.specs.Parts.{Part}
 use Rattle.qx_machine.specs.Resources.{Resources}
 use Rattle.qx_machine.specs.Rows.{row_at, with_row}
-
--- the message of a call that goes there
-abbrev pub sent_to : Addressed → Request → Sent
-sent_to addressed request = record { target = addressed.target; is_asked = false; bytes = bytes_of (content_of request addressed.rest) }
 
 abbrev pub mount_from : Configuration → Thread → List ℕ → Manager → Option Part → Result MountPoint Outcome
 mount_from config thread path manager None = Err WrongState

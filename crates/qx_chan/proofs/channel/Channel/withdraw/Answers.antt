@@ -7,7 +7,7 @@ use Rattle.qx_machine.specs.declared.rows.OwnItem.TheVariants as item
 use Rattle.qx_machine.specs.Machine.{line_without}
 use Rattle.qx_chan.specs.Calls.{queued_call}
 use Rattle.qx_chan.specs.Channel.{failed}
-use Rattle.qx_chan.specs.Users.{thread_row}
+use Rattle.qx_chan.specs.Users.{process_of, thread_row}
 use Rattle.qx_shared.specs.Shared.{Shared, with_shared_line}
 use Rattle.qx_chan.proofs.AnswerLemmas.{Kept-withdrawn, fails}
 use Rattle.qx_chan.proofs.LostLemmas.{lost-fields, lost-there, shown-lost}
@@ -18,7 +18,7 @@ pub fail-lost-requires : goal.fail-lost-requires
 fail-lost-requires c = record { room = queued-brings EINTR (thread_row c.self.inside.users c.args.thread) c.args.call (rw (← c.self.view_is) at c.requires.queued) }
 
 pub disconnect-requires : goal.disconnect-requires
-disconnect-requires c = record { there = rw c.withdraw.ensures.withdrawn (lost-there c.self.inside.users c.self.inside.tables.shared c.args.thread.proc _ c.fail-lost.result (c.self.invariant.shared.servers c.args.thread.proc) c.fail-lost.ensures.lost) }
+disconnect-requires c = record { there = rw c.withdraw.ensures.withdrawn (lost-there c.self.inside.tables.shared c.args.thread.proc (process_of c.self.inside.users c.args.thread.proc) _ c.fail-lost.result (c.self.invariant.shared.servers c.args.thread.proc) c.fail-lost.ensures.lost) }
 
 pub invariant_of-self : goal.invariant_of-self
 invariant_of-self c =
