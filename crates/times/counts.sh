@@ -22,7 +22,7 @@ for at in '1 1' '4 8' '16 1' '16 8'; do script 1000 stat $at; done
 for at in '1 20' '8 20' '1 1024' '8 1024'; do script 1000 resolve $at; done
 for count in 0 1 8 64; do script 100 end $count; done
 for users in 1 4 16; do script 50 spawn $users; done
-for items in 10 1000 100000; do calls 10000 line $items; done
+for items in 10 100 1000 100000; do calls 10000 line $items; done
 for bytes in 0 20 1024; do for kind in encode read; do calls 1000 $kind $bytes; done; done
 for length in 4096 61440; do for kind in seek write read; do for bytes in 1 512 4096; do script 1000 transfer $kind $length $bytes; done; done; done
 for length in 4096 32768 61440; do for writes in 0 1 2 3; do script 100 append $length $writes; done; done
