@@ -13,7 +13,7 @@ use Rattle.qx_machine.specs.Functions as functions
 use Rattle.qx_machine.specs.Functions.{function_deed}
 use Rattle.qx_machine.specs.Inodes.{new_block}
 use Rattle.qx_machine.specs.Pipes.{PipeAfter, nobody_answered, readers_dismissed, with_reader}
-use Rattle.qx_machine.specs.Rows.{put_row}
+use Rattle.qx_isolation.specs.Rows.{put_row}
 use Rattle.qx_shared.specs.Shared.{Shared, pipe_at, with_pipe_after}
 use Rattle.qx_pipe.proofs.AfterLemmas.{with_after-nobody}
 use Rattle.qx_shared.proofs.AfterLemmas.{pipe_at-after}

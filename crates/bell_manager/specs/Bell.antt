@@ -11,10 +11,10 @@ use Rattle.qx_machine.specs.declared.rows.Opened.{Opened}
 use Rattle.qx_machine.specs.declared.rows.WaitingCall.{WaitingCall}
 use Rattle.qx_machine.specs.Functions.{ConnectFunctions, Deed, IoFunctions, Reply, no_connect, no_io}
 use Rattle.qx_machine.specs.Inodes.{new_block}
-use Rattle.qx_machine.specs.Judgements.{◌>>=◌, need}
+use Rattle.qx_isolation.specs.Judgements.{◌>>=◌, need}
 use Rattle.qx_machine.specs.Waiting.{caller_in, waiting_call}
 use Rattle.qx_machine.specs.Pipes.{PipeAfter, Pipe, nobody_answered, readers_dismissed, with_reader}
-use Rattle.qx_machine.specs.Rows.{put_row}
+use Rattle.qx_isolation.specs.Rows.{put_row}
 use Rattle.qx_shared.specs.Shared.{HasPipe, IsReceived, Shared, pipe_at, callers_thread, with_pipe_after}
 use Rattle.null_manager.specs.Null.{Blocks, free_number}
 

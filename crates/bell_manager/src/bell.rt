@@ -1,6 +1,6 @@
 ghost use Rattle.std.specs.Prelude.{◌≡◌, ◌<◌, ◌≤◌, [], IfOk, None, OnErr, OnOk, Some, length};
 ghost use Rattle.qx_machine.specs.Pipes.{pipe_of};
-ghost use Rattle.qx_machine.specs.Rows.{row_at};
+ghost use Rattle.qx_isolation.specs.Rows.{row_at};
 ghost use Rattle.qx_shared.specs.Shared.{pipes_of, with_row_at};
 ghost use Rattle.qx_types.specs.declared.limits.TheConstants.Limits.{INODES};
 ghost use Rattle.null_manager.specs.Null.{opened_at};

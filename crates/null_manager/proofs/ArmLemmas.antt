@@ -14,7 +14,7 @@ use Rattle.qx_machine.specs.declared.rows.Opened.{Opened}
 use Rattle.qx_machine.specs.declared.rows.PulseWish.{PulseWish}
 use Rattle.qx_machine.specs.Events.{Events, armed_anew, disarmed, event_count, is_any, is_on, notified, wanted_of}
 use Rattle.qx_machine.specs.Notification.{event_of}
-use Rattle.qx_machine.specs.Rows.{row_at}
+use Rattle.qx_isolation.specs.Rows.{row_at}
 use Rattle.qx_machine.specs.Wants.{is_done_so}
 use Rattle.qx_notify.specs.Events.{arms_event, wants_node}
 use Rattle.null_manager.specs.Null.{Told, got_events, holding, notify_deed}

@@ -19,9 +19,9 @@ use Rattle.qx_machine.specs.declared.rows.WaitingCall.{WaitingCall}
 use Rattle.qx_machine.specs.Events.{Events, disarmed, event_count, notified}
 use Rattle.qx_machine.specs.Functions.{ConnectFunctions, Deed, IoFunctions, no_connect, no_io, reply_alone}
 use Rattle.qx_machine.specs.Inodes.{new_block}
-use Rattle.qx_machine.specs.Judgements.{◌>>=◌, found, need}
+use Rattle.qx_isolation.specs.Judgements.{◌>>=◌, found, need}
 use Rattle.qx_machine.specs.Notification.{event_of}
-use Rattle.qx_machine.specs.Rows.{row_at, lowest_from, put_row}
+use Rattle.qx_isolation.specs.Rows.{row_at, lowest_from, put_row}
 use Rattle.qx_notify.specs.Events.{AllEvents, events_of, with_events}
 
 -- ---- open control blocks, from 1

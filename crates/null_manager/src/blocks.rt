@@ -1,5 +1,5 @@
 ghost use Rattle.std.specs.Prelude.{◌≡◌, [], ◌∷◌, None, IfOk, OnErr, OnOk, is_some, slice_set};
-ghost use Rattle.qx_machine.specs.Rows.{put_row, row_at};
+ghost use Rattle.qx_isolation.specs.Rows.{put_row, row_at};
 ghost use Rattle.null_manager.specs.Null as null;
 
 use qx_machine::{Caller, Ocb, Opened};

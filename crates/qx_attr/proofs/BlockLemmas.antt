@@ -6,8 +6,8 @@ use Rattle.std.proofs.lemmas.Bool.{cases_eq}
 use Rattle.slab.specs.Slab.{Slab, Updates, get, with_value}
 use Rattle.slab.proofs.SlabLemmas.{Updates-with_value}
 use Rattle.qx_machine.specs.declared.rows.Ocb.{Ocb}
-use Rattle.qx_machine.specs.Rows.{row_at, lowest_from, put_row, with_row}
-use Rattle.qx_machine.proofs.Places.{at-map, row_at-set_other, set-row_at}
+use Rattle.qx_isolation.specs.Rows.{row_at, lowest_from, put_row, with_row}
+use Rattle.qx_isolation.proofs.Places.{at-map, row_at-set_other, set-row_at}
 use Rattle.qx_attr.specs.inner.Blocks.{IsKeyed, rows_of, value_at}
 use Rattle.qx_attr.proofs.TableLemmas.{append-rows, length-rows, lowest_map, no_value, row-freed, same_but, same_map}
 

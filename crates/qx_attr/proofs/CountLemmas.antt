@@ -11,8 +11,8 @@ use Rattle.std.proofs.lemmas.List.Sums.{sum_by-append, sum_by-cons, sum_by-set}
 use Rattle.qx_types.specs.declared.flags.OFlags.{OFlags}
 use Rattle.qx_machine.specs.declared.rows.Ocb.{Ocb}
 use Rattle.qx_machine.specs.Inodes.{is_open, moved_to, reads, writes}
-use Rattle.qx_machine.specs.Rows.{row_at, put_row, with_row}
-use Rattle.qx_machine.proofs.Places.{row_at-set_other, set-row_at}
+use Rattle.qx_isolation.specs.Rows.{row_at, put_row, with_row}
+use Rattle.qx_isolation.proofs.Places.{row_at-set_other, set-row_at}
 use Rattle.qx_attr.specs.declared.attr.Attr.{Attr}
 use Rattle.qx_attr.specs.inner.Counts.{AreCounted, IsCounted, attribute_of, count_in, counted, one, uncounted}
 use Rattle.qx_attr.proofs.TableLemmas.{row-put}

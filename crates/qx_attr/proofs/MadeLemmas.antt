@@ -5,8 +5,8 @@ use Rattle.std.proofs.lemmas.Bool.{cases_Bool, cases_eq, ne_eqb}
 use Rattle.std.proofs.lemmas.Bool.Decides.{nat_tests}
 use Rattle.std.proofs.lemmas.List.{append-nil}
 use Rattle.std.proofs.lemmas.List.Elements.{filter-append}
-use Rattle.qx_machine.proofs.Places.{row_at-set_other}
-use Rattle.qx_machine.specs.Rows.{put_row, row_at}
+use Rattle.qx_isolation.proofs.Places.{row_at-set_other}
+use Rattle.qx_isolation.specs.Rows.{put_row, row_at}
 use Rattle.qx_attr.specs.inner.Blocks.{AreMadeOnce}
 use Rattle.qx_attr.proofs.TableLemmas.{put_at, put_other, row-freed}
 

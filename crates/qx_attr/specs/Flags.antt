@@ -5,8 +5,8 @@ use Rattle.qx_types.specs.declared.errno.Errno.TheVariants.{EBADF}
 use Rattle.qx_types.specs.declared.flags.OFlags.{OFlags}
 use Rattle.qx_machine.specs.declared.rows.Ocb.{Ocb}
 use Rattle.qx_machine.specs.Inodes.{Inodes, has}
-use Rattle.qx_machine.specs.Judgements.{◌>>=◌, found, need}
-use Rattle.qx_machine.specs.Rows.{row_at}
+use Rattle.qx_isolation.specs.Judgements.{◌>>=◌, found, need}
+use Rattle.qx_isolation.specs.Rows.{row_at}
 
 -- an open control block that was opened with a flag (C Library Reference: EBADF)
 abbrev pub block_for : Inodes → ℕ → OFlags → Result Ocb Errno

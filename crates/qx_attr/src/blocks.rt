@@ -2,7 +2,7 @@ ghost use Rattle.std.specs.Prelude.{◌≡◌, ◌+◌, ◌-◌, ◌<◌, ◌≤
 ghost use Rattle.std.specs.Option.{option_copied};
 ghost use Rattle.qx_attr.specs.inner.Blocks.{numbers_of};
 ghost use Rattle.qx_machine.specs.Inodes.{is_clients, moved_to};
-ghost use Rattle.qx_machine.specs.Rows.{lowest_from, put_row, row_at, with_row};
+ghost use Rattle.qx_isolation.specs.Rows.{lowest_from, put_row, row_at, with_row};
 
 use crate::growth;
 use qx_hint::{assert_unchecked, unwrap_unchecked};

@@ -6,7 +6,7 @@ ghost use Rattle.qx_attr.specs.Flags.{block_for};
 ghost use Rattle.qx_machine.specs.Attributes.{stat_bytes};
 ghost use Rattle.qx_machine.specs.Inodes as machine;
 ghost use Rattle.qx_machine.specs.Waiting.{sides_of};
-ghost use Rattle.qx_machine.specs.Rows.{lowest_from, put_row, row_at};
+ghost use Rattle.qx_isolation.specs.Rows.{lowest_from, put_row, row_at};
 ghost use Rattle.qx_types.specs.declared.limits.TheConstants.Limits.{BLOCKS, INODES};
 
 use crate::attr::Attr;

@@ -11,15 +11,15 @@ use Rattle.qx_types.specs.declared.outcome.Answer.{Answer}
 use Rattle.qx_types.specs.declared.outcome.Answer.TheVariants.{Reply, Failed}
 use Rattle.qx_machine.specs.declared.rows.Effect.{Effect}
 use Rattle.qx_machine.specs.declared.rows.Over.{Over}
-use Rattle.qx_machine.specs.declared.rows.OwnItem.TheVariants as item
-use Rattle.qx_machine.specs.declared.rows.Queued.{Queued}
-use Rattle.qx_machine.specs.declared.rows.ServerName.{ServerName}
+use Rattle.qx_isolation.specs.declared.rows.OwnItem.TheVariants as item
+use Rattle.qx_isolation.specs.declared.rows.Queued.{Queued}
+use Rattle.qx_isolation.specs.declared.rows.ServerName.{ServerName}
 use Rattle.qx_machine.specs.declared.rows.ThreadRow.{ThreadRow}
-use Rattle.qx_machine.specs.Lines.{line_at}
+use Rattle.qx_isolation.specs.Lines.{line_at}
 use Rattle.qx_machine.specs.Machine.{line_without}
 use Rattle.qx_machine.specs.Performing.{taken_in}
 use Rattle.qx_machine.specs.Processes.{Process, answered_thread, with_thread}
-use Rattle.qx_machine.specs.Rows.{with_row}
+use Rattle.qx_isolation.specs.Rows.{with_row}
 use Rattle.qx_queues.specs.Queues.{stands, unblock_call}
 use Rattle.qx_shared.specs.Shared.{Shared, with_shared_line}
 use Rattle.qx_queues.proofs.EntryLemmas.{with_line-same}

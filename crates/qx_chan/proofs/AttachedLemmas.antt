@@ -13,7 +13,7 @@ use Rattle.qx_machine.specs.declared.rows.Effect.TheVariants.{Keeps, Opens, Clos
 use Rattle.qx_machine.specs.declared.rows.Over.{Over}
 use Rattle.qx_machine.specs.declared.rows.Over.TheVariants.{New, Existing, Side}
 use Rattle.qx_machine.specs.Processes.{Process, after_effect, after_error, after_reply, with_over}
-use Rattle.qx_machine.specs.Rows.{row_at}
+use Rattle.qx_isolation.specs.Rows.{row_at}
 use Rattle.qx_queues.specs.inner.Queues.{is_same_server}
 
 -- each manager has a line

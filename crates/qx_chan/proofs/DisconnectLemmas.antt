@@ -5,15 +5,15 @@ use Rattle.std.specs.Prelude.{option_map}
 use Rattle.qx_types.specs.declared.names.Proc.{Proc}
 use Rattle.qx_types.specs.declared.outcome.Outcome.TheVariants.{WrongState}
 use Rattle.qx_machine.specs.declared.rows.Client.{Client}
-use Rattle.qx_machine.specs.declared.rows.ServerName.{ServerName}
+use Rattle.qx_isolation.specs.declared.rows.ServerName.{ServerName}
 use Rattle.qx_machine.specs.Functions.{Deed}
-use Rattle.qx_machine.specs.Judgements.{◌>>=◌, found}
+use Rattle.qx_isolation.specs.Judgements.{◌>>=◌, found}
 use Rattle.qx_machine.specs.Managers.{close_client}
 use Rattle.qx_machine.specs.Parts.{Part, with_process}
 use Rattle.qx_machine.specs.Performing.{Served, answering, or_kept, serve_disconnect}
 use Rattle.qx_machine.specs.Processes.{Process, without_server}
 use Rattle.qx_machine.specs.Resources.{Resources}
-use Rattle.qx_machine.specs.Rows.{row_at, with_row}
+use Rattle.qx_isolation.specs.Rows.{row_at, with_row}
 use Rattle.qx_machine.specs.Settling.{is_living}
 use Rattle.qx_machine.proofs.Living.{lives-answers, lives-changed}
 use Rattle.qx_machine.proofs.Waiters.{client-keeps}

@@ -15,24 +15,24 @@ use Rattle.qx_types.specs.declared.names.Manager.{Manager}
 use Rattle.qx_types.specs.declared.names.TheConstants.Manager.{COUNT}
 use Rattle.qx_types.specs.declared.names.Proc.{Proc}
 use Rattle.qx_types.specs.declared.names.Thread.{Thread}
-use Rattle.qx_machine.specs.declared.rows.OwnItem.TheVariants as item
-use Rattle.qx_machine.specs.declared.rows.Queued.{Queued}
+use Rattle.qx_isolation.specs.declared.rows.OwnItem.TheVariants as item
+use Rattle.qx_isolation.specs.declared.rows.Queued.{Queued}
 use Rattle.qx_machine.specs.declared.rows.Sent.{Sent}
-use Rattle.qx_machine.specs.declared.rows.ServerName.{ServerName}
+use Rattle.qx_isolation.specs.declared.rows.ServerName.{ServerName}
 use Rattle.qx_machine.specs.declared.rows.State.TheVariants as state
 use Rattle.qx_machine.specs.declared.rows.ThreadRow.{ThreadRow}
 use Rattle.qx_machine.specs.declared.rows.WaitingCall.{WaitingCall}
 use Rattle.qx_machine.specs.Clients.{abandoned, dropped, dropped_by, dropped_in, with_abandoned}
 use Rattle.qx_machine.specs.Events.{Events, no_events, without_pulses}
-use Rattle.qx_machine.specs.Lines.{line_at, with_line}
+use Rattle.qx_isolation.specs.Lines.{line_at, with_line}
 use Rattle.qx_machine.specs.Machine.{line_without, lines_after, changed_manager, line_after}
 use Rattle.qx_machine.specs.Parts.{Change, Remove, disconnect, thread_of}
 use Rattle.qx_machine.specs.Pipes.{Pipe}
 use Rattle.qx_machine.specs.Processes.{Process, ended, has_ended, living, lost_servers, received_by}
-use Rattle.qx_machine.specs.Rows.{row_at, with_row}
+use Rattle.qx_isolation.specs.Rows.{row_at, with_row}
 use Rattle.qx_machine.specs.Waiting.{Pipes, is_of_process, no_pipes}
 use Rattle.std.proofs.Math.Bool.{and-not_self}
-use Rattle.qx_machine.proofs.Places.{at-map}
+use Rattle.qx_isolation.proofs.Places.{at-map}
 use Rattle.qx_process.specs.Reads.{LosesAll, is_at}
 use Rattle.qx_queues.specs.Queues.{stands, unblock_call}
 use Rattle.qx_queues.proofs.EntryLemmas.{line_at-other, line_at-same}

@@ -10,15 +10,15 @@ use Rattle.qx_types.specs.declared.names.Proc.{Proc}
 use Rattle.qx_types.specs.declared.names.Thread.{Thread}
 use Rattle.qx_machine.specs.declared.rows.WaitingCall.{WaitingCall}
 use Rattle.qx_machine.specs.declared.rows.ThreadRow.{ThreadRow}
-use Rattle.qx_machine.specs.Lines.{line_at}
+use Rattle.qx_isolation.specs.Lines.{line_at}
 use Rattle.qx_machine.specs.Parts.{thread_of}
 use Rattle.qx_machine.specs.Pipes.{Pipe}
 use Rattle.qx_machine.specs.Processes.{Process, has_ended, has_server}
-use Rattle.qx_machine.specs.Rows.{row_at, with_row}
+use Rattle.qx_isolation.specs.Rows.{row_at, with_row}
 use Rattle.qx_machine.specs.Servers.{Servers, in_use, is_in_use}
 use Rattle.qx_machine.specs.Settling.{has_waiting, row_left}
 use Rattle.qx_machine.specs.Waiting.{Pipes, holds, is_of_process}
-use Rattle.qx_machine.proofs.Places.{set-row_at}
+use Rattle.qx_isolation.proofs.Places.{set-row_at}
 use Rattle.qx_queues.specs.Queues.{stands, unblock_call}
 use Rattle.qx_queues.proofs.NodesLemmas.{same_proc}
 use Rattle.qx_shared.specs.Shared.{Shared, calls_at, has_disconnect_node, has_thread, pipes_of, users_waiting, waiting_calls, without_shared_process, without_threads_below}

@@ -9,11 +9,11 @@ use Rattle.qx_types.specs.declared.names.Manager.{Manager}
 use Rattle.qx_types.specs.declared.names.Proc.{Proc}
 use Rattle.qx_types.specs.declared.names.Thread.{Thread}
 use Rattle.qx_machine.specs.declared.rows.ServerConnection.{ServerConnection}
-use Rattle.qx_machine.specs.declared.rows.ServerName.{ServerName}
-use Rattle.qx_machine.specs.Lines.{line_at, with_line}
+use Rattle.qx_isolation.specs.declared.rows.ServerName.{ServerName}
+use Rattle.qx_isolation.specs.Lines.{line_at, with_line}
 use Rattle.qx_machine.specs.Parts.{thread_of}
 use Rattle.qx_machine.specs.Processes.{Process, without_server}
-use Rattle.qx_machine.specs.Rows.{row_at, with_row}
+use Rattle.qx_isolation.specs.Rows.{row_at, with_row}
 use Rattle.qx_machine.specs.Servers.{Servers, in_use, is_in_use, is_left, without_left}
 use Rattle.qx_queues.specs.Queues.{UsersAnswer}
 use Rattle.qx_shared.specs.Shared.{Shared, waiting_in}

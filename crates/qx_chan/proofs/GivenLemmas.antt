@@ -6,18 +6,18 @@ use Rattle.std.proofs.lemmas.Bool.{eqb-true}
 use Rattle.qx_types.specs.Managers.{manager_number}
 use Rattle.qx_types.specs.declared.names.Manager.TheVariants.{Pipe}
 use Rattle.qx_types.specs.declared.outcome.Answer.{Answer}
-use Rattle.qx_machine.specs.declared.rows.OwnItem.TheVariants as item
-use Rattle.qx_machine.specs.declared.rows.Queued.{Queued}
+use Rattle.qx_isolation.specs.declared.rows.OwnItem.TheVariants as item
+use Rattle.qx_isolation.specs.declared.rows.Queued.{Queued}
 use Rattle.qx_machine.specs.declared.rows.State.{State}
 use Rattle.qx_machine.specs.declared.rows.State.TheVariants as state
 use Rattle.qx_machine.specs.declared.rows.ThreadRow.{ThreadRow}
 use Rattle.qx_machine.specs.declared.rows.WaitingCall.{WaitingCall}
-use Rattle.qx_machine.specs.Lines.{line_at, with_line}
+use Rattle.qx_isolation.specs.Lines.{line_at, with_line}
 use Rattle.qx_machine.specs.Machine.{line_without, lines_after}
 use Rattle.qx_machine.specs.Parts.{Part}
 use Rattle.qx_machine.specs.Performing.{answered_changes, with_answer, with_answers}
 use Rattle.qx_machine.specs.Processes.{Process, answered_thread, with_thread}
-use Rattle.qx_machine.specs.Rows.{row_at, with_row}
+use Rattle.qx_isolation.specs.Rows.{row_at, with_row}
 use Rattle.qx_queues.specs.Queues.{UsersAnswer, caller, has_call, unblock_call}
 use Rattle.qx_shared.specs.Shared.{HasNoCall, Shared, users_given, waiting_in, with_shared_line}
 use Rattle.qx_queues.proofs.LineLemmas.{call-replied_other, replied-none, stands-replied}

@@ -13,9 +13,9 @@ use Rattle.qx_types.specs.declared.names.Proc.{Proc}
 use Rattle.qx_types.specs.declared.names.TheConstants.Manager.{COUNT}
 use Rattle.qx_types.specs.declared.names.Thread.{Thread}
 use Rattle.qx_paths.specs.Prefixes.{MountPoint}
-use Rattle.qx_machine.specs.declared.rows.Queued.{Queued}
-use Rattle.qx_machine.specs.declared.rows.ServerName.{ServerName}
-use Rattle.qx_machine.specs.Lines.{into, line_at}
+use Rattle.qx_isolation.specs.declared.rows.Queued.{Queued}
+use Rattle.qx_isolation.specs.declared.rows.ServerName.{ServerName}
+use Rattle.qx_isolation.specs.Lines.{into, line_at}
 use Rattle.qx_machine.specs.Machine.{lines_after, rank}
 use Rattle.qx_machine.specs.Parts.{disconnect, disconnects}
 use Rattle.qx_machine.specs.Processes.{Process, lost_servers, servers_at}

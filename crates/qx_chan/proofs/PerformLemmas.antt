@@ -10,13 +10,13 @@ use Rattle.qx_wire.specs.declared.message.Meaning.{Meaning}
 use Rattle.qx_wire.specs.Reading.{meaning}
 use Rattle.qx_machine.specs.declared.rows.Context.{Context}
 use Rattle.qx_machine.specs.declared.rows.Sent.{Sent}
-use Rattle.qx_machine.specs.declared.rows.ServerName.{ServerName}
+use Rattle.qx_isolation.specs.declared.rows.ServerName.{ServerName}
 use Rattle.qx_machine.specs.declared.rows.ThreadRow.{ThreadRow}
 use Rattle.qx_machine.specs.declared.rows.WaitingCall.{WaitingCall}
-use Rattle.qx_machine.specs.Lines.{line_at}
+use Rattle.qx_isolation.specs.Lines.{line_at}
 use Rattle.qx_machine.specs.Performing.{context_of, deed_of, or_kept, serve_message, taken_in}
 use Rattle.qx_machine.specs.Processes.{Process}
-use Rattle.qx_machine.specs.Rows.{row_at}
+use Rattle.qx_isolation.specs.Rows.{row_at}
 use Rattle.qx_machine.specs.Settling.{is_living}
 use Rattle.qx_machine.proofs.Living.{KeepsThreads, lives-changed, message-keeps}
 use Rattle.qx_machine.specs.Waiting.{Pipes, no_pipes}

@@ -11,12 +11,12 @@ use Rattle.qx_machine.specs.declared.rows.ThreadRow.{ThreadRow}
 use Rattle.qx_machine.specs.Clients.{answer_in, is_prio}
 use Rattle.qx_machine.specs.Events.{Events}
 use Rattle.qx_machine.specs.Processes.{Process, ranked_thread, ready_thread, with_thread}
-use Rattle.qx_machine.specs.Rows.{row_at, with_row}
+use Rattle.qx_isolation.specs.Rows.{row_at, with_row}
 use Rattle.qx_process.proofs.RowLemmas.{set-row}
 use Rattle.qx_procs.specs.Calls.{after_or, with_prio}
 use Rattle.qx_machine.specs.Waiting.{Pipes}
 use Rattle.qx_shared.specs.Shared.{Shared}
-use Rattle.qx_machine.specs.declared.rows.Queued.{Queued as Item}
+use Rattle.qx_isolation.specs.declared.rows.Queued.{Queued as Item}
 use Rattle.qx_chan.specs.Channel.{Channel, after_taking}
 use Rattle.qx_chan.specs.inner.Kept.{StandTogether, asked_call, is_asked_at, is_queued_at, is_waiting_for, stands_at, waits_for}
 use Rattle.qx_chan.specs.Users.{Users, thread_row, with_thread_row}

@@ -7,7 +7,7 @@ use Rattle.qx_types.specs.declared.names.Thread.{Thread}
 use Rattle.qx_machine.specs.declared.rows.ThreadRow.{ThreadRow}
 use Rattle.qx_machine.specs.Parts.{thread_of}
 use Rattle.qx_machine.specs.Processes.{Process, with_thread}
-use Rattle.qx_machine.specs.Rows.{row_at, with_row}
+use Rattle.qx_isolation.specs.Rows.{row_at, with_row}
 use Rattle.qx_process.specs.Lends.{put_thread}
 use Rattle.qx_process.proofs.RowLemmas.{set-row, with_row-none}
 use Rattle.qx_chan.specs.Users.{Users, process_of_user, process_of, thread_row, with_process_of, with_thread_row}

@@ -4,13 +4,13 @@ use Rattle.std.specs.Prelude.{◌<◌, IfOk, Result, length}
 use Rattle.qx_types.specs.declared.names.Manager.TheVariants.{Pipe}
 use Rattle.qx_types.specs.declared.outcome.Outcome.{Outcome}
 use Rattle.qx_machine.specs.Functions.{Deed}
-use Rattle.qx_machine.specs.Judgements.{◌>>=◌}
+use Rattle.qx_isolation.specs.Judgements.{◌>>=◌}
 use Rattle.qx_machine.specs.Parts.{Part}
 use Rattle.qx_machine.specs.Performing.{Served, answered_changes, or_kept, serve_pulse, with_answers}
 use Rattle.qx_machine.specs.PipeManager.{cancel_call}
 use Rattle.qx_machine.specs.Processes.{Process}
 use Rattle.qx_machine.specs.Resources.{Resources}
-use Rattle.qx_machine.specs.Rows.{row_at}
+use Rattle.qx_isolation.specs.Rows.{row_at}
 use Rattle.qx_machine.specs.Settling.{is_living}
 use Rattle.qx_machine.proofs.Living.{lives-answers}
 use Rattle.qx_machine.proofs.Waiters.{InDeed, cancel-gives}

@@ -5,14 +5,14 @@ use Rattle.std.proofs.lemmas.Bool.{eqb-true}
 use Rattle.qx_types.specs.Managers.{manager_number}
 use Rattle.qx_types.specs.declared.names.Manager.{Manager}
 use Rattle.qx_types.specs.declared.names.Thread.{Thread}
-use Rattle.qx_machine.specs.declared.rows.OwnItem.{OwnItem}
-use Rattle.qx_machine.specs.declared.rows.OwnItem.TheVariants as item
-use Rattle.qx_machine.specs.declared.rows.Queued.{Queued}
-use Rattle.qx_machine.specs.declared.rows.ServerName.{ServerName}
+use Rattle.qx_isolation.specs.declared.rows.OwnItem.{OwnItem}
+use Rattle.qx_isolation.specs.declared.rows.OwnItem.TheVariants as item
+use Rattle.qx_isolation.specs.declared.rows.Queued.{Queued}
+use Rattle.qx_isolation.specs.declared.rows.ServerName.{ServerName}
 use Rattle.qx_machine.specs.declared.rows.State.{State}
 use Rattle.qx_machine.specs.declared.rows.State.TheVariants as state
 use Rattle.qx_machine.specs.declared.rows.ThreadRow.{ThreadRow}
-use Rattle.qx_machine.specs.Lines.{line_at}
+use Rattle.qx_isolation.specs.Lines.{line_at}
 use Rattle.qx_machine.specs.Processes.{taken_state, taken_thread, with_thread}
 use Rattle.qx_queues.specs.Queues.{IsGone, sender, sender_of, stands, unblock_call}
 use Rattle.qx_shared.specs.Shared.{Shared, with_shared_line, without_first_shared}

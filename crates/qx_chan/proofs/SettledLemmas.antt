@@ -14,7 +14,7 @@ use Rattle.qx_machine.specs.Parts.{Part}
 use Rattle.qx_machine.specs.Performing.{Served, deed_of}
 use Rattle.qx_machine.specs.PipeManager.{cancel_call}
 use Rattle.qx_machine.specs.Resources.{Resources}
-use Rattle.qx_machine.specs.Rows.{row_at}
+use Rattle.qx_isolation.specs.Rows.{row_at}
 use Rattle.qx_machine.proofs.NotifyLemmas.{settled-unchanged}
 use Rattle.qx_notify.specs.Events.{events_of, with_events}
 use Rattle.qx_shared.specs.Shared.{Shared, shared_after, state_after, with_pipes}

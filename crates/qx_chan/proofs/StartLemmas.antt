@@ -19,11 +19,11 @@ use Rattle.qx_types.specs.declared.outcome.Outcome.TheVariants.{Refused, WrongSt
 use Rattle.qx_machine.specs.declared.rows.ThreadRow.{ThreadRow}
 use Rattle.qx_machine.specs.Clients.{is_prio, spawn_number}
 use Rattle.qx_machine.specs.Events.{no_events}
-use Rattle.qx_machine.specs.Lines.{line_at}
+use Rattle.qx_isolation.specs.Lines.{line_at}
 use Rattle.qx_machine.specs.Parts.{thread_of}
 use Rattle.qx_machine.specs.Processes.{Process, new_process, new_thread}
-use Rattle.qx_machine.specs.Rows.{row_at, lowest_from, put_row, with_row}
-use Rattle.qx_machine.proofs.Places.{lowest_from_free}
+use Rattle.qx_isolation.specs.Rows.{row_at, lowest_from, put_row, with_row}
+use Rattle.qx_isolation.proofs.Places.{lowest_from_free}
 use Rattle.qx_procs.specs.Calls.{has_ended_in, spawned}
 use Rattle.qx_queues.specs.inner.Queues.{is_thread_of}
 use Rattle.qx_queues.specs.Queues.{stands, unblock_call, thread_cmp, server_cmp}

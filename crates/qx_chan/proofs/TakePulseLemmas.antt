@@ -5,9 +5,9 @@ use Rattle.std.proofs.lemmas.Option.{unwrap_or-slice_get}
 use Rattle.qx_types.specs.declared.names.Proc.{Proc}
 use Rattle.qx_machine.specs.declared.rows.Pulse.{Pulse}
 use Rattle.qx_machine.specs.Events.{first_pulse, no_events, without_first_pulse}
-use Rattle.qx_machine.specs.Lines.{line_at}
+use Rattle.qx_isolation.specs.Lines.{line_at}
 use Rattle.qx_machine.specs.Processes.{Process, living}
-use Rattle.qx_machine.specs.Rows.{row_at}
+use Rattle.qx_isolation.specs.Rows.{row_at}
 use Rattle.qx_notify.specs.Events.{AllEvents, events_of, with_events}
 use Rattle.qx_resources.specs.declared.tables.Tables.{Tables}
 use Rattle.qx_chan.specs.Channel.{after_pulse, with_pulse_taken}

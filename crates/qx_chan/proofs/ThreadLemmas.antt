@@ -8,12 +8,12 @@ use Rattle.qx_types.specs.Managers.{manager_number}
 use Rattle.qx_types.specs.declared.names.Manager.{Manager}
 use Rattle.qx_types.specs.declared.names.Proc.{Proc}
 use Rattle.qx_types.specs.declared.names.Thread.{Thread}
-use Rattle.qx_machine.specs.declared.rows.Queued.{Queued}
+use Rattle.qx_isolation.specs.declared.rows.Queued.{Queued}
 use Rattle.qx_machine.specs.declared.rows.ThreadRow.{ThreadRow}
-use Rattle.qx_machine.specs.Lines.{line_at, with_line}
+use Rattle.qx_isolation.specs.Lines.{line_at, with_line}
 use Rattle.qx_machine.specs.Parts.{thread_of}
 use Rattle.qx_machine.specs.Processes.{Process, has_ended, with_thread}
-use Rattle.qx_machine.specs.Rows.{row_at, with_row}
+use Rattle.qx_isolation.specs.Rows.{row_at, with_row}
 use Rattle.qx_process.specs.Reads.{is_served}
 use Rattle.qx_queues.specs.Queues.{UsersCall, caller, stands, unblock_call}
 use Rattle.qx_shared.specs.Shared.{Shared, waiting_in}

@@ -20,7 +20,7 @@ use Rattle.qx_machine.specs.declared.rows.Context.{Context}
 use Rattle.qx_machine.specs.declared.rows.Manner.{Manner}
 use Rattle.qx_machine.specs.declared.rows.Ocb.{Ocb}
 use Rattle.qx_machine.specs.declared.rows.Opened.{Opened}
-use Rattle.qx_machine.specs.declared.rows.OwnItem.TheVariants as item
+use Rattle.qx_isolation.specs.declared.rows.OwnItem.TheVariants as item
 use Rattle.qx_machine.specs.declared.rows.Over.{Over}
 use Rattle.qx_machine.specs.declared.rows.Over.TheVariants.{Existing, New, Side}
 use Rattle.qx_machine.specs.declared.rows.Sent.{Sent}
@@ -29,7 +29,7 @@ use Rattle.qx_machine.specs.declared.rows.ThreadRow.{ThreadRow}
 use Rattle.qx_machine.specs.declared.rows.WaitingCall.{WaitingCall}
 use Rattle.qx_machine.specs.Functions.{Deed, Reply, function_deed}
 use Rattle.qx_machine.specs.Inodes.{reads, writes}
-use Rattle.qx_machine.specs.Judgements.{found, need}
+use Rattle.qx_isolation.specs.Judgements.{found, need}
 use Rattle.qx_machine.specs.Managers.{manager_deed, pipe_io}
 use Rattle.qx_machine.specs.Parts.{Part, Remove, disconnect, disconnects, with_process}
 use Rattle.qx_machine.specs.Performing.{Served, after_answer, after_message, context_of, deed_of, dup_of, opened_by, own_change, served_by, served_changes}
@@ -37,11 +37,11 @@ use Rattle.qx_machine.specs.PipeManager.{read_pipe, write_pipe}
 use Rattle.qx_machine.specs.Pipes.{PipeAfter, Pipe, and_then, clean, clean_read, clean_write, first_answered, fits, nobody_answered, pipe_of, portion, read, served, settle, waiting_unless, with_reader, with_writer, write}
 use Rattle.qx_machine.specs.Processes.{Process, answered_thread, lost_servers, served_thread, servers_at, with_thread}
 use Rattle.qx_machine.specs.Resources.{Resources}
-use Rattle.qx_machine.specs.Rows.{row_at}
+use Rattle.qx_isolation.specs.Rows.{row_at}
 use Rattle.qx_machine.specs.Servers.{in_use, lost_by}
 use Rattle.qx_machine.specs.Waiting.{caller_in, Pipes, is_gone, offered, waiting_call, wanted}
 use Rattle.qx_machine.proofs.Gives.{Gives, found-row, gives_done, gives_on}
-use Rattle.qx_machine.proofs.Places.{row_at-set_cases}
+use Rattle.qx_isolation.proofs.Places.{row_at-set_cases}
 use Rattle.qx_machine.proofs.Waiters.{InPipe, InPipes}
 use Rattle.qx_pipes.specs.Told.{is_alone, pipe_of_block, pipe_over, replied_alone, told_alone}
 use Rattle.qx_resources.proofs.ToldLemmas.{Asks}

@@ -7,7 +7,7 @@ use Rattle.qx_types.specs.declared.names.Thread.{Thread}
 use Rattle.qx_machine.specs.declared.rows.ThreadRow.{ThreadRow}
 use Rattle.qx_machine.specs.Parts.{thread_of}
 use Rattle.qx_machine.specs.Processes.{Process}
-use Rattle.qx_machine.specs.Rows.{row_at}
+use Rattle.qx_isolation.specs.Rows.{row_at}
 use Rattle.qx_queues.specs.Queues.{UsersCall, caller, is_same_thread}
 use Rattle.qx_queues.proofs.EntryLemmas.{is_same_thread-differs, is_same_thread-self}
 use Rattle.qx_queues.proofs.NodesLemmas.{same_or_not}

@@ -16,22 +16,22 @@ use Rattle.qx_paths.specs.Mounts.{all_boot_mounts}
 use Rattle.qx_paths.specs.Prefixes.{MountPoint}
 use Rattle.qx_machine.specs.declared.rows.Over.{Over}
 use Rattle.qx_machine.specs.declared.rows.Over.TheVariants.{Existing}
-use Rattle.qx_machine.specs.declared.rows.OwnItem.{OwnItem}
-use Rattle.qx_machine.specs.declared.rows.OwnItem.TheVariants as item
+use Rattle.qx_isolation.specs.declared.rows.OwnItem.{OwnItem}
+use Rattle.qx_isolation.specs.declared.rows.OwnItem.TheVariants as item
 use Rattle.qx_machine.specs.declared.rows.Pulse.{Pulse}
-use Rattle.qx_machine.specs.declared.rows.Queued.{Queued}
+use Rattle.qx_isolation.specs.declared.rows.Queued.{Queued}
 use Rattle.qx_machine.specs.declared.rows.Sent.{Sent}
 use Rattle.qx_machine.specs.declared.rows.ThreadRow.{ThreadRow}
 use Rattle.qx_machine.specs.Attributes.{top_inode}
 use Rattle.qx_machine.specs.Clients.{dropped, spawn_number, with_abandoned}
 use Rattle.qx_machine.specs.Events.{Events, first_pulse, no_events, without_first_pulse, without_pulses}
-use Rattle.qx_machine.specs.Lines.{into, line_at, with_line}
+use Rattle.qx_isolation.specs.Lines.{into, line_at, with_line}
 use Rattle.qx_machine.specs.Machine.{lines_after, rank}
 use Rattle.qx_machine.specs.Parts.{Remove, disconnect, disconnects}
 use Rattle.qx_machine.specs.Processes.{Process, after_error, answered_thread, asked_thread, ended, living, lost_servers, ready_thread, taken_thread, with_queued, with_thread}
 use Rattle.qx_machine.specs.Settling.{row_left}
 use Rattle.qx_machine.specs.Waiting.{Pipes, no_pipes}
-use Rattle.qx_machine.specs.Rows.{row_at, with_row}
+use Rattle.qx_isolation.specs.Rows.{row_at, with_row}
 use Rattle.qx_procs.specs.Calls.{after_or, spawned, with_prio}
 use Rattle.qx_queues.specs.Queues.{message_of, nodes_freed, sender, unblock_of}
 use Rattle.qx_resources.specs.declared.tables.Tables.{Tables}

@@ -14,7 +14,7 @@ use Rattle.qx_machine.specs.declared.rows.ThreadRow.{ThreadRow}
 use Rattle.qx_machine.specs.Calls.{bytes_of, content_of}
 use Rattle.qx_machine.specs.Clients.{target_by}
 use Rattle.qx_machine.specs.Processes.{Process}
-use Rattle.qx_machine.specs.Rows.{row_at}
+use Rattle.qx_isolation.specs.Rows.{row_at}
 use Rattle.qx_chan.specs.Channel.{Channel, IsExisting, after_send}
 
 -- where a call goes, by the mounts and the processes of its thread's user, if the user is there

@@ -5,7 +5,7 @@ use Rattle.qx_machine.specs.Machine.{lines_after}
 use Rattle.qx_machine.specs.Notification.{events_settled}
 use Rattle.qx_machine.specs.Parts.{Part}
 use Rattle.qx_machine.specs.Performing.{Served}
-use Rattle.qx_machine.specs.Rows.{row_at, with_row}
+use Rattle.qx_isolation.specs.Rows.{row_at, with_row}
 use Rattle.qx_machine.specs.Settling.{is_living}
 use Rattle.qx_resources.specs.State.{told, Kept}
 use Rattle.qx_chan.specs.Channel.{Channel, lists}

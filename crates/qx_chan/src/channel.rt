@@ -7,7 +7,7 @@ ghost use Rattle.std.specs.Option.{option_copied};
 ghost use Rattle.qx_machine.specs.Events.{first_pulse};
 ghost use Rattle.qx_machine.specs.Parts.{thread_of};
 ghost use Rattle.qx_machine.specs.Processes.{living, with_queued};
-ghost use Rattle.qx_machine.specs.Rows.{row_at, with_row};
+ghost use Rattle.qx_isolation.specs.Rows.{row_at, with_row};
 ghost use Rattle.qx_process.specs.Reads.{CanCall, CanGo, IsPriority, has_own_room};
 ghost use Rattle.qx_procs.specs.Calls.{CanAttachAt, spawn_outcome};
 ghost use Rattle.qx_queues.specs.Queues.{stands};

@@ -7,7 +7,7 @@ ghost use Rattle.qx_types.specs.declared.limits.TheConstants.Limits.{PROCESSES};
 ghost use Rattle.qx_types.specs.declared.outcome.Answer.TheVariants.{Failed};
 ghost use Rattle.qx_machine.specs.Clients.{spawn_number};
 ghost use Rattle.qx_machine.specs.Processes.{answered_thread, asked_thread, ended, living, taken_thread, without_server};
-ghost use Rattle.qx_machine.specs.Rows.{row_at, with_row};
+ghost use Rattle.qx_isolation.specs.Rows.{row_at, with_row};
 ghost use Rattle.qx_process.specs.Reads.{BringsRoom};
 ghost use Rattle.qx_procs.specs.Calls.{EndsAt, LosesAt, spawned};
 ghost use Rattle.qx_chan.specs.Channel.{failed};

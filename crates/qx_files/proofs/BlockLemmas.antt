@@ -2,7 +2,7 @@
 use Rattle.std.proofs.Common.{◌≡◌, ℕ, zero, suc, ◌+◌, ◌-◌, ◌/◌, ◌<◌, ◌≤◌, Bool, true, false, List, [], ◌∷◌, ◌++◌, length, take, drop, replicate, get_or, set, slice_set, refl, sym, ap, ◌∙◌, inl, inr, arith, Option, Some, None, is_some, max, ◌⊎◌}
 use Rattle.std.proofs.lemmas.Bool.{cases_lt, cases_eq}
 use Rattle.std.proofs.lemmas.List.{ext_get_or, length-append, length-take, length-drop, length-replicate, get_or-set_same, get_or-set_other, get_or_past, length-set, get_or-replicate, get_or-append_right, get_or_append_left, get_or-take, get_or-drop, length-map}
-use Rattle.qx_machine.specs.Rows.{row_at}
+use Rattle.qx_isolation.specs.Rows.{row_at}
 use Rattle.qx_files.specs.Blocks.{blocks_for, with_blocks}
 use Rattle.qx_files.specs.inner.Places.{HasAll, LacksOne, byte_after, padded, pasted, there}
 

@@ -3,7 +3,7 @@ use Rattle.std.proofs.Common.{◌≡◌, ℕ, zero, suc, List, [], ◌∷◌, le
 use Rattle.std.specs.Prelude.{Bool, IsSomeAnd, option_map}
 use Rattle.std.proofs.lemmas.List.{map-set}
 use Rattle.qx_machine.specs.Files.{put}
-use Rattle.qx_machine.specs.Rows.{row_at, with_row}
+use Rattle.qx_isolation.specs.Rows.{row_at, with_row}
 use Rattle.qx_files.specs.Blocks.{Held, after_write, blocks_after, nothing}
 use Rattle.qx_files.specs.Files.{blocks_pasted, pasted, with_nothing, without}
 use Rattle.qx_files.specs.inner.Kept.{files_of, kept_of}

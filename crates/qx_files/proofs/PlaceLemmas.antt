@@ -5,8 +5,8 @@ use Rattle.std.proofs.lemmas.Bool.{cases_eq, cases_lt}
 use Rattle.std.proofs.lemmas.List.{get_or-append_right, get_or_append_left, get_or-set_same, length-map}
 use Rattle.std.proofs.lemmas.List.Folds.{sum_by-replicate}
 use Rattle.std.proofs.lemmas.List.Sums.{sum_by-append, sum_by-set}
-use Rattle.qx_machine.specs.Rows.{row_at}
-use Rattle.qx_machine.proofs.Places.{row_at-set_cases, row_at-set_other}
+use Rattle.qx_isolation.specs.Rows.{row_at}
+use Rattle.qx_isolation.proofs.Places.{row_at-set_cases, row_at-set_other}
 use Rattle.qx_process.proofs.RowLemmas.{row_at-get_or}
 use Rattle.qx_files.specs.Blocks.{count_of}
 use Rattle.qx_files.specs.inner.Places.{InOrder, InRun, Stand, Stay, byte_after, byte_at, byte_in, pasted, place_of, there}

@@ -2,7 +2,7 @@
 use Rattle.std.specs.Prelude.{ℕ, ◌+◌, Bool, List, [], Option, Some, None, replicate, slice_set}
 use Rattle.qx_types.specs.declared.limits.TheConstants.Limits.{INODES}
 use Rattle.qx_machine.specs.Files.{Files, no_files, put}
-use Rattle.qx_machine.specs.Rows.{with_row}
+use Rattle.qx_isolation.specs.Rows.{with_row}
 use Rattle.qx_files.specs.Blocks.{blocks_after}
 
 -- the bytes of files under the numbers of their inodes, and beside them for each block of a file whether it is there

@@ -2,7 +2,7 @@ ghost use Rattle.std.specs.Prelude.{◌≡◌, ◌+◌, None, Some, IfOk, replic
 ghost use Rattle.std.specs.Option.{option_copied, option_copied_mut};
 ghost use Rattle.std.specs.Borrow.{sem};
 ghost use Rattle.qx_files.specs.Blocks.{nothing};
-ghost use Rattle.qx_machine.specs.Rows.{row_at};
+ghost use Rattle.qx_isolation.specs.Rows.{row_at};
 ghost use Rattle.qx_types.specs.declared.limits.TheConstants.Limits.{INODES};
 ghost use Rattle.qx_files.specs.inner.Lends.{lends_bytes};
 

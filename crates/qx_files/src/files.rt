@@ -5,7 +5,7 @@ ghost use Rattle.qx_files.specs.Files as kept;
 ghost use Rattle.qx_files.specs.Files.{blocks_pasted, pasted, with_nothing};
 ghost use Rattle.qx_files.specs.inner.Kept.{files_of};
 ghost use Rattle.qx_machine.specs.Files.{size_of, total_size};
-ghost use Rattle.qx_machine.specs.Rows.{row_at, with_row};
+ghost use Rattle.qx_isolation.specs.Rows.{row_at, with_row};
 ghost use Rattle.qx_types.specs.declared.limits.TheConstants.Limits.{FILE, FILES};
 
 use crate::contents::Contents;

@@ -3,7 +3,7 @@
 ghost use Rattle.std.specs.Prelude.{◌≡◌, ◌+◌, ◌-◌, ◌*◌, ◌/◌, ◌<◌, ◌≤◌, ◌^◌, ◌++◌, ◌⊎◌, ℕ, None, Some, OnOk, OnErr, is_some, length, replicate, slice_index, slice_set, true, vec_capacity, max};
 ghost use Rattle.qx_files.specs.Blocks.{LacksBlock, blocks_after, blocks_for, with_blocks};
 ghost use Rattle.qx_files.specs.inner.Places.{HasAll, InOrder, InRun, LacksOne, Stand, Stay, byte_after, byte_at, padded, there};
-ghost use Rattle.qx_machine.specs.Rows.{row_at};
+ghost use Rattle.qx_isolation.specs.Rows.{row_at};
 
 use qx_attr::growth;
 use qx_process::places;

@@ -13,9 +13,9 @@ use Rattle.qx_machine.specs.Inodes.{blocks_of, is_open, is_unused, new_attribute
 use Rattle.qx_machine.specs.Names.{under}
 use Rattle.qx_machine.specs.Pipes.{Pipe, pipe_of}
 use Rattle.qx_machine.specs.Resources.{Resources}
-use Rattle.qx_machine.specs.Rows.{put_row, row_at, with_row}
+use Rattle.qx_isolation.specs.Rows.{put_row, row_at, with_row}
 use Rattle.qx_machine.specs.Waiting.{is_gone, is_over}
-use Rattle.qx_machine.proofs.Places.{row_at-set_other}
+use Rattle.qx_isolation.proofs.Places.{row_at-set_other}
 use Rattle.qx_invariants.specs.Changes.{Abandons, ResourceChange, Closes, Comes, Fills, IsMoved, IsOwnInode, MayHappen, Moves, Opens, Unlinks, moved, with_change, with_moved, with_named, with_opened, with_unlinked}
 use Rattle.qx_invariants.specs.Holds.{HasContents, HasOpenWaiters, HasRoom}
 use Rattle.qx_invariants.specs.Waits.{is_astray, count_waiting_in}

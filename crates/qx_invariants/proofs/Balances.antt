@@ -12,7 +12,7 @@ use Rattle.qx_machine.specs.Inodes.{new_attribute}
 use Rattle.qx_machine.specs.Names.{under}
 use Rattle.qx_machine.specs.Pipes.{Pipe, pipe_of}
 use Rattle.qx_machine.specs.Resources.{Resources}
-use Rattle.qx_machine.specs.Rows.{row_at, put_row, with_row}
+use Rattle.qx_isolation.specs.Rows.{row_at, put_row, with_row}
 use Rattle.qx_machine.specs.Waiting.{Pipes, is_gone}
 use Rattle.qx_procs.specs.Calls.{has_ended_in}
 use Rattle.qx_invariants.specs.Changes.{Abandons, ResourceChange, Closes, Comes, Fills, MayHappen, Mounts, Unlinks, with_change, with_named, with_unlinked}

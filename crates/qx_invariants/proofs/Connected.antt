@@ -19,7 +19,7 @@ use Rattle.qx_machine.specs.Performing.{with_answer, with_answers}
 use Rattle.qx_machine.specs.Pipes.{Pipe}
 use Rattle.qx_machine.specs.Processes.{Process, answered_thread, has_ended, servers_at, with_thread}
 use Rattle.qx_machine.specs.Resources.{Resources}
-use Rattle.qx_machine.specs.Rows.{row_at, with_row}
+use Rattle.qx_isolation.specs.Rows.{row_at, with_row}
 use Rattle.qx_machine.specs.Servers.{Servers, in_use}
 use Rattle.qx_machine.specs.Waiting.{Pipes}
 use Rattle.qx_attr.specs.inner.Counts.{one}

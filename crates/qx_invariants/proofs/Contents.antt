@@ -14,9 +14,9 @@ use Rattle.qx_machine.specs.Names.{Names, is_same_kind, under}
 use Rattle.qx_machine.specs.PipeManager.{filled}
 use Rattle.qx_machine.specs.Pipes.{PipeAfter, pipe_of, Pipe, settle}
 use Rattle.qx_machine.specs.Resources.{Resources, resized, with_empty, without_content}
-use Rattle.qx_machine.specs.Rows.{put_row, row_at, with_row}
+use Rattle.qx_isolation.specs.Rows.{put_row, row_at, with_row}
 use Rattle.qx_machine.specs.Waiting.{is_written, offered}
-use Rattle.qx_machine.proofs.Places.{row_at-set_other, row_at-set_cases}
+use Rattle.qx_isolation.proofs.Places.{row_at-set_other, row_at-set_cases}
 use Rattle.qx_invariants.specs.Changes.{Abandons, ResourceChange, Closes, Comes, Fills, IsOwnInode, MayHappen, Mounts, Touches, Unlinks, Writes, with_change, without_link, with_changed, with_unlinked, with_named, IsPipeSettled}
 use Rattle.qx_invariants.specs.Holds.{HasContents, HasRoom, size_if, HasLimits, HasSettledPipes}
 use Rattle.qx_attr.proofs.CountLemmas.{within_table}

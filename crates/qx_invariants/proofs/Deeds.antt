@@ -40,7 +40,7 @@ use Rattle.qx_machine.specs.Events.{Notified, disarmed, notified}
 use Rattle.qx_machine.specs.Files.{put, total_size}
 use Rattle.qx_machine.specs.Functions.{Deed, is_side, new_coid, new_dup, new_open, reply_alone, side_root}
 use Rattle.qx_machine.specs.Inodes.{Inodes, Numbered, is_open, is_shared, block_number, dup_block, has, inode_number, may, new_attribute, new_block, new_inode, open_block, readers_of, reads, with_attribute, with_offset, writers_of, writes}
-use Rattle.qx_machine.specs.Judgements.{found, need}
+use Rattle.qx_isolation.specs.Judgements.{found, need}
 use Rattle.qx_machine.specs.Managers.{close_all, manager_deed, or_unreplied, own_kind}
 use Rattle.qx_machine.specs.Names.{Key, Spot, is_directory, is_empty, names_in, root_key, spot, under}
 use Rattle.qx_machine.specs.Notification.{conditions_at, event_of, notify_block}
@@ -48,9 +48,9 @@ use Rattle.qx_machine.specs.PipeManager.{cancel_call, filled, read_pipe, release
 use Rattle.qx_machine.specs.Pipes.{PipeAfter, Pipe, cancel, read, release, removed, write}
 use Rattle.qx_machine.specs.RamManager.{emptied, read_file, seek_file, with_bytes, write_file, written_at}
 use Rattle.qx_machine.specs.Resources.{Resources, with_empty}
-use Rattle.qx_machine.specs.Rows.{put_row, row_at}
+use Rattle.qx_isolation.specs.Rows.{put_row, row_at}
 use Rattle.qx_machine.specs.Waiting.{Pipes, holds, is_call, is_gone, is_over, manner_of, offered, sides_of, waiting_call, wanted}
-use Rattle.qx_machine.proofs.Places.{row_at-set_other}
+use Rattle.qx_isolation.proofs.Places.{row_at-set_other}
 use Rattle.qx_invariants.specs.Changes.{AreKept, LeadsTo, ResourceChange, Closes, Comes, Fills, IsMoved, IsOwnInode, IsPipeSettled, MayHappen, MayPart, Moves, Notifies, OneLess, OneMore, Opens, Parting, ToOffset, Touches, Unlinks, WithClient, WithLast, Writes, moved, with_change, touched, without_link, with_named}
 use Rattle.qx_invariants.specs.Waits.{count_answers_to, is_astray, count_waiting_in, count_waiting_of}
 use Rattle.qx_machine.proofs.Gives.{Gives, found-row, gives_by, gives_done, gives_error, gives_on, gives-value, need-true}

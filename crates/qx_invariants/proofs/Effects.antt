@@ -26,9 +26,9 @@ use Rattle.qx_machine.specs.Parts.{Part, disconnects, with_process}
 use Rattle.qx_machine.specs.Performing.{caller_of, context_of, dup_of}
 use Rattle.qx_machine.specs.Processes.{Process, after_effect, after_error, has_ended, servers_at, with_thread}
 use Rattle.qx_machine.specs.Resources.{Resources}
-use Rattle.qx_machine.specs.Rows.{row_at}
+use Rattle.qx_isolation.specs.Rows.{row_at}
 use Rattle.qx_machine.specs.Servers.{in_use}
-use Rattle.qx_machine.proofs.Places.{row_at-set_cases}
+use Rattle.qx_isolation.proofs.Places.{row_at-set_cases}
 use Rattle.qx_attr.specs.inner.Counts.{one}
 use Rattle.qx_attr.proofs.CountLemmas.{count-free}
 use Rattle.qx_invariants.specs.Changes.{Closes, Moves, OneLess, ResourceChange, WithLast}

@@ -16,8 +16,8 @@ use Rattle.qx_machine.specs.declared.rows.Pulse.{Pulse}
 use Rattle.qx_machine.specs.Defaults.{without_block, without_unused}
 use Rattle.qx_machine.specs.Events.{Events, Notified, arm_event, arming, disarmed, event_count, is_any, is_due, is_on, notified, pulse_of, triggered, wanted_of, with_pulse, with_pulses, without_first_pulse, without_pulses}
 use Rattle.qx_machine.specs.Inodes.{new_attribute}
-use Rattle.qx_machine.specs.Judgements.{need}
-use Rattle.qx_machine.specs.Lines.{with_line}
+use Rattle.qx_isolation.specs.Judgements.{need}
+use Rattle.qx_isolation.specs.Lines.{with_line}
 use Rattle.qx_machine.specs.Names.{under}
 use Rattle.qx_machine.specs.Resources.{Resources}
 use Rattle.qx_invariants.specs.Changes.{AreKept, Closes, Comes, MayHappen, Notifies, ResourceChange, Unlinks, with_change, with_named, with_unlinked}

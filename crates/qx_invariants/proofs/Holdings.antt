@@ -14,9 +14,9 @@ use Rattle.qx_machine.specs.Inodes.{new_attribute}
 use Rattle.qx_machine.specs.Names.{under}
 use Rattle.qx_machine.specs.Pipes.{Pipe, pipe_of}
 use Rattle.qx_machine.specs.Resources.{Resources}
-use Rattle.qx_machine.specs.Rows.{row_at, with_row}
+use Rattle.qx_isolation.specs.Rows.{row_at, with_row}
 use Rattle.qx_machine.specs.Waiting.{Pipes, is_gone}
-use Rattle.qx_machine.proofs.Places.{row_at-set_other}
+use Rattle.qx_isolation.proofs.Places.{row_at-set_other}
 use Rattle.qx_iofunc.proofs.PlaceLemmas.{put_at, row-freed}
 use Rattle.qx_invariants.specs.Changes.{Abandons, Closes, Comes, Fills, MayHappen, Mounts, Move, Moves, Notifies, OneLess, OneMore, Opens, ResourceChange, ToOffset, Touches, Unlinks, Writes, moved, with_change, with_moved, with_named, with_opened, with_unlinked}
 use Rattle.qx_invariants.specs.Holds.{HasRoom}

@@ -14,19 +14,20 @@ use Rattle.qx_types.specs.declared.names.Manager.{Manager}
 use Rattle.qx_types.specs.declared.names.TheConstants.Manager.{COUNT}
 use Rattle.qx_types.specs.declared.step.Step.{Step}
 use Rattle.qx_machine.specs.declared.rows.Client.{Client}
-use Rattle.qx_machine.specs.declared.rows.Held.{Held}
-use Rattle.qx_machine.specs.declared.rows.OwnItem.{OwnItem}
-use Rattle.qx_machine.specs.declared.rows.OwnItem.TheVariants as item
-use Rattle.qx_machine.specs.declared.rows.Queued.{Queued}
+use Rattle.qx_isolation.specs.declared.rows.Held.{Held}
+use Rattle.qx_isolation.specs.declared.rows.OwnItem.{OwnItem}
+use Rattle.qx_isolation.specs.declared.rows.OwnItem.TheVariants as item
+use Rattle.qx_isolation.specs.declared.rows.Queued.{Queued}
 use Rattle.qx_machine.specs.Inodes.{is_same_client}
-use Rattle.qx_machine.specs.Lines.{into, line_at, with_line}
+use Rattle.qx_isolation.specs.Lines.{into, line_at, with_line}
 use Rattle.qx_machine.specs.Machine.{World, boot, boot_parts, changed_manager, client_step, is_same_item, item_to_do, item_to_take, line_after, line_without, lines_after, own_held, performed_part, queued_item, rank, received_part, server_step, step, step_end, step_of, with_empty_hand, with_taken}
+use Rattle.qx_isolation.specs.System as system
 use Rattle.qx_machine.specs.Parts.{Change, Part, Put, Remove}
-use Rattle.qx_machine.specs.Rows.{row_at}
+use Rattle.qx_isolation.specs.Rows.{row_at}
 use Rattle.qx_machine.specs.Runs.{run, world_after}
 use Rattle.qx_machine.specs.Users.{boot_part, client, serve, settle_part, take}
-use Rattle.qx_machine.proofs.Places.{row_at-set_other}
-use Rattle.qx_machine.proofs.Workers.{holds, server_leaves, takes}
+use Rattle.qx_isolation.proofs.Places.{row_at-set_other}
+use Rattle.qx_isolation.proofs.Workers.{holds, server_leaves, takes}
 use Rattle.qx_attr.specs.inner.Counts.{one}
 use Rattle.qx_attr.proofs.CountLemmas.{count-free, within_table}
 use Rattle.qx_iofunc.proofs.PlaceLemmas.{set_at}
@@ -242,7 +243,7 @@ module _ (P : ℕ → Part → (Client → ℕ) → Type 0) (keeps : IsKeptWith 
 
     -- nothing stands in lines, and nothing is in a hand
     boot-none : (user : ℕ) (own : Client) → pulses user (boot config) own ≡ 0
-    unfolding boot
+    unfolding system.boot
     boot-none user own =
         let lines = sum_by-replicate (λ line. count_by (is_queued_pulse user own) line) COUNT [] in
         let hands = none_held config.workers in
@@ -254,7 +255,7 @@ module _ (P : ℕ → Part → (Client → ℕ) → Type 0) (keeps : IsKeptWith 
         none_held (suc count) = let first = count-cons (is_held_pulse user own) None (replicate count None) in let rest = none_held count in omega (arith, first, rest)
 
     boot-place : (user : ℕ) (part : Part) → row_at (boot config).parts user ≡ Some part → P user part (λ own. 0)
-    unfolding boot
+    unfolding system.boot
     boot-place zero part there = absurd (cc)
     boot-place (suc place) part there = subst (λ user. P user part (λ own. 0)) (omega arith) (boot-parts-hold 1 config.users place part there)
 

@@ -14,14 +14,14 @@ use Rattle.qx_machine.specs.Defaults.{close_ocb, is_own, own_block, pipe_in, uno
 use Rattle.qx_machine.specs.Events.{disarmed}
 use Rattle.qx_machine.specs.Functions.{Deed}
 use Rattle.qx_machine.specs.Inodes.{new_attribute}
-use Rattle.qx_machine.specs.Judgements.{◌>>=◌}
+use Rattle.qx_isolation.specs.Judgements.{◌>>=◌}
 use Rattle.qx_machine.specs.Managers.{close_all, or_unreplied, own_kind}
 use Rattle.qx_machine.specs.Names.{under}
 use Rattle.qx_machine.specs.PipeManager.{released}
 use Rattle.qx_machine.specs.Pipes.{Pipe}
 use Rattle.qx_machine.specs.Resources.{Resources}
-use Rattle.qx_machine.specs.Rows.{row_at}
-use Rattle.qx_machine.proofs.Places.{row_at-set_cases, row_at-set_other, set-row_at}
+use Rattle.qx_isolation.specs.Rows.{row_at}
+use Rattle.qx_isolation.proofs.Places.{row_at-set_cases, row_at-set_other, set-row_at}
 use Rattle.qx_attr.specs.inner.Counts.{one}
 use Rattle.qx_iofunc.proofs.PlaceLemmas.{row-freed}
 use Rattle.qx_invariants.specs.Changes.{Abandons, Closes, Comes, Fills, IsOwnInode, MayHappen, Mounts, Moves, Notifies, Opens, ResourceChange, ToOffset, OneMore, OneLess, Touches, Unlinks, WithClient, Writes, moved, with_change, with_named, with_unlinked}

@@ -20,8 +20,8 @@ use Rattle.qx_machine.specs.declared.rows.Client.{Client}
 use Rattle.qx_machine.specs.declared.rows.Connection.{Connection}
 use Rattle.qx_machine.specs.declared.rows.Over.{Over}
 use Rattle.qx_machine.specs.declared.rows.Over.TheVariants.{Existing, New, Side}
-use Rattle.qx_machine.specs.declared.rows.OwnItem.{OwnItem}
-use Rattle.qx_machine.specs.declared.rows.OwnItem.TheVariants as item
+use Rattle.qx_isolation.specs.declared.rows.OwnItem.{OwnItem}
+use Rattle.qx_isolation.specs.declared.rows.OwnItem.TheVariants as item
 use Rattle.qx_machine.specs.declared.rows.Pulse.{Pulse}
 use Rattle.qx_machine.specs.declared.rows.Sent.{Sent}
 use Rattle.qx_machine.specs.declared.rows.State.{State}
@@ -31,14 +31,14 @@ use Rattle.qx_machine.specs.Calls.{bytes_of, content_of}
 use Rattle.qx_machine.specs.Clients.{ClientStep, answer_in, call, client_given, dropped, dropped_by, dropped_in, interrupt_in, is_prio, mount_by, or_unchanged, pulse_taken, set_prio, spawn, spawn_number, take_reply, target_by, without_process}
 use Rattle.qx_machine.specs.Events.{first_pulse}
 use Rattle.qx_machine.specs.Functions.{new_coid}
-use Rattle.qx_machine.specs.Judgements.{found, need}
+use Rattle.qx_isolation.specs.Judgements.{found, need}
 use Rattle.qx_machine.specs.Mounting.{with_mount}
 use Rattle.qx_machine.specs.Parts.{Change, Part, Put, Remove, disconnect, disconnects, thread_at, with_process}
 use Rattle.qx_machine.specs.Processes.{Process, after_error, answered_thread, asked_thread, ended, has_ended, living, lost_servers, new_process, queued_thread, ranked_thread, ready_thread, with_over, with_queued, with_thread}
-use Rattle.qx_machine.specs.Rows.{put_row, row_at, with_row}
+use Rattle.qx_isolation.specs.Rows.{put_row, row_at, with_row}
 use Rattle.qx_machine.specs.Users.{boot_part, client}
 use Rattle.qx_machine.proofs.Gives.{Gives, found-row, gives_by, gives_done, gives_error, gives_on, gives-value}
-use Rattle.qx_machine.proofs.Places.{lowest_from_free}
+use Rattle.qx_isolation.proofs.Places.{lowest_from_free}
 use Rattle.qx_attr.specs.inner.Counts.{one}
 use Rattle.qx_attr.proofs.CountLemmas.{count-put}
 use Rattle.qx_attr.proofs.TableLemmas.{row-put}

@@ -9,13 +9,13 @@ use Rattle.qx_types.specs.declared.names.Manager.{Manager}
 use Rattle.qx_types.specs.declared.names.Manager.TheVariants.{Ram, Pipe}
 use Rattle.qx_machine.specs.declared.rows.Client.{Client}
 use Rattle.qx_machine.specs.declared.rows.ServerConnection.{ServerConnection}
-use Rattle.qx_machine.specs.declared.rows.ServerName.{ServerName}
+use Rattle.qx_isolation.specs.declared.rows.ServerName.{ServerName}
 use Rattle.qx_machine.specs.Inodes.{is_same_client}
 use Rattle.qx_machine.specs.Parts.{disconnect}
 use Rattle.qx_machine.specs.Processes.{Process, lost_servers, servers_at}
-use Rattle.qx_machine.specs.Rows.{lowest_from, put_row, row_at}
+use Rattle.qx_isolation.specs.Rows.{lowest_from, put_row, row_at}
 use Rattle.qx_machine.specs.Servers.{Servers, in_use, is_in_use, is_left, leaving, lost_by, new_server, servers_while}
-use Rattle.qx_machine.proofs.Places.{at-map, lowest_from_free}
+use Rattle.qx_isolation.proofs.Places.{at-map, lowest_from_free}
 use Rattle.qx_attr.specs.inner.Counts.{one}
 use Rattle.qx_attr.proofs.TableLemmas.{row-put}
 use Rattle.qx_process.proofs.ServerLemmas.{some-while}

@@ -11,8 +11,8 @@ use Rattle.qx_machine.specs.Defaults.{without_block, without_unused}
 use Rattle.qx_machine.specs.Inodes.{blocks_of_client, is_clients, new_attribute}
 use Rattle.qx_machine.specs.Names.{under}
 use Rattle.qx_machine.specs.Resources.{Resources}
-use Rattle.qx_machine.specs.Rows.{put_row, row_at}
-use Rattle.qx_machine.proofs.Places.{row_at-set_other}
+use Rattle.qx_isolation.specs.Rows.{put_row, row_at}
+use Rattle.qx_isolation.proofs.Places.{row_at-set_other}
 use Rattle.qx_attr.specs.inner.Counts.{one}
 use Rattle.qx_iofunc.proofs.PlaceLemmas.{put_at, row-freed}
 use Rattle.qx_invariants.specs.Changes.{ResourceChange, Closes, Comes, MayHappen, Moves, Opens, Unlinks, moved, with_change, with_named, with_opened, with_unlinked}

@@ -23,8 +23,8 @@ use Rattle.qx_machine.specs.Mounting.{new_resources, with_mount}
 use Rattle.qx_machine.specs.Names.{Key, Names, is_directory, root_key, under}
 use Rattle.qx_machine.specs.PipeManager.{filled}
 use Rattle.qx_machine.specs.Resources.{Resources, resized, with_empty}
-use Rattle.qx_machine.specs.Rows.{row_at}
-use Rattle.qx_machine.proofs.Places.{row_at-set_cases}
+use Rattle.qx_isolation.specs.Rows.{row_at}
+use Rattle.qx_isolation.proofs.Places.{row_at-set_cases}
 use Rattle.qx_iofunc.proofs.PlaceLemmas.{put_at}
 use Rattle.qx_invariants.specs.Changes.{Abandons, Closes, Comes, Fills, IsDirectoryAt, IsMoved, LeadsTo, MayHappen, Mounts, Moves, Notifies, Opens, ResourceChange, Touches, Unlinks, Writes, moved, touched, with_change, with_changed, with_moved, with_named, with_unlinked, without_link}
 use Rattle.qx_invariants.specs.Holds.{HasKinds, HasMounts, HasNames, HasTree}

@@ -10,9 +10,9 @@ use Rattle.qx_machine.specs.declared.rows.Ocb.{Ocb}
 use Rattle.qx_machine.specs.Parts.{Change, Part, disconnect}
 use Rattle.qx_machine.specs.Processes.{Process, has_ended, lost_servers}
 use Rattle.qx_machine.specs.Resources.{Resources}
-use Rattle.qx_machine.specs.Rows.{row_at, with_row}
+use Rattle.qx_isolation.specs.Rows.{row_at, with_row}
 use Rattle.qx_machine.specs.Servers.{in_use}
-use Rattle.qx_machine.proofs.Places.{row_at-set_cases}
+use Rattle.qx_isolation.proofs.Places.{row_at-set_cases}
 use Rattle.qx_attr.specs.inner.Counts.{one}
 use Rattle.qx_attr.proofs.CountLemmas.{count-free}
 use Rattle.qx_invariants.specs.Holds.{HasOwnWaiters, IsOpenFor, has_open, is_block}

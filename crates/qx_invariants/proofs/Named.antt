@@ -18,8 +18,8 @@ use Rattle.qx_machine.specs.Listings.{HasAtMostOnePath}
 use Rattle.qx_machine.specs.Names.{Key, Names, root_key, under}
 use Rattle.qx_machine.specs.PipeManager.{filled}
 use Rattle.qx_machine.specs.Resources.{Resources, resized}
-use Rattle.qx_machine.specs.Rows.{put_row, row_at, with_row}
-use Rattle.qx_machine.proofs.Places.{row_at-set_cases, row_at-set_other}
+use Rattle.qx_isolation.specs.Rows.{put_row, row_at, with_row}
+use Rattle.qx_isolation.proofs.Places.{row_at-set_cases, row_at-set_other}
 use Rattle.qx_invariants.specs.Changes.{ResourceChange, Closes, Comes, Fills, IsMoved, MayHappen, Mounts, Moves, Opens, Touches, Unlinks, Writes, moved, with_change, touched, without_link, with_changed, with_moved, with_named, with_opened, with_unlinked}
 use Rattle.qx_invariants.specs.Holds.{HasNames, HasRoom, IsNamed, IsUnnamed}
 use Rattle.qx_iofunc.proofs.PlaceLemmas.{put_at, row-freed}

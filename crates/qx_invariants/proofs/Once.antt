@@ -28,11 +28,11 @@ use Rattle.qx_machine.specs.declared.rows.Effect.TheVariants.{Keeps}
 use Rattle.qx_machine.specs.declared.rows.Opened.{Opened}
 use Rattle.qx_machine.specs.declared.rows.Over.{Over}
 use Rattle.qx_machine.specs.declared.rows.Over.TheVariants.{New, Existing, Side}
-use Rattle.qx_machine.specs.declared.rows.OwnItem.{OwnItem}
-use Rattle.qx_machine.specs.declared.rows.OwnItem.TheVariants as item
+use Rattle.qx_isolation.specs.declared.rows.OwnItem.{OwnItem}
+use Rattle.qx_isolation.specs.declared.rows.OwnItem.TheVariants as item
 use Rattle.qx_machine.specs.declared.rows.Pulse.{Pulse}
 use Rattle.qx_machine.specs.declared.rows.Sent.{Sent}
-use Rattle.qx_machine.specs.declared.rows.ServerName.{ServerName}
+use Rattle.qx_isolation.specs.declared.rows.ServerName.{ServerName}
 use Rattle.qx_machine.specs.declared.rows.State.{State}
 use Rattle.qx_machine.specs.declared.rows.State.TheVariants as state
 use Rattle.qx_machine.specs.declared.rows.ThreadRow.{ThreadRow}
@@ -42,7 +42,7 @@ use Rattle.qx_machine.specs.Clients.{ClientStep, abandoned, answer_in, call, cli
 use Rattle.qx_machine.specs.Events.{first_pulse}
 use Rattle.qx_machine.specs.Functions.{Deed, Reply}
 use Rattle.qx_machine.specs.Inodes.{blocks_of_client}
-use Rattle.qx_machine.specs.Judgements.{found, need}
+use Rattle.qx_isolation.specs.Judgements.{found, need}
 use Rattle.qx_machine.specs.Managers.{close_client}
 use Rattle.qx_machine.specs.Mounting.{with_mount}
 use Rattle.qx_machine.specs.Parts.{Part, thread_at, thread_of, with_process}
@@ -50,11 +50,11 @@ use Rattle.qx_machine.specs.Performing.{Served, after_answer, after_serving, cal
 use Rattle.qx_machine.specs.PipeManager.{cancel_call}
 use Rattle.qx_machine.specs.Processes.{Process, after_effect, after_error, after_reply, answered_thread, asked_state, asked_thread, ended, has_ended, has_server, living, new_process, queued_thread, ranked_thread, ready_thread, served_state, served_thread, taken_state, taken_thread, with_over, with_queued, with_thread, without_server}
 use Rattle.qx_machine.specs.Resources.{Resources}
-use Rattle.qx_machine.specs.Rows.{lowest_from, put_row, row_at, with_row}
+use Rattle.qx_isolation.specs.Rows.{lowest_from, put_row, row_at, with_row}
 use Rattle.qx_machine.specs.Settling.{has_waiting, is_held, is_kept, processes_left, row_left, stays}
 use Rattle.qx_machine.specs.Waiting.{caller_in, Pipes, is_call, is_gone, is_of_process}
 use Rattle.qx_machine.specs.Users.{boot_part, client, serve, settle_part, take}
-use Rattle.qx_machine.proofs.Places.{lowest_from_free}
+use Rattle.qx_isolation.proofs.Places.{lowest_from_free}
 use Rattle.qx_machine.proofs.Settled.{row_at-left}
 use Rattle.qx_machine.proofs.Waiters.{opened_by-caller}
 use Rattle.qx_procs.specs.Calls.{has_ended_in}

@@ -14,26 +14,26 @@ use Rattle.qx_types.specs.declared.outcome.Outcome.{Outcome}
 use Rattle.qx_types.specs.declared.outcome.Outcome.TheVariants.{WrongState}
 use Rattle.qx_machine.specs.declared.rows.Client.{Client}
 use Rattle.qx_machine.specs.declared.rows.Ocb.{Ocb}
-use Rattle.qx_machine.specs.declared.rows.OwnItem.{OwnItem}
-use Rattle.qx_machine.specs.declared.rows.OwnItem.TheVariants as item
+use Rattle.qx_isolation.specs.declared.rows.OwnItem.{OwnItem}
+use Rattle.qx_isolation.specs.declared.rows.OwnItem.TheVariants as item
 use Rattle.qx_machine.specs.declared.rows.ServerConnection.{ServerConnection}
-use Rattle.qx_machine.specs.declared.rows.ServerName.{ServerName}
+use Rattle.qx_isolation.specs.declared.rows.ServerName.{ServerName}
 use Rattle.qx_machine.specs.Functions.{Deed}
 use Rattle.qx_machine.specs.Inodes.{blocks_of_client, is_clients, is_same_client}
-use Rattle.qx_machine.specs.Judgements.{found}
-use Rattle.qx_machine.specs.Lines.{line_at}
+use Rattle.qx_isolation.specs.Judgements.{found}
+use Rattle.qx_isolation.specs.Lines.{line_at}
 use Rattle.qx_machine.specs.Managers.{close_client}
 use Rattle.qx_machine.specs.Parts.{Part}
 use Rattle.qx_machine.specs.Performing.{Served, answered_changes, or_kept, serve_disconnect, with_answers}
 use Rattle.qx_machine.specs.Processes.{Process, has_ended, servers_at, taken_thread, with_thread, without_server}
 use Rattle.qx_machine.specs.Resources.{Resources}
-use Rattle.qx_machine.specs.Rows.{row_at, with_row}
+use Rattle.qx_isolation.specs.Rows.{row_at, with_row}
 use Rattle.qx_machine.specs.Servers.{Servers, in_use, is_in_use, is_left, without_left}
 use Rattle.qx_machine.specs.Settling.{processes_left, row_left}
 use Rattle.qx_machine.specs.Users.{serve, settle_part, take}
 use Rattle.qx_machine.specs.Waiting.{Pipes}
 use Rattle.qx_machine.proofs.Gives.{Gives, gives_done, gives_on, gives-value}
-use Rattle.qx_machine.proofs.Places.{row_at-set_other}
+use Rattle.qx_isolation.proofs.Places.{row_at-set_other}
 use Rattle.qx_attr.specs.inner.Counts.{one}
 use Rattle.qx_process.proofs.ServerLemmas.{line_at-here, line_at-other}
 use Rattle.qx_invariants.specs.Holds.{HasOwnWaiters, IsOpenFor, has_open}

@@ -18,7 +18,7 @@ use Rattle.qx_machine.specs.Mounting.{new_resources}
 use Rattle.qx_machine.specs.Machine.{own_held}
 use Rattle.qx_machine.specs.Parts.{Part}
 use Rattle.qx_machine.specs.Processes.{Process, has_ended, has_server}
-use Rattle.qx_machine.specs.Rows.{row_at}
+use Rattle.qx_isolation.specs.Rows.{row_at}
 use Rattle.qx_machine.specs.Runs.{run}
 use Rattle.qx_machine.specs.Settling.{has_waiting, is_held}
 use Rattle.qx_machine.proofs.Settled.{ended_kept}

@@ -11,7 +11,7 @@ use Rattle.qx_machine.specs.declared.rows.WaitingCall.{WaitingCall}
 use Rattle.qx_machine.specs.Parts.{Part}
 use Rattle.qx_machine.specs.Pipes.{Pipe}
 use Rattle.qx_machine.specs.Processes.{Process, has_server, servers_at}
-use Rattle.qx_machine.specs.Rows.{row_at}
+use Rattle.qx_isolation.specs.Rows.{row_at}
 use Rattle.qx_machine.specs.Settling.{has_waiting}
 use Rattle.qx_machine.specs.Waiting.{Pipes, holds, is_of_process}
 use Rattle.qx_attr.specs.inner.Counts.{one}

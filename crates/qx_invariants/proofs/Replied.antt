@@ -27,20 +27,20 @@ use Rattle.qx_machine.specs.declared.rows.Ocb.{Ocb}
 use Rattle.qx_machine.specs.declared.rows.Opened.{Opened}
 use Rattle.qx_machine.specs.declared.rows.Over.{Over}
 use Rattle.qx_machine.specs.declared.rows.Over.TheVariants.{Existing, New, Side}
-use Rattle.qx_machine.specs.declared.rows.OwnItem.TheVariants as item
+use Rattle.qx_isolation.specs.declared.rows.OwnItem.TheVariants as item
 use Rattle.qx_machine.specs.declared.rows.Sent.{Sent}
 use Rattle.qx_machine.specs.declared.rows.ThreadRow.{ThreadRow}
 use Rattle.qx_machine.specs.declared.rows.WaitingCall.{WaitingCall}
 use Rattle.qx_machine.specs.Functions.{Deed, Reply, new_coid, new_dup}
 use Rattle.qx_machine.specs.Inodes.{dup_block}
-use Rattle.qx_machine.specs.Judgements.{found}
+use Rattle.qx_isolation.specs.Judgements.{found}
 use Rattle.qx_machine.specs.Managers.{manager_deed}
 use Rattle.qx_machine.specs.Parts.{Change, Part, Remove, disconnects, with_process}
 use Rattle.qx_machine.specs.Performing.{Served, after_serving, answered_changes, caller_of, context_of, deed_of, dup_of, own_change, serve_message, serve_pulse, served_by, taken_in, with_answers, works_over}
 use Rattle.qx_machine.specs.PipeManager.{cancel_call}
 use Rattle.qx_machine.specs.Processes.{Process, after_error, after_reply, answered_thread, has_ended, served_thread, with_thread}
 use Rattle.qx_machine.specs.Resources.{Resources}
-use Rattle.qx_machine.specs.Rows.{row_at}
+use Rattle.qx_isolation.specs.Rows.{row_at}
 use Rattle.qx_machine.proofs.Gives.{Gives, found-row, gives_by, gives_done, gives_error, gives_on, gives-value}
 use Rattle.qx_machine.proofs.Waiters.{opened_by-caller}
 use Rattle.qx_attr.specs.inner.Counts.{one}

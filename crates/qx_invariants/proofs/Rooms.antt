@@ -13,8 +13,8 @@ use Rattle.qx_machine.specs.Defaults.{without_unused, without_block}
 use Rattle.qx_machine.specs.Inodes.{Inodes, new_attribute}
 use Rattle.qx_machine.specs.Pipes.{Pipe}
 use Rattle.qx_machine.specs.Resources.{Resources, resized}
-use Rattle.qx_machine.specs.Rows.{put_row, row_at, with_row}
-use Rattle.qx_machine.proofs.Places.{row_at-set_cases}
+use Rattle.qx_isolation.specs.Rows.{put_row, row_at, with_row}
+use Rattle.qx_isolation.proofs.Places.{row_at-set_cases}
 use Rattle.qx_invariants.specs.Changes.{Abandons, ResourceChange, Closes, Comes, Fills, IsMoved, MayHappen, Mounts, Moves, Notifies, Opens, Touches, Unlinks, Writes, moved, with_change, touched, without_link, with_changed, with_named, with_unlinked}
 use Rattle.qx_invariants.specs.Holds.{HasRoom, HasUses, IsOwnedBy, IsUsed}
 use Rattle.qx_iofunc.proofs.PlaceLemmas.{put_differ}

@@ -19,9 +19,9 @@ use Rattle.qx_machine.specs.Names.{is_same_kind}
 use Rattle.qx_machine.specs.PipeManager.{filled}
 use Rattle.qx_machine.specs.Pipes.{PipeAfter, pipe_of}
 use Rattle.qx_machine.specs.Resources.{Resources, resized, with_empty, without_content}
-use Rattle.qx_machine.specs.Rows.{lowest_from, put_row, row_at, with_row}
+use Rattle.qx_isolation.specs.Rows.{lowest_from, put_row, row_at, with_row}
 use Rattle.qx_machine.specs.Waiting.{Pipes, is_written, offered}
-use Rattle.qx_machine.proofs.Places.{at-map, lowest_from_free, row_at-set_other, set-row_at}
+use Rattle.qx_isolation.proofs.Places.{at-map, lowest_from_free, row_at-set_other, set-row_at}
 use Rattle.qx_attr.specs.inner.Counts.{one}
 use Rattle.qx_attr.proofs.CountLemmas.{count-free, count-put, count-same, counts_other, counts_own}
 use Rattle.qx_iofunc.proofs.PlaceLemmas.{lowest_within, put_at, put_differ}

@@ -26,11 +26,11 @@ use Rattle.qx_machine.specs.declared.rows.Target.{Target}
 use Rattle.qx_machine.specs.declared.rows.ThreadRow.{ThreadRow}
 use Rattle.qx_machine.specs.Calls.{Address, Connects, Duplicates, Opens, Uses, can_serve, connection_at, free_connection, place_of, target_at, to_place}
 use Rattle.qx_machine.specs.Functions.{new_coid}
-use Rattle.qx_machine.specs.Judgements.{need, or_refused}
+use Rattle.qx_isolation.specs.Judgements.{need, or_refused}
 use Rattle.qx_machine.specs.Processes.{Process, new_process, new_thread, queued_thread}
-use Rattle.qx_machine.specs.Rows.{lowest_from, row_at, taken_places, with_row}
+use Rattle.qx_isolation.specs.Rows.{lowest_from, row_at, taken_places, with_row}
 use Rattle.qx_machine.proofs.Gives.{Gives, gives_by, gives_done, gives_error, gives_on}
-use Rattle.qx_machine.proofs.Places.{lowest_from_free}
+use Rattle.qx_isolation.proofs.Places.{lowest_from_free}
 use Rattle.qx_invariants.proofs.Managed.{IsMounted, stays_mounted}
 use Rattle.qx_invariants.proofs.Rows.{with_row-at, with_row-other}
 

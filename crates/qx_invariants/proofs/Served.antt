@@ -16,13 +16,13 @@ use Rattle.qx_machine.specs.declared.rows.Effect.TheVariants.{Closes, Keeps, Ope
 use Rattle.qx_machine.specs.declared.rows.Over.{Over}
 use Rattle.qx_machine.specs.declared.rows.Over.TheVariants.{Existing, New, Side}
 use Rattle.qx_machine.specs.declared.rows.ServerConnection.{ServerConnection}
-use Rattle.qx_machine.specs.declared.rows.ServerName.{ServerName}
+use Rattle.qx_isolation.specs.declared.rows.ServerName.{ServerName}
 use Rattle.qx_machine.specs.declared.rows.ThreadRow.{ThreadRow}
-use Rattle.qx_machine.specs.Lines.{line_at}
+use Rattle.qx_isolation.specs.Lines.{line_at}
 use Rattle.qx_machine.specs.Processes.{Process, after_effect, after_error, after_reply, ended, new_process, servers_at, with_over, with_thread, without_server}
-use Rattle.qx_machine.specs.Rows.{lowest_from, put_row, row_at}
+use Rattle.qx_isolation.specs.Rows.{lowest_from, put_row, row_at}
 use Rattle.qx_machine.specs.Servers.{Servers, connects, in_use, is_attached, is_in_use, leaving, new_server, servers_from, servers_while, sides_with}
-use Rattle.qx_machine.proofs.Places.{at-map, lowest_from_free}
+use Rattle.qx_isolation.proofs.Places.{at-map, lowest_from_free}
 use Rattle.qx_attr.proofs.TableLemmas.{row-put}
 use Rattle.qx_process.proofs.ServerLemmas.{attached-with_block, from-freed, served_while, servers_from_again}
 

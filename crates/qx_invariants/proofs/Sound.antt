@@ -22,8 +22,8 @@ use Rattle.qx_machine.specs.Functions.{new_coid}
 use Rattle.qx_machine.specs.Parts.{Part}
 use Rattle.qx_machine.specs.Performing.{with_answer, with_answers}
 use Rattle.qx_machine.specs.Processes.{Process, after_effect, after_error, after_reply, answered_thread, ended, has_ended, new_process, queued_thread, with_over, with_queued, with_thread}
-use Rattle.qx_machine.specs.Rows.{put_row, row_at, with_row}
-use Rattle.qx_machine.proofs.Places.{row_at-set_other}
+use Rattle.qx_isolation.specs.Rows.{put_row, row_at, with_row}
+use Rattle.qx_isolation.proofs.Places.{row_at-set_other}
 use Rattle.qx_attr.proofs.TableLemmas.{longer_put, row-put}
 use Rattle.qx_iofunc.proofs.PlaceLemmas.{put_at}
 use Rattle.qx_invariants.specs.Holds.{IsServer}

@@ -7,10 +7,10 @@ use Rattle.qx_types.specs.declared.errno.Errno.{Errno}
 use Rattle.qx_types.specs.declared.errno.Errno.TheVariants.{ENOENT, ENOTDIR}
 use Rattle.qx_wire.specs.Rests.{is_component}
 use Rattle.qx_machine.specs.declared.rows.Attribute.{Attribute}
-use Rattle.qx_machine.specs.Judgements.{found, need}
+use Rattle.qx_isolation.specs.Judgements.{found, need}
 use Rattle.qx_machine.specs.Names.{Key, Spot, is_directory, root_key, search, spot, start, under, walk}
 use Rattle.qx_machine.specs.Resources.{Resources}
-use Rattle.qx_machine.specs.Rows.{row_at}
+use Rattle.qx_isolation.specs.Rows.{row_at}
 use Rattle.qx_invariants.specs.Changes.{IsDirectoryAt}
 use Rattle.qx_machine.proofs.Gives.{Gives, found-row, gives_done, gives_error, gives_on, gives-value, need-true}
 

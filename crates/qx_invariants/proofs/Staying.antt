@@ -8,7 +8,7 @@ use Rattle.qx_machine.specs.declared.rows.Client.{Client}
 use Rattle.qx_machine.specs.declared.rows.Context.{Context}
 use Rattle.qx_machine.specs.declared.rows.Ocb.{Ocb}
 use Rattle.qx_machine.specs.Resources.{Resources}
-use Rattle.qx_machine.specs.Rows.{row_at}
+use Rattle.qx_isolation.specs.Rows.{row_at}
 use Rattle.qx_invariants.specs.Changes.{Comes, ResourceChange}
 use Rattle.qx_invariants.proofs.Holdings.{Holding, after_seen, holding, one_less, one_more}
 use Rattle.qx_invariants.proofs.Told.{IsMadeThere}

@@ -19,7 +19,7 @@ use Rattle.qx_paths.specs.Mounts.{mount_fault}
 use Rattle.qx_paths.specs.Paths.{read_path, unless}
 use Rattle.qx_paths.specs.Prefixes.{MountPoint, is_under}
 use Rattle.qx_machine.specs.declared.rows.Caller.{Caller}
-use Rattle.qx_machine.specs.declared.rows.OwnItem.{OwnItem}
+use Rattle.qx_isolation.specs.declared.rows.OwnItem.{OwnItem}
 use Rattle.qx_machine.specs.declared.rows.Pulse.{Pulse}
 use Rattle.qx_machine.specs.declared.rows.Over.{Over}
 use Rattle.qx_machine.specs.declared.rows.State.{State}
@@ -29,7 +29,7 @@ use Rattle.qx_machine.specs.Clients.{ClientStep, client_given, interrupt_in, mou
 use Rattle.qx_machine.specs.Events.{first_pulse, without_first_pulse, without_pulses}
 use Rattle.qx_machine.specs.Functions.{Deed}
 use Rattle.qx_machine.specs.Inodes.{blocks_of_client, inode_number}
-use Rattle.qx_machine.specs.Judgements.{found, need, or_refused}
+use Rattle.qx_isolation.specs.Judgements.{found, need, or_refused}
 use Rattle.qx_machine.specs.Managers.{close_client}
 use Rattle.qx_machine.specs.Mounting.{new_mount}
 use Rattle.qx_machine.specs.Notification.{block_conditions, events_settled}
@@ -38,7 +38,7 @@ use Rattle.qx_machine.specs.Performing.{Served, after_answer, context_of, deed_o
 use Rattle.qx_machine.specs.PipeManager.{cancel_call}
 use Rattle.qx_machine.specs.Processes.{Process, living}
 use Rattle.qx_machine.specs.Resources.{Resources}
-use Rattle.qx_machine.specs.Rows.{row_at}
+use Rattle.qx_isolation.specs.Rows.{row_at}
 use Rattle.qx_machine.specs.Settling.{is_living}
 use Rattle.qx_machine.specs.Users.{client, serve, take, boot_part, settle_part}
 use Rattle.qx_invariants.specs.Changes.{Abandons, ResourceChange, MayHappen, Mounts, Notifies, with_change}
@@ -50,13 +50,14 @@ use Rattle.qx_invariants.proofs.Told.{Told, nothing, told_by}
 use Rattle.std.proofs.lemmas.Option.{same_Some}
 use Rattle.qx_types.specs.Step.{actor_of, user_of}
 use Rattle.qx_types.specs.declared.names.Actor.{Actor}
-use Rattle.qx_machine.specs.declared.rows.Held.{Held}
+use Rattle.qx_isolation.specs.declared.rows.Held.{Held}
 use Rattle.qx_machine.specs.declared.rows.Client.{Client}
 use Rattle.qx_machine.specs.Machine.{World, boot, boot_parts, client_step, own_held, performed_part, received_part, server_step, step, step_end, step_of, with_empty_hand, with_taken}
+use Rattle.qx_isolation.specs.System as system
 use Rattle.qx_machine.specs.Runs.{run, world_after}
-use Rattle.qx_machine.proofs.Places.{row_at-set_cases, row_at-set_other}
-use Rattle.qx_machine.proofs.Workers.{server_leaves}
-use Rattle.qx_machine.specs.declared.rows.OwnItem.TheVariants as item
+use Rattle.qx_isolation.proofs.Places.{row_at-set_cases, row_at-set_other}
+use Rattle.qx_isolation.proofs.Workers.{server_leaves}
+use Rattle.qx_isolation.specs.declared.rows.OwnItem.TheVariants as item
 use Rattle.qx_machine.specs.declared.rows.State.TheVariants as state
 
 pub answers-resources : (answers : List (WaitingCall × Answer)) (part : Part) → (with_answers answers part).resources ≡ part.resources
@@ -267,7 +268,7 @@ module _ (P : ℕ → Part → Type 0) (keeps : IsKept P) where
         subst (λ user. P user part) (omega arith) (boot-parts-hold (first + 1) names place part there)
 
     boot-holds : HoldsIn (boot config).parts
-    unfolding boot
+    unfolding system.boot
     boot-holds zero part there = absurd (cc)
     boot-holds (suc place) part there = subst (λ user. P user part) (omega arith) (boot-parts-hold 1 config.users place part there)
 

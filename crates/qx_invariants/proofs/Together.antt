@@ -17,7 +17,7 @@ use Rattle.qx_machine.specs.Inodes.{is_unused}
 use Rattle.qx_machine.specs.Names.{Key, key_cmp, root_key, under}
 use Rattle.qx_machine.specs.Pipes.{Pipe}
 use Rattle.qx_machine.specs.Resources.{Resources}
-use Rattle.qx_machine.specs.Rows.{row_at}
+use Rattle.qx_isolation.specs.Rows.{row_at}
 use Rattle.qx_paths.specs.Prefixes.{MountPoint}
 use Rattle.std.proofs.lemmas.List.Elements.{All-cons, All-nil}
 use Rattle.qx_iofunc.proofs.StoreLemmas.{row_at-none}

@@ -15,7 +15,7 @@ use Rattle.qx_machine.specs.Functions.{Reply, new_coid}
 use Rattle.qx_machine.specs.Managers.{own_kind}
 use Rattle.qx_machine.specs.Names.{Key}
 use Rattle.qx_machine.specs.Resources.{Resources}
-use Rattle.qx_machine.specs.Rows.{row_at}
+use Rattle.qx_isolation.specs.Rows.{row_at}
 use Rattle.qx_machine.specs.Waiting.{is_gone}
 use Rattle.qx_invariants.specs.Changes.{Abandons, Closes, Comes, Fills, Mounts, Move, Moves, OneLess, OneMore, Opens, ResourceChange, ToOffset, WithLast}
 

@@ -18,8 +18,8 @@ use Rattle.qx_paths.specs.Prefixes.{MountPoint}
 use Rattle.std.proofs.lemmas.List.Elements.{All-append, All-cons, All-nil, All-weaker}
 use Rattle.std.specs.Prelude.{All}
 use Rattle.qx_machine.specs.Resources.{Resources, resized, with_empty}
-use Rattle.qx_machine.specs.Rows.{row_at, with_row}
-use Rattle.qx_machine.proofs.Places.{row_at-set_other}
+use Rattle.qx_isolation.specs.Rows.{row_at, with_row}
+use Rattle.qx_isolation.proofs.Places.{row_at-set_other}
 use Rattle.qx_invariants.specs.Changes.{ResourceChange, Closes, Comes, Fills, IsDirectoryAt, MayHappen, Mounts, Touches, Unlinks, Writes, with_change, touched, without_link, with_changed, with_named, with_unlinked}
 use Rattle.qx_invariants.specs.Holds.{HasMounts, HasNames, HasRoom, HasTree, IsEntry}
 use Rattle.qx_iofunc.proofs.PlaceLemmas.{put_at}

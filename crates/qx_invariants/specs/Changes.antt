@@ -20,7 +20,7 @@ use Rattle.qx_machine.specs.PipeManager.{deed_of_pipe}
 use Rattle.qx_machine.specs.Pipes.{PipeAfter, Pipe, nobody_answered, removed, settle}
 use Rattle.qx_machine.specs.RamManager.{with_bytes}
 use Rattle.qx_machine.specs.Resources.{Resources, with_empty}
-use Rattle.qx_machine.specs.Rows.{put_row, row_at, with_row}
+use Rattle.qx_isolation.specs.Rows.{put_row, row_at, with_row}
 use Rattle.qx_machine.specs.Waiting.{is_gone, is_over, offered, wanted}
 use Rattle.qx_invariants.specs.Waits.{count_answers_to, is_astray, count_waiting_in, count_waiting_of}
 

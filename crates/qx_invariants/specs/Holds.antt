@@ -25,7 +25,7 @@ use Rattle.qx_machine.specs.Parts.{Part, thread_at}
 use Rattle.qx_machine.specs.Pipes.{Pipe}
 use Rattle.qx_machine.specs.Processes.{Process, has_ended, servers_at}
 use Rattle.qx_machine.specs.Resources.{Resources}
-use Rattle.qx_machine.specs.Rows.{row_at}
+use Rattle.qx_isolation.specs.Rows.{row_at}
 use Rattle.qx_machine.specs.Runs.{run}
 use Rattle.qx_machine.specs.Servers.{in_use}
 use Rattle.qx_machine.specs.Waiting.{is_of_process}

@@ -14,7 +14,7 @@ use Rattle.qx_machine.specs.declared.rows.Attribute.{Attribute}
 use Rattle.qx_machine.specs.declared.rows.Ocb.{Ocb}
 use Rattle.qx_machine.specs.Inodes.{Inodes, blocks_of, close_block, free_inode, is_open, is_unused, no_inodes, with_attribute}
 use Rattle.qx_machine.specs.Names.{Key, Names, key_cmp}
-use Rattle.qx_machine.specs.Rows.{put_row, row_at, with_row}
+use Rattle.qx_isolation.specs.Rows.{put_row, row_at, with_row}
 use Rattle.qx_names.specs.Paths.{HasNoPath}
 use Rattle.qx_names.specs.inner.Shows.{key_total}
 use Rattle.qx_process.proofs.RowLemmas.{with_row-none}

@@ -10,7 +10,7 @@ use Rattle.qx_iofunc.specs.Makes.{may_make, may_open}
 use Rattle.qx_iofunc.specs.Store.{Stored, with_stored}
 use Rattle.qx_iofunc.specs.inner.Store.{with_made}
 use Rattle.qx_iofunc.proofs.StoreLemmas.{emptied_in, emptied_is}
-use Rattle.qx_machine.proofs.Places.{lowest_from_free}
+use Rattle.qx_isolation.proofs.Places.{lowest_from_free}
 use Rattle.qx_machine.specs.declared.rows.Attribute.{Attribute}
 use Rattle.qx_machine.specs.declared.rows.Client.{Client}
 use Rattle.qx_machine.specs.declared.rows.Effect.TheVariants.{Opens}
@@ -23,11 +23,11 @@ use Rattle.qx_machine.specs.Defaults.{allows, open_existing, opened, open_missin
 use Rattle.qx_machine.specs.Files.{Files}
 use Rattle.qx_machine.specs.Functions.{Deed, reply_alone}
 use Rattle.qx_machine.specs.Inodes.{Inodes, Numbered, block_number, has, new_block, open_block, writes, inode_number, may}
-use Rattle.qx_machine.specs.Judgements.{◌>>=◌, found, need}
+use Rattle.qx_isolation.specs.Judgements.{◌>>=◌, found, need}
 use Rattle.qx_machine.specs.Names.{Names, is_directory, Spot, Key, is_empty, root_key, search, spot, start, under, walk}
 use Rattle.qx_machine.specs.RamManager.{emptied, with_bytes}
 use Rattle.qx_machine.specs.Resources.{Resources, with_empty}
-use Rattle.qx_machine.specs.Rows.{lowest_from, put_row, row_at}
+use Rattle.qx_isolation.specs.Rows.{lowest_from, put_row, row_at}
 use Rattle.qx_types.specs.declared.errno.Errno.{Errno}
 use Rattle.qx_types.specs.declared.errno.Errno.TheVariants.{EACCES, EEXIST, EISDIR, ENFILE, ENOENT}
 use Rattle.qx_types.specs.declared.flags.OFlags.{OFlags}

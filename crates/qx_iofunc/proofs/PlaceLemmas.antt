@@ -5,8 +5,8 @@ use Rattle.std.proofs.Math.ListN.{length-set}
 use Rattle.std.proofs.lemmas.Bool.{cases_eq}
 use Rattle.qx_attr.proofs.TableLemmas.{longer_put, no_value, put_other}
 pub use Rattle.qx_attr.proofs.TableLemmas.{lowest_within, put_at, row-freed, set_at}
-use Rattle.qx_machine.proofs.Places.{row_at-set_other, set-row_at}
-use Rattle.qx_machine.specs.Rows.{put_row, row_at, with_row}
+use Rattle.qx_isolation.proofs.Places.{row_at-set_other, set-row_at}
+use Rattle.qx_isolation.specs.Rows.{put_row, row_at, with_row}
 
 -- at one place, and at all others
 pub by_place : (P : ℕ → Type 0) (n : ℕ) → P n → ((m : ℕ) → m ≢ n → P m) → (m : ℕ) → P m

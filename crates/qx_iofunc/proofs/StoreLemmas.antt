@@ -16,7 +16,7 @@ use Rattle.qx_iofunc.specs.inner.Fits.{NamesFitBut}
 use Rattle.qx_iofunc.specs.Store.{Stored, block_gone, boot_store, files_without, unused_gone, with_mount_root, with_stored}
 use Rattle.qx_iofunc.specs.inner.Store.{files_with, with_made, with_resized, with_truncated}
 use Rattle.qx_machine.proofs.Gives.{Gives, gives_done, gives_on, gives-value}
-use Rattle.qx_machine.proofs.Places.{lowest_from_free}
+use Rattle.qx_isolation.proofs.Places.{lowest_from_free}
 use Rattle.qx_machine.specs.declared.rows.Attribute.{Attribute}
 use Rattle.qx_machine.specs.declared.rows.Kind.{Kind}
 use Rattle.qx_machine.specs.declared.rows.Kind.TheVariants.{File}
@@ -25,11 +25,11 @@ use Rattle.qx_machine.specs.Attributes.{root_attribute}
 use Rattle.qx_machine.specs.Defaults.{with_entries_changed, is_own, own_block, unnamed}
 use Rattle.qx_machine.specs.Files.{Files, no_files, size_of}
 use Rattle.qx_machine.specs.Inodes.{Inodes, Numbered, block_number, dup_block, has, inode_number, is_unused, new_attribute, new_inode, no_inodes, with_attribute, without_use, writes}
-use Rattle.qx_machine.specs.Judgements.{◌>>=◌, found, need}
+use Rattle.qx_isolation.specs.Judgements.{◌>>=◌, found, need}
 use Rattle.qx_machine.specs.Names.{Key, Names, Spot, root_key}
 use Rattle.qx_machine.specs.RamManager.{emptied, with_bytes}
 use Rattle.qx_machine.specs.Resources.{Resources, resized}
-use Rattle.qx_machine.specs.Rows.{lowest_from, put_row, row_at, with_row}
+use Rattle.qx_isolation.specs.Rows.{lowest_from, put_row, row_at, with_row}
 use Rattle.qx_names.specs.Paths.{HasNoPath}
 use Rattle.qx_process.proofs.RowLemmas.{with_row-none}
 use Rattle.qx_types.specs.declared.errno.Errno.{Errno}

@@ -11,7 +11,7 @@ use Rattle.qx_machine.specs.declared.rows.Wish.{Wish}
 use Rattle.qx_machine.specs.Defaults.{open_existing, open_missing}
 use Rattle.qx_machine.specs.Functions.{Deed}
 use Rattle.qx_machine.specs.Inodes.{Inodes}
-use Rattle.qx_machine.specs.Judgements.{◌>>=◌}
+use Rattle.qx_isolation.specs.Judgements.{◌>>=◌}
 use Rattle.qx_machine.specs.Names.{Names, under}
 use Rattle.qx_machine.specs.Resources.{Resources}
 use Rattle.qx_names.specs.Paths.{HasPath, path_of}

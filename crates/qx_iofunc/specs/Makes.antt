@@ -6,10 +6,10 @@ use Rattle.qx_types.specs.declared.flags.OFlags.{OFlags}
 use Rattle.qx_types.specs.declared.flags.TheConstants.OFlags.{CREAT, EXCL}
 use Rattle.qx_iofunc.specs.declared.found.New.{New}
 use Rattle.qx_machine.specs.Inodes.{Inodes, block_number, has, inode_number, writes}
-use Rattle.qx_machine.specs.Judgements.{◌>>=◌, found, need}
+use Rattle.qx_isolation.specs.Judgements.{◌>>=◌, found, need}
 use Rattle.qx_machine.specs.Names.{is_directory}
 use Rattle.qx_machine.specs.Defaults.{allows, writable}
-use Rattle.qx_machine.specs.Rows.{row_at}
+use Rattle.qx_isolation.specs.Rows.{row_at}
 
 -- the number of an open control block of what is there
 abbrev pub may_open : Inodes → ℕ → ℕ → OFlags → Result ℕ Errno

@@ -8,7 +8,7 @@ use Rattle.qx_machine.specs.Files.{Files, no_files}
 use Rattle.qx_machine.specs.Inodes.{Inodes, close_block, free_inode, is_unused}
 use Rattle.qx_machine.specs.Names.{Names, with_root}
 use Rattle.qx_machine.specs.Resources.{Resources}
-use Rattle.qx_machine.specs.Rows.{put_row, row_at}
+use Rattle.qx_isolation.specs.Rows.{put_row, row_at}
 
 -- a user's inodes and open control blocks, the names in all mounts, and the bytes of files
 pub record Stored : Type 0 where

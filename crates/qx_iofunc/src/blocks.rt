@@ -7,7 +7,7 @@ ghost use Rattle.qx_iofunc.specs.Store.{block_gone, blocks_gone, unused_gone, wi
 ghost use Rattle.qx_machine.specs.Defaults as machine;
 ghost use Rattle.qx_machine.specs.Inodes.{close_block, dup_block, is_shared, is_unused, without_use};
 ghost use Rattle.qx_machine.specs.Resources.{Resources};
-ghost use Rattle.qx_machine.specs.Rows.{row_at};
+ghost use Rattle.qx_isolation.specs.Rows.{row_at};
 
 use crate::entries::is_own;
 use crate::found::Closed;

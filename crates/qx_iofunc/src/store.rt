@@ -7,7 +7,7 @@ ghost use Rattle.qx_machine.specs.Files.{put, total_size};
 ghost use Rattle.qx_machine.specs.Inodes.{inode_number, with_offset};
 ghost use Rattle.qx_machine.specs.RamManager.{with_bytes};
 ghost use Rattle.qx_machine.specs.Resources.{Resources};
-ghost use Rattle.qx_machine.specs.Rows.{row_at, with_row};
+ghost use Rattle.qx_isolation.specs.Rows.{row_at, with_row};
 ghost use Rattle.qx_types.specs.declared.limits.TheConstants.Limits.{FILE, FILES};
 
 use crate::entries::root_attribute;

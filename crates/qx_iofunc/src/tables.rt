@@ -4,7 +4,7 @@ ghost use Rattle.qx_iofunc.specs.Store.{blocks_gone, unused_gone};
 ghost use Rattle.qx_iofunc.specs.inner.Store.{blocks_truncated, files_with, with_made, with_resized, with_truncated};
 ghost use Rattle.qx_machine.specs.Inodes.{inode_number, is_unused};
 ghost use Rattle.qx_machine.specs.Names.{under};
-ghost use Rattle.qx_machine.specs.Rows.{row_at};
+ghost use Rattle.qx_isolation.specs.Rows.{row_at};
 ghost use Rattle.qx_names.specs.Paths.{HasPath, HasNoPath, path_of};
 ghost use Rattle.qx_names.specs.Spots.{spot_of};
 

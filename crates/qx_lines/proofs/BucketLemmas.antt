@@ -7,7 +7,7 @@ use Rattle.std.proofs.lemmas.List.Elements.{Contains-append_cases, Contains-appe
 use Rattle.qx_lists.specs.Table.{without}
 use Rattle.qx_lists.proofs.ListLemmas.{contains_first, contains_later}
 use Rattle.qx_lists.proofs.PathLemmas.{Avoids, IsApart}
-use Rattle.qx_machine.specs.Lines.{into}
+use Rattle.qx_isolation.specs.Lines.{into}
 use Rattle.qx_lines.specs.Line.{last_first}
 
 module _ (nodes : ℕ → List ℕ) where

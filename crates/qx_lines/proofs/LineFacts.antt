@@ -11,7 +11,7 @@ use Rattle.qx_lists.proofs.TableFacts.{nodes_of-with_nodes_same, kept_there, tab
 use Rattle.qx_lists.proofs.ListLemmas.{apart_from_distinct, avoids_from, contains_cases, contains_later, distinct_from_apart, length-keys, nowhere_from, stands_nowhere}
 use Rattle.qx_lists.proofs.PathLemmas.{IsApart}
 use Rattle.qx_lists.proofs.MapLemmas.{get-insert_other, get-remove_other}
-use Rattle.qx_machine.specs.Lines.{into}
+use Rattle.qx_isolation.specs.Lines.{into}
 use Rattle.qx_lines.specs.declared.Line.{Line}
 use Rattle.qx_lines.specs.declared.marks.TheConstants.{PRIORITIES}
 use Rattle.qx_lines.specs.Line.{AreApart, AreMarked, AreRanked, IsInLine, IsLineOf, IsOwn, SameElsewhere, item_count, nodes_in, rank_at}

@@ -3,7 +3,7 @@ use Rattle.std.proofs.Common.{Bool, true, nat_lt, ◌≡◌, inl, inr, ℕ, ◌+
 use Rattle.std.proofs.lemmas.Bool.Decides.{nat_tests}
 use Rattle.std.proofs.lemmas.Bool.{cond_both}
 use Rattle.qx_lists.proofs.ListLemmas.{contains_cases, contains_first, contains_later}
-use Rattle.qx_machine.specs.Lines.{into}
+use Rattle.qx_isolation.specs.Lines.{into}
 
 pub length-into : (rank : ℕ → ℕ) (nodes : List ℕ) (node : ℕ) → length (into rank nodes node) ≡ length nodes + 1
 length-into rank [] node = refl

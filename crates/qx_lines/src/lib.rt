@@ -14,7 +14,7 @@
 ghost use Rattle.std.specs.Prelude.{◌≡◌, ◌+◌, ◌≤◌, ◌<◌, ℕ, IfOk, OnErr, IfSome, IfNone, None, [], drop, slice_get, is_some, if◌then◌else◌, length, MatchOption};
 ghost use Rattle.std.specs.FinMap as map;
 ghost use Rattle.qx_lists.specs.Table.{ContainsList, ContainsNode, IsFree, nodes_of, without};
-ghost use Rattle.qx_machine.specs.Lines.{into};
+ghost use Rattle.qx_isolation.specs.Lines.{into};
 ghost use Rattle.qx_lines.specs.declared.marks.TheConstants.{WORDS};
 ghost use Rattle.qx_lines.specs.Line.{IsInLine, IsLineOf, IsOwn, SameElsewhere, item_count, nodes_in, rank_at};
 ghost use Rattle.qx_lines.specs.Marks.{words_down_to};

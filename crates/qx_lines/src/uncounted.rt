@@ -1,7 +1,7 @@
 //! The counted calls of a line for callers that count nothing.
 ghost use Rattle.std.specs.Prelude.{◌≡◌, ◌<◌, IfSome, IfNone, drop, slice_get};
 ghost use Rattle.qx_lists.specs.Table.{IsFree, without};
-ghost use Rattle.qx_machine.specs.Lines.{into};
+ghost use Rattle.qx_isolation.specs.Lines.{into};
 ghost use Rattle.qx_lines.specs.Line.{IsInLine, IsLineOf, SameElsewhere, nodes_in, rank_at};
 
 use crate::Line;

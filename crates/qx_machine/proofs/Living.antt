@@ -16,9 +16,9 @@ use Rattle.qx_machine.specs.Parts.{Part}
 use Rattle.qx_machine.specs.Performing.{after_answer, after_message, after_serving, with_answers}
 use Rattle.qx_machine.specs.Processes.{Process, after_effect, after_error, after_reply, has_ended, living, with_thread}
 use Rattle.qx_machine.specs.Resources.{Resources}
-use Rattle.qx_machine.specs.Rows.{row_at, with_row}
+use Rattle.qx_isolation.specs.Rows.{row_at, with_row}
 use Rattle.qx_machine.specs.Settling.{is_living}
-use Rattle.qx_machine.proofs.Places.{row_at-set_other}
+use Rattle.qx_isolation.proofs.Places.{row_at-set_other}
 
 -- a change of a process that leaves as many threads
 pub record KeepsThreads (change : Process → Process) : Type 0 where

@@ -13,10 +13,10 @@ use Rattle.qx_machine.specs.Inodes.{Inodes}
 use Rattle.qx_machine.specs.Notification.{block_conditions, conditions_at, conditions_of, events_settled}
 use Rattle.qx_machine.specs.Pipes.{Pipe}
 use Rattle.qx_machine.specs.Resources.{Resources}
-use Rattle.qx_machine.specs.Rows.{row_at}
+use Rattle.qx_isolation.specs.Rows.{row_at}
 use Rattle.qx_machine.specs.Waiting.{Pipes, sides_of}
 use Rattle.qx_machine.proofs.EventFacts.{triggered-none}
-use Rattle.qx_machine.proofs.Places.{at-map}
+use Rattle.qx_isolation.proofs.Places.{at-map}
 
 pub none-left : {A : Type 0} (which : A → Bool) (all : List A) → filter which (filter (λ one. not (which one)) all) ≡ []
 none-left which [] = refl

@@ -12,13 +12,13 @@ use Rattle.qx_types.specs.declared.outcome.Outcome.{Outcome}
 use Rattle.qx_types.specs.declared.outcome.Outcome.TheVariants.{WrongState}
 use Rattle.qx_wire.specs.Reading.{meaning}
 use Rattle.qx_machine.specs.declared.rows.Caller.{Caller}
-use Rattle.qx_machine.specs.declared.rows.OwnItem.{OwnItem}
-use Rattle.qx_machine.specs.declared.rows.OwnItem.TheVariants as item
+use Rattle.qx_isolation.specs.declared.rows.OwnItem.{OwnItem}
+use Rattle.qx_isolation.specs.declared.rows.OwnItem.TheVariants as item
 use Rattle.qx_machine.specs.declared.rows.Sent.{Sent}
-use Rattle.qx_machine.specs.declared.rows.ServerName.{ServerName}
+use Rattle.qx_isolation.specs.declared.rows.ServerName.{ServerName}
 use Rattle.qx_machine.specs.declared.rows.WaitingCall.{WaitingCall}
 use Rattle.qx_machine.specs.Functions.{Deed}
-use Rattle.qx_machine.specs.Judgements.{◌>>=◌, found}
+use Rattle.qx_isolation.specs.Judgements.{◌>>=◌, found}
 use Rattle.qx_machine.specs.Laws.{is_put, most_put, put_count}
 use Rattle.qx_machine.specs.Parts.{Change, Part, Remove, disconnect, disconnects}
 use Rattle.qx_machine.specs.Performing.{Served, after_message, answered_changes, caller_of, context_of, deed_of, or_kept, own_change, served_by, served_changes, taken_in}
@@ -26,7 +26,7 @@ use Rattle.qx_machine.specs.Managers.{close_client}
 use Rattle.qx_machine.specs.PipeManager.{cancel_call}
 use Rattle.qx_machine.specs.Processes.{Process, lost_servers}
 use Rattle.qx_machine.specs.Resources.{Resources}
-use Rattle.qx_machine.specs.Rows.{row_at}
+use Rattle.qx_isolation.specs.Rows.{row_at}
 use Rattle.qx_machine.specs.Users.{serve}
 
 module _ (measure : Change → ℕ) (removal-is : (manager : Manager) (removed : OwnItem) → measure (Remove manager removed) ≡ 0)

@@ -10,20 +10,20 @@ use Rattle.qx_types.specs.declared.outcome.Answer.TheVariants as answer
 use Rattle.qx_types.specs.declared.outcome.Outcome.{Outcome}
 use Rattle.qx_types.specs.declared.step.Step.{Step}
 use Rattle.qx_types.specs.declared.step.Step.TheVariants.{Spawn, Exit, Call, TakeReply, TakePulse, SetPrio, Interrupt, Mount}
-use Rattle.qx_machine.specs.declared.rows.OwnItem.{OwnItem}
+use Rattle.qx_isolation.specs.declared.rows.OwnItem.{OwnItem}
 use Rattle.qx_machine.specs.declared.rows.Pulse.{Pulse}
 use Rattle.qx_machine.specs.declared.rows.State.{State}
 use Rattle.qx_machine.specs.declared.rows.State.TheVariants.{Queued as queued, Taken, Waiting}
-use Rattle.qx_machine.specs.Judgements.{◌>>=◌}
+use Rattle.qx_isolation.specs.Judgements.{◌>>=◌}
 use Rattle.qx_machine.specs.Laws.{IsSettled, is_refusal}
 use Rattle.qx_machine.specs.Machine.{World, step_end, client_step, own_held, step, step_of}
 use Rattle.qx_types.specs.Step.{actor_of, user_of}
-use Rattle.qx_machine.specs.Rows.{row_at}
+use Rattle.qx_isolation.specs.Rows.{row_at}
 use Rattle.qx_machine.specs.Clients.{ClientStep, client_given, interrupt_in, or_unchanged, outcome_of, pulse_taken}
 use Rattle.qx_machine.specs.Parts.{Part}
 use Rattle.qx_machine.specs.Users.{client}
-use Rattle.qx_machine.proofs.Places.{set-row_at}
-use Rattle.qx_machine.proofs.Workers.{server_same}
+use Rattle.qx_isolation.proofs.Places.{set-row_at}
+use Rattle.qx_isolation.proofs.Workers.{server_same}
 
 -- a step that is not refused at once gives no refusal
 abbrev IsNoRefusal : Result ClientStep Outcome → Type 0

@@ -8,21 +8,22 @@ use Rattle.qx_types.specs.Step.{actor_of, user_of}
 use Rattle.qx_types.specs.declared.names.Actor.{Actor}
 use Rattle.qx_types.specs.declared.names.Manager.{Manager}
 use Rattle.qx_types.specs.declared.step.Step.{Step}
-use Rattle.qx_machine.specs.declared.rows.Held.{Held}
-use Rattle.qx_machine.specs.declared.rows.OwnItem.{OwnItem}
+use Rattle.qx_isolation.specs.declared.rows.Held.{Held}
+use Rattle.qx_isolation.specs.declared.rows.OwnItem.{OwnItem}
 use Rattle.qx_machine.specs.Laws.{IsSettled}
 use Rattle.qx_machine.specs.Machine.{World, boot, boot_parts, client_step, item_to_do, item_to_take, own_held, performed_part, received_part, step, step_end, step_of, with_empty_hand, with_taken}
 use Rattle.qx_machine.specs.Parts.{Change, Part}
 use Rattle.qx_machine.specs.Processes.{Process, has_ended}
-use Rattle.qx_machine.specs.Rows.{row_at}
+use Rattle.qx_isolation.specs.Rows.{row_at}
 use Rattle.qx_machine.specs.Runs.{run, world_after}
+use Rattle.qx_isolation.specs.System as system
 use Rattle.qx_machine.specs.Settling.{is_kept, is_living, processes_left, row_left, stays}
 use Rattle.qx_machine.specs.Users.{boot_part, client, serve, settle_part, take}
 use Rattle.qx_machine.specs.Waiting.{Pipes}
-use Rattle.qx_machine.proofs.Changes.{own_held-view, own_hand-emptied_other, own_hand-put_other}
+use Rattle.qx_isolation.proofs.Changes.{own_held-view, own_hand-emptied_other, own_hand-put_other}
 use Rattle.qx_machine.proofs.NotifyLemmas.{settled-unchanged}
-use Rattle.qx_machine.proofs.Places.{row_at-set_other}
-use Rattle.qx_machine.proofs.Workers.{after_doing, after_taking, holds, server_leaves, takes}
+use Rattle.qx_isolation.proofs.Places.{row_at-set_other}
+use Rattle.qx_isolation.proofs.Workers.{after_doing, after_taking, holds, server_leaves, takes}
 
 -- ---- processes that have ended
 
@@ -154,7 +155,7 @@ boot_row config first (name ∷ names) zero part held here = subst (λ p. settle
 boot_row config first (name ∷ names) (suc user) part held here = boot_row config (first + 1) names user part held here
 
 settled_boot : (config : Configuration) → IsSettled (boot config)
-unfolding boot
+unfolding system.boot
 settled_boot config zero part here = absurd (cc)
 settled_boot config (suc user) part here = boot_row config 1 config.users user part _ here
 

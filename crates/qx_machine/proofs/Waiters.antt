@@ -43,7 +43,7 @@ use Rattle.qx_machine.specs.Events.{notified}
 use Rattle.qx_machine.specs.Files.{base, moved_by}
 use Rattle.qx_machine.specs.Functions.{Deed, Reply, new_dup, new_open, reply_alone, side_root}
 use Rattle.qx_machine.specs.Inodes.{block_number, blocks_of_client, dup_block, has, is_shared, is_unused, new_attribute, new_inode, open_block, reads, writes}
-use Rattle.qx_machine.specs.Judgements.{found, need}
+use Rattle.qx_isolation.specs.Judgements.{found, need}
 use Rattle.qx_machine.specs.Managers.{close_all, close_client, manager_deed, or_unreplied, own_kind}
 use Rattle.qx_machine.specs.Names.{Spot, is_directory, is_empty, names_in, spot}
 use Rattle.qx_machine.specs.Notification.{conditions_at, event_of, notify_block}
@@ -53,11 +53,11 @@ use Rattle.qx_machine.specs.Pipes.{PipeAfter, Pipe, all_answered, and_then, canc
 use Rattle.qx_machine.specs.Processes.{Process}
 use Rattle.qx_machine.specs.RamManager.{emptied, read_file, seek_file, write_file, written_at}
 use Rattle.qx_machine.specs.Resources.{Resources, with_empty, without_content}
-use Rattle.qx_machine.specs.Rows.{row_at}
+use Rattle.qx_isolation.specs.Rows.{row_at}
 use Rattle.qx_machine.specs.Servers.{is_numbered}
 use Rattle.qx_machine.specs.Waiting.{caller_in, Pipes, holds, is_call, is_gone, offered, waiting_call, wanted}
 use Rattle.qx_machine.proofs.Gives.{Gives, found-row, gives_by, gives_done, gives_error, gives_if, gives_more, gives_on, gives-value}
-use Rattle.qx_machine.proofs.Places.{row_at-set_cases}
+use Rattle.qx_isolation.proofs.Places.{row_at-set_cases}
 
 module _ {A : Type 0} (P : A → Type 0) where
   all-append : (xs ys : List A) → AllByRecursion P xs → AllByRecursion P ys → AllByRecursion P (xs ++ ys)

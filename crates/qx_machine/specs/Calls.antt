@@ -25,9 +25,9 @@ use Rattle.qx_machine.specs.declared.rows.Over.TheVariants.{New, Existing, Side}
 use Rattle.qx_machine.specs.declared.rows.State.{State}
 use Rattle.qx_machine.specs.declared.rows.State.TheVariants.{Ready}
 use Rattle.qx_machine.specs.declared.rows.ThreadRow.{ThreadRow}
-use Rattle.qx_machine.specs.Judgements.{◌>>=◌, found, need, or_refused}
+use Rattle.qx_isolation.specs.Judgements.{◌>>=◌, found, need, or_refused}
 use Rattle.qx_machine.specs.Processes.{Process, servers_at}
-use Rattle.qx_machine.specs.Rows.{row_at, lowest_from}
+use Rattle.qx_isolation.specs.Rows.{row_at, lowest_from}
 use Rattle.qx_machine.specs.Servers.{in_use}
 
 -- what a request sends; of a path, what is behind its mount

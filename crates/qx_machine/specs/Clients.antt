@@ -16,8 +16,8 @@ use Rattle.qx_types.specs.declared.step.Step.{Step}
 use Rattle.qx_types.specs.declared.step.Step.TheVariants.{Spawn, Exit, Call, TakeReply, TakePulse, SetPrio, Interrupt, Mount}
 use Rattle.qx_paths.specs.Prefixes.{MountPoint}
 use Rattle.qx_machine.specs.declared.rows.Addressed.{Addressed}
-use Rattle.qx_machine.specs.declared.rows.OwnItem.{OwnItem}
-use Rattle.qx_machine.specs.declared.rows.OwnItem.TheVariants as item
+use Rattle.qx_isolation.specs.declared.rows.OwnItem.{OwnItem}
+use Rattle.qx_isolation.specs.declared.rows.OwnItem.TheVariants as item
 use Rattle.qx_machine.specs.declared.rows.Pulse.{Pulse}
 use Rattle.qx_machine.specs.declared.rows.Sent.{Sent}
 use Rattle.qx_machine.specs.declared.rows.State.{State}
@@ -26,21 +26,20 @@ use Rattle.qx_machine.specs.declared.rows.ThreadRow.{ThreadRow}
 use Rattle.qx_machine.specs.declared.rows.WaitingCall.{WaitingCall}
 use Rattle.qx_machine.specs.Calls.{address, bytes_of, content_of, is_ready, may_call, target_at}
 use Rattle.qx_machine.specs.Events.{first_pulse, without_first_pulse, without_pulses}
-use Rattle.qx_machine.specs.Judgements.{◌>>=◌, found, need, or_refused}
+use Rattle.qx_isolation.specs.Judgements.{◌>>=◌, found, need, or_refused}
 use Rattle.qx_machine.specs.Mounting.{new_mount, with_mount}
 use Rattle.qx_machine.specs.Parts.{Part, Change, Put, Remove, disconnect, disconnects, thread_at, with_process, with_thread_of}
 use Rattle.qx_machine.specs.Performing.{after_answer, after_message}
 use Rattle.qx_machine.specs.Pipes.{Pipe}
 use Rattle.qx_machine.specs.Processes.{Process, asked_thread, ended, living, lost_servers, new_process, with_queued, ranked_thread, ready_thread}
 use Rattle.qx_machine.specs.Resources.{Resources}
-use Rattle.qx_machine.specs.Rows.{lowest_from, put_row, row_at}
+use Rattle.qx_isolation.specs.System as system
+use Rattle.qx_isolation.specs.Rows.{lowest_from, put_row, row_at}
 use Rattle.qx_machine.specs.Waiting.{is_of_process}
 
 -- what a client's step gives
-pub record ClientStep : Type 0 where
-  pub outcome : Outcome
-  pub part : Part
-  pub changes : List Change
+abbrev pub ClientStep : Type 0
+ClientStep = system.ClientStep Part
 
 -- from 1 to the greatest
 abbrev pub is_prio : ℕ → Bool

@@ -22,13 +22,13 @@ use Rattle.qx_machine.specs.Attributes.{stat_bytes, top_inode}
 use Rattle.qx_machine.specs.Events.{disarmed}
 use Rattle.qx_machine.specs.Functions.{Deed, reply_alone}
 use Rattle.qx_machine.specs.Inodes.{Inodes, block_number, close_block, dup_block, free_inode, has, is_shared, is_unused, may, new_attribute, new_inode, open_block, reads, with_attribute, without_use, writes}
-use Rattle.qx_machine.specs.Judgements.{◌>>=◌, found, need}
+use Rattle.qx_isolation.specs.Judgements.{◌>>=◌, found, need}
 use Rattle.qx_machine.specs.Names.{Spot, inode_at, is_directory, is_empty, is_same_kind, listed, listing, names_in, spot}
 use Rattle.qx_machine.specs.PipeManager.{released}
 use Rattle.qx_machine.specs.Pipes as pipes
 use Rattle.qx_machine.specs.RamManager.{emptied}
 use Rattle.qx_machine.specs.Resources.{Resources, with_empty, without_content}
-use Rattle.qx_machine.specs.Rows.{row_at}
+use Rattle.qx_isolation.specs.Rows.{row_at}
 
 -- ---- entries of a directory
 

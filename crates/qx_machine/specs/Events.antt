@@ -14,8 +14,8 @@ use Rattle.qx_machine.specs.declared.rows.Conditions.{Conditions}
 use Rattle.qx_machine.specs.declared.rows.Event.{Event}
 use Rattle.qx_machine.specs.declared.rows.Pulse.{Pulse}
 use Rattle.qx_machine.specs.declared.rows.TheConstants.Pulse as pulse
-use Rattle.qx_machine.specs.Judgements.{◌>>=◌, need}
-use Rattle.qx_machine.specs.Lines.{line_at, with_line}
+use Rattle.qx_isolation.specs.Judgements.{◌>>=◌, need}
+use Rattle.qx_isolation.specs.Lines.{line_at, with_line}
 
 -- a user's armed events in order of arming, and the untaken pulses of each process under its number, in order of coming
 pub record Events : Type 0 where

@@ -20,7 +20,7 @@ use Rattle.qx_machine.specs.declared.rows.PulseWish.{PulseWish}
 use Rattle.qx_machine.specs.declared.rows.Target.{Target}
 use Rattle.qx_machine.specs.declared.rows.WaitingCall.{WaitingCall}
 use Rattle.qx_machine.specs.declared.rows.Wish.{Wish}
-use Rattle.qx_machine.specs.Judgements.{◌>>=◌, found, need}
+use Rattle.qx_isolation.specs.Judgements.{◌>>=◌, found, need}
 
 -- what a message is replied: status and bytes, and what becomes of its connection
 pub record Reply : Type 0 where

@@ -14,8 +14,8 @@ use Rattle.qx_machine.specs.declared.rows.Attribute.{Attribute}
 use Rattle.qx_machine.specs.declared.rows.Client.{Client}
 use Rattle.qx_machine.specs.declared.rows.Kind.{Kind}
 use Rattle.qx_machine.specs.declared.rows.Ocb.{Ocb}
-use Rattle.qx_machine.specs.Judgements.{◌>>=◌, found, need}
-use Rattle.qx_machine.specs.Rows.{row_at, lowest_from, put_row, with_row}
+use Rattle.qx_isolation.specs.Judgements.{◌>>=◌, found, need}
+use Rattle.qx_isolation.specs.Rows.{row_at, lowest_from, put_row, with_row}
 
 -- inodes from 1, each as its attribute, and open control blocks from 1, with the numbers of those that are there in order of making
 pub record Inodes : Type 0 where

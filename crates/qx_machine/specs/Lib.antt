@@ -7,9 +7,7 @@ pub mod Examples
 pub mod Files
 pub mod Inodes
 pub mod Functions
-pub mod Judgements
 pub mod Laws
-pub mod Lines
 pub mod Listings
 pub mod Machine
 pub mod Managers
@@ -23,7 +21,6 @@ pub mod Pipes
 pub mod Processes
 pub mod RamManager
 pub mod Resources
-pub mod Rows
 pub mod Runs
 pub mod Servers
 pub mod Settling

@@ -11,10 +11,10 @@ use Rattle.qx_machine.specs.Attributes.{root_attribute, top_inode}
 use Rattle.qx_machine.specs.Events.{no_events}
 use Rattle.qx_machine.specs.Files.{no_files}
 use Rattle.qx_machine.specs.Inodes.{inode_number}
-use Rattle.qx_machine.specs.Judgements.{◌>>=◌, need}
+use Rattle.qx_isolation.specs.Judgements.{◌>>=◌, need}
 use Rattle.qx_machine.specs.Names.{with_root}
 use Rattle.qx_machine.specs.Resources.{Resources}
-use Rattle.qx_machine.specs.Rows.{put_row}
+use Rattle.qx_isolation.specs.Rows.{put_row}
 use Rattle.qx_machine.specs.Waiting.{no_pipes}
 
 -- the top with its root, which is empty, and nothing open

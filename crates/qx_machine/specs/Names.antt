@@ -13,8 +13,8 @@ use Rattle.qx_machine.specs.declared.rows.Access.TheVariants.{Search}
 use Rattle.qx_machine.specs.declared.rows.Kind.{Kind}
 use Rattle.qx_machine.specs.declared.rows.Kind.TheVariants.{Directory, File, Pipe}
 use Rattle.qx_machine.specs.Inodes.{Inodes, may}
-use Rattle.qx_machine.specs.Judgements.{◌>>=◌, found, need}
-use Rattle.qx_machine.specs.Rows.{row_at}
+use Rattle.qx_isolation.specs.Judgements.{◌>>=◌, found, need}
+use Rattle.qx_isolation.specs.Rows.{row_at}
 
 -- a path in a mount: the inode of the mount's root, and the path's components, the last one first; so what is in a directory has one
 -- component more, in front

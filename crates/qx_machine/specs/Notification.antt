@@ -15,10 +15,10 @@ use Rattle.qx_machine.specs.declared.rows.Sides.{Sides}
 use Rattle.qx_machine.specs.declared.rows.WaitingCall.{WaitingCall}
 use Rattle.qx_machine.specs.Events.{Events, notified, triggered}
 use Rattle.qx_machine.specs.Functions.{Deed, reply_alone}
-use Rattle.qx_machine.specs.Judgements.{◌>>=◌, found}
+use Rattle.qx_isolation.specs.Judgements.{◌>>=◌, found}
 use Rattle.qx_machine.specs.Pipes.{Pipe}
 use Rattle.qx_machine.specs.Resources.{Resources}
-use Rattle.qx_machine.specs.Rows.{row_at}
+use Rattle.qx_isolation.specs.Rows.{row_at}
 use Rattle.qx_machine.specs.Waiting.{sides_of}
 
 -- a pipe has input where bytes stand or nobody has it open for writing, and output where bytes have room or nobody has it open for

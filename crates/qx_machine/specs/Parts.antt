@@ -1,26 +1,20 @@
 -- All rows of one user, and what a step changes in the lines.
 use Rattle.std.specs.Prelude.{ℕ, List, [], Option, Some, None, map, take}
 use Rattle.qx_types.specs.declared.limits.TheConstants.Limits.{PRIORITY}
-use Rattle.qx_types.specs.declared.names.Manager.{Manager}
 use Rattle.qx_types.specs.declared.names.Thread.{Thread}
 use Rattle.qx_machine.specs.declared.rows.Connection.{Connection}
-use Rattle.qx_machine.specs.declared.rows.OwnItem.{OwnItem}
-use Rattle.qx_machine.specs.declared.rows.OwnItem.TheVariants as item
-use Rattle.qx_machine.specs.declared.rows.ServerName.{ServerName}
+use Rattle.qx_isolation.specs.declared.rows.OwnItem.TheVariants as item
+use Rattle.qx_isolation.specs.declared.rows.ServerName.{ServerName}
 use Rattle.qx_machine.specs.declared.rows.ThreadRow.{ThreadRow}
 use Rattle.qx_machine.specs.Processes.{Process, lost_servers, with_thread}
 use Rattle.qx_machine.specs.Resources.{Resources}
-use Rattle.qx_machine.specs.Rows.{row_at, with_row}
+use Rattle.qx_isolation.specs.Rows.{row_at, with_row}
+pub use Rattle.qx_isolation.specs.System.{Change, Put, Remove}
 
 -- a user's processes from 1, and resources
 pub record Part : Type 0 where
   pub processes : List (Option Process)
   pub resources : Resources
-
--- what a step changes in a manager's line: an item of the user is put there, or one is removed where it stands
-pub data Change : Type 0 where
-  Put : (manager : Manager) (item : OwnItem) (prio : ℕ) → Change
-  Remove : (manager : Manager) (item : OwnItem) → Change
 
 abbrev pub thread_of : ℕ → Option Process → Option ThreadRow
 thread_of thread None = None

@@ -13,11 +13,11 @@ use Rattle.qx_machine.specs.declared.rows.Opened.{Opened}
 use Rattle.qx_machine.specs.declared.rows.WaitingCall.{WaitingCall}
 use Rattle.qx_machine.specs.Functions.{Deed}
 use Rattle.qx_machine.specs.Inodes.{readers_of, reads, writers_of, writes}
-use Rattle.qx_machine.specs.Judgements.{◌>>=◌, found, need}
+use Rattle.qx_isolation.specs.Judgements.{◌>>=◌, found, need}
 use Rattle.qx_machine.specs.Names.{is_directory, is_same_kind}
 use Rattle.qx_machine.specs.Pipes.{PipeAfter, Pipe, cancel, read, release, write}
 use Rattle.qx_machine.specs.Resources.{Resources, resized}
-use Rattle.qx_machine.specs.Rows.{row_at, with_row}
+use Rattle.qx_isolation.specs.Rows.{row_at, with_row}
 use Rattle.qx_machine.specs.Waiting.{holds, is_call, is_gone, is_over, is_written, manner_of, offered, sides_of, waiting_call, wanted}
 
 -- the size of a pipe is the number of the bytes that stand; where some went in, its times are the moment

@@ -14,12 +14,12 @@ use Rattle.qx_machine.specs.declared.rows.Effect.TheVariants.{Keeps, Opens, Clos
 use Rattle.qx_machine.specs.declared.rows.Over.{Over}
 use Rattle.qx_machine.specs.declared.rows.Over.TheVariants.{New, Existing, Side}
 use Rattle.qx_machine.specs.declared.rows.Sent.{Sent}
-use Rattle.qx_machine.specs.declared.rows.ServerName.{ServerName}
+use Rattle.qx_isolation.specs.declared.rows.ServerName.{ServerName}
 use Rattle.qx_machine.specs.declared.rows.State.{State}
 use Rattle.qx_machine.specs.declared.rows.State.TheVariants.{Answered, Queued, Ready, Taken, Waiting}
 use Rattle.qx_machine.specs.declared.rows.ThreadRow.{ThreadRow}
-use Rattle.qx_machine.specs.Lines.{line_at, with_line}
-use Rattle.qx_machine.specs.Rows.{put_row, row_at, with_row}
+use Rattle.qx_isolation.specs.Lines.{line_at, with_line}
+use Rattle.qx_isolation.specs.Rows.{put_row, row_at, with_row}
 use Rattle.qx_machine.specs.Servers.{Servers, in_use, is_attached, lost_by, no_servers, servers_from, without_left}
 
 -- threads from 1 and connections from 3; at which manager each thread has a side connection; the server connections at each manager, under

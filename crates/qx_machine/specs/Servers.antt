@@ -7,8 +7,8 @@ use Rattle.qx_types.specs.Managers.{manager_number}
 use Rattle.qx_types.specs.declared.names.Manager.{Manager}
 use Rattle.qx_machine.specs.declared.rows.Connection.{Connection}
 use Rattle.qx_machine.specs.declared.rows.ServerConnection.{ServerConnection}
-use Rattle.qx_machine.specs.declared.rows.ServerName.{ServerName}
-use Rattle.qx_machine.specs.Rows.{lowest_from, put_row, row_at}
+use Rattle.qx_isolation.specs.declared.rows.ServerName.{ServerName}
+use Rattle.qx_isolation.specs.Rows.{lowest_from, put_row, row_at}
 
 -- those of a process at one manager, from 1
 abbrev pub Servers : Type 0

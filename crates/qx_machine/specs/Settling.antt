@@ -1,12 +1,12 @@
 -- The end of each step of a user: events that are due, and processes that have ended.
 use Rattle.std.specs.Prelude.{ℕ, ◌+◌, ◌==◌, ◌||◌, not, Bool, List, [], ◌∷◌, Option, Some, None, is_some, if◌then◌else◌}
 use Rattle.std.specs.List.{list_any}
-use Rattle.qx_machine.specs.declared.rows.OwnItem.{OwnItem}
-use Rattle.qx_machine.specs.declared.rows.OwnItem.TheVariants.{Message, Unblock, Disconnect}
+use Rattle.qx_isolation.specs.declared.rows.OwnItem.{OwnItem}
+use Rattle.qx_isolation.specs.declared.rows.OwnItem.TheVariants.{Message, Unblock, Disconnect}
 use Rattle.qx_machine.specs.Notification.{events_settled}
 use Rattle.qx_machine.specs.Parts.{Part}
 use Rattle.qx_machine.specs.Processes.{Process, has_ended, has_server, living}
-use Rattle.qx_machine.specs.Rows.{row_at}
+use Rattle.qx_isolation.specs.Rows.{row_at}
 use Rattle.qx_machine.specs.Waiting.{Pipes, holds, is_of_process}
 
 -- the process under a number is there and has not ended

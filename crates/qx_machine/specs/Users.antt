@@ -2,8 +2,8 @@
 use Rattle.std.specs.Prelude.{ℕ, List, [], ◌∷◌, None}
 use Rattle.qx_types.specs.Configuration.{Configuration, name_bytes}
 use Rattle.qx_types.specs.declared.step.Step.{Step}
-use Rattle.qx_machine.specs.declared.rows.OwnItem.{OwnItem}
-use Rattle.qx_machine.specs.declared.rows.OwnItem.TheVariants.{Message, Unblock, Disconnect}
+use Rattle.qx_isolation.specs.declared.rows.OwnItem.{OwnItem}
+use Rattle.qx_isolation.specs.declared.rows.OwnItem.TheVariants.{Message, Unblock, Disconnect}
 use Rattle.qx_machine.specs.Clients.{ClientStep, client_given, or_unchanged}
 use Rattle.qx_machine.specs.Mounting.{new_resources}
 use Rattle.qx_machine.specs.Parts.{Part, with_process}

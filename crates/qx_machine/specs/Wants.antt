@@ -11,17 +11,17 @@ use Rattle.qx_wire.specs.declared.message.Meaning.TheVariants.{Known}
 use Rattle.qx_wire.specs.declared.message.Message.{Message}
 use Rattle.qx_wire.specs.declared.message.Message.TheVariants.{Open, Mknod, Write, Notify}
 use Rattle.qx_wire.specs.Reading.{meaning}
-use Rattle.qx_machine.specs.declared.rows.OwnItem.{OwnItem}
-use Rattle.qx_machine.specs.declared.rows.OwnItem.TheVariants as item
+use Rattle.qx_isolation.specs.declared.rows.OwnItem.{OwnItem}
+use Rattle.qx_isolation.specs.declared.rows.OwnItem.TheVariants as item
 use Rattle.qx_machine.specs.Events.{event_count}
 use Rattle.qx_machine.specs.Functions.{Deed}
-use Rattle.qx_machine.specs.Judgements.{◌>>=◌, found, or_false}
+use Rattle.qx_isolation.specs.Judgements.{◌>>=◌, found, or_false}
 use Rattle.qx_machine.specs.Laws.{is_refusal}
 use Rattle.qx_machine.specs.Machine.{World, item_to_do, step}
 use Rattle.qx_machine.specs.Parts.{Part}
 use Rattle.qx_machine.specs.Performing.{caller_of, context_of, deed_of, taken_in}
 use Rattle.qx_machine.specs.Resources.{Resources}
-use Rattle.qx_machine.specs.Rows.{row_at}
+use Rattle.qx_isolation.specs.Rows.{row_at}
 
 -- what a message asks for may want memory, where a write of such bytes, or a notification, which writes none, may or may not
 abbrev pub message_wants_memory : (List ℕ → Bool) → Message → Bool

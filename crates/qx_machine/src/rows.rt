@@ -1,7 +1,6 @@
+use qx_isolation::ServerName;
 use qx_paths::Path;
-use qx_types::{
-    Actor, Answer, Coid, Conds, Errno, Manager, MessageBytes, OFlags, Outcome, Prio, Step, User,
-};
+use qx_types::{Answer, Coid, Conds, Errno, Manager, MessageBytes, OFlags, Prio};
 use qx_wire::{BorrowedBytes, Message};
 
 /// What a call sends (C Library Reference: `MsgSend`): a message of the table, or bytes as they are.
@@ -86,13 +85,6 @@ pub struct Connection {
 pub struct ServerConnection {
     /// Its disconnect pulse was made, and it is not used again.
     pub is_leaving: bool,
-}
-
-/// Which server connection of a process: at which manager, and its number there.
-#[derive(Clone, Copy, Debug, PartialEq, Eq)]
-pub struct ServerName {
-    pub manager: Manager,
-    pub number: u8,
 }
 
 /// A client of a manager: a process, by one of its server connections (Writing a Resource Manager: `resmgr_context_t`, the
@@ -283,44 +275,4 @@ impl Pulse {
     pub const INPUT: u32 = 268_435_456;
     /// The bit of a value, 29, that says that OUTPUT is wanted and holds.
     pub const OUTPUT: u32 = 536_870_912;
-}
-
-/// An item of a line or of a worker, by the numbers of its user.
-#[derive(Clone, Copy, Debug, PartialEq, Eq)]
-pub enum OwnItem {
-    /// The message that a thread of a process sent.
-    Message { process: u8, thread: u8 },
-    /// The pulse that asks to unblock a thread of a process from the call of that number.
-    Unblock { process: u8, thread: u8, call: u64 },
-    /// The pulse that a process has lost the last connection of a server connection.
-    Disconnect { process: u8, server: ServerName },
-}
-
-/// An item in a line, with its user and its priority.
-#[derive(Clone, Copy, Debug, PartialEq, Eq)]
-pub struct Queued {
-    pub user: User,
-    pub item: OwnItem,
-    pub prio: Prio,
-}
-
-/// An item in a worker's hand, with its user.
-#[derive(Clone, Copy, Debug, PartialEq, Eq)]
-pub struct Held {
-    pub user: User,
-    pub item: OwnItem,
-}
-
-/// A step that was taken, with its outcome.
-#[derive(Debug, Drop)]
-pub struct Entry {
-    pub step: Step,
-    pub outcome: Outcome,
-}
-
-/// What a client step of a user gave, and to whom.
-#[derive(Debug, Drop)]
-pub struct Seen {
-    pub actor: Actor,
-    pub outcome: Outcome,
 }

@@ -3,7 +3,7 @@ use Rattle.std.proofs.Common.{◌≡◌, ◌+◌, ◌-◌, ◌<◌, ◌≤◌, �
 use Rattle.std.proofs.lemmas.List.{get_or-set_same, length-set}
 use Rattle.qx_machine.specs.declared.rows.Pulse.{Pulse}
 use Rattle.qx_machine.specs.Events.{Events, event_count, first_pulse, no_events, without_first_pulse, without_pulses}
-use Rattle.qx_machine.specs.Lines.{line_at}
+use Rattle.qx_isolation.specs.Lines.{line_at}
 use Rattle.qx_notify.specs.Events.{AllEvents, events_of, with_events}
 use Rattle.qx_notify.proofs.EventLemmas.{line_at-get, queue-count}
 

@@ -13,7 +13,7 @@ use Rattle.qx_machine.specs.declared.rows.Conditions.{Conditions}
 use Rattle.qx_machine.specs.declared.rows.Event.{Event}
 use Rattle.qx_machine.specs.declared.rows.Pulse.{Pulse}
 use Rattle.qx_machine.specs.Events.{Events, armed_anew, disarmed, event_count, is_due, is_on, pulse_of, triggered, with_pulse, with_pulses}
-use Rattle.qx_machine.specs.Lines.{line_at, with_line}
+use Rattle.qx_isolation.specs.Lines.{line_at, with_line}
 use Rattle.qx_notify.specs.Events.{AreLimited}
 
 -- ---- fewer events

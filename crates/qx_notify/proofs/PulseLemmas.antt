@@ -8,7 +8,7 @@ use Rattle.qx_lists.specs.Table.{ContainsList, Table, nodes_of}
 use Rattle.qx_lists.proofs.ListLemmas.{contains_slice_first, none_first, without-first}
 use Rattle.qx_machine.specs.declared.rows.Event.{Event}
 use Rattle.qx_machine.specs.Events.{Events, event_count, first_pulse, without_first_pulse}
-use Rattle.qx_machine.specs.Lines.{line_at}
+use Rattle.qx_isolation.specs.Lines.{line_at}
 use Rattle.qx_notify.specs.Events.{AllEvents, events_of, with_events}
 use Rattle.qx_notify.specs.inner.Kept.{IsList, KeepsLists, EventLists, event_at, events_in, given, lists_at, pulses_in, pulse_taken, shown_events}
 use Rattle.qx_notify.proofs.EventLemmas.{limited-queue, line_at-get, queue-count}

@@ -15,7 +15,7 @@ use Rattle.qx_machine.specs.declared.rows.Conditions.{Conditions}
 use Rattle.qx_machine.specs.declared.rows.Event.{Event}
 use Rattle.qx_machine.specs.declared.rows.Pulse.{Pulse}
 use Rattle.qx_machine.specs.Events.{event_count, is_due, pulse_of, triggered, with_pulse, with_pulses}
-use Rattle.qx_machine.specs.Lines.{line_at}
+use Rattle.qx_isolation.specs.Lines.{line_at}
 use Rattle.qx_notify.specs.Events.{events_of, with_events}
 use Rattle.qx_notify.specs.inner.Kept.{AreApart, IsList, KeepsLists, EventLists, Put, Touched, armed_in, event_at, events_in, given, lists_at, no_event, pulse_taken, pulses_in, shown_events, unlinked}
 use Rattle.qx_notify.proofs.EventLemmas.{limited-triggered, pulse-count}

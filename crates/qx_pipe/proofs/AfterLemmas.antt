@@ -13,8 +13,8 @@ use Rattle.qx_machine.specs.declared.rows.Sides.{Sides}
 use Rattle.qx_machine.specs.declared.rows.WaitingCall.{WaitingCall}
 use Rattle.qx_machine.specs.Waiting.{Pipes, is_written, no_pipes}
 use Rattle.qx_machine.specs.Pipes.{PipeAfter, Pipe, all_answered, and_then, dismissed, nobody_answered, one_answered, pipe_of, readers_ended, writers_ended}
-use Rattle.qx_machine.specs.Rows.{row_at}
-use Rattle.qx_machine.proofs.Places.{set-row_at}
+use Rattle.qx_isolation.specs.Rows.{row_at}
+use Rattle.qx_isolation.proofs.Places.{set-row_at}
 use Rattle.qx_shared.specs.Shared.{HasPipe, Shared, pipe_at, pipes_of, users_given, went_in, with_pipe_after, with_answer_to}
 use Rattle.qx_pipe.specs.inner.Turns.{NobodyWaits}
 

@@ -12,7 +12,7 @@ use Rattle.qx_types.specs.declared.names.Thread.{Thread}
 use Rattle.qx_machine.specs.declared.rows.WaitingCall.{WaitingCall}
 use Rattle.qx_machine.specs.Waiting.{Pipes, is_gone, no_pipes, offered, wanted}
 use Rattle.qx_machine.specs.Pipes.{PipeAfter, Pipe, clean, pipe_of, removed}
-use Rattle.qx_machine.specs.Rows.{row_at}
+use Rattle.qx_isolation.specs.Rows.{row_at}
 use Rattle.qx_queues.specs.Queues.{caller, has_call, is_same_thread}
 use Rattle.qx_queues.specs.Waits.{users_call}
 use Rattle.qx_shared.specs.Shared.{HasNoCall, HasPipe, IsCallReceived, Shared, calls_at, pipe_at, pipes_of, users_given, waiting_calls, with_pipe_after}

@@ -10,7 +10,7 @@ use Rattle.qx_attr.proofs.CountLemmas.{within_table}
 use Rattle.qx_process.proofs.RowLemmas.{row_at-get_or}
 use Rattle.qx_machine.specs.declared.rows.WaitingCall.{WaitingCall}
 use Rattle.qx_machine.specs.Waiting.{Pipes, holds}
-use Rattle.qx_machine.specs.Rows.{row_at}
+use Rattle.qx_isolation.specs.Rows.{row_at}
 
 module _ (which : WaitingCall → Bool) (pipes : Pipes) where
   first-at : (inode : ℕ) → inode ≤ length pipes → ((other : ℕ) → other < inode → holds which (row_at pipes other) ≡ false) → (inode < length pipes → holds which (row_at pipes inode) ≡ true) → position_or_len (holds which) pipes ≡ inode

@@ -16,7 +16,7 @@ use Rattle.qx_iofunc.specs.Given as given
 use Rattle.qx_iofunc.specs.Makes.{may_make}
 use Rattle.qx_iofunc.specs.Sizes.{sized}
 use Rattle.qx_iofunc.specs.Store.{Stored, block_gone, unused_gone, with_stored}
-use Rattle.qx_machine.proofs.Places.{set-row_at}
+use Rattle.qx_isolation.proofs.Places.{set-row_at}
 use Rattle.qx_machine.specs.declared.rows.Attribute.{Attribute}
 use Rattle.qx_machine.specs.declared.rows.Effect.TheVariants.{Keeps, Opens}
 use Rattle.qx_machine.specs.declared.rows.Effect.{Effect}
@@ -29,12 +29,12 @@ use Rattle.qx_machine.specs.declared.rows.Wish.{Wish}
 use Rattle.qx_machine.specs.Defaults.{free_block, open_existing, open_missing, own_block, unopened, without_unused}
 use Rattle.qx_machine.specs.Functions.{Deed, reply_alone}
 use Rattle.qx_machine.specs.Inodes.{Inodes, has, is_unused}
-use Rattle.qx_machine.specs.Judgements.{◌>>=◌}
+use Rattle.qx_isolation.specs.Judgements.{◌>>=◌}
 use Rattle.qx_machine.specs.Names.{Key, Spot}
 use Rattle.qx_machine.specs.PipeManager as machine
 use Rattle.qx_machine.specs.Pipes.{PipeAfter, Pipe, nobody_answered, pipe_of, release, removed}
 use Rattle.qx_machine.specs.Resources.{Resources, without_content}
-use Rattle.qx_machine.specs.Rows.{row_at, with_row}
+use Rattle.qx_isolation.specs.Rows.{row_at, with_row}
 use Rattle.qx_machine.specs.Waiting.{is_gone, is_over, no_pipes, offered, sides_of, wanted, Pipes}
 use Rattle.qx_pipes.specs.Pipes.{Follows, seen}
 use Rattle.qx_pipes.specs.inner.Pipes.{Stands}

@@ -13,7 +13,7 @@ use Rattle.qx_machine.specs.Inodes.{readers_of, reads, writers_of, writes}
 use Rattle.qx_machine.specs.PipeManager as machine
 use Rattle.qx_machine.specs.Pipes.{PipeAfter, nobody_answered, one_answered, read, write}
 use Rattle.qx_machine.specs.Resources.{Resources}
-use Rattle.qx_machine.specs.Rows.{row_at}
+use Rattle.qx_isolation.specs.Rows.{row_at}
 use Rattle.qx_machine.specs.Waiting.{is_gone, manner_of, offered, waiting_call, wanted}
 use Rattle.qx_pipe.specs.Alone.{is_idle, is_one_reply}
 use Rattle.qx_pipes.specs.Pipes.{Follows, seen}

@@ -11,7 +11,7 @@ use Rattle.qx_machine.specs.Functions as functions
 use Rattle.qx_machine.specs.Functions.{Deed}
 use Rattle.qx_machine.specs.Pipes.{Pipe}
 use Rattle.qx_machine.specs.Resources.{Resources}
-use Rattle.qx_machine.specs.Rows.{row_at}
+use Rattle.qx_isolation.specs.Rows.{row_at}
 use Rattle.qx_pipe.specs.Alone.{is_idle}
 
 -- nobody waits in a pipe

@@ -7,7 +7,7 @@ ghost use Rattle.qx_machine.specs.Defaults as defaults;
 ghost use Rattle.qx_machine.specs.Inodes.{has};
 ghost use Rattle.qx_machine.specs.PipeManager as machine;
 ghost use Rattle.qx_machine.specs.Resources.{Resources};
-ghost use Rattle.qx_machine.specs.Rows.{with_row};
+ghost use Rattle.qx_isolation.specs.Rows.{with_row};
 ghost use Rattle.qx_machine.specs.Waiting.{caller_in, holds, is_call};
 ghost use Rattle.qx_machine.specs.declared.rows.Kind.TheVariants as kind;
 ghost use Rattle.qx_pipes.specs.Pipes.{Follows, done_of, seen};

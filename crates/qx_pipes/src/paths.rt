@@ -6,7 +6,7 @@ ghost use Rattle.qx_iofunc.specs.Lookups.{IsAllowed, open_found};
 ghost use Rattle.qx_machine.specs.Defaults as machine;
 ghost use Rattle.qx_machine.specs.Pipes.{pipe_of};
 ghost use Rattle.qx_machine.specs.Resources.{Resources};
-ghost use Rattle.qx_machine.specs.Rows.{row_at};
+ghost use Rattle.qx_isolation.specs.Rows.{row_at};
 ghost use Rattle.qx_machine.specs.declared.rows.Kind.TheVariants as kind;
 ghost use Rattle.qx_pipes.specs.Pipes.{Follows, open_of_block, seen};
 ghost use Rattle.qx_pipes.specs.inner.Pipes.{Stands};

@@ -13,16 +13,17 @@ use Rattle.qx_types.specs.declared.names.Manager.{Manager}
 use Rattle.qx_types.specs.declared.names.TheConstants.Manager.{COUNT}
 use Rattle.qx_types.specs.declared.step.Step.{Step}
 use Rattle.qx_types.specs.declared.step.Step.TheVariants.{Receive, Perform}
-use Rattle.qx_machine.specs.declared.rows.Held.{Held}
-use Rattle.qx_machine.specs.declared.rows.Queued.{Queued}
-use Rattle.qx_machine.specs.Lines.{line_at, with_line}
+use Rattle.qx_isolation.specs.declared.rows.Held.{Held}
+use Rattle.qx_isolation.specs.declared.rows.Queued.{Queued}
+use Rattle.qx_isolation.specs.Lines.{line_at, with_line}
 use Rattle.qx_machine.specs.Machine.{World, step_end, changed_manager, line_after, own_held, step, step_of, server_step, boot, client_step, received_part, with_taken, performed_part, with_empty_hand, is_worker, line_of, lines_after}
+use Rattle.qx_isolation.specs.System as system
 use Rattle.qx_machine.specs.Parts.{Part, Change}
-use Rattle.qx_machine.specs.Rows.{row_at}
+use Rattle.qx_isolation.specs.Rows.{row_at}
 use Rattle.qx_machine.specs.Runs.{world_after}
 use Rattle.qx_machine.specs.Users as users
 use Rattle.qx_machine.specs.Users.{serve}
-use Rattle.qx_machine.proofs.Workers.{after_doing, after_item, after_taking, item_done, item_taken, server_leaves}
+use Rattle.qx_isolation.proofs.Workers.{after_doing, after_item, after_taking, item_done, item_taken, server_leaves}
 use Rattle.qx_play.proofs.Weights.{first_weighs, performed_weighs, waiting_weighs, waiting_weighs_at_most, weight_of, weight_of_lines, weight_waiting}
 use Rattle.qx_play.specs.Play.{first_worker, has_waiting, items_waiting, next_manager, round, rounds, world_played, hand_emptied, all_served, with_lines_served}
 
@@ -275,7 +276,7 @@ all_rounds (suc left) n config moment steps some k free few = elim (some_or_none
 ]
 
 booted : (config : Configuration) → Keeps (boot config) config.workers
-unfolding boot
+unfolding system.boot
 booted config = record { same = refl; hands = simp length-replicate (omega arith); lines = refl }
 
 pub keeps_all : (config : Configuration) (steps : List Step) → Keeps (world_played config steps) config.workers

@@ -4,7 +4,7 @@ use Rattle.qx_types.specs.Configuration.{Configuration}
 use Rattle.qx_types.specs.declared.names.User.{User}
 use Rattle.qx_types.specs.declared.step.Step.{Step}
 use Rattle.qx_machine.specs.Runs.{erase, received, run}
-use Rattle.qx_machine.proofs.Runs.{run_received}
+use Rattle.qx_isolation.proofs.Runs.{run_received}
 use Rattle.qx_script.specs.declared.command.Command.{Command}
 use Rattle.qx_script.specs.declared.command.Command.TheVariants.{Erased, Show, Take}
 use Rattle.qx_play.specs.Play.{Played, played, played_line, played_lines, shown}

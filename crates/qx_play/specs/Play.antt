@@ -10,7 +10,7 @@ use Rattle.qx_types.specs.declared.outcome.Outcome.TheVariants.{Spawned, Refused
 use Rattle.qx_types.specs.declared.step.Step.{Step}
 use Rattle.qx_types.specs.declared.step.Step.TheVariants.{Call, TakeReply, Receive, Perform}
 use Rattle.qx_machine.specs.Machine.{World, line_of, step}
-use Rattle.qx_machine.specs.Rows.{row_at}
+use Rattle.qx_isolation.specs.Rows.{row_at}
 use Rattle.qx_machine.specs.Runs.{erase, run, received}
 use Rattle.qx_steps.specs.Reads.{is_thread_answered, row_among_parts}
 use Rattle.qx_script.specs.declared.command.Command.{Command}

@@ -8,8 +8,8 @@ use Rattle.qx_types.specs.declared.names.Item.{Item}
 use Rattle.qx_types.specs.declared.names.Item.TheVariants.{Message, Unblock, Disconnect}
 use Rattle.qx_types.specs.declared.outcome.Outcome.{Outcome}
 use Rattle.qx_types.specs.declared.outcome.Outcome.TheVariants.{Spawned, Refused, Done, Sent, Reply, Failed, Pulse, NoPulse, WrongState, Took, Idle, Busy, Handled, Nothing}
-use Rattle.qx_machine.specs.declared.rows.Entry.{Entry}
-use Rattle.qx_machine.specs.declared.rows.Seen.{Seen}
+use Rattle.qx_isolation.specs.declared.rows.Entry.{Entry}
+use Rattle.qx_isolation.specs.declared.rows.Seen.{Seen}
 use Rattle.qx_script.specs.StepText.{step_text}
 use Rattle.qx_words.specs.WordText.{bytes_text, process_text, thread_text, user_text}
 

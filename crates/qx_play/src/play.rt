@@ -6,7 +6,7 @@ ghost use Rattle.qx_types.specs.Configuration.{Configuration};
 ghost use Rattle.qx_types.specs.Managers.{managers};
 ghost use Rattle.qx_types.specs.declared.names.TheConstants.Manager.{COUNT};
 ghost use Rattle.qx_types.specs.declared.step.Step.{Step};
-ghost use Rattle.qx_machine.specs.Lines.{line_at};
+ghost use Rattle.qx_isolation.specs.Lines.{line_at};
 ghost use Rattle.qx_machine.specs.Runs.{erase, received, run};
 ghost use Rattle.qx_play.specs.Play as play;
 ghost use Rattle.qx_play.specs.Play.{all_served, called, hand_emptied, has_waiting, played_line, with_reply_taken, with_lines_served, shown, items_waiting, world_played};

@@ -7,7 +7,7 @@ use Rattle.std.proofs.lemmas.Grind.{common_steps}
 use Rattle.std.proofs.lemmas.List.{get_or-map, length-map}
 use Rattle.std.proofs.lemmas.List.Elements.{All-get_or, All-more}
 use Rattle.std.proofs.lemmas.List.Sums.{AllPass-from_list_all, count_by_more_yes, sum_by_more, sum_by_more_le}
-use Rattle.qx_machine.specs.declared.rows.Entry.{Entry}
+use Rattle.qx_isolation.specs.declared.rows.Entry.{Entry}
 use Rattle.qx_pool.specs.declared.seat.Note.{Note}
 use Rattle.qx_pool.specs.Notes.{Agrees, StandsIn, rises_from, times_noted}
 use Rattle.qx_pool.specs.inner.Marks.{AddsMarks, AgreesSoFar, IsFit, IsUnfit, MarksTwice, marked}

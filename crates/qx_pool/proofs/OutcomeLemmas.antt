@@ -16,7 +16,7 @@ use Rattle.qx_types.specs.declared.outcome.Outcome.TheVariants.{Refused, Reply, 
 use Rattle.qx_types.specs.declared.request.Request.{Request}
 use Rattle.qx_types.specs.declared.step.Step.{Step}
 use Rattle.qx_types.specs.declared.step.Step.TheVariants.{Spawn, Exit, Call, TakeReply, TakePulse, SetPrio, Interrupt, Mount, Receive, Perform}
-use Rattle.qx_machine.specs.declared.rows.OwnItem.{OwnItem}
+use Rattle.qx_isolation.specs.declared.rows.OwnItem.{OwnItem}
 use Rattle.qx_machine.specs.declared.rows.Pulse.{Pulse}
 use Rattle.qx_machine.specs.declared.rows.State.{State}
 use Rattle.qx_machine.specs.declared.rows.ThreadRow.{ThreadRow}
@@ -24,11 +24,11 @@ use Rattle.qx_machine.specs.declared.rows.State.TheVariants.{Queued, Taken, Wait
 use Rattle.qx_paths.specs.Prefixes.{MountPoint}
 use Rattle.qx_machine.specs.Calls.{Address, Opens, Connects, Uses, Duplicates, may_call, target_at}
 use Rattle.qx_machine.specs.Processes.{Process, ready_thread}
-use Rattle.qx_machine.specs.Judgements.{◌>>=◌, found, need, or_refused}
+use Rattle.qx_isolation.specs.Judgements.{◌>>=◌, found, need, or_refused}
 use Rattle.qx_machine.specs.Clients.{ClientStep, answer_in, client_given, interrupt_in, or_unchanged, outcome_of, pulse_taken, target_by}
 use Rattle.qx_machine.specs.Machine.{After, World, client_step, or_same_world, own_held, server_given, server_step, step, step_of}
 use Rattle.qx_machine.specs.Parts.{Part, thread_at, thread_of, with_thread_of}
-use Rattle.qx_machine.specs.Rows.{row_at}
+use Rattle.qx_isolation.specs.Rows.{row_at}
 use Rattle.qx_machine.specs.Users.{client}
 use Rattle.qx_chan.specs.Calls.{answer_of}
 use Rattle.qx_steps.specs.Reads.{process_of_part, row_among_parts}

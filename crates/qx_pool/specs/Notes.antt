@@ -3,7 +3,7 @@ use Rattle.std.specs.Prelude.{◌≡◌, ◌<◌, ◌-◌, ◌+◌, ◌==◌, �
 use Rattle.qx_types.specs.declared.outcome.Outcome.{Outcome}
 use Rattle.qx_types.specs.declared.step.Step.{Step}
 use Rattle.qx_types.specs.declared.step.Step.TheVariants.{Receive, Perform}
-use Rattle.qx_machine.specs.declared.rows.Entry.{Entry}
+use Rattle.qx_isolation.specs.declared.rows.Entry.{Entry}
 use Rattle.qx_world.specs.Trace.{Trace, outcome_now}
 use Rattle.qx_pool.specs.declared.seat.Note.{Note}
 

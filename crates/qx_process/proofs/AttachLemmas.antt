@@ -13,10 +13,10 @@ use Rattle.qx_types.specs.declared.names.Manager.{Manager}
 use Rattle.qx_types.specs.declared.names.Manager.TheVariants.{Ram, Pipe}
 use Rattle.qx_types.specs.declared.names.TheConstants.Manager.{COUNT}
 use Rattle.qx_machine.specs.declared.rows.Connection.{Connection}
-use Rattle.qx_machine.specs.declared.rows.ServerName.{ServerName}
-use Rattle.qx_machine.specs.Lines.{line_at, with_line}
+use Rattle.qx_isolation.specs.declared.rows.ServerName.{ServerName}
+use Rattle.qx_isolation.specs.Lines.{line_at, with_line}
 use Rattle.qx_machine.specs.Processes.{Process, servers_at}
-use Rattle.qx_machine.specs.Rows.{put_row, row_at}
+use Rattle.qx_isolation.specs.Rows.{put_row, row_at}
 use Rattle.qx_machine.specs.Servers.{Servers, connects, in_use, is_attached, lost_by, servers_from, servers_while, sides_with}
 use Rattle.qx_process.specs.Reads.{HasPlace, Loses, Uses, is_at, is_served}
 use Rattle.qx_process.proofs.RowLemmas.{row_at-get_or}

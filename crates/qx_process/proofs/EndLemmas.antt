@@ -9,10 +9,10 @@ use Rattle.qx_types.specs.Managers.{manager_number, managers}
 use Rattle.qx_types.specs.declared.names.Manager.{Manager}
 use Rattle.qx_types.specs.declared.names.Manager.TheVariants.{Ram, Pipe}
 use Rattle.qx_types.specs.declared.names.TheConstants.Manager.{COUNT}
-use Rattle.qx_machine.specs.declared.rows.ServerName.{ServerName}
-use Rattle.qx_machine.specs.Lines.{line_at, with_line}
+use Rattle.qx_isolation.specs.declared.rows.ServerName.{ServerName}
+use Rattle.qx_isolation.specs.Lines.{line_at, with_line}
 use Rattle.qx_machine.specs.Processes.{Process, no_sides, servers_at}
-use Rattle.qx_machine.specs.Rows.{row_at}
+use Rattle.qx_isolation.specs.Rows.{row_at}
 use Rattle.qx_machine.specs.Servers.{Servers, in_use, is_attached, leaving, lost_by, servers_from}
 use Rattle.qx_process.specs.Reads.{LosesAll, is_at, is_served, named}
 use Rattle.qx_process.proofs.AttachLemmas.{numbered}

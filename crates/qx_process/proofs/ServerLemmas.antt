@@ -12,8 +12,8 @@ use Rattle.std.proofs.lemmas.List.Sums.{position_or_len_is}
 use Rattle.qx_types.specs.declared.names.Manager.{Manager}
 use Rattle.qx_machine.specs.declared.rows.Connection.{Connection}
 use Rattle.qx_machine.specs.declared.rows.ServerConnection.{ServerConnection}
-use Rattle.qx_machine.specs.Lines.{line_at, with_line}
-use Rattle.qx_machine.specs.Rows.{lowest_from, put_row, row_at, with_row}
+use Rattle.qx_isolation.specs.Lines.{line_at, with_line}
+use Rattle.qx_isolation.specs.Rows.{lowest_from, put_row, row_at, with_row}
 use Rattle.qx_machine.specs.Servers.{Servers, connects, in_use, is_attached, is_in_use, is_left, leaving, new_server, servers_from, servers_while, sides_with, without_left}
 use Rattle.qx_process.proofs.RowLemmas.{row_at-get_or}
 

@@ -12,10 +12,10 @@ use Rattle.qx_machine.specs.declared.rows.State.{State}
 use Rattle.qx_machine.specs.declared.rows.State.TheVariants.{Queued, Taken, Waiting}
 use Rattle.qx_machine.specs.declared.rows.Target.{Target}
 use Rattle.qx_machine.specs.declared.rows.ThreadRow.{ThreadRow}
-use Rattle.qx_machine.specs.declared.rows.ServerName.{ServerName}
+use Rattle.qx_isolation.specs.declared.rows.ServerName.{ServerName}
 use Rattle.qx_machine.specs.Performing.{taken_in}
 use Rattle.qx_machine.specs.Processes.{Process, keeps_room, lost_servers, servers_at}
-use Rattle.qx_machine.specs.Rows.{lowest_from, row_at}
+use Rattle.qx_isolation.specs.Rows.{lowest_from, row_at}
 use Rattle.qx_machine.specs.Servers.{Servers, in_use}
 use Rattle.qx_types.specs.declared.names.Manager.{Manager}
 

@@ -1,7 +1,7 @@
 //! The connections of a process, from 3: a place for each number.
 
 ghost use Rattle.std.specs.Prelude.{◌≡◌, ◌∷◌, [], Some, None, slice_set};
-ghost use Rattle.qx_machine.specs.Rows.{with_row};
+ghost use Rattle.qx_isolation.specs.Rows.{with_row};
 
 use arrayvec::ArrayVec;
 use qx_machine::Connection;

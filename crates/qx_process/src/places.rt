@@ -2,7 +2,7 @@
 
 ghost use Rattle.std.specs.Prelude.{◌≡◌, ◌+◌, ◌<◌, ◌≤◌, ◌^◌, vec_capacity, vec_len, length, IfOk, IsOk, IsSome, OnOk, OnErr, OnSome, None, [], ◌∷◌, replicate, slice_set, Some};
 ghost use Rattle.std.specs.Option.{option_copied};
-ghost use Rattle.qx_machine.specs.Rows.{row_at, lowest_from, put_row};
+ghost use Rattle.qx_isolation.specs.Rows.{row_at, lowest_from, put_row};
 
 use arrayvec::ArrayVec;
 use qx_hint::unwrap_unchecked;

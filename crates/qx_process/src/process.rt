@@ -6,7 +6,7 @@ ghost use Rattle.qx_types.specs.declared.outcome.Answer.TheVariants.{Reply as Th
 ghost use Rattle.qx_machine.specs.Performing.{client_at};
 ghost use Rattle.qx_machine.specs.Processes as machine;
 ghost use Rattle.qx_machine.specs.Processes.{answered_thread, servers_at, with_thread};
-ghost use Rattle.qx_machine.specs.Rows.{row_at, lowest_from};
+ghost use Rattle.qx_isolation.specs.Rows.{row_at, lowest_from};
 ghost use Rattle.qx_process.specs.Reads.{AwaitsReply, BringsRoom, CanAttach, CanCall, CanGo, HasNumber, HasPlace, IsPriority, Loses, LosesAll, Uses, UsesBy, has_own_room, is_served};
 
 use crate::connections::{self, Connections};

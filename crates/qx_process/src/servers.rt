@@ -7,8 +7,8 @@ ghost use Rattle.qx_types.specs.Managers.{manager_number};
 ghost use Rattle.qx_types.specs.declared.limits.TheConstants.Limits.{SERVERS};
 ghost use Rattle.qx_types.specs.declared.names.Manager.{Manager as TheManager};
 ghost use Rattle.qx_types.specs.declared.names.TheConstants.Manager.{COUNT};
-ghost use Rattle.qx_machine.specs.Lines.{line_at, with_line};
-ghost use Rattle.qx_machine.specs.Rows.{lowest_from, put_row, row_at};
+ghost use Rattle.qx_isolation.specs.Lines.{line_at, with_line};
+ghost use Rattle.qx_isolation.specs.Rows.{lowest_from, put_row, row_at};
 ghost use Rattle.qx_machine.specs.Servers as machine;
 ghost use Rattle.qx_process.specs.Reads.{HasPlace, named};
 

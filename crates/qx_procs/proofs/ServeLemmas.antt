@@ -9,12 +9,12 @@ use Rattle.qx_types.specs.declared.errno.Errno.TheVariants.{EAGAIN, EMFILE}
 use Rattle.qx_types.specs.declared.names.Coid.{Coid}
 use Rattle.qx_types.specs.declared.names.Manager.{Manager}
 use Rattle.qx_types.specs.declared.outcome.Outcome.TheVariants.{Refused, WrongState}
-use Rattle.qx_machine.specs.declared.rows.ServerName.{ServerName}
-use Rattle.qx_machine.specs.Judgements.{◌>>=◌, found, need}
+use Rattle.qx_isolation.specs.declared.rows.ServerName.{ServerName}
+use Rattle.qx_isolation.specs.Judgements.{◌>>=◌, found, need}
 use Rattle.qx_machine.specs.Calls.{can_serve, server_count}
 use Rattle.qx_machine.specs.Processes.{Process, servers_at}
-use Rattle.qx_machine.specs.Rows.{row_at, lowest_from, taken_places}
-use Rattle.qx_machine.proofs.Places.{lowest_from_free}
+use Rattle.qx_isolation.specs.Rows.{row_at, lowest_from, taken_places}
+use Rattle.qx_isolation.proofs.Places.{lowest_from_free}
 use Rattle.qx_process.proofs.RowLemmas.{row_at-get_or}
 use Rattle.qx_process.specs.Reads.{HasPlace, Loses}
 use Rattle.qx_procs.specs.Calls.{LosesAt, new_connection_number}

@@ -8,13 +8,13 @@ use Rattle.qx_types.specs.declared.names.Coid.{Coid}
 use Rattle.qx_types.specs.declared.names.Manager.{Manager}
 use Rattle.qx_types.specs.declared.outcome.Outcome.{Outcome}
 use Rattle.qx_types.specs.declared.outcome.Outcome.TheVariants.{Spawned, Refused, Done, WrongState}
-use Rattle.qx_machine.specs.declared.rows.ServerName.{ServerName}
+use Rattle.qx_isolation.specs.declared.rows.ServerName.{ServerName}
 use Rattle.qx_machine.specs.declared.rows.Target.{Target}
 use Rattle.qx_machine.specs.Calls.{can_serve}
 use Rattle.qx_machine.specs.Clients.{is_prio}
-use Rattle.qx_machine.specs.Judgements.{◌>>=◌, found, need}
+use Rattle.qx_isolation.specs.Judgements.{◌>>=◌, found, need}
 use Rattle.qx_machine.specs.Processes.{Process, has_ended, new_process, ranked_thread, with_side, with_thread}
-use Rattle.qx_machine.specs.Rows.{row_at, lowest_from, put_row, with_row}
+use Rattle.qx_isolation.specs.Rows.{row_at, lowest_from, put_row, with_row}
 use Rattle.qx_process.specs.Reads.{CanAttach, Loses, LosesAll}
 
 -- a process is there and has ended

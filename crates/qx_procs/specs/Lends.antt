@@ -3,7 +3,7 @@ use Rattle.std.specs.Prelude.{ℕ, List, Option, Some, slice_set}
 use Rattle.std.specs.Borrow.{Lends, LendsIf, Fml, MutBor}
 use Rattle.qx_machine.specs.declared.rows.ThreadRow.{ThreadRow}
 use Rattle.qx_machine.specs.Processes.{Process}
-use Rattle.qx_machine.specs.Rows.{with_row}
+use Rattle.qx_isolation.specs.Rows.{with_row}
 use Rattle.qx_process.specs.contracts.process.Process as process
 use Rattle.qx_process.specs.contracts.thread.ThreadCell as cell
 use Rattle.qx_process.specs.Lends.{put_thread}

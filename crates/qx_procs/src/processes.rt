@@ -8,7 +8,7 @@ ghost use Rattle.qx_types.specs.declared.limits.TheConstants.Limits.{PROCESSES};
 ghost use Rattle.qx_machine.specs.Calls as calls;
 ghost use Rattle.qx_machine.specs.Clients as clients;
 ghost use Rattle.qx_machine.specs.Processes.{ended, living, with_connection, without_connection, with_side};
-ghost use Rattle.qx_machine.specs.Rows.{row_at, with_row};
+ghost use Rattle.qx_isolation.specs.Rows.{row_at, with_row};
 ghost use Rattle.qx_procs.specs.Calls.{has_ended_in, spawn_outcome, spawned, done_or, after_or, with_prio, new_connection_number, with_new_side, EndsAt, LosesAt};
 ghost use Rattle.qx_machine.specs.Parts.{connection_of, thread_of};
 

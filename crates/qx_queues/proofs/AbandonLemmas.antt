@@ -13,8 +13,8 @@ use Rattle.qx_lists.proofs.MapLemmas.{get-insert_other, get-insert_same, same_ma
 use Rattle.qx_lists.proofs.RingLemmas.{is_some-option_map}
 use Rattle.qx_lists.specs.Table.{Table, ContainsNode, IsIn, nodes_of, with_value}
 use Rattle.qx_lines.specs.declared.Line.{Line}
-use Rattle.qx_machine.specs.Rows.{row_at}
-use Rattle.qx_machine.specs.declared.rows.Queued.{Queued}
+use Rattle.qx_isolation.specs.Rows.{row_at}
+use Rattle.qx_isolation.specs.declared.rows.Queued.{Queued}
 use Rattle.qx_machine.specs.declared.rows.WaitingCall.{WaitingCall}
 use Rattle.qx_queues.specs.declared.nodes.ThreadNodes.{ThreadNodes}
 use Rattle.qx_queues.specs.declared.nodes.UserNodes.{UserNodes}

@@ -4,10 +4,10 @@ use Rattle.std.proofs.lemmas.Bool.Decides.{eqb_tells, nat_tests}
 use Rattle.std.proofs.lemmas.Option.{same_Some, unwrap_or-slice_get}
 use Rattle.qx_types.specs.declared.names.Proc.{Proc}
 use Rattle.qx_types.specs.declared.names.Thread.{Thread}
-use Rattle.qx_machine.specs.declared.rows.OwnItem.TheVariants as item
-use Rattle.qx_machine.specs.declared.rows.Queued.{Queued}
-use Rattle.qx_machine.specs.declared.rows.ServerName.{ServerName}
-use Rattle.qx_machine.specs.Lines.{into, line_at, with_line}
+use Rattle.qx_isolation.specs.declared.rows.OwnItem.TheVariants as item
+use Rattle.qx_isolation.specs.declared.rows.Queued.{Queued}
+use Rattle.qx_isolation.specs.declared.rows.ServerName.{ServerName}
+use Rattle.qx_isolation.specs.Lines.{into, line_at, with_line}
 use Rattle.qx_machine.specs.Machine.{line_without}
 use Rattle.qx_queues.specs.Queues.{disconnect_of, pulse_call, message_of, sender, unblock_call, unblock_of}
 use Rattle.qx_queues.specs.inner.Kept.{KnowsPulses, is_line_at}

@@ -5,7 +5,7 @@ use Rattle.std.specs.FinSet as set
 use Rattle.qx_types.specs.declared.names.Thread.{Thread}
 use Rattle.qx_lists.specs.Table.{Table, IsFree}
 use Rattle.qx_lines.specs.declared.Line.{Line}
-use Rattle.qx_machine.specs.Lines.{line_at}
+use Rattle.qx_isolation.specs.Lines.{line_at}
 use Rattle.qx_queues.specs.declared.nodes.ThreadNodes.{ThreadNodes}
 use Rattle.qx_queues.specs.declared.nodes.UserNodes.{UserNodes}
 use Rattle.qx_queues.specs.inner.Kept.{AreListsOfTable, KnowsPulses, entries}

@@ -9,7 +9,7 @@ use Rattle.qx_lines.specs.declared.Line.{Line}
 use Rattle.qx_lines.specs.Line.{IsInLine, IsLineOf, IsOwn, SameElsewhere, nodes_in, rank_at}
 use Rattle.qx_lines.proofs.LineFacts.{IsLineOf-same, nodes_in-same}
 use Rattle.qx_machine.specs.Machine.{rank}
-use Rattle.qx_machine.specs.Lines.{into}
+use Rattle.qx_isolation.specs.Lines.{into}
 use Rattle.qx_queues.specs.inner.Kept.{PutIn, entries, entry_of_node, nobodys, waiting_of_node}
 use Rattle.qx_queues.specs.Waiting.{Waiting, rank_of}
 use Rattle.qx_queues.proofs.EntryLemmas.{contains_into, waiting-insert_same, into-map, map-agree}

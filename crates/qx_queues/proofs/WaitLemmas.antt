@@ -8,10 +8,10 @@ use Rattle.qx_lists.specs.Table.{Table, IsFree, IsIn, nodes_of}
 use Rattle.qx_lists.proofs.ListLemmas.{contains_first, contains_later}
 use Rattle.qx_lines.specs.declared.Line.{Line}
 use Rattle.qx_lines.specs.Line.{nodes_in}
-use Rattle.qx_machine.specs.Lines.{line_at}
-use Rattle.qx_machine.specs.declared.rows.OwnItem.{OwnItem}
-use Rattle.qx_machine.specs.declared.rows.OwnItem.TheVariants as item
-use Rattle.qx_machine.specs.declared.rows.Queued.{Queued}
+use Rattle.qx_isolation.specs.Lines.{line_at}
+use Rattle.qx_isolation.specs.declared.rows.OwnItem.{OwnItem}
+use Rattle.qx_isolation.specs.declared.rows.OwnItem.TheVariants as item
+use Rattle.qx_isolation.specs.declared.rows.Queued.{Queued}
 use Rattle.qx_machine.specs.declared.rows.WaitingCall.{WaitingCall}
 use Rattle.qx_queues.specs.inner.Kept.{Carries, AreListsOfTable, answered_calls, call_at, entries, given_at, is_pipes, owner_in, node_owner, users_call_carried as call_with, waiting_of_node, waiting_lists}
 use Rattle.qx_queues.specs.Kept.{HasLoad}

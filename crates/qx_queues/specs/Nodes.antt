@@ -6,7 +6,7 @@ use Rattle.qx_types.specs.declared.names.Proc.{Proc}
 use Rattle.qx_types.specs.declared.names.TheConstants.Manager.{COUNT}
 use Rattle.qx_types.specs.declared.names.Thread.{Thread}
 use Rattle.qx_types.specs.Managers.{manager_number}
-use Rattle.qx_machine.specs.Rows.{row_at}
+use Rattle.qx_isolation.specs.Rows.{row_at}
 use Rattle.qx_queues.specs.declared.nodes.ThreadNodes.{ThreadNodes}
 use Rattle.qx_queues.specs.declared.nodes.ProcessNodes.{ProcessNodes}
 use Rattle.qx_queues.specs.declared.nodes.UserNodes.{UserNodes}

@@ -1,6 +1,6 @@
 -- What a node of the table stands for and carries.
 use Rattle.std.specs.Prelude.{◌≡◌, ℕ, ◌==◌, Bool, false, [], Option, Some, None, is_some, unwrap_or}
-use Rattle.qx_machine.specs.declared.rows.Queued.{Queued}
+use Rattle.qx_isolation.specs.declared.rows.Queued.{Queued}
 use Rattle.qx_machine.specs.declared.rows.WaitingCall.{WaitingCall}
 use Rattle.qx_machine.specs.Machine.{rank}
 use Rattle.qx_machine.specs.Processes.{keeps_room}

@@ -10,7 +10,7 @@ ghost use Rattle.qx_types.specs.declared.names.Thread.{Thread as TheThread};
 ghost use Rattle.qx_lists.specs.Table.{ContainsList, ContainsNode, IsFree, IsIn, nodes_of, with_nodes, with_value};
 ghost use Rattle.qx_machine.specs.Waiting.{is_written as is_written_by};
 ghost use Rattle.qx_machine.specs.Pipes.{staying};
-ghost use Rattle.qx_machine.specs.Rows.{row_at};
+ghost use Rattle.qx_isolation.specs.Rows.{row_at};
 ghost use Rattle.qx_queues.specs.Kept.{HasLoad};
 ghost use Rattle.qx_queues.specs.inner.Kept.{Abandoned, entry_of_node, waiting_of_node, waits_with};
 ghost use Rattle.qx_queues.specs.Nodes.{Message, node_of, nodes_of_thread};

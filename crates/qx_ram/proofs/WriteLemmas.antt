@@ -17,7 +17,7 @@ use Rattle.qx_machine.specs.Functions.{Deed}
 use Rattle.qx_machine.specs.Inodes.{Inodes}
 use Rattle.qx_machine.specs.RamManager.{moved, with_bytes, write_file}
 use Rattle.qx_machine.specs.Resources.{Resources}
-use Rattle.qx_machine.specs.Rows.{row_at}
+use Rattle.qx_isolation.specs.Rows.{row_at}
 use Rattle.qx_ram.specs.Writes.{WritesToLacking}
 use Rattle.qx_ram.specs.inner.Given.{write_fault}
 

@@ -5,7 +5,7 @@ use Rattle.qx_attr.specs.Flags.{block_for}
 use Rattle.qx_files.specs.Blocks.{LacksBlock}
 use Rattle.qx_iofunc.specs.Store.{Store}
 use Rattle.qx_machine.specs.Files.{write_offset}
-use Rattle.qx_machine.specs.Rows.{row_at}
+use Rattle.qx_isolation.specs.Rows.{row_at}
 
 -- so many bytes are written where an open control block stands, and one of them comes to stand in a block of the file that isn't there
 abbrev pub WritesToLacking : Store → ℕ → ℕ → Type 0

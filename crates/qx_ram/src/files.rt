@@ -5,7 +5,7 @@ ghost use Rattle.qx_files.specs.Blocks.{blocks_for, count_of};
 ghost use Rattle.qx_machine.specs.Files.{size_of, total_size, write_offset};
 ghost use Rattle.qx_machine.specs.RamManager as machine;
 ghost use Rattle.qx_machine.specs.Resources.{Resources};
-ghost use Rattle.qx_machine.specs.Rows.{row_at};
+ghost use Rattle.qx_isolation.specs.Rows.{row_at};
 ghost use Rattle.qx_machine.specs.Wants.{is_done_so, writes_some};
 ghost use Rattle.qx_ram.specs.Writes.{WritesToLacking};
 ghost use Rattle.qx_ram.specs.inner.Given.{moved_offset, write_fault};

@@ -9,9 +9,9 @@ use Rattle.qx_paths.specs.declared.resolved.Resolved.{Resolved}
 use Rattle.qx_machine.specs.declared.rows.Addressed.{Addressed}
 use Rattle.qx_machine.specs.declared.rows.Over.{Over}
 use Rattle.qx_machine.specs.Calls.{to_place}
-use Rattle.qx_machine.specs.Judgements.{◌>>=◌, need}
+use Rattle.qx_isolation.specs.Judgements.{◌>>=◌, need}
 use Rattle.qx_machine.specs.Processes.{Process, servers_at}
-use Rattle.qx_machine.specs.Rows.{row_at}
+use Rattle.qx_isolation.specs.Rows.{row_at}
 use Rattle.qx_process.specs.Reads.{CanAttach, HasPlace}
 use Rattle.qx_procs.specs.Calls.{CanAttachAt}
 use Rattle.qx_procs.proofs.ServeLemmas.{can_attach}

@@ -13,9 +13,9 @@ use Rattle.qx_machine.specs.Functions.{Deed}
 use Rattle.qx_machine.specs.Inodes.{blocks_of_client, is_clients}
 use Rattle.qx_machine.specs.Managers.{close_all, or_unreplied, own_kind}
 use Rattle.qx_machine.specs.Resources.{Resources}
-use Rattle.qx_machine.specs.Rows.{row_at}
+use Rattle.qx_isolation.specs.Rows.{row_at}
 use Rattle.qx_machine.proofs.Gives.{Gives, gives_by, gives_done, gives-value}
-use Rattle.qx_machine.proofs.Places.{row_at-set_other}
+use Rattle.qx_isolation.proofs.Places.{row_at-set_other}
 use Rattle.qx_resources.proofs.WatchCloses.{IsClosedAt, freed-gives}
 use Rattle.std.proofs.lemmas.List.Sums.{count_by-le-length, length-filter}
 

@@ -15,8 +15,8 @@ use Rattle.qx_machine.specs.declared.rows.Opened.{Opened}
 use Rattle.qx_machine.specs.Defaults.{close_dup, close_last, close_ocb}
 use Rattle.qx_machine.specs.Events.{event_count, no_events}
 use Rattle.qx_machine.specs.Inodes.{is_shared}
-use Rattle.qx_machine.specs.Judgements.{◌>>=◌}
-use Rattle.qx_machine.specs.Rows.{row_at}
+use Rattle.qx_isolation.specs.Judgements.{◌>>=◌}
+use Rattle.qx_isolation.specs.Rows.{row_at}
 use Rattle.std.proofs.lemmas.Bool.{cond-false}
 use Rattle.qx_machine.specs.Functions.{Deed, reply_alone}
 use Rattle.qx_machine.specs.Resources.{Resources}

@@ -17,10 +17,10 @@ use Rattle.qx_machine.specs.declared.rows.Opened.{Opened}
 use Rattle.qx_machine.specs.declared.rows.PulseWish.{PulseWish}
 use Rattle.qx_machine.specs.Events.{Events, Notified, armed_anew, arming, disarmed, event_count, is_any, is_on, no_events, notified, wanted_of}
 use Rattle.qx_machine.specs.Functions.{reply_alone}
-use Rattle.qx_machine.specs.Judgements.{◌>>=◌}
+use Rattle.qx_isolation.specs.Judgements.{◌>>=◌}
 use Rattle.qx_machine.specs.Notification.{conditions_at, event_of, notify_block}
 use Rattle.qx_machine.specs.Resources.{Resources}
-use Rattle.qx_machine.specs.Rows.{row_at}
+use Rattle.qx_isolation.specs.Rows.{row_at}
 use Rattle.qx_machine.specs.Wants.{got_events, is_done_so}
 use Rattle.qx_notify.specs.Events.{arms_event, events_of, notified_after, status_given, wants_node}
 use Rattle.qx_notify.proofs.ArmLemmas.{arm-few}

@@ -16,12 +16,12 @@ use Rattle.qx_machine.specs.Defaults.{close_dup, close_last, close_ocb, free_blo
 use Rattle.qx_machine.specs.Events.{disarmed, is_on}
 use Rattle.qx_machine.specs.Functions.{Deed, reply_alone}
 use Rattle.qx_machine.specs.Inodes.{is_open, reads, writes, Inodes, free_inode, is_shared, is_unused, without_use}
-use Rattle.qx_machine.specs.Judgements.{found, need}
+use Rattle.qx_isolation.specs.Judgements.{found, need}
 use Rattle.qx_machine.specs.PipeManager.{released}
 use Rattle.qx_machine.specs.Pipes.{Pipe}
 use Rattle.qx_machine.specs.Resources.{Resources, without_content}
-use Rattle.qx_machine.specs.Rows.{row_at}
-use Rattle.qx_machine.proofs.Places.{row_at-set_other}
+use Rattle.qx_isolation.specs.Rows.{row_at}
+use Rattle.qx_isolation.proofs.Places.{row_at-set_other}
 use Rattle.qx_attr.proofs.CountLemmas.{count-free, counts_other}
 use Rattle.qx_attr.specs.inner.Counts.{one}
 use Rattle.qx_resources.proofs.WatchDeeds.{unarmed, IsSettledAt, at-block, moved-settled}

@@ -16,14 +16,14 @@ use Rattle.qx_machine.specs.Events.{Events}
 use Rattle.qx_machine.specs.Files.{base, moved_by, put, total_size}
 use Rattle.qx_machine.specs.Functions.{Deed}
 use Rattle.qx_machine.specs.Inodes.{readers_of, writers_of, is_open, moved_to, reads, writes}
-use Rattle.qx_machine.specs.Judgements.{found, need}
+use Rattle.qx_isolation.specs.Judgements.{found, need}
 use Rattle.qx_machine.specs.PipeManager.{cancel_call, deed_of_pipe, read_pipe, write_pipe}
 use Rattle.qx_machine.specs.Pipes.{Pipe, read, write, PipeAfter, cancel}
 use Rattle.qx_machine.specs.RamManager.{read_file, seek_file, write_file, written_at, moved}
 use Rattle.qx_machine.specs.Resources.{Resources}
-use Rattle.qx_machine.specs.Rows.{row_at, with_row}
+use Rattle.qx_isolation.specs.Rows.{row_at, with_row}
 use Rattle.qx_machine.specs.Waiting.{holds, is_call, is_gone, manner_of, offered, waiting_call, wanted}
-use Rattle.qx_machine.proofs.Places.{row_at-set_other}
+use Rattle.qx_isolation.proofs.Places.{row_at-set_other}
 use Rattle.qx_attr.proofs.CountLemmas.{count-same}
 use Rattle.qx_resources.proofs.WatchFacts.{IsEnough, IsStill, Stays, all-events, watch-settled}
 use Rattle.qx_machine.proofs.Gives.{Gives, found-row, gives_done, gives_on}

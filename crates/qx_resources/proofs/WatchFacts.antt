@@ -14,7 +14,7 @@ use Rattle.qx_machine.specs.Events.{Events, come_to_hold, is_any, is_due, is_wan
 use Rattle.qx_machine.specs.Notification.{block_conditions, conditions_of, events_settled}
 use Rattle.qx_machine.specs.Pipes.{Pipe}
 use Rattle.qx_machine.specs.Resources.{Resources}
-use Rattle.qx_machine.specs.Rows.{row_at}
+use Rattle.qx_isolation.specs.Rows.{row_at}
 use Rattle.qx_machine.specs.Waiting.{sides_of}
 use Rattle.qx_machine.proofs.EventFacts.{Agree, triggered-alike}
 use Rattle.qx_resources.specs.declared.watching.Watched.{Watched}

@@ -16,15 +16,15 @@ use Rattle.qx_machine.specs.declared.rows.WaitingCall.{WaitingCall}
 use Rattle.qx_machine.specs.declared.rows.Wish.{Wish}
 use Rattle.qx_machine.specs.Defaults.{MadeInode, allows, made_at, make_directory, open_existing, open_missing, open_path, open_spot, opened, writable}
 use Rattle.qx_machine.specs.Inodes.{is_open, reads, writes, Inodes, Numbered, block_number, has, inode_number, new_attribute, new_inode, number_within, open_block}
-use Rattle.qx_machine.specs.Judgements.{found, need}
+use Rattle.qx_isolation.specs.Judgements.{found, need}
 use Rattle.qx_machine.specs.Names.{Spot, is_directory, spot}
 use Rattle.qx_machine.specs.Notification.{block_conditions, conditions_at, conditions_of}
 use Rattle.qx_machine.specs.Pipes.{Pipe}
 use Rattle.qx_machine.specs.RamManager.{emptied}
 use Rattle.qx_machine.specs.Resources.{Resources, with_empty}
-use Rattle.qx_machine.specs.Rows.{row_at, lowest_from, put_row}
+use Rattle.qx_isolation.specs.Rows.{row_at, lowest_from, put_row}
 use Rattle.qx_machine.specs.Waiting.{sides_of}
-use Rattle.qx_machine.proofs.Places.{row_at-set_other, lowest_from_free}
+use Rattle.qx_isolation.proofs.Places.{row_at-set_other, lowest_from_free}
 use Rattle.qx_attr.proofs.CountLemmas.{count-put}
 use Rattle.qx_attr.proofs.TableLemmas.{row-put}
 use Rattle.qx_resources.proofs.WatchDeeds.{GivesStill}

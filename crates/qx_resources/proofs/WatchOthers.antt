@@ -18,14 +18,14 @@ use Rattle.qx_machine.specs.Attributes.{top_inode}
 use Rattle.qx_machine.specs.Defaults.{dup_open, is_own, without_unused, writable, chmod_block, list_block, stat_block, stat_path, unlink_path, without_name}
 use Rattle.qx_machine.specs.Events.{notified}
 use Rattle.qx_machine.specs.Inodes.{dup_block, is_open, Inodes, free_inode, is_unused, with_attribute}
-use Rattle.qx_machine.specs.Judgements.{found, need}
+use Rattle.qx_isolation.specs.Judgements.{found, need}
 use Rattle.qx_machine.specs.Names.{is_directory, spot, is_empty, names_in, inode_at}
 use Rattle.qx_machine.specs.Notification.{conditions_at, event_of, notify_block}
 use Rattle.qx_machine.specs.PipeManager.{seek_pipe}
 use Rattle.qx_machine.specs.Pipes.{Pipe}
 use Rattle.qx_machine.specs.Resources.{Resources, without_content}
-use Rattle.qx_machine.specs.Rows.{row_at, with_row}
-use Rattle.qx_machine.proofs.Places.{row_at-set_other}
+use Rattle.qx_isolation.specs.Rows.{row_at, with_row}
+use Rattle.qx_isolation.proofs.Places.{row_at-set_other}
 use Rattle.qx_attr.proofs.CountLemmas.{count-free, counts_own}
 use Rattle.qx_attr.specs.inner.Counts.{one}
 use Rattle.qx_resources.proofs.WatchCloses.{free-blocks}

@@ -12,7 +12,7 @@ use Rattle.qx_machine.specs.Inodes.{readers_of, writers_of}
 use Rattle.qx_machine.specs.Notification.{block_conditions, conditions_at, conditions_of}
 use Rattle.qx_machine.specs.Pipes.{Pipe}
 use Rattle.qx_machine.specs.Resources.{Resources}
-use Rattle.qx_machine.specs.Rows.{row_at}
+use Rattle.qx_isolation.specs.Rows.{row_at}
 use Rattle.qx_machine.specs.Waiting.{sides_of}
 use Rattle.qx_resources.specs.Watching.{pipe_conditions, unwatched}
 

@@ -5,7 +5,7 @@ use Rattle.qx_paths.specs.Prefixes.{MountPoint}
 use Rattle.qx_machine.specs.Attributes.{root_attribute}
 use Rattle.qx_machine.specs.Inodes.{inode_number}
 use Rattle.qx_machine.specs.Names.{with_root}
-use Rattle.qx_machine.specs.Rows.{put_row}
+use Rattle.qx_isolation.specs.Rows.{put_row}
 use Rattle.qx_resources.specs.State.{Kept}
 
 -- beside these mounts of the user nothing refuses a mount at its prefix, and its root is the next inode

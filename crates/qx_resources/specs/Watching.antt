@@ -11,7 +11,7 @@ use Rattle.qx_machine.specs.declared.rows.Opened.{Opened}
 use Rattle.qx_machine.specs.Events.{Events, triggered}
 use Rattle.qx_machine.specs.Notification.{conditions_of}
 use Rattle.qx_machine.specs.Resources.{Resources}
-use Rattle.qx_machine.specs.Rows.{row_at}
+use Rattle.qx_isolation.specs.Rows.{row_at}
 use Rattle.qx_machine.specs.Waiting.{holds, is_call, sides_of}
 use Rattle.qx_resources.specs.declared.watching.Watched.{Watched}
 

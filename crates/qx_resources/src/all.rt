@@ -3,7 +3,7 @@
 ghost use Rattle.std.specs.Prelude.{◌≡◌, ◌∷◌, None, IfOk};
 ghost use Rattle.std.specs.Option.{option_copied, option_copied_mut};
 ghost use Rattle.std.specs.Borrow.{sem};
-ghost use Rattle.qx_machine.specs.Rows.{row_at};
+ghost use Rattle.qx_isolation.specs.Rows.{row_at};
 ghost use Rattle.qx_resources.specs.Boot.{boot_resources};
 
 use crate::resources::Resources;

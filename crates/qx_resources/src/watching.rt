@@ -1,7 +1,7 @@
 //! The pipe that is watched while a message or an unblock pulse is done, and the pulses that come of it.
 
 ghost use Rattle.std.specs.Prelude.{◌≡◌, ◌==◌, ℕ, Some, IsSome};
-ghost use Rattle.qx_machine.specs.Rows.{row_at};
+ghost use Rattle.qx_isolation.specs.Rows.{row_at};
 ghost use Rattle.qx_machine.specs.Settling.{is_living};
 ghost use Rattle.qx_machine.specs.declared.rows.Ocb as machine;
 ghost use Rattle.qx_notify.specs.Events.{with_events};
@@ -113,7 +113,7 @@ struct PipeChanges<'a> {
 }
 
 impl<'a> Changes for PipeChanges<'a> {
-    ghost use Rattle.qx_machine.specs.Rows.{row_at};
+    ghost use Rattle.qx_isolation.specs.Rows.{row_at};
     ghost use Rattle.qx_machine.specs.Settling.{is_living};
     ghost use Rattle.qx_resources.specs.Watching.{told_of};
 

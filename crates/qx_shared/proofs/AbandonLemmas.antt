@@ -10,7 +10,7 @@ use Rattle.qx_lists.proofs.RingLemmas.{is_some-option_map}
 use Rattle.qx_machine.specs.declared.rows.WaitingCall.{WaitingCall}
 use Rattle.qx_machine.specs.Clients.{abandoned, with_abandoned as pipe_abandoned}
 use Rattle.qx_machine.specs.Waiting.{Pipes, no_pipes}
-use Rattle.qx_machine.specs.Rows.{row_at}
+use Rattle.qx_isolation.specs.Rows.{row_at}
 use Rattle.qx_queues.specs.Queues.{Queues, UsersCall, abandoned_by, waiting_in_list, with_abandoned}
 use Rattle.qx_queues.specs.Waits.{users_call}
 use Rattle.qx_queues.proofs.BesideLemmas.{get-each_changed}

@@ -11,7 +11,7 @@ use Rattle.qx_machine.specs.declared.rows.WaitingCall.{WaitingCall}
 use Rattle.qx_machine.specs.Settling.{has_waiting}
 use Rattle.qx_machine.specs.Waiting.{Pipes, holds, is_call, is_of_process}
 use Rattle.qx_machine.specs.Pipes.{Pipe}
-use Rattle.qx_machine.specs.Rows.{row_at}
+use Rattle.qx_isolation.specs.Rows.{row_at}
 use Rattle.qx_queues.proofs.TableLemmas.{none_some}
 use Rattle.qx_queues.specs.Queues as queues
 use Rattle.qx_queues.specs.Queues.{Queues, UsersCall, caller, has_call, has_call_of, is_same_proc, is_same_thread, waiting_in_list}

@@ -14,7 +14,7 @@ use Rattle.qx_types.specs.declared.outcome.Answer.TheVariants.{Reply}
 use Rattle.qx_machine.specs.declared.rows.WaitingCall.{WaitingCall}
 use Rattle.qx_machine.specs.Waiting.{is_written}
 use Rattle.qx_machine.specs.Pipes.{PipeAfter, Pipe, all_answered, nobody_answered, pipe_of, removed, staying}
-use Rattle.qx_machine.specs.Rows.{row_at}
+use Rattle.qx_isolation.specs.Rows.{row_at}
 use Rattle.qx_queues.specs.Queues.{Queues, UsersCall, answer_to, waiting_in_list, with_more_answers, with_waiting}
 use Rattle.qx_queues.specs.Waits.{users_call}
 use Rattle.qx_shared.specs.inner.Own.{AreAllPipes, AreUsers, calls_of, shown_pipe, pipes_in, shown_shared}

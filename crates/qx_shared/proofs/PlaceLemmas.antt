@@ -7,7 +7,7 @@ use Rattle.std.proofs.lemmas.Option.{same_Some}
 use Rattle.qx_lists.proofs.MapLemmas.{get-insert_same, get-insert_other, get-remove_same, get-remove_other, same_map}
 use Rattle.qx_types.specs.declared.limits.TheConstants.Limits.{INODES}
 use Rattle.qx_machine.specs.Pipes.{pipe_of}
-use Rattle.qx_machine.specs.Rows.{row_at}
+use Rattle.qx_isolation.specs.Rows.{row_at}
 use Rattle.qx_queues.specs.Queues.{HasList, Queues, UsersCall, waiting_in_list, with_waiting, without_list}
 use Rattle.qx_queues.specs.Waits.{users_call}
 use Rattle.qx_queues.proofs.TableLemmas.{absent_is, none_some}

@@ -1,6 +1,6 @@
 -- Numbered rows that are told in another way.
 use Rattle.std.proofs.Common.{◌≡◌, ℕ, zero, suc, List, [], ◌∷◌, Option, Some, None, option_map, map, refl, ap, ap₂}
-use Rattle.qx_machine.specs.Rows.{row_at}
+use Rattle.qx_isolation.specs.Rows.{row_at}
 
 pub row_at-mapped : {A B : Type 0} (f : A → B) (rows : List (Option A)) (i : ℕ) → row_at (map (option_map f) rows) i ≡ option_map f (row_at rows i)
 row_at-mapped f [] i = refl

@@ -14,17 +14,17 @@ use Rattle.qx_types.specs.declared.outcome.Answer.{Answer}
 use Rattle.qx_types.specs.declared.outcome.Answer.TheVariants.{Reply}
 use Rattle.qx_machine.specs.contracts.rows.Queued as queued_row
 use Rattle.qx_machine.specs.contracts.rows.WaitingCall as call_row
-use Rattle.qx_machine.specs.declared.rows.Queued.{Queued}
-use Rattle.qx_machine.specs.declared.rows.ServerName.{ServerName}
+use Rattle.qx_isolation.specs.declared.rows.Queued.{Queued}
+use Rattle.qx_isolation.specs.declared.rows.ServerName.{ServerName}
 use Rattle.qx_machine.specs.declared.rows.WaitingCall.{WaitingCall}
 use Rattle.qx_machine.specs.Clients.{with_abandoned}
 use Rattle.qx_machine.specs.Functions.{Deed}
-use Rattle.qx_machine.specs.Lines.{into, line_at, with_line}
+use Rattle.qx_isolation.specs.Lines.{into, line_at, with_line}
 use Rattle.qx_machine.specs.Machine.{rank}
 use Rattle.qx_machine.specs.Waiting.{Pipes, is_written, no_pipes}
 use Rattle.qx_machine.specs.Pipes.{PipeAfter, Pipe, pipe_of, readers_dismissed, writers_dismissed}
 use Rattle.qx_machine.specs.Resources.{Resources}
-use Rattle.qx_machine.specs.Rows.{row_at}
+use Rattle.qx_isolation.specs.Rows.{row_at}
 use Rattle.qx_queues.specs.Queues.{UsersAnswer, UsersCall, answer_code, answer_to, caller, disconnect_of, has_call, has_answer_among, nodes_freed, server_cmp, stands, thread_cmp}
 use Rattle.qx_queues.specs.Waits.{users_call}
 use Rattle.qx_shared.specs.declared.side.Side.{Side}

@@ -7,7 +7,7 @@ ghost use Rattle.std.specs.Option.{option_copied};
 ghost use Rattle.std.specs.Result.{ForOk};
 ghost use Rattle.qx_machine.specs.Waiting.{holds, is_call, is_written};
 ghost use Rattle.qx_machine.specs.Pipes.{nobody_answered, pipe_of, removed};
-ghost use Rattle.qx_machine.specs.Rows.{row_at};
+ghost use Rattle.qx_isolation.specs.Rows.{row_at};
 ghost use Rattle.qx_machine.specs.Settling as settling;
 ghost use Rattle.qx_queues.specs.Waits.{handed, leaves};
 ghost use Rattle.qx_shared.specs.inner.Row.{HasRow, list_of_place, place, row_of};

@@ -3,7 +3,7 @@
 ghost use Rattle.std.specs.Prelude.{◌≡◌, ◌≤◌, ◌+◌, ◌*◌, ◌++◌, [], IfOk, IfSome, None, Some, drop, length, replicate, slice_set, take, vec_capacity, vec_len};
 ghost use Rattle.std.specs.Borrow.{sem};
 ghost use Rattle.std.specs.Option.{option_copied, option_copied_mut};
-ghost use Rattle.qx_machine.specs.Rows.{row_at};
+ghost use Rattle.qx_isolation.specs.Rows.{row_at};
 ghost use Rattle.qx_shared.specs.inner.Lends.{lends_row};
 ghost use Rattle.qx_shared.specs.Row.{PipeRow};
 ghost use Rattle.qx_shared.specs.inner.Row.{list_on, row_with_bytes};

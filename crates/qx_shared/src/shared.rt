@@ -4,10 +4,10 @@
 ghost use Rattle.std.specs.Prelude.{◌≡◌, ℕ, ◌+◌, ◌-◌, ◌*◌, ◌<◌, ◌≤◌, [], false, option_map, length, drop, slice_get, is_some, max, IfOk, IsOk, OnOk, OnErr, IfSome, IsTrue, None, Some, Ok};
 ghost use Rattle.qx_types.specs.Managers.{manager_number};
 ghost use Rattle.qx_types.specs.declared.limits.TheConstants.Limits.{PRIORITY, PROCESSES, THREADS};
-ghost use Rattle.qx_machine.specs.Lines.{into};
+ghost use Rattle.qx_isolation.specs.Lines.{into};
 ghost use Rattle.qx_machine.specs.Machine as machine;
 ghost use Rattle.qx_machine.specs.Settling as settling;
-ghost use Rattle.qx_machine.specs.declared.rows.OwnItem.TheVariants as item;
+ghost use Rattle.qx_isolation.specs.declared.rows.OwnItem.TheVariants as item;
 ghost use Rattle.qx_queues.specs.Queues.{IsGone, message_of, stands, unblock_call, unblock_of};
 ghost use Rattle.qx_queues.specs.Waiting.{ComesWithRoom, addressed_by};
 ghost use Rattle.qx_shared.specs.Shared.{HasNoCall, HasThread, has_disconnect_node, has_thread, nothing_shared, pipes_of, shared_line, with_shared_disconnect, with_shared_process, with_shared_server, with_shared_line, without_first_shared, without_shared_process};

@@ -16,8 +16,8 @@ use Rattle.qx_types.specs.declared.step.Step.TheVariants.{Spawn, Call, TakeReply
 use Rattle.qx_paths.specs.Prefixes.{MountPoint}
 use Rattle.qx_paths.specs.Mounts.{mounts_of}
 use Rattle.qx_machine.specs.declared.rows.Addressed.{Addressed}
-use Rattle.qx_machine.specs.declared.rows.Held.{Held}
-use Rattle.qx_machine.specs.declared.rows.OwnItem.{OwnItem}
+use Rattle.qx_isolation.specs.declared.rows.Held.{Held}
+use Rattle.qx_isolation.specs.declared.rows.OwnItem.{OwnItem}
 use Rattle.qx_machine.specs.declared.rows.Sent.{Sent as Message}
 use Rattle.qx_machine.specs.declared.rows.State.{State}
 use Rattle.qx_machine.specs.declared.rows.State.TheVariants as state
@@ -28,7 +28,7 @@ use Rattle.qx_machine.specs.Machine.{World, own_held, step}
 use Rattle.qx_machine.specs.Parts.{thread_of}
 use Rattle.qx_machine.specs.Resources.{Resources}
 use Rattle.qx_machine.specs.Processes.{Process, asked_thread, new_process, ranked_thread, ready_thread, with_queued, with_thread}
-use Rattle.qx_machine.specs.Rows.{row_at, with_row}
+use Rattle.qx_isolation.specs.Rows.{row_at, with_row}
 use Rattle.qx_machine.specs.Users.{client, settle_part}
 use Rattle.qx_machine.proofs.Living.{message-keeps}
 use Rattle.qx_process.proofs.RowLemmas.{set-row, with_row-none}

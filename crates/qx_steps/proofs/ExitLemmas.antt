@@ -8,22 +8,22 @@ use Rattle.qx_types.specs.declared.names.Proc.{Proc}
 use Rattle.qx_types.specs.declared.outcome.Outcome.{Outcome}
 use Rattle.qx_types.specs.declared.outcome.Outcome.TheVariants.{Done, WrongState}
 use Rattle.qx_types.specs.declared.step.Step.TheVariants.{Exit}
-use Rattle.qx_machine.specs.declared.rows.Held.{Held}
-use Rattle.qx_machine.specs.declared.rows.OwnItem.{OwnItem}
+use Rattle.qx_isolation.specs.declared.rows.Held.{Held}
+use Rattle.qx_isolation.specs.declared.rows.OwnItem.{OwnItem}
 use Rattle.qx_machine.specs.declared.rows.Pulse.{Pulse}
 use Rattle.qx_machine.specs.Clients.{with_abandoned, without_process}
 use Rattle.qx_machine.specs.Events.{Events, no_events, without_pulses}
-use Rattle.qx_machine.specs.Lines.{with_line}
+use Rattle.qx_isolation.specs.Lines.{with_line}
 use Rattle.qx_machine.specs.Machine.{After, World, own_held, step}
 use Rattle.qx_machine.specs.Parts.{Part, with_process}
 use Rattle.qx_machine.specs.Processes.{Process, ended, living}
 use Rattle.qx_machine.specs.Resources.{Resources}
-use Rattle.qx_machine.specs.Rows.{row_at, with_row}
+use Rattle.qx_isolation.specs.Rows.{row_at, with_row}
 use Rattle.qx_machine.specs.Settling.{has_waiting, is_living, processes_left, row_left}
 use Rattle.qx_machine.specs.Users.{client, settle_part}
 use Rattle.qx_machine.specs.Waiting.{no_pipes}
 use Rattle.qx_machine.proofs.NotifyLemmas.{settled-ended}
-use Rattle.qx_machine.proofs.Places.{set-row_at}
+use Rattle.qx_isolation.proofs.Places.{set-row_at}
 use Rattle.qx_process.proofs.RowLemmas.{set-row, with_row-none}
 use Rattle.qx_resources.specs.State.{told, Kept}
 use Rattle.qx_chan.specs.Channel.{Channel, after_exit, channel_events, channel_pipes, ended_in, exit_outcome, lists}

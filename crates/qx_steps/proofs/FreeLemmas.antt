@@ -4,14 +4,14 @@ use Rattle.std.specs.Prelude.{Option, Some, None, ◌||◌, not, ◌==◌, slice
 use Rattle.std.specs.List.{list_any}
 use Rattle.std.proofs.lemmas.Bool.{cases_Bool}
 use Rattle.qx_types.specs.declared.names.Proc.{Proc}
-use Rattle.qx_machine.specs.declared.rows.Held.{Held}
-use Rattle.qx_machine.specs.declared.rows.OwnItem.{OwnItem}
+use Rattle.qx_isolation.specs.declared.rows.Held.{Held}
+use Rattle.qx_isolation.specs.declared.rows.OwnItem.{OwnItem}
 use Rattle.qx_machine.specs.Machine.{own_held}
 use Rattle.qx_machine.specs.Processes.{Process, has_ended, has_server}
-use Rattle.qx_machine.specs.Rows.{row_at, with_row}
+use Rattle.qx_isolation.specs.Rows.{row_at, with_row}
 use Rattle.qx_machine.specs.Settling.{has_waiting, is_held, processes_left, row_left}
 use Rattle.qx_machine.specs.Waiting.{Pipes}
-use Rattle.qx_machine.proofs.Places.{set-row_at}
+use Rattle.qx_isolation.proofs.Places.{set-row_at}
 use Rattle.qx_process.proofs.RowLemmas.{set-row, with_row-none}
 use Rattle.qx_chan.specs.Channel.{Channel, after_freeing, channel_pipes}
 use Rattle.qx_procs.specs.Calls.{has_ended_in}

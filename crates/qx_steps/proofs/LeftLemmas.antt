@@ -5,16 +5,16 @@ use Rattle.std.proofs.lemmas.Bool.{cases_Bool, cond_both}
 use Rattle.std.proofs.lemmas.Bool.Decides.{nat_tests}
 use Rattle.std.proofs.lemmas.List.{length-set}
 use Rattle.qx_types.specs.declared.names.Manager.{Manager}
-use Rattle.qx_machine.specs.declared.rows.Held.{Held}
+use Rattle.qx_isolation.specs.declared.rows.Held.{Held}
 use Rattle.qx_machine.specs.declared.rows.Over.{Over}
 use Rattle.qx_machine.specs.declared.rows.Over.TheVariants.{Existing, New, Side}
-use Rattle.qx_machine.specs.declared.rows.OwnItem.{OwnItem}
+use Rattle.qx_isolation.specs.declared.rows.OwnItem.{OwnItem}
 use Rattle.qx_machine.specs.declared.rows.Sent.{Sent}
 use Rattle.qx_machine.specs.declared.rows.ThreadRow.{ThreadRow}
 use Rattle.qx_machine.specs.Machine.{own_held}
 use Rattle.qx_machine.specs.Parts.{thread_of}
 use Rattle.qx_machine.specs.Processes.{Process, has_ended, has_server, new_process, queued_thread, with_over, with_queued, with_side, with_thread}
-use Rattle.qx_machine.specs.Rows.{put_row, row_at, with_row}
+use Rattle.qx_isolation.specs.Rows.{put_row, row_at, with_row}
 use Rattle.qx_machine.specs.Settling.{has_waiting, is_held, process_of_item, processes_left, row_left, stays}
 use Rattle.qx_machine.specs.declared.rows.WaitingCall.{WaitingCall}
 use Rattle.qx_machine.specs.Clients.{abandoned, with_abandoned}

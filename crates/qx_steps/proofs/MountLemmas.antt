@@ -13,19 +13,19 @@ use Rattle.qx_types.specs.declared.step.Step.TheVariants.{Mount}
 use Rattle.std.proofs.lemmas.List.{get_or-set_other, get_or-set_same, length-set}
 use Rattle.qx_paths.specs.Mounts.{mount_fault, mounted, mounts_of, with_mount_of}
 use Rattle.qx_paths.specs.Prefixes.{MountPoint}
-use Rattle.qx_machine.specs.declared.rows.Held.{Held}
+use Rattle.qx_isolation.specs.declared.rows.Held.{Held}
 use Rattle.qx_machine.specs.Calls.{is_ready}
 use Rattle.qx_machine.specs.Clients.{mount_by, or_unchanged}
-use Rattle.qx_machine.specs.Judgements.{or_refused}
+use Rattle.qx_isolation.specs.Judgements.{or_refused}
 use Rattle.qx_machine.specs.Laws.{IsSettled}
 use Rattle.qx_machine.specs.Machine.{World, client_end, own_held, step}
 use Rattle.qx_machine.specs.Mounting.{new_mount, with_mount}
 use Rattle.qx_machine.specs.Parts.{Part, thread_of}
 use Rattle.qx_machine.specs.Resources.{Resources}
 use Rattle.qx_machine.specs.Processes.{Process}
-use Rattle.qx_machine.specs.Rows.{row_at, with_row}
+use Rattle.qx_isolation.specs.Rows.{row_at, with_row}
 use Rattle.qx_machine.specs.Users.{client, settle_part}
-use Rattle.qx_machine.proofs.Places.{row_at-set_other, set-row_at}
+use Rattle.qx_isolation.proofs.Places.{row_at-set_other, set-row_at}
 use Rattle.qx_machine.proofs.Settled.{same_settled, settled-left}
 use Rattle.qx_process.proofs.RowLemmas.{with_row-none}
 use Rattle.qx_resources.specs.Mounts as mounts

@@ -9,13 +9,13 @@ use Rattle.qx_types.specs.Configuration.{Configuration}
 use Rattle.qx_types.specs.declared.names.Proc.{Proc}
 use Rattle.qx_types.specs.declared.step.Step.{Step}
 use Rattle.qx_types.specs.declared.step.Step.TheVariants.{Exit}
-use Rattle.qx_machine.specs.declared.rows.Held.{Held}
+use Rattle.qx_isolation.specs.declared.rows.Held.{Held}
 use Rattle.qx_machine.specs.Laws.{IsSettled}
 use Rattle.qx_machine.specs.Machine.{World, boot, own_held, step}
 use Rattle.qx_machine.specs.Parts.{Part}
 use Rattle.qx_machine.specs.Processes.{Process}
 use Rattle.qx_machine.specs.Resources.{Resources}
-use Rattle.qx_machine.specs.Rows.{row_at}
+use Rattle.qx_isolation.specs.Rows.{row_at}
 use Rattle.qx_machine.proofs.Settled.{run_settled, settled-left, settled_step}
 use Rattle.qx_process.proofs.RowLemmas.{set-row}
 use Rattle.qx_process.proofs.ServerLemmas.{differs_by}

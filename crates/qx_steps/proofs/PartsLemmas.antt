@@ -10,10 +10,11 @@ use Rattle.qx_paths.specs.Mounts.{all_boot_mounts, boot_mounts, mounts_of}
 use Rattle.qx_machine.specs.Attributes.{top_inode}
 use Rattle.qx_machine.specs.Events.{no_events}
 use Rattle.qx_machine.specs.Machine.{boot, boot_parts}
+use Rattle.qx_isolation.specs.System as system
 use Rattle.qx_machine.specs.Parts.{thread_of}
 use Rattle.qx_machine.specs.Resources.{Resources}
 use Rattle.qx_machine.specs.Processes.{Process}
-use Rattle.qx_machine.specs.Rows.{row_at, with_row}
+use Rattle.qx_isolation.specs.Rows.{row_at, with_row}
 use Rattle.qx_machine.specs.Users.{boot_part}
 use Rattle.qx_machine.specs.Waiting.{no_pipes}
 use Rattle.qx_shared.proofs.RowLemmas.{row_at-mapped, rows-agree}
@@ -230,5 +231,5 @@ of-boot config = record {
 }
 
 pub world-boot : (config : Configuration) → world_of config (boot_channel config) (None ∷ boot_resources config 1 config.users) (None ∷ replicate config.workers None) ≡ boot config
-unfolding boot
+unfolding system.boot
 world-boot config = rw (parts-boot config) refl

@@ -7,16 +7,16 @@ use Rattle.qx_types.specs.declared.limits.TheConstants.Limits.{PROCESSES}
 use Rattle.qx_types.specs.declared.names.Proc.{Proc}
 use Rattle.qx_types.specs.declared.outcome.Outcome.TheVariants.{Pulse as PulseGiven}
 use Rattle.qx_types.specs.declared.step.Step.TheVariants.{TakePulse}
-use Rattle.qx_machine.specs.declared.rows.Held.{Held}
-use Rattle.qx_machine.specs.declared.rows.OwnItem.{OwnItem}
+use Rattle.qx_isolation.specs.declared.rows.Held.{Held}
+use Rattle.qx_isolation.specs.declared.rows.OwnItem.{OwnItem}
 use Rattle.qx_machine.specs.declared.rows.Pulse.{Pulse}
 use Rattle.qx_machine.specs.Events.{Events, first_pulse, no_events, without_first_pulse}
-use Rattle.qx_machine.specs.Lines.{with_line}
+use Rattle.qx_isolation.specs.Lines.{with_line}
 use Rattle.qx_machine.specs.Machine.{After, World, own_held, step}
 use Rattle.qx_machine.specs.Parts.{Part}
 use Rattle.qx_machine.specs.Processes.{Process, living}
 use Rattle.qx_machine.specs.Resources.{Resources}
-use Rattle.qx_machine.specs.Rows.{row_at}
+use Rattle.qx_isolation.specs.Rows.{row_at}
 use Rattle.qx_machine.specs.Users.{client}
 use Rattle.qx_process.proofs.RowLemmas.{set-row}
 use Rattle.qx_resources.specs.State.{told, Kept}

@@ -18,10 +18,10 @@ use Rattle.qx_types.specs.declared.step.Step.{Step}
 use Rattle.qx_types.specs.declared.step.Step.TheVariants.{Spawn, Exit, Call, TakeReply, TakePulse, SetPrio, Interrupt, Mount}
 use Rattle.qx_machine.specs.declared.rows.Caller.{Caller}
 use Rattle.qx_machine.specs.declared.rows.Client.{Client}
-use Rattle.qx_machine.specs.declared.rows.Held.{Held}
+use Rattle.qx_isolation.specs.declared.rows.Held.{Held}
 use Rattle.qx_machine.specs.declared.rows.Over.{Over}
-use Rattle.qx_machine.specs.declared.rows.OwnItem.{OwnItem}
-use Rattle.qx_machine.specs.declared.rows.OwnItem.TheVariants.{Message, Unblock, Disconnect}
+use Rattle.qx_isolation.specs.declared.rows.OwnItem.{OwnItem}
+use Rattle.qx_isolation.specs.declared.rows.OwnItem.TheVariants.{Message, Unblock, Disconnect}
 use Rattle.qx_machine.specs.declared.rows.Pulse.{Pulse}
 use Rattle.qx_machine.specs.declared.rows.Sent.{Sent}
 use Rattle.qx_machine.specs.declared.rows.State.{State}
@@ -30,20 +30,20 @@ use Rattle.qx_machine.specs.declared.rows.ThreadRow.{ThreadRow}
 use Rattle.qx_machine.specs.declared.rows.WaitingCall.{WaitingCall}
 use Rattle.qx_machine.specs.Clients.{ClientStep, ask_unblock, client_given, interrupt_in, leave, or_unchanged, pulse_taken}
 use Rattle.qx_machine.specs.Functions.{Deed}
-use Rattle.qx_machine.specs.Judgements.{◌>>=◌}
+use Rattle.qx_isolation.specs.Judgements.{◌>>=◌}
 use Rattle.qx_machine.specs.Machine.{World, client_step, own_held, performed_part, received_part, step, step_end, step_of, with_empty_hand, with_taken}
 use Rattle.qx_machine.specs.Parts.{Change, Part, with_process, with_thread_of}
 use Rattle.qx_machine.specs.Performing.{Served, after_answer, after_message, answering, or_kept, serve_disconnect, serve_message, serve_pulse, served_by, with_answers}
 use Rattle.qx_machine.specs.Processes.{Process, asked_thread, has_ended, new_process, taken_thread, with_thread, without_server}
 use Rattle.qx_machine.specs.Resources.{Resources}
-use Rattle.qx_machine.specs.Rows.{put_row, row_at, with_row}
+use Rattle.qx_isolation.specs.Rows.{put_row, row_at, with_row}
 use Rattle.qx_machine.specs.Settling.{processes_left, row_left, stays}
 use Rattle.qx_machine.specs.Users.{client, serve, settle_part, take}
 use Rattle.qx_machine.specs.Waiting.{Pipes}
 use Rattle.qx_machine.proofs.Living.{KeepsThreads, keeps-thread, message-keeps}
-use Rattle.qx_machine.proofs.Places.{row_at-set_cases, row_at-set_other}
+use Rattle.qx_isolation.proofs.Places.{row_at-set_cases, row_at-set_other}
 use Rattle.qx_machine.proofs.Settled.{row_at-left}
-use Rattle.qx_machine.proofs.Workers.{server_leaves}
+use Rattle.qx_isolation.proofs.Workers.{server_leaves}
 use Rattle.qx_steps.proofs.LeftLemmas.{queued-keeps, starts}
 
 -- no process of the user has ended

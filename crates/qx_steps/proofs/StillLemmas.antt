@@ -8,16 +8,16 @@ use Rattle.qx_types.specs.declared.names.Manager.{Manager}
 use Rattle.qx_types.specs.declared.names.Proc.{Proc}
 use Rattle.qx_types.specs.declared.names.Thread.{Thread}
 use Rattle.qx_types.specs.declared.outcome.Answer.{Answer}
-use Rattle.qx_machine.specs.declared.rows.Held.{Held}
-use Rattle.qx_machine.specs.declared.rows.OwnItem.{OwnItem}
-use Rattle.qx_machine.specs.declared.rows.OwnItem.TheVariants as item
+use Rattle.qx_isolation.specs.declared.rows.Held.{Held}
+use Rattle.qx_isolation.specs.declared.rows.OwnItem.{OwnItem}
+use Rattle.qx_isolation.specs.declared.rows.OwnItem.TheVariants as item
 use Rattle.qx_machine.specs.declared.rows.Pulse.{Pulse}
-use Rattle.qx_machine.specs.declared.rows.Queued.{Queued}
+use Rattle.qx_isolation.specs.declared.rows.Queued.{Queued}
 use Rattle.qx_machine.specs.declared.rows.Sent.{Sent}
 use Rattle.qx_machine.specs.Clients.{spawn_number}
 use Rattle.qx_machine.specs.Events.{first_pulse}
 use Rattle.qx_machine.specs.Processes.{Process, asked_thread, ended, living, ready_thread, taken_thread, with_queued, with_thread}
-use Rattle.qx_machine.specs.Rows.{with_row}
+use Rattle.qx_isolation.specs.Rows.{with_row}
 use Rattle.qx_machine.specs.Settling.{processes_left}
 use Rattle.qx_procs.specs.Calls.{after_or, spawned, with_prio}
 use Rattle.qx_resources.specs.State.{told, Kept}

@@ -9,7 +9,7 @@ use Rattle.qx_machine.specs.declared.rows.Addressed.{Addressed}
 use Rattle.qx_machine.specs.Clients.{target_by}
 use Rattle.qx_machine.specs.Machine.{World}
 use Rattle.qx_machine.specs.Parts.{Part}
-use Rattle.qx_machine.specs.Rows.{row_at}
+use Rattle.qx_isolation.specs.Rows.{row_at}
 
 abbrev pub target_from : Configuration → Thread → Request → Option Part → Result Addressed Outcome
 target_from config thread request None = Err WrongState

@@ -5,7 +5,7 @@ ghost use Rattle.std.specs.List.{list_any};
 ghost use Rattle.std.specs.Option.{option_copied};
 ghost use Rattle.qx_machine.specs.Machine as machine;
 ghost use Rattle.qx_machine.specs.Machine.{own_held};
-ghost use Rattle.qx_machine.specs.Rows.{row_at};
+ghost use Rattle.qx_isolation.specs.Rows.{row_at};
 ghost use Rattle.qx_machine.specs.Settling.{process_of_item};
 ghost use Rattle.qx_machine.specs.Wants.{item_wants_memory};
 ghost use Rattle.qx_chan.specs.Serving.{IsReadOf};

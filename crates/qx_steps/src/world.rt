@@ -5,7 +5,7 @@ ghost use Rattle.std.specs.Option.{option_copied};
 ghost use Rattle.qx_types.specs.declared.outcome.Outcome.TheVariants as outcome;
 ghost use Rattle.qx_machine.specs.Laws.{IsSettled, is_refusal};
 ghost use Rattle.qx_machine.specs.Machine as machine;
-ghost use Rattle.qx_machine.specs.Rows.{row_at};
+ghost use Rattle.qx_isolation.specs.Rows.{row_at};
 ghost use Rattle.qx_machine.specs.Wants.{wants_memory};
 ghost use Rattle.qx_process.specs.Reads.{is_thread_blocked};
 ghost use Rattle.qx_chan.specs.Calls.{answer_of};

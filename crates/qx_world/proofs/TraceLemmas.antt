@@ -9,14 +9,15 @@ use Rattle.qx_types.specs.Step.{actor_of, user_of}
 use Rattle.qx_types.specs.declared.names.Actor.{Actor}
 use Rattle.qx_types.specs.declared.names.User.{User}
 use Rattle.qx_types.specs.declared.step.Step.{Step}
-use Rattle.qx_machine.specs.declared.rows.Entry.{Entry}
-use Rattle.qx_machine.specs.declared.rows.Held.{Held}
-use Rattle.qx_machine.specs.declared.rows.Seen.{Seen}
+use Rattle.qx_isolation.specs.declared.rows.Entry.{Entry}
+use Rattle.qx_isolation.specs.declared.rows.Held.{Held}
+use Rattle.qx_isolation.specs.declared.rows.Seen.{Seen}
 use Rattle.qx_machine.specs.Machine.{World, boot, step, owner, client_step, performed_part, received_part, server_step, step_of, with_empty_hand, with_taken}
-use Rattle.qx_machine.specs.Rows.{row_at}
+use Rattle.qx_isolation.specs.System as system
+use Rattle.qx_isolation.specs.Rows.{row_at}
 use Rattle.qx_machine.specs.Runs.{run, world_after, entries_from, seen_by, received, is_owner, erase_from}
 use Rattle.qx_machine.specs.Parts.{Part}
-use Rattle.qx_machine.proofs.Workers.{server_leaves}
+use Rattle.qx_isolation.proofs.Workers.{server_leaves}
 use Rattle.qx_world.specs.inner.Trace.{IsRun, owners_from, steps_of}
 
 -- the configuration stays
@@ -47,7 +48,7 @@ unfolding step
 step-config w e = step_of-config w e (actor_of e)
 
 pub boot-config : (config : Configuration) → (boot config).config ≡ config
-unfolding boot
+unfolding system.boot
 boot-config config = refl
 
 -- one step more

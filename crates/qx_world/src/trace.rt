@@ -4,7 +4,7 @@ ghost use Rattle.std.specs.Prelude.{◌≡◌, ◌≢◌, ◌≤◌, ◌<◌, �
 ghost use Rattle.std.specs.Option.{option_to_list};
 ghost use Rattle.std.specs.Borrow.{sem};
 ghost use Rattle.qx_types.specs.declared.step.Step.{Step};
-ghost use Rattle.qx_machine.specs.declared.rows.Entry.{Entry};
+ghost use Rattle.qx_isolation.specs.declared.rows.Entry.{Entry};
 ghost use Rattle.qx_machine.specs.Machine as machine;
 ghost use Rattle.qx_machine.specs.Runs as runs;
 ghost use Rattle.qx_machine.specs.Runs.{run, received, erase};

@@ -4,7 +4,7 @@ use Rattle.slab.specs.Slab.{Slab, ContainsKey, get}
 use Rattle.qx_machine.specs.declared.rows.Client.{Client}
 use Rattle.qx_machine.specs.declared.rows.Ocb.{Ocb}
 use Rattle.qx_machine.specs.Inodes.{is_clients}
-use Rattle.qx_machine.specs.Rows.{row_at}
+use Rattle.qx_isolation.specs.Rows.{row_at}
 
 -- rows under their numbers, the numbers of those that are there in order of making, and how many more can be put there with no memory
 pub record NumberedRows : Type 0 where

@@ -4,7 +4,7 @@ use Rattle.qx_types.specs.declared.flags.OFlags.{OFlags}
 use Rattle.qx_machine.specs.declared.rows.Attribute.{Attribute}
 use Rattle.qx_machine.specs.declared.rows.Ocb.{Ocb}
 use Rattle.qx_machine.specs.Inodes.{is_open, reads, writes}
-use Rattle.qx_machine.specs.Rows.{row_at}
+use Rattle.qx_isolation.specs.Rows.{row_at}
 use Rattle.qx_attr.specs.declared.attr.Attr.{Attr}
 
 abbrev pub attribute_of : Option Attr → Option Attribute

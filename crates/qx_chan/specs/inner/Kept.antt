@@ -9,16 +9,16 @@ use Rattle.qx_types.specs.declared.names.Proc.{Proc}
 use Rattle.qx_types.specs.declared.names.Thread.{Thread}
 use Rattle.qx_machine.specs.declared.rows.Over.{Over}
 use Rattle.qx_machine.specs.declared.rows.Sent.{Sent}
-use Rattle.qx_machine.specs.declared.rows.ServerName.{ServerName}
+use Rattle.qx_isolation.specs.declared.rows.ServerName.{ServerName}
 use Rattle.qx_machine.specs.declared.rows.State.{State}
 use Rattle.qx_machine.specs.declared.rows.State.TheVariants.{Queued, Taken, Waiting}
 use Rattle.qx_machine.specs.declared.rows.Target.{Target}
 use Rattle.qx_machine.specs.declared.rows.ThreadRow.{ThreadRow}
-use Rattle.qx_machine.specs.Lines.{into, line_at}
+use Rattle.qx_isolation.specs.Lines.{into, line_at}
 use Rattle.qx_machine.specs.Machine.{rank}
 use Rattle.qx_machine.specs.Parts.{thread_of}
 use Rattle.qx_machine.specs.Processes.{Process, has_ended}
-use Rattle.qx_machine.specs.Rows.{row_at}
+use Rattle.qx_isolation.specs.Rows.{row_at}
 use Rattle.qx_queues.specs.Queues.{UsersAnswer, UsersCall, caller, message_of, stands, unblock_call}
 use Rattle.qx_resources.specs.declared.tables.Tables.{Tables}
 use Rattle.qx_shared.specs.Shared.{Shared, has_disconnect_node, has_thread, waiting_in, with_shared_disconnect, with_shared_line, with_shared_server}

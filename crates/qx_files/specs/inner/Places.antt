@@ -2,7 +2,7 @@
 use Rattle.std.specs.Prelude.{ℕ, ◌≡◌, ◌+◌, ◌-◌, ◌*◌, ◌/◌, ◌%◌, ◌<◌, ◌≤◌, ◌&&◌, ◌⊎◌, Bool, false, List, ◌++◌, Option, Some, None, drop, is_some, length, map, nat_lt, nat_le, option_map, replicate, slice_index, slice_index_or, take, if◌then◌else◌}
 use Rattle.std.specs.List.{range_with_len}
 use Rattle.qx_files.specs.Blocks.{count_of}
-use Rattle.qx_machine.specs.Rows.{row_at}
+use Rattle.qx_isolation.specs.Rows.{row_at}
 
 -- where the byte at a place of a file stands among the bytes of the blocks that are there, if its block is
 abbrev pub place_of : List (Option ℕ) → ℕ → Option ℕ

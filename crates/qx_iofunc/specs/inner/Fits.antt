@@ -3,7 +3,7 @@ use Rattle.std.specs.Prelude.{ℕ, ◌≡◌, ◌≢◌, ◌<◌, false, Some, l
 use Rattle.std.specs.FinMap.{get}
 use Rattle.qx_machine.specs.Inodes.{Inodes, is_unused}
 use Rattle.qx_machine.specs.Names.{Key, Names}
-use Rattle.qx_machine.specs.Rows.{row_at}
+use Rattle.qx_isolation.specs.Rows.{row_at}
 use Rattle.qx_iofunc.specs.Fits.{IsLinked}
 
 -- the same, but that one inode may be neither linked nor open

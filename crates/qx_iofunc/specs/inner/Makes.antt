@@ -4,7 +4,7 @@ use Rattle.qx_types.specs.declared.errno.Errno.{Errno}
 use Rattle.qx_types.specs.declared.errno.Errno.TheVariants.{EEXIST}
 use Rattle.qx_iofunc.specs.declared.found.New.{New}
 use Rattle.qx_machine.specs.Inodes.{Inodes, inode_number}
-use Rattle.qx_machine.specs.Judgements.{◌>>=◌, need}
+use Rattle.qx_isolation.specs.Judgements.{◌>>=◌, need}
 use Rattle.qx_machine.specs.Defaults.{writable}
 
 abbrev pub may_make_directory : Inodes → ℕ → ℕ → Option ℕ → Result New Errno

@@ -8,7 +8,7 @@ use Rattle.qx_machine.specs.Defaults.{with_entries_changed}
 use Rattle.qx_machine.specs.Inodes.{new_attribute, with_attribute}
 use Rattle.qx_machine.specs.Names.{Spot}
 use Rattle.qx_machine.specs.Resources.{resized}
-use Rattle.qx_machine.specs.Rows.{put_row, row_at, with_row}
+use Rattle.qx_isolation.specs.Rows.{put_row, row_at, with_row}
 use Rattle.qx_iofunc.specs.Store.{Stored}
 
 -- a file with no bytes comes, and with no blocks, where an inode of that kind is made

@@ -1,6 +1,6 @@
 -- Marks of places that were noted.
 use Rattle.std.specs.Prelude.{◌≡◌, ◌<◌, ◌≤◌, ◌+◌, ℕ, Bool, true, false, List, All, length, sum_by, if◌then◌else◌, slice_index_or}
-use Rattle.qx_machine.specs.declared.rows.Entry.{Entry}
+use Rattle.qx_isolation.specs.declared.rows.Entry.{Entry}
 use Rattle.qx_pool.specs.declared.seat.Note.{Note}
 use Rattle.qx_pool.specs.Notes.{StandsIn, rises_from, times_noted}
 

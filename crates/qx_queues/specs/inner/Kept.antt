@@ -8,10 +8,10 @@ use Rattle.qx_types.specs.declared.names.Thread.{Thread}
 use Rattle.qx_lists.specs.Table.{Table, ContainsList, ContainsNode, IsIn, nodes_of}
 use Rattle.qx_lines.specs.declared.Line.{Line}
 use Rattle.qx_lines.specs.Line.{IsLineOf, IsOwn, SameElsewhere, nodes_in}
-use Rattle.qx_machine.specs.declared.rows.OwnItem.{OwnItem}
-use Rattle.qx_machine.specs.declared.rows.OwnItem.TheVariants as item
-use Rattle.qx_machine.specs.declared.rows.Queued.{Queued}
-use Rattle.qx_machine.specs.Lines.{into, line_at}
+use Rattle.qx_isolation.specs.declared.rows.OwnItem.{OwnItem}
+use Rattle.qx_isolation.specs.declared.rows.OwnItem.TheVariants as item
+use Rattle.qx_isolation.specs.declared.rows.Queued.{Queued}
+use Rattle.qx_isolation.specs.Lines.{into, line_at}
 use Rattle.qx_machine.specs.Machine.{queued_item, rank}
 use Rattle.qx_queues.specs.Queues.{UsersAnswer, UsersCall, sender, unblock_call}
 use Rattle.qx_queues.specs.declared.nodes.ThreadNodes.{ThreadNodes}

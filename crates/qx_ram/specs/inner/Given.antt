@@ -4,7 +4,7 @@ use Rattle.qx_types.specs.declared.errno.Errno.{Errno}
 use Rattle.qx_types.specs.declared.errno.Errno.TheVariants.{EFBIG, EINVAL, ENOSPC}
 use Rattle.qx_types.specs.declared.limits.TheConstants.Limits.{FILE, FILES, OFFSET}
 use Rattle.qx_machine.specs.Files.{moved_by}
-use Rattle.qx_machine.specs.Judgements.{◌>>=◌, found, need}
+use Rattle.qx_isolation.specs.Judgements.{◌>>=◌, found, need}
 
 -- why so many bytes can't be written at an offset of a file of that size, by the sum of the sizes before
 abbrev pub write_fault : ℕ → ℕ → ℕ → ℕ → Option Errno

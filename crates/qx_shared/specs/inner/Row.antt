@@ -1,6 +1,6 @@
 -- What only the proofs need of Row.
 use Rattle.std.specs.Prelude.{◌≡◌, ℕ, List, [], Option, Some, get_or, option_map, slice_set}
-use Rattle.qx_machine.specs.Rows.{row_at}
+use Rattle.qx_isolation.specs.Rows.{row_at}
 use Rattle.qx_shared.specs.declared.side.Side.{Side}
 use Rattle.qx_shared.specs.declared.side.Side.TheVariants.{Reading, Writing}
 use Rattle.qx_shared.specs.Row.{PipeRow}

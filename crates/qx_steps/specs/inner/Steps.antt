@@ -13,7 +13,7 @@ use Rattle.qx_machine.specs.Machine.{World}
 use Rattle.qx_machine.specs.Mounting.{with_mount}
 use Rattle.qx_machine.specs.Parts.{Part}
 use Rattle.qx_machine.specs.Resources.{Resources}
-use Rattle.qx_machine.specs.Rows.{row_at, with_row}
+use Rattle.qx_isolation.specs.Rows.{row_at, with_row}
 
 abbrev pub mount_from : Configuration → Thread → List ℕ → Manager → Option Part → Result MountPoint Outcome
 mount_from config thread path manager None = Err WrongState

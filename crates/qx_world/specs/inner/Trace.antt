@@ -2,7 +2,7 @@
 use Rattle.std.specs.Prelude.{◌≡◌, ℕ, List, [], ◌∷◌, Option, option_map, map}
 use Rattle.qx_types.specs.declared.names.User.{User}
 use Rattle.qx_types.specs.declared.step.Step.{Step}
-use Rattle.qx_machine.specs.declared.rows.Entry.{Entry}
+use Rattle.qx_isolation.specs.declared.rows.Entry.{Entry}
 use Rattle.qx_machine.specs.Machine.{World, boot, step, owner}
 use Rattle.qx_machine.specs.Runs.{run}
 

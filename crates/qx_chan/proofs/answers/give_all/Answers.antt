@@ -1,5 +1,5 @@
 use Rattle.std.proofs.Common.{◌≡◌, List, [], Some, drop, slice_get, ap, ◌∙◌}
-use Rattle.qx_machine.specs.declared.rows.Queued.{Queued}
+use Rattle.qx_isolation.specs.declared.rows.Queued.{Queued}
 use Rattle.qx_queues.specs.Queues.{UsersAnswer}
 use Rattle.qx_shared.specs.Shared.{HasNoCall, Shared}
 use Rattle.qx_queues.specs.Waiting.{addressed_by}

@@ -1,6 +1,6 @@
 use Rattle.std.proofs.Common.{◌≡◌, ◌-◌, ◌<◌, false, true, inl, inr, arith, ap, sym, ◌∙◌, is_some, length}
 use Rattle.std.proofs.lemmas.Result.{err_from_is_err_and, on_err_weaker, on_ok_weaker}
-use Rattle.qx_machine.specs.Rows.{row_at}
+use Rattle.qx_isolation.specs.Rows.{row_at}
 use Rattle.qx_files.proofs.BlockLemmas.{lacks_further, lacks_this, made_last, made_none, made_there, place_lacking, place_within}
 use Rattle.qx_files.proofs.PlaceLemmas.{byte-none, stay-none}
 use Rattle.qx_files.proofs.places.+make_blocks.Goals as goal

@@ -1,5 +1,5 @@
 use Rattle.std.proofs.Common.{ap, ◌∙◌, arith, is_some}
-use Rattle.qx_machine.specs.Rows.{row_at}
+use Rattle.qx_isolation.specs.Rows.{row_at}
 use Rattle.qx_files.specs.inner.Places.{there}
 use Rattle.qx_files.proofs.BlockLemmas.{with-all, with-padded}
 use Rattle.qx_files.proofs.places.make_lacking.Goals as goal

@@ -2,7 +2,7 @@ use Rattle.std.proofs.Common.{◌≡◌, ℕ, List, length, refl, ap, ◌∙◌,
 use Rattle.qx_files.proofs.SizeLemmas.{same_sums}
 use Rattle.qx_iofunc.specs.Fits.{file_size}
 use Rattle.qx_machine.specs.Files.{size_of}
-use Rattle.qx_machine.specs.Rows.{row_at}
+use Rattle.qx_isolation.specs.Rows.{row_at}
 use Rattle.qx_iofunc.proofs.laws.total_of_sizes.Goals as goal
 
 by_bytes : (bytes : Option (List ℕ)) → size_of bytes ≡ unwrap_or (option_map (λ bytes. length bytes) bytes) 0

@@ -1,4 +1,4 @@
-use Rattle.qx_machine.proofs.Places.{lowest_from_free, lowest_from_lowest}
+use Rattle.qx_isolation.proofs.Places.{lowest_from_free, lowest_from_lowest}
 use Rattle.std.proofs.Common.{arith}
 use Rattle.qx_machine.proofs.laws.lowest_free.Goals as goal
 

@@ -1,5 +1,5 @@
 use Rattle.qx_machine.specs.Runs.{run}
-use Rattle.qx_machine.proofs.Steps.{step_other}
+use Rattle.qx_isolation.proofs.Steps.{step_other}
 use Rattle.qx_machine.proofs.laws.others_unseen.Goals as goal
 
 pub returns : goal.returns

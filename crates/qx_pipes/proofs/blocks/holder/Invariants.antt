@@ -1,6 +1,6 @@
 use Rattle.std.proofs.Common.{◌≡◌, ◌<◌, ℕ, false}
 use Rattle.qx_machine.specs.Waiting.{holds, is_call}
-use Rattle.qx_machine.specs.Rows.{row_at}
+use Rattle.qx_isolation.specs.Rows.{row_at}
 use Rattle.qx_shared.specs.Shared.{pipes_of}
 use Rattle.qx_pipes.proofs.blocks.holder.Given as goal
 

@@ -1,5 +1,5 @@
 use Rattle.std.proofs.Common.{◌≡◌}
-use Rattle.qx_machine.specs.Rows.{lowest_from}
+use Rattle.qx_isolation.specs.Rows.{lowest_from}
 use Rattle.qx_process.proofs.places.lowest_free.Given as goal
 
 -- the rows that were passed are taken

@@ -5,7 +5,7 @@ use Rattle.qx_files.specs.Files.{Kept}
 use Rattle.qx_iofunc.specs.Store.{with_stored}
 use Rattle.qx_machine.specs.RamManager.{moved}
 use Rattle.qx_machine.specs.Resources.{Resources}
-use Rattle.qx_machine.specs.Rows.{row_at}
+use Rattle.qx_isolation.specs.Rows.{row_at}
 use Rattle.qx_ram.proofs.WriteLemmas.{lacks_of, written}
 use Rattle.qx_ram.proofs.files.write.Goals as goal
 

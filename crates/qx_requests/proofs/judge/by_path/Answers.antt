@@ -1,6 +1,6 @@
 use Rattle.std.proofs.Common.{IfOk, subst}
 use Rattle.qx_machine.specs.Processes.{servers_at}
-use Rattle.qx_machine.specs.Rows.{row_at}
+use Rattle.qx_isolation.specs.Rows.{row_at}
 use Rattle.qx_process.specs.Reads.{CanAttach, HasPlace}
 use Rattle.qx_procs.specs.Calls.{CanAttachAt}
 use Rattle.qx_requests.proofs.SendLemmas.{place_attaches}

@@ -4,7 +4,7 @@ use Rattle.std.proofs.lemmas.Bool.{cases_Bool}
 use Rattle.qx_machine.specs.declared.rows.Conditions.{Conditions}
 use Rattle.qx_machine.specs.Events.{notified}
 use Rattle.qx_machine.specs.Notification.{conditions_at, event_of}
-use Rattle.qx_machine.specs.Rows.{row_at}
+use Rattle.qx_isolation.specs.Rows.{row_at}
 use Rattle.qx_notify.specs.Events.{arms_event, events_of, notified_after, status_given, wants_node}
 use Rattle.qx_resources.proofs.NotifyLemmas.{notify-did, notify-wanted}
 use Rattle.qx_resources.specs.State.{told}

@@ -4,7 +4,7 @@ use Rattle.qx_iofunc.specs.Store.{Store}
 use Rattle.qx_machine.specs.Defaults.{close_dup, close_ocb}
 use Rattle.qx_machine.specs.Inodes.{is_shared}
 use Rattle.qx_machine.specs.Managers.{own_kind}
-use Rattle.qx_machine.specs.Rows.{row_at}
+use Rattle.qx_isolation.specs.Rows.{row_at}
 use Rattle.qx_resmgr.specs.Deeds.{Did}
 use Rattle.qx_resources.proofs.KeptLemmas.{close-refused}
 use Rattle.qx_resources.specs.State.{state, told}

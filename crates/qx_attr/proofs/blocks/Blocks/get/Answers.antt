@@ -1,6 +1,6 @@
 use Rattle.std.proofs.Common.{◌≡◌, ◌∙◌, Some, ap, rules, sym}
 use Rattle.std.specs.Option.{option_copied}
-use Rattle.qx_machine.specs.Rows.{row_at}
+use Rattle.qx_isolation.specs.Rows.{row_at}
 use Rattle.qx_attr.specs.inner.Blocks.{rows_of, value_at}
 use Rattle.qx_attr.proofs.BlockLemmas.{row-of}
 use Rattle.qx_attr.proofs.blocks.Blocks.get.Goals as goal

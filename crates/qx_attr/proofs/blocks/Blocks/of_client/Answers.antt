@@ -5,7 +5,7 @@ use Rattle.std.proofs.lemmas.List.Sums.{count_by-le-length, length-filter}
 use Rattle.std.proofs.lemmas.Option.{slice_get_within}
 use Rattle.std.specs.Prelude.{IfSome, OnSome}
 use Rattle.qx_machine.specs.Inodes.{is_clients}
-use Rattle.qx_machine.specs.Rows.{row_at}
+use Rattle.qx_isolation.specs.Rows.{row_at}
 use Rattle.qx_attr.specs.inner.Blocks.{NumberedRows}
 use Rattle.qx_attr.proofs.MadeLemmas.{once_at}
 use Rattle.qx_attr.proofs.blocks.Blocks.of_client.Goals as goal

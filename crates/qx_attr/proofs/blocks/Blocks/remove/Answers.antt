@@ -1,7 +1,7 @@
 use Rattle.std.proofs.Common.{rules, ◌≡◌, ◌==◌, not, arith, filter, is_some, None, refl, Some, sym}
 use Rattle.std.proofs.Math.ListN.{length-set}
 use Rattle.std.proofs.lemmas.Fn.{filter_same}
-use Rattle.qx_machine.specs.Rows.{row_at}
+use Rattle.qx_isolation.specs.Rows.{row_at}
 use Rattle.qx_attr.specs.inner.Blocks.{rows_of}
 use Rattle.qx_attr.proofs.BlockLemmas.{keyed-without, row-of, rows-without, nothing-freed, nothing-there}
 use Rattle.qx_attr.proofs.CountLemmas.{count-free}

@@ -1,5 +1,5 @@
 use Rattle.std.proofs.Common.{◌≡◌, None, Some, sym}
-use Rattle.qx_machine.specs.Rows.{row_at}
+use Rattle.qx_isolation.specs.Rows.{row_at}
 use Rattle.qx_attr.specs.inner.Blocks.{rows_of}
 use Rattle.qx_attr.proofs.BlockLemmas.{nothing-changed, nothing-there, rows-with}
 use Rattle.qx_attr.proofs.blocks.Blocks.set.Goals as goal

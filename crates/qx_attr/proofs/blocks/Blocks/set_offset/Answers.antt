@@ -1,7 +1,7 @@
 use Rattle.std.proofs.Common.{◌≡◌, None, Some, sym}
 use Rattle.slab.specs.Slab.{get}
 use Rattle.qx_machine.specs.Inodes.{moved_to}
-use Rattle.qx_machine.specs.Rows.{row_at}
+use Rattle.qx_isolation.specs.Rows.{row_at}
 use Rattle.qx_attr.specs.inner.Blocks.{rows_of}
 use Rattle.qx_attr.proofs.BlockLemmas.{nothing-changed, nothing-there, rows-changed}
 use Rattle.qx_attr.proofs.TableLemmas.{no_value}

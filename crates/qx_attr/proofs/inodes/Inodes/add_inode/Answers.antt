@@ -1,9 +1,9 @@
 use Rattle.std.proofs.Common.{◌≡◌, ℕ, None, Ok, ap, arith, refl, ◌∙◌}
 use Rattle.qx_types.specs.declared.limits.TheConstants.Limits.{INODES}
-use Rattle.qx_machine.proofs.Places.{lowest_from_free}
+use Rattle.qx_isolation.proofs.Places.{lowest_from_free}
 use Rattle.qx_machine.specs.declared.rows.Attribute.{Attribute}
 use Rattle.qx_machine.specs.Inodes.{Inodes, inode_number, new_inode}
-use Rattle.qx_machine.specs.Rows.{lowest_from, put_row, row_at}
+use Rattle.qx_isolation.specs.Rows.{lowest_from, put_row, row_at}
 use Rattle.qx_attr.specs.Counts.{Reserved, with_number}
 use Rattle.qx_attr.specs.inner.Counts.{attribute_of, unopened}
 use Rattle.qx_attr.proofs.CountLemmas.{counted_inode, few_rows}

@@ -1,6 +1,6 @@
 use Rattle.std.proofs.Common.{◌≡◌, ◌==◌, None, Some, arith, filter, not, refl, slice_set}
 use Rattle.std.proofs.Math.ListN.{length-set}
-use Rattle.qx_machine.specs.Rows.{row_at}
+use Rattle.qx_isolation.specs.Rows.{row_at}
 use Rattle.qx_attr.specs.inner.Counts.{uncounted}
 use Rattle.qx_attr.proofs.BlockLemmas.{nothing-freed}
 use Rattle.qx_attr.proofs.CountLemmas.{counted_close, inode_there, same_attributes, within_table}

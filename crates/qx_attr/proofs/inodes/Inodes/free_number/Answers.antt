@@ -1,6 +1,6 @@
 use Rattle.std.proofs.Common.{◌≡◌, ap, refl, sym, ◌∙◌}
-use Rattle.qx_machine.proofs.Places.{lowest_from_free}
-use Rattle.qx_machine.specs.Rows.{lowest_from, row_at}
+use Rattle.qx_isolation.proofs.Places.{lowest_from_free}
+use Rattle.qx_isolation.specs.Rows.{lowest_from, row_at}
 use Rattle.qx_attr.specs.Counts.{Reserved}
 use Rattle.qx_attr.specs.inner.Counts.{attribute_of}
 use Rattle.qx_attr.proofs.TableLemmas.{lowest_map}

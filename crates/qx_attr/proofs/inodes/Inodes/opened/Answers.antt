@@ -3,7 +3,7 @@ use Rattle.std.specs.Prelude.{IsSome}
 use Rattle.qx_attr.specs.inner.Counts.{attribute_of}
 use Rattle.qx_attr.proofs.CountLemmas.{has_inode}
 use Rattle.qx_attr.proofs.TableLemmas.{none_before}
-use Rattle.qx_machine.specs.Rows.{row_at}
+use Rattle.qx_isolation.specs.Rows.{row_at}
 use Rattle.qx_attr.proofs.inodes.Inodes.opened.Goals as goal
 
 some_of : {A : Type 0} (row : Option A) → (row ≡ None → ⊥) → IsSome row

@@ -1,8 +1,8 @@
 use Rattle.std.proofs.Common.{◌≡◌, ◌-◌, ◌++◌, ◌∷◌, [], None, Some, ap, arith, refl, sym, ◌∙◌}
 use Rattle.std.proofs.Math.ListN.{length-set}
-use Rattle.qx_machine.proofs.Places.{lowest_from_free}
+use Rattle.qx_isolation.proofs.Places.{lowest_from_free}
 use Rattle.qx_types.specs.declared.limits.TheConstants.Limits.{BLOCKS}
-use Rattle.qx_machine.specs.Rows.{lowest_from, put_row, row_at}
+use Rattle.qx_isolation.specs.Rows.{lowest_from, put_row, row_at}
 use Rattle.qx_attr.specs.Counts.{Reserved}
 use Rattle.qx_attr.specs.inner.Counts.{counted}
 use Rattle.qx_attr.proofs.CountLemmas.{counted_open, few_rows, same_attributes}

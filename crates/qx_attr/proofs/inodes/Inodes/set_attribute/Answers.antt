@@ -3,7 +3,7 @@ use Rattle.std.specs.Prelude.{unwrap_or}
 use Rattle.std.proofs.lemmas.Option.{slice_get_read}
 use Rattle.std.proofs.Math.ListN.{length-set}
 use Rattle.std.proofs.lemmas.List.{map-set}
-use Rattle.qx_machine.specs.Rows.{row_at}
+use Rattle.qx_isolation.specs.Rows.{row_at}
 use Rattle.qx_attr.specs.inner.Counts.{attribute_of}
 use Rattle.qx_attr.specs.declared.attr.Attr.{Attr}
 use Rattle.qx_attr.proofs.CountLemmas.{counted_same, within-attributes}

@@ -1,7 +1,7 @@
 use Rattle.std.proofs.Common.{arith, ap, ◌∙◌}
 use Rattle.std.specs.Prelude.{option_map}
 use Rattle.std.proofs.Math.ListN.{length-set}
-use Rattle.qx_machine.specs.Rows.{row_at}
+use Rattle.qx_isolation.specs.Rows.{row_at}
 use Rattle.qx_attr.specs.Counts.{Reserved}
 use Rattle.qx_attr.proofs.CountLemmas.{counted_kept}
 use Rattle.qx_attr.proofs.inodes.Inodes.set_block.Goals as goal

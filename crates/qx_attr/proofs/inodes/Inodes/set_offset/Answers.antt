@@ -2,7 +2,7 @@ use Rattle.std.proofs.Common.{arith}
 use Rattle.std.specs.Prelude.{option_map}
 use Rattle.std.proofs.Math.ListN.{length-set}
 use Rattle.qx_machine.specs.Inodes.{moved_to}
-use Rattle.qx_machine.specs.Rows.{row_at}
+use Rattle.qx_isolation.specs.Rows.{row_at}
 use Rattle.qx_attr.proofs.CountLemmas.{counted_moved}
 use Rattle.qx_attr.proofs.inodes.Inodes.set_offset.Goals as goal
 

@@ -1,6 +1,6 @@
 use Rattle.std.proofs.Common.{◌≡◌, inl, inr, true, false, None, is_some, ap, sym, ◌∙◌}
 use Rattle.std.specs.Option.{option_copied}
-use Rattle.qx_machine.specs.Rows.{row_at}
+use Rattle.qx_isolation.specs.Rows.{row_at}
 use Rattle.qx_chan.specs.Users.{process_of, process_of_user}
 use Rattle.qx_chan.proofs.DisconnectLemmas.{Answering-gone, Serves-disconnected, Serves-gone}
 use Rattle.qx_chan.proofs.PulseLemmas.{user-fits}

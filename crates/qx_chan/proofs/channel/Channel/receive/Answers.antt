@@ -1,4 +1,4 @@
-use Rattle.qx_machine.specs.declared.rows.OwnItem.TheVariants as item
+use Rattle.qx_isolation.specs.declared.rows.OwnItem.TheVariants as item
 use Rattle.qx_chan.proofs.ReceiveLemmas.{Kept-pulse, Kept-received, message-there}
 use Rattle.qx_chan.proofs.channel.Channel.receive.Goals as goal
 

@@ -1,5 +1,5 @@
 use Rattle.std.proofs.Common.{◌≡◌, None, rules}
-use Rattle.qx_machine.specs.Rows.{row_at}
+use Rattle.qx_isolation.specs.Rows.{row_at}
 use Rattle.qx_process.proofs.RowLemmas.{with_row-none}
 use Rattle.qx_procs.specs.Calls.{after_or, with_prio}
 use Rattle.qx_chan.proofs.PrioLemmas.{Kept-ranked}

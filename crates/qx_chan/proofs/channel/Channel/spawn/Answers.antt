@@ -1,5 +1,5 @@
 use Rattle.std.proofs.Common.{◌≡◌, Err, rules, sym}
-use Rattle.qx_machine.specs.Rows.{row_at}
+use Rattle.qx_isolation.specs.Rows.{row_at}
 use Rattle.qx_chan.specs.Users.{spawn_number_in}
 use Rattle.qx_chan.proofs.StartLemmas.{refused_spawn}
 use Rattle.qx_chan.proofs.channel.Channel.spawn.Goals as goal

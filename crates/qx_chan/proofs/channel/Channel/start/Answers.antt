@@ -1,6 +1,6 @@
 use Rattle.std.proofs.Common.{◌≡◌, ◌-◌, ◌*◌, ◌∙◌, Ok, ap, length, sym}
 use Rattle.qx_machine.specs.Clients.{spawn_number}
-use Rattle.qx_machine.specs.Rows.{row_at, with_row}
+use Rattle.qx_isolation.specs.Rows.{row_at, with_row}
 use Rattle.qx_procs.specs.Calls.{spawned}
 use Rattle.qx_shared.proofs.PresenceLemmas.{lines-process}
 use Rattle.qx_shared.specs.Shared.{Shared}

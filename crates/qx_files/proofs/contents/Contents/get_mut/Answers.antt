@@ -1,5 +1,5 @@
 use Rattle.std.proofs.Common.{rules, ◌≡◌, ◌<◌, ◌∙◌, sym, refl, length, get_or, slice_set}
-use Rattle.qx_machine.specs.Rows.{row_at}
+use Rattle.qx_isolation.specs.Rows.{row_at}
 use Rattle.qx_process.proofs.RowLemmas.{set-same, row_at-place}
 use Rattle.qx_files.proofs.contents.Contents.get_mut.Goals as goal
 

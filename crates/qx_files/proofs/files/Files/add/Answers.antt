@@ -3,7 +3,7 @@ use Rattle.std.specs.List.{sum_by}
 use Rattle.qx_files.specs.Files.{Kept, with_nothing}
 use Rattle.qx_files.specs.inner.Kept.{files_of, kept_of}
 use Rattle.qx_machine.specs.Files.{size_of}
-use Rattle.qx_machine.specs.Rows.{row_at}
+use Rattle.qx_isolation.specs.Rows.{row_at}
 use Rattle.qx_files.proofs.KeptLemmas.{files-put, kept-put}
 use Rattle.qx_files.proofs.SizeLemmas.{total_new}
 use Rattle.qx_files.proofs.files.Files.add.Goals as goal

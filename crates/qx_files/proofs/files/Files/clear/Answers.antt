@@ -2,7 +2,7 @@ use Rattle.std.proofs.Common.{◌≡◌, false, true, [], None, Some, subst, ap,
 use Rattle.std.specs.List.{sum_by}
 use Rattle.std.specs.Prelude.{IsSome, option_map}
 use Rattle.qx_machine.specs.Files.{size_of}
-use Rattle.qx_machine.specs.Rows.{row_at}
+use Rattle.qx_isolation.specs.Rows.{row_at}
 use Rattle.qx_files.specs.Blocks.{Held, nothing}
 use Rattle.qx_files.specs.Files.{Kept, with_nothing}
 use Rattle.qx_files.specs.inner.Kept.{files_of}

@@ -2,8 +2,8 @@ use Rattle.std.proofs.Common.{◌≡◌, None, Some, ap, arith, slice_set, sym, 
 use Rattle.std.specs.List.{sum_by}
 use Rattle.std.specs.Prelude.{option_map}
 use Rattle.qx_machine.specs.Files.{size_of}
-use Rattle.qx_machine.specs.Rows.{row_at}
-use Rattle.qx_machine.proofs.Places.{set-row_at}
+use Rattle.qx_isolation.specs.Rows.{row_at}
+use Rattle.qx_isolation.proofs.Places.{set-row_at}
 use Rattle.qx_files.specs.Blocks.{Held}
 use Rattle.qx_files.specs.Files.{without}
 use Rattle.qx_files.specs.inner.Kept.{files_of, kept_of}

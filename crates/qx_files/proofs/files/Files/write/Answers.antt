@@ -2,7 +2,7 @@ use Rattle.std.proofs.Common.{◌≡◌, Bool, List, ap, arith, length, subst, s
 use Rattle.std.proofs.lemmas.Result.{err_from_is_err_and}
 use Rattle.std.specs.List.{sum_by}
 use Rattle.std.specs.Prelude.{IsSomeAnd}
-use Rattle.qx_machine.specs.Rows.{row_at}
+use Rattle.qx_isolation.specs.Rows.{row_at}
 use Rattle.qx_machine.specs.Files.{put, size_of, total_size}
 use Rattle.qx_files.specs.Blocks.{LacksBlock}
 use Rattle.qx_files.specs.Files.{Kept, blocks_pasted, pasted}

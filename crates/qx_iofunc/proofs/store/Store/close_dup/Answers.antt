@@ -1,6 +1,6 @@
 use Rattle.qx_iofunc.proofs.StoreLemmas.{close_dup_fits}
 use Rattle.qx_machine.specs.Inodes.{is_shared}
-use Rattle.qx_machine.specs.Rows.{row_at}
+use Rattle.qx_isolation.specs.Rows.{row_at}
 use Rattle.qx_iofunc.proofs.store.Store.close_dup.Goals as goal
 
 pub invariant_of-self : goal.invariant_of-self

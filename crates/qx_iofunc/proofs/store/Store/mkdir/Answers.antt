@@ -3,7 +3,7 @@ use Rattle.qx_iofunc.proofs.OpenLemmas.{MakesDirectory, at_spot, makes_directory
 use Rattle.qx_iofunc.proofs.StoreLemmas.{StoreFits, made_fits, number_fresh}
 use Rattle.qx_iofunc.specs.Store.{Stored}
 use Rattle.qx_machine.specs.declared.rows.Kind.TheVariants.{Directory}
-use Rattle.qx_machine.specs.Rows.{row_at}
+use Rattle.qx_isolation.specs.Rows.{row_at}
 use Rattle.qx_names.specs.Paths.{HasNoPath}
 use Rattle.qx_names.specs.Spots.{spot_of}
 use Rattle.qx_types.specs.declared.errno.Errno.TheVariants.{EEXIST}

@@ -10,7 +10,7 @@ use Rattle.qx_iofunc.specs.Given as given
 use Rattle.qx_machine.specs.declared.rows.NewOpen.{NewOpen}
 use Rattle.qx_machine.specs.Defaults.{open_existing}
 use Rattle.qx_machine.specs.Inodes.{block_number, open_block}
-use Rattle.qx_machine.specs.Rows.{row_at}
+use Rattle.qx_isolation.specs.Rows.{row_at}
 use Rattle.qx_iofunc.proofs.store.Store.open_existing.Goals as goal
 use Rattle.qx_iofunc.proofs.store.Store.open_existing.Goals.{Joined-contains, then-contains+then-contains-2, else-contains, else-contains-via-then-contains+else-contains-2, else-contains-via-else-contains}
 

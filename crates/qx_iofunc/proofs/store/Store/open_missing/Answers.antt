@@ -11,7 +11,7 @@ use Rattle.qx_iofunc.specs.inner.Store.{with_made}
 use Rattle.qx_machine.specs.declared.rows.NewOpen.{NewOpen}
 use Rattle.qx_machine.specs.Defaults.{open_missing}
 use Rattle.qx_machine.specs.Inodes.{open_block}
-use Rattle.qx_machine.specs.Rows.{row_at}
+use Rattle.qx_isolation.specs.Rows.{row_at}
 use Rattle.qx_names.specs.Paths.{HasNoPath}
 use Rattle.qx_names.specs.Spots.{spot_of}
 use Rattle.qx_iofunc.proofs.store.Store.open_missing.Goals.{In_ok-make, In_ok-reserve}

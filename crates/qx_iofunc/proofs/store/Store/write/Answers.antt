@@ -2,7 +2,7 @@ use Rattle.std.proofs.Common.{◌≡◌, ℕ, List}
 use Rattle.qx_iofunc.proofs.StoreLemmas.{StoreFits, changed_fits, changed_is}
 use Rattle.qx_iofunc.specs.Store.{Stored}
 use Rattle.qx_machine.specs.Files.{put, size_of}
-use Rattle.qx_machine.specs.Rows.{row_at, with_row}
+use Rattle.qx_isolation.specs.Rows.{row_at, with_row}
 use Rattle.qx_iofunc.proofs.store.Store.write.Goals as goal
 
 pub invariant_of-self-2 : goal.invariant_of-self-2

@@ -1,6 +1,6 @@
 use Rattle.std.proofs.Common.{◌≡◌, ◌<◌, length}
 use Rattle.qx_machine.specs.Events.{without_pulses}
-use Rattle.qx_machine.specs.Lines.{line_at}
+use Rattle.qx_isolation.specs.Lines.{line_at}
 use Rattle.qx_notify.specs.Events.{events_of, with_events}
 use Rattle.qx_notify.proofs.all.AllEvents.clear.Given as goal
 

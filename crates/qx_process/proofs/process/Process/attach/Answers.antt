@@ -2,8 +2,8 @@ use Rattle.std.proofs.Common.{◌≡◌, ◌≢◌, ℕ, Bool, List, Option, Non
 use Rattle.qx_types.specs.Managers.{manager_number}
 use Rattle.qx_types.specs.declared.names.Manager.{Manager}
 use Rattle.qx_machine.specs.declared.rows.Connection.{Connection}
-use Rattle.qx_machine.specs.Lines.{with_line}
-use Rattle.qx_machine.specs.Rows.{put_row, row_at}
+use Rattle.qx_isolation.specs.Lines.{with_line}
+use Rattle.qx_isolation.specs.Rows.{put_row, row_at}
 use Rattle.qx_machine.specs.Servers.{is_attached, servers_from, servers_while}
 use Rattle.qx_process.proofs.AttachLemmas.{one_changes, put_elsewhere, put_here, stays_settled, uses}
 use Rattle.qx_process.proofs.process.Process.attach.Goals as goal

@@ -2,8 +2,8 @@ use Rattle.std.specs.Prelude.{slice_set}
 use Rattle.std.proofs.Common.{◌≡◌, ◌≢◌, ℕ, Bool, List, Option, Some, None, refl, sym, ap, ◌∙◌}
 use Rattle.qx_types.specs.Managers.{manager_number}
 use Rattle.qx_types.specs.declared.names.Manager.{Manager}
-use Rattle.qx_machine.specs.Lines.{with_line}
-use Rattle.qx_machine.specs.Rows.{row_at}
+use Rattle.qx_isolation.specs.Lines.{with_line}
+use Rattle.qx_isolation.specs.Rows.{row_at}
 use Rattle.qx_machine.specs.Servers.{is_attached, servers_from, servers_while}
 use Rattle.qx_process.proofs.AttachLemmas.{one_changes, side_elsewhere, side_more, stays_settled, uses}
 use Rattle.qx_process.proofs.process.Process.attach_side.Goals as goal

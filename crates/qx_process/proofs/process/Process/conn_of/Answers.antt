@@ -1,7 +1,7 @@
 use Rattle.std.proofs.Common.{◌≡◌, Option, Some, None, IfSome, sym, ◌∙◌, ap, true, Bor}
 use Rattle.std.specs.Option.{option_copied}
 use Rattle.qx_machine.specs.declared.rows.Connection.{Connection}
-use Rattle.qx_machine.specs.Rows.{row_at}
+use Rattle.qx_isolation.specs.Rows.{row_at}
 use Rattle.qx_process.specs.Reads.{is_served}
 use Rattle.qx_process.proofs.AttachLemmas.{connection_served}
 use Rattle.qx_process.proofs.process.Process.conn_of.Goals as goal

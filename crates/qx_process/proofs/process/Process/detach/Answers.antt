@@ -4,8 +4,8 @@ use Rattle.std.proofs.Common.{◌≡◌, ◌≢◌, ℕ, Bool, List, Option, Som
 use Rattle.qx_types.specs.Managers.{manager_number}
 use Rattle.qx_types.specs.declared.names.Manager.{Manager}
 use Rattle.qx_machine.specs.declared.rows.Connection.{Connection}
-use Rattle.qx_machine.specs.Lines.{with_line}
-use Rattle.qx_machine.specs.Rows.{row_at}
+use Rattle.qx_isolation.specs.Lines.{with_line}
+use Rattle.qx_isolation.specs.Rows.{row_at}
 use Rattle.qx_machine.specs.Servers.{is_attached, servers_from, servers_while}
 use Rattle.qx_process.proofs.AttachLemmas.{freed_elsewhere, freed_fewer, loses, nothing_freed, one_changes, stays_settled}
 use Rattle.qx_process.proofs.process.Process.detach.Goals as goal

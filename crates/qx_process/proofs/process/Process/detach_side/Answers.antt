@@ -2,8 +2,8 @@ use Rattle.std.specs.Prelude.{slice_set}
 use Rattle.std.proofs.Common.{◌≡◌, ◌≢◌, ℕ, Bool, List, Option, Some, None, refl, sym, ap, ◌∙◌}
 use Rattle.qx_types.specs.Managers.{manager_number}
 use Rattle.qx_types.specs.declared.names.Manager.{Manager}
-use Rattle.qx_machine.specs.Lines.{with_line}
-use Rattle.qx_machine.specs.Rows.{row_at}
+use Rattle.qx_isolation.specs.Lines.{with_line}
+use Rattle.qx_isolation.specs.Rows.{row_at}
 use Rattle.qx_machine.specs.Servers.{is_attached, servers_from, servers_while}
 use Rattle.qx_process.proofs.AttachLemmas.{loses, nothing_freed, one_changes, side_fewer, side_freed_elsewhere, stays_settled}
 use Rattle.qx_process.proofs.process.Process.detach_side.Goals as goal

@@ -1,6 +1,6 @@
 use Rattle.std.proofs.Common.{◌≡◌, Option, Some, None, IfSome, sym, ◌∙◌, true}
 use Rattle.qx_types.specs.declared.names.Manager.{Manager}
-use Rattle.qx_machine.specs.Rows.{row_at}
+use Rattle.qx_isolation.specs.Rows.{row_at}
 use Rattle.qx_process.specs.Reads.{is_served}
 use Rattle.qx_process.proofs.AttachLemmas.{side_served}
 use Rattle.qx_process.proofs.process.Process.side.Goals as goal

@@ -1,6 +1,6 @@
 use Rattle.std.proofs.Common.{rules, ◌≡◌, ◌<◌, ◌≤◌, ◌∙◌, sym, refl, length, get_or, slice_set}
 use Rattle.qx_types.specs.declared.limits.TheConstants.Limits.{PROCESSES}
-use Rattle.qx_machine.specs.Rows.{row_at}
+use Rattle.qx_isolation.specs.Rows.{row_at}
 use Rattle.qx_process.proofs.RowLemmas.{set-same, row_at-place}
 use Rattle.qx_procs.proofs.LendLemmas.{if_there}
 use Rattle.qx_procs.proofs.processes.Processes.process_mut.Goals as goal

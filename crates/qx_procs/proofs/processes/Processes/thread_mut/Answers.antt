@@ -1,5 +1,5 @@
 use Rattle.std.proofs.Common.{◌≡◌, refl, sym, Some}
-use Rattle.qx_machine.specs.Rows.{row_at}
+use Rattle.qx_isolation.specs.Rows.{row_at}
 use Rattle.qx_process.proofs.RowLemmas.{set-row}
 use Rattle.qx_procs.proofs.processes.Processes.thread_mut.Goals as goal
 

@@ -3,7 +3,7 @@ use Rattle.std.proofs.lemmas.List.{length-map, length-set}
 use Rattle.std.proofs.lemmas.Option.{slice_get_read}
 use Rattle.qx_types.specs.Managers.{manager_number}
 use Rattle.qx_types.specs.declared.names.TheConstants.Manager.{COUNT}
-use Rattle.qx_machine.specs.Lines.{into, with_line}
+use Rattle.qx_isolation.specs.Lines.{into, with_line}
 use Rattle.qx_machine.specs.Machine.{rank}
 use Rattle.qx_queues.specs.Queues.{disconnect_of}
 use Rattle.qx_queues.specs.inner.Kept.{entries, named}

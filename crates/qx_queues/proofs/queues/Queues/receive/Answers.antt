@@ -4,7 +4,7 @@ use Rattle.std.proofs.lemmas.Option.{same_Some, slice_get_read}
 use Rattle.qx_types.specs.declared.names.TheConstants.Manager.{COUNT}
 use Rattle.qx_types.specs.declared.names.Thread.{Thread}
 use Rattle.qx_lines.proofs.LineFacts.{nodes_in-distinct}
-use Rattle.qx_machine.specs.Lines.{line_at}
+use Rattle.qx_isolation.specs.Lines.{line_at}
 use Rattle.qx_queues.specs.Queues.{IsGone, nodes_freed, nodes_freed_by, pulse_call, sender, sender_of, unblock_call}
 use Rattle.qx_queues.specs.inner.Kept.{entries, entry_of_node, owner_in}
 use Rattle.qx_queues.specs.Nodes.{Unblock}

@@ -2,7 +2,7 @@ use Rattle.std.proofs.Common.{◌≡◌, ◌+◌, ◌∙◌, [], inl, inr, ap, a
 use Rattle.std.specs.FinMap as maps
 use Rattle.std.proofs.lemmas.Bool.{cases_lt}
 use Rattle.qx_types.specs.declared.limits.TheConstants.Limits.{THREADS}
-use Rattle.qx_machine.specs.Lines.{line_at}
+use Rattle.qx_isolation.specs.Lines.{line_at}
 use Rattle.qx_queues.specs.Queues.{has_answer_among, has_call, has_thread_nodes, stands, unblock_call, without_nodes_below, without_process_nodes}
 use Rattle.qx_queues.proofs.PresenceLemmas.{gone-below, same-below, threads-nodes}
 use Rattle.qx_queues.proofs.queues.Queues.remove_process.Goals as goal

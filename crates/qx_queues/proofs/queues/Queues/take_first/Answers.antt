@@ -1,7 +1,7 @@
 use Rattle.std.proofs.Common.{◌≡◌, ◌∙◌, ℕ, Some, ap, ap₂, option_map, unwrap_or, refl, sym}
 use Rattle.std.specs.FinMap as maps
 use Rattle.qx_lists.specs.Table.{Table, nodes_of}
-use Rattle.qx_machine.specs.declared.rows.Queued.{Queued}
+use Rattle.qx_isolation.specs.declared.rows.Queued.{Queued}
 use Rattle.qx_machine.specs.declared.rows.WaitingCall.{WaitingCall}
 use Rattle.qx_queues.specs.inner.Kept.{call_at, nobodys, users_call_carried as call_with, waiting_of_node}
 use Rattle.qx_queues.specs.Nodes.{Message, node_of}

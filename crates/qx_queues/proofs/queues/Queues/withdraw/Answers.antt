@@ -7,8 +7,8 @@ use Rattle.qx_lists.proofs.ListLemmas.{absent_without, contains_without}
 use Rattle.qx_lists.specs.Table.{without}
 use Rattle.qx_lines.specs.Line.{nodes_in}
 use Rattle.qx_lines.proofs.LineFacts.{nodes_in-distinct}
-use Rattle.qx_machine.specs.declared.rows.OwnItem.TheVariants as item
-use Rattle.qx_machine.specs.Lines.{with_line}
+use Rattle.qx_isolation.specs.declared.rows.OwnItem.TheVariants as item
+use Rattle.qx_isolation.specs.Lines.{with_line}
 use Rattle.qx_machine.specs.Machine.{line_without}
 use Rattle.qx_queues.specs.Queues.{as_message, stands}
 use Rattle.qx_queues.specs.inner.Kept.{entries, entry_of_node}

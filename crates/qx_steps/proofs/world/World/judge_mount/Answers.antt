@@ -1,9 +1,9 @@
 use Rattle.std.proofs.Common.{rules, ◌≡◌, true, refl, sym, ap, ◌∙◌}
 use Rattle.qx_types.specs.Configuration.{name_bytes}
 use Rattle.qx_paths.specs.Mounts.{mounts_of}
-use Rattle.qx_machine.specs.Judgements.{or_refused}
+use Rattle.qx_isolation.specs.Judgements.{or_refused}
 use Rattle.qx_machine.specs.Mounting.{new_mount}
-use Rattle.qx_machine.specs.Rows.{row_at}
+use Rattle.qx_isolation.specs.Rows.{row_at}
 use Rattle.qx_resources.specs.Mounts as mounts
 use Rattle.qx_resources.specs.State.{told}
 use Rattle.qx_chan.specs.Channel.{lists}

@@ -1,7 +1,7 @@
 use Rattle.std.proofs.Common.{◌≡◌, Ok, refl, rules}
 use Rattle.std.specs.Option.{option_copied}
 use Rattle.qx_machine.specs.Machine.{item_to_do}
-use Rattle.qx_machine.specs.Rows.{row_at}
+use Rattle.qx_isolation.specs.Rows.{row_at}
 use Rattle.qx_chan.proofs.RowReads.{row_within}
 use Rattle.qx_steps.specs.inner.Parts.{world_of}
 use Rattle.qx_steps.proofs.PerformLemmas.{performed, performed-quiet, performed-sound}

@@ -5,17 +5,17 @@ use Rattle.std.proofs.lemmas.List.{map-set}
 use Rattle.std.proofs.lemmas.Bool.{cond_both}
 use Rattle.std.proofs.lemmas.Bool.Decides.{nat_tests}
 use Rattle.std.proofs.lemmas.List.Elements.{All-cons, All-head, All-tail, All-set}
-use Rattle.qx_machine.specs.declared.rows.Held.{Held}
-use Rattle.qx_machine.specs.declared.rows.OwnItem.{OwnItem}
-use Rattle.qx_machine.specs.declared.rows.Queued.{Queued}
-use Rattle.qx_machine.specs.Laws.{IsInOrder}
-use Rattle.qx_machine.specs.Machine.{rank, queued_item, line_without, is_same_item, changed_manager, line_after, lines_after, own_line, own_held, own_hand}
+use Rattle.qx_isolation.specs.declared.rows.Held.{Held}
+use Rattle.qx_isolation.specs.declared.rows.OwnItem.{OwnItem}
+use Rattle.qx_isolation.specs.declared.rows.Queued.{Queued}
+use Rattle.qx_isolation.specs.System.{IsInOrder}
+use Rattle.qx_isolation.specs.System.{rank, queued_item, line_without, is_same_item, changed_manager, line_after, lines_after, own_line, own_held, own_hand}
 use Rattle.qx_types.specs.Managers.{manager_number}
-use Rattle.qx_machine.specs.Lines.{line_at, with_line}
-use Rattle.qx_machine.specs.Rows.{row_at}
-use Rattle.qx_machine.specs.Parts.{Change, Put, Remove}
-use Rattle.qx_machine.proofs.Orders.{filter-into, filter-into_other, in_order_into, in_order_none, in_order_rest, in_order_first, in_order_cons}
-use Rattle.qx_machine.proofs.Places.{at-map, map-set_unseen}
+use Rattle.qx_isolation.specs.Lines.{line_at, with_line}
+use Rattle.qx_isolation.specs.Rows.{row_at}
+use Rattle.qx_isolation.specs.System.{Change, Put, Remove}
+use Rattle.qx_isolation.proofs.Orders.{filter-into, filter-into_other, in_order_into, in_order_none, in_order_rest, in_order_first, in_order_cons}
+use Rattle.qx_isolation.proofs.Places.{at-map, map-set_unseen}
 
 -- each line is in order of priority
 abbrev pub AreInOrder : List (List Queued) → Type 0

@@ -5,8 +5,8 @@ use Rattle.std.proofs.lemmas.Bool.{cond_both, ltb-true, ltb-false}
 use Rattle.std.proofs.lemmas.Bool.Decides.{nat_tests}
 use Rattle.std.proofs.lemmas.List.Elements.{All-nil, All-cons, All-head, All-tail, All-filter, All-weaker}
 use Rattle.std.proofs.lemmas.List.Kept.{AllPairs-cons}
-use Rattle.qx_machine.specs.Laws.{IsInOrder}
-use Rattle.qx_machine.specs.Lines.{into}
+use Rattle.qx_isolation.specs.System.{IsInOrder}
+use Rattle.qx_isolation.specs.Lines.{into}
 use lib.Dec.{ltb}
 
 module _ {A : Type 0} (rank : A → ℕ) where

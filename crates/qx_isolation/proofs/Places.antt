@@ -3,7 +3,7 @@ use Rattle.std.proofs.Common.{◌≡◌, ◌≢◌, ◌⊎◌, inl, inr, ℕ, ze
 use Rattle.std.specs.Prelude.{Option, Some, None, slice_get, slice_set, map, unwrap_or}
 use Rattle.std.proofs.lemmas.List.{set-get_or, get_or-set_other, get_or-drop}
 use Rattle.std.proofs.lemmas.Option.{unwrap_or-slice_get}
-use Rattle.qx_machine.specs.Rows.{row_at, taken_places, lowest_from}
+use Rattle.qx_isolation.specs.Rows.{row_at, taken_places, lowest_from}
 
 module _ {A : Type 0} where
   pub row_at-set_other : (places : List (Option A)) (i j : ℕ) (row : Option A) → j ≢ i → row_at (slice_set places i row) j ≡ row_at places j

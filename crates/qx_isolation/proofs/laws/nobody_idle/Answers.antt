@@ -1,0 +1,5 @@
+use Rattle.qx_isolation.proofs.Steps.{step_idle}
+use Rattle.qx_isolation.proofs.laws.nobody_idle.Goals as goal
+
+pub returns : goal.returns
+returns g c b = step_idle

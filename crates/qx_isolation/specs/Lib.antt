@@ -1,0 +1,5 @@
+pub mod Judgements
+pub mod Lines
+pub mod Rows
+pub mod System
+pub mod Tally
