@@ -1,5 +1,5 @@
 -- A system whose rows of a user are one number: how many steps the user's processes took and how many of the user's items were done.
-use Rattle.std.specs.Prelude.{ℕ, ◌+◌, List, [], ◌∷◌}
+use Rattle.std.specs.Prelude.{ℕ, ◌+◌, [], ◌∷◌}
 use Rattle.qx_types.specs.declared.names.Manager.TheVariants.{Ram}
 use Rattle.qx_types.specs.declared.outcome.Outcome.TheVariants.{Reply}
 use Rattle.qx_isolation.specs.declared.rows.OwnItem.TheVariants.{Message}
