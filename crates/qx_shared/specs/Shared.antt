@@ -12,7 +12,7 @@ use Rattle.qx_types.specs.declared.names.TheConstants.Manager.{COUNT}
 use Rattle.qx_types.specs.declared.names.Thread.{Thread}
 use Rattle.qx_types.specs.declared.outcome.Answer.{Answer}
 use Rattle.qx_types.specs.declared.outcome.Answer.TheVariants.{Reply}
-use Rattle.qx_machine.specs.contracts.rows.Queued as queued_row
+use Rattle.qx_isolation.specs.contracts.rows.Queued as queued_row
 use Rattle.qx_machine.specs.contracts.rows.WaitingCall as call_row
 use Rattle.qx_isolation.specs.declared.rows.Queued.{Queued}
 use Rattle.qx_isolation.specs.declared.rows.ServerName.{ServerName}
