@@ -329,6 +329,7 @@ freed_sound mounts server process h = record {
   served = freed_served process server h.served;
   sends = quiet_sends mounts process (without_server server process) (record { was = λ t target is. is; same = λ t target is coid over. refl }) h.sends;
   room = h.room;
+  numbered = h.numbered;
 }
 
 -- other server connections are there still
@@ -554,7 +555,7 @@ module _ (part : Part) (stands : Stands part) (h : Clientele part) where
   mounted_clientele : (mount : MountPoint) → MayHappen (Mounts mount) part.resources → Clientele (record part { resources = with_mount mount part.resources })
   mounted_clientele mount may = record {
     kinds = mount_kinds part.resources stands.holds h.kinds mount may;
-    sound = λ number process there. let was = h.sound number process there in record { served = was.served; sends = mounted_sends part.resources.mounts _ process was.sends; room = was.room };
+    sound = λ number process there. let was = h.sound number process there in record { served = was.served; sends = mounted_sends part.resources.mounts _ process was.sends; room = was.room; numbered = was.numbered };
     has = record { clients = h.has.clients };
   }
 

@@ -1,8 +1,9 @@
 -- A user's armed events and untaken pulses together are no more than there may be, and each process has a queue for its pulses, whatever happens.
-use Rattle.std.proofs.Common.{◌≡◌, inl, inr, ℕ, zero, suc, ◌+◌, ◌≤◌, Bool, false, not, List, [], ◌∷◌, ◌++◌, length, drop, refl, sym, ap, ◌∙◌, subst, arith, length-append, length-drop}
+use Rattle.std.proofs.Common.{◌≡◌, inl, inr, ℕ, zero, suc, ◌+◌, ◌<◌, ◌≤◌, ◌==◌, Bool, true, false, not, List, [], ◌∷◌, ◌++◌, length, map, drop, refl, sym, ap, ◌∙◌, subst, arith, length-append, length-drop}
 use Rattle.std.specs.Prelude.{◌&&◌, filter, nat_lt, sum_by}
 use Rattle.std.proofs.Math.ListN.{length-set}
-use Rattle.std.proofs.lemmas.Bool.{cases_Bool, cond_both, ltb-true}
+use Rattle.std.proofs.lemmas.Bool.{cases_Bool, cases_eq, cond_both, eq-eqb, eqb-true, ltb-true, ne_eqb}
+use Rattle.std.proofs.lemmas.List.{append_assoc, append-nil}
 use Rattle.std.proofs.lemmas.List.Filters.{length-filter_both}
 use Rattle.std.proofs.lemmas.List.Sums.{sum_by-cons}
 use Rattle.qx_types.specs.declared.errno.Errno.TheVariants.{EAGAIN}
@@ -17,9 +18,11 @@ use Rattle.qx_machine.specs.Defaults.{without_block, without_unused}
 use Rattle.qx_machine.specs.Events.{Events, Notified, arm_event, arming, disarmed, event_count, is_any, is_due, is_on, notified, pulse_of, triggered, wanted_of, with_pulse, with_pulses, without_first_pulse, without_pulses}
 use Rattle.qx_machine.specs.Inodes.{new_attribute}
 use Rattle.qx_isolation.specs.Judgements.{need}
-use Rattle.qx_isolation.specs.Lines.{with_line}
+use Rattle.qx_isolation.specs.Lines.{line_at, with_line}
 use Rattle.qx_machine.specs.Names.{under}
 use Rattle.qx_machine.specs.Resources.{Resources}
+use Rattle.qx_process.proofs.ServerLemmas.{line_at-here, line_at-other}
+use Rattle.qx_invariants.specs.Holds.{due_pulses}
 use Rattle.qx_invariants.specs.Changes.{AreKept, Closes, Comes, MayHappen, Notifies, ResourceChange, Unlinks, with_change, with_named, with_unlinked}
 use Rattle.qx_machine.proofs.Gives.{Gives, gives_by, gives_done, gives_on, need-true}
 use Rattle.qx_invariants.proofs.Rows.{content_cases, empty_cases, freed, unused_cases}
@@ -112,6 +115,61 @@ module _ (lives : ℕ → Bool) (before after : ℕ → Conditions) (events : Ev
 
   pub triggered-kept : AreKept events (triggered lives before after events)
   triggered-kept = record { few = inl triggered-fewer; queues = given-queues (λ event. is_due before after event && lives event.process) after events.armed events.pulses }
+
+-- ---- whose pulses
+
+abbrev its-pulse : (ℕ → Conditions) → Event → Pulse
+its-pulse after event = pulse_of event (after event.block)
+
+-- behind a process' queue come the pulses of its events that give some
+given-queue : (gives : Event → Bool) (after : ℕ → Conditions) (process : ℕ) (events : List Event) (pulses : List (List Pulse)) → process < length pulses
+    → line_at (with_pulses gives after events pulses) process ≡ line_at pulses process ++ map (its-pulse after) (filter (λ event. gives event && (event.process == process)) events)
+given-queue gives after process [] pulses here = sym (append-nil (line_at pulses process))
+given-queue gives after process (event ∷ events) pulses here = elim (cases_Bool (gives event)) [
+  | inl is ↦
+      let new = its-pulse after event in
+      let more : List Pulse → List Pulse = λ queue. queue ++ new ∷ [] in
+      let others = map (its-pulse after) (filter (λ other. gives other && (other.process == process)) events) in
+      let long = line-length pulses event.process more in
+      let rest = given-queue gives after process events (with_pulse event.process new pulses) (omega (arith, here, long)) in
+      elim (cases_eq event.process process) [
+        | inl same ↦
+            let own : line_at (with_pulse event.process new pulses) process ≡ line_at pulses process ++ new ∷ [] =
+            subst (λ number. line_at (with_pulse event.process new pulses) number ≡ line_at pulses number ++ new ∷ []) same (line_at-here pulses event.process more (omega (arith, here, same))) in
+            rw (is, eq-eqb event.process process same) (rest ∙ (ap (λ queue. queue ++ others) own ∙ append_assoc (line_at pulses process) (new ∷ []) others))
+        | inr apart ↦
+            rw (is, ne_eqb event.process process apart) (rest ∙ ap (λ queue. queue ++ others) (line_at-other pulses event.process process more (λ same. apart (sym same))))
+      ]
+  | inr not_so ↦ rw not_so (given-queue gives after process events pulses here)
+]
+
+module _ (lives : ℕ → Bool) (before after : ℕ → Conditions) (events : Events) (process : ℕ) (here : process < length events.pulses) where
+  all : line_at (triggered lives before after events).pulses process ≡ line_at events.pulses process ++ map (its-pulse after) (filter (λ event. (is_due before after event && lives event.process) && (event.process == process)) events.armed)
+  all = given-queue (λ event. is_due before after event && lives event.process) after process events.armed events.pulses here
+
+  pub living-queue : lives process ≡ true → line_at (triggered lives before after events).pulses process ≡ line_at events.pulses process ++ due_pulses before after process events.armed
+  living-queue alive =
+      all ∙ (λ i. line_at events.pulses process ++ map (its-pulse after) (filter (λ event. by (is_due before after event) (lives event.process) (event.process == process) (λ own. ap lives (eqb-true event.process process own) ∙ alive) i) events.armed))
+    where
+      by : (due alive own : Bool) → (own ≡ true → alive ≡ true) → ((due && alive) && own) ≡ (due && own)
+      by false alive own follows = refl
+      by true true own follows = refl
+      by true false false follows = refl
+      by true false true follows = let clash : false ≡ true = follows refl in absurd (cc)
+
+  pub ended-queue : lives process ≡ false → line_at (triggered lives before after events).pulses process ≡ line_at events.pulses process
+  ended-queue gone =
+      all ∙ (ap (λ own. line_at events.pulses process ++ map (its-pulse after) own) (none events.armed) ∙ append-nil (line_at events.pulses process))
+    where
+      by : (due alive own : Bool) → (own ≡ true → alive ≡ false) → ((due && alive) && own) ≡ false
+      by false alive own follows = refl
+      by true false own follows = refl
+      by true true false follows = refl
+      by true true true follows = let clash : true ≡ false = follows refl in absurd (cc)
+
+      none : (armed : List Event) → filter (λ event. (is_due before after event && lives event.process) && (event.process == process)) armed ≡ []
+      none [] = refl
+      none (event ∷ armed) = rw (by (is_due before after event) (lives event.process) (event.process == process) (λ own. ap lives (eqb-true event.process process own) ∙ gone)) (none armed)
 
 -- ---- whatever happens
 

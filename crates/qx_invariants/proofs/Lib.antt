@@ -46,6 +46,8 @@ pub mod Served
 pub mod Sending
 -- what lasts, and what goes with a client
 pub mod Lasting
+-- numbers of connections, and how many there are
+pub mod Numbers
 -- processes, as messages are sent and served
 pub mod Sound
 -- clients of what is open

@@ -158,7 +158,7 @@ module _ (part : Part) (named : Client → ℕ) (well : StandsWell part) (h : Co
     -- its new connection has nothing open
     sent_moved : (over : Over) → sent.target.over ≡ over → Moved part.resources number (sending over) part.resources
     sent_moved (New coid) is =
-        let free : row_at can.process.connections coid.0 ≡ None = ap (row_at can.process.connections) (can.addressed.free coid (ap new_coid is)) ∙ lowest_from_free FIRST_CONNECTION can.process.connections in
+        let free : row_at can.process.connections coid.0 ≡ None = ap (row_at can.process.connections) (can.addressed.free coid (ap new_coid is)).lowest ∙ lowest_from_free FIRST_CONNECTION can.process.connections in
         kept_moved part named h number can.process can.process_there lives its_sound.served (sending (New coid)) (again (New coid)) part.resources h.waiters (λ which. refl)
         (λ c connection which at has. elim (row-put can.process.connections coid.0 (unopened_at sent.target) free c) [
           | inl same ↦ sym same ∙ at

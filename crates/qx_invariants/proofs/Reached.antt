@@ -10,7 +10,7 @@ use Rattle.qx_wire.specs.Rests.{is_component, is_dots, is_name_byte}
 use Rattle.qx_machine.specs.Listings.{HasSizedNames, IsZeroFree}
 use Rattle.qx_machine.specs.Names.{names_behind, fitting, listed, listing, names_in}
 use Rattle.qx_machine.specs.Resources.{Resources}
-use Rattle.qx_invariants.specs.Holds.{HasClients, HasConnections, HasKinds, HasOwnWaiters, HasTree, HasContents, HasMounts, HasOpenWaiters, HasRoom, HasSettledPipes, HasUses, HoldsInRuns, HoldsOfParts, IsOwnedBy}
+use Rattle.qx_invariants.specs.Holds.{HasClients, HasConnections, HasFewConnections, HasKinds, HasOwnWaiters, HasTree, HasContents, HasMounts, HasOpenWaiters, HasRoom, HasSettledPipes, HasUses, HoldsInRuns, HoldsOfParts, IsOwnedBy}
 use Rattle.qx_invariants.proofs.Keys.{all_names}
 use Rattle.qx_types.specs.Configuration.{Configuration, name_bytes}
 use Rattle.qx_types.specs.declared.step.Step.{Step}
@@ -29,6 +29,7 @@ use Rattle.qx_invariants.proofs.Together.{Holds, boot_holds, boot_owned}
 use Rattle.qx_invariants.proofs.Rooms.{owner-keeps, room-keeps}
 use Rattle.qx_invariants.proofs.Clients.{StandsWell, well_boot, well_kept}
 use Rattle.qx_invariants.proofs.Once.{Stands}
+use Rattle.qx_invariants.proofs.Numbers.{few_connections}
 use Rattle.qx_invariants.proofs.Items.{pulses, run-holds-with}
 use Rattle.qx_invariants.proofs.Linked.{WellConnected, connected_boot, connected_kept}
 use Rattle.qx_invariants.proofs.Remaining.{served_or_held, waiting_served}
@@ -147,6 +148,9 @@ run_connected config steps user part there = run-holds-with (λ user. WellConnec
 
 pub run_connections : HoldsOfParts HasConnections
 run_connections config steps user part there = (run_connected config steps user part there).connected.has
+
+pub run_few_connections : HoldsOfParts HasFewConnections
+run_few_connections config steps user part there = few_connections part (λ number process at. ((run_well config steps user part there).clientele.sound number process at).numbered) (run_connections config steps user part there)
 
 pub run_own_waiters : HoldsInRuns HasOwnWaiters
 run_own_waiters config steps user part there = (run_connected config steps user part there).connected.waiters

@@ -4,7 +4,7 @@ use Rattle.std.specs.Prelude.{Option, Some, None, is_none, option_map, slice_set
 use Rattle.std.proofs.Math.ListN.{length-set}
 use Rattle.std.proofs.lemmas.Bool.{cases_eq, cond_both}
 use Rattle.std.proofs.lemmas.Option.{same_Some}
-use Rattle.qx_types.specs.declared.limits.TheConstants.Limits.{FIRST_CONNECTION}
+use Rattle.qx_types.specs.declared.limits.TheConstants.Limits.{FIRST_CONNECTION, LAST_CONNECTION}
 use Rattle.qx_types.specs.declared.names.Coid.{Coid}
 use Rattle.qx_types.specs.declared.outcome.Answer.{Answer}
 use Rattle.qx_paths.specs.Prefixes.{MountPoint}
@@ -26,11 +26,12 @@ use Rattle.qx_isolation.specs.Rows.{put_row, row_at, with_row}
 use Rattle.qx_isolation.proofs.Places.{row_at-set_other}
 use Rattle.qx_attr.proofs.TableLemmas.{longer_put, row-put}
 use Rattle.qx_iofunc.proofs.PlaceLemmas.{put_at}
-use Rattle.qx_invariants.specs.Holds.{IsServer}
+use Rattle.qx_invariants.specs.Holds.{AreNumbered, IsServer}
 use Rattle.qx_invariants.proofs.Balances.{same_threads}
+use Rattle.qx_invariants.proofs.Numbers.{changed_numbered, closed_numbered, none_numbered}
 use Rattle.qx_invariants.proofs.Once.{over_changes}
 use Rattle.qx_invariants.proofs.Rows.{put_other, with_row-at, with_row-other, with_row-was}
-use Rattle.qx_invariants.proofs.Sending.{IsAddressed, IsQuiet, Quietens, Sends, Silences, connection_quiet, lowest_few, new_sends, quiet_sends, sending_sends, target_in, target_of, thread_quiet, unopened_at}
+use Rattle.qx_invariants.proofs.Sending.{IsAddressed, IsFree, IsQuiet, Quietens, Sends, Silences, connection_quiet, lowest_few, new_sends, quiet_sends, sending_sends, target_in, target_of, thread_quiet, unopened_at}
 use Rattle.qx_invariants.proofs.Served.{IsServed, KeepsServers, IsResettled, effect_resettled, ended_resettled, new_served, over_resettled, resettled_keeps, resettled_served, thread_resettled}
 
 -- ---- processes
@@ -41,6 +42,8 @@ pub record IsSound (mounts : List MountPoint) (process : Process) : Type 0 where
   pub sends : Sends mounts process
   -- numbers of connections begin with the first, unless it has ended
   pub room : has_ended process ≡ false → FIRST_CONNECTION ≤ length process.connections
+  -- none is numbered below the first or above the last
+  pub numbered : AreNumbered process.connections
 
 abbrev pub AllSound : List MountPoint → List (Option Process) → Type 0
 AllSound mounts processes = (number : ℕ) (process : Process) → row_at processes number ≡ Some process → IsSound mounts process
@@ -103,6 +106,7 @@ module _ (mounts : List MountPoint) where
     served = resettled_served process (with_thread thread change process) (thread_resettled process h.served thread change) h.served;
     sends = quiet_sends mounts process (with_thread thread change process) (thread_quiet process (with_thread thread change process) thread change refl refl quietens) h.sends;
     room = same_room process (with_thread thread change process) (same_threads thread change (with_thread thread change) (λ row. refl) process) (omega arith) h;
+    numbered = h.numbered;
   }
 
   -- a thread of one of them changes
@@ -142,13 +146,14 @@ module _ (mounts : List MountPoint) where
         let clash : Some block ≡ None = sym has ∙ ap (λ (c : Connection). c.block) alike in
         absurd (cc)
 
-    sound_by : (now : Process) → KeepsServers process now × IsServed now → now.threads ≡ with_row process.threads thread change → length process.connections ≤ length now.connections → IsQuiet process now → KeepsServers process now × IsSound mounts now
-    sound_by now servers threads longer quiet = (
+    sound_by : (now : Process) → KeepsServers process now × IsServed now → now.threads ≡ with_row process.threads thread change → length process.connections ≤ length now.connections → AreNumbered now.connections → IsQuiet process now → KeepsServers process now × IsSound mounts now
+    sound_by now servers threads longer numbered quiet = (
       servers.0,
       record {
         served = servers.1;
         sends = quiet_sends mounts process now quiet h.sends;
         room = same_room process now (ap (λ (rows : List (Option ThreadRow)). length rows) threads ∙ length-set process.threads thread _) longer h;
+        numbered = numbered;
       },
     )
 
@@ -158,17 +163,17 @@ module _ (mounts : List MountPoint) where
     -- its connections are the same
     unchanged_sound : (now : Process) → IsResettled process now → now.threads ≡ with_row process.threads thread change → now.connections ≡ process.connections → KeepsServers process now × IsSound mounts now
     unchanged_sound now again threads connections =
-        sound_by now (resettled now again) threads (let same = ap (λ (rows : List (Option Connection)). length rows) connections in omega (arith, same)) (thread_quiet process now thread change threads connections quietens)
+        sound_by now (resettled now again) threads (let same = ap (λ (rows : List (Option Connection)). length rows) connections in omega (arith, same)) (subst AreNumbered (sym connections) h.numbered) (thread_quiet process now thread change threads connections quietens)
 
     effect_sound : (given : Effect) → FitsEffect process target given → KeepsServers process (after_effect given (with_thread thread change process)) × IsSound mounts (after_effect given (with_thread thread change process))
     effect_sound effect.Keeps fits = unchanged_sound (with_thread thread change process) (thread_resettled process h.served thread change) refl refl
     effect_sound (effect.Opens coid number) fits =
         let now : Process = after_effect (effect.Opens coid number) (with_thread thread change process) in
-        sound_by now (resettled now (effect_resettled process h.served thread change (effect.Opens coid number))) refl (opened_long process.connections coid.0 number)
+        sound_by now (resettled now (effect_resettled process h.served thread change (effect.Opens coid number))) refl (opened_long process.connections coid.0 number) (changed_numbered process.connections coid.0 _ h.numbered)
         (connection_quiet process now thread change refl silences coid.0 (with_row-other process.connections coid.0 _) (not_own coid fits))
     effect_sound (effect.Closes coid) fits =
         let now : Process = after_effect (effect.Closes coid) (with_thread thread change process) in
-        sound_by now (resettled now (effect_resettled process h.served thread change (effect.Closes coid))) refl (closed_long process.connections coid.0)
+        sound_by now (resettled now (effect_resettled process h.served thread change (effect.Closes coid))) refl (closed_long process.connections coid.0) (closed_numbered process.connections coid.0 h.numbered)
         (connection_quiet process now thread change refl silences coid.0 (λ m apart. row_at-set_other process.connections coid.0 m None apart) (not_opened coid fits.0 fits.1 fits.2 fits.3))
 
     pub reply_sound : (over : Over) (given : Effect) → FitsEffect process target given → KeepsServers process (after_reply thread over given (with_thread thread change process)) × IsSound mounts (after_reply thread over given (with_thread thread change process))
@@ -179,7 +184,7 @@ module _ (mounts : List MountPoint) where
     pub error_sound : (over : Over) → target.over ≡ over → KeepsServers process (after_error thread over (with_thread thread change process)) × IsSound mounts (after_error thread over (with_thread thread change process))
     error_sound (New coid) is =
         let now : Process = after_error thread (New coid) (with_thread thread change process) in
-        sound_by now (resettled now refl) refl (closed_long process.connections coid.0)
+        sound_by now (resettled now refl) refl (closed_long process.connections coid.0) (closed_numbered process.connections coid.0 h.numbered)
         (connection_quiet process now thread change refl silences coid.0 (λ m apart. row_at-set_other process.connections coid.0 m None apart) (not_own coid (ap new_coid is)))
     error_sound (Existing coid) is = unchanged_sound (with_thread thread change process) (thread_resettled process h.served thread change) refl refl
     error_sound Side is = unchanged_sound (after_error thread Side (with_thread thread change process)) refl refl refl
@@ -212,11 +217,21 @@ module _ (mounts : List MountPoint) where
     attaches (Existing coid) within = none_attached (Existing coid) refl refl
     attaches Side within = none_attached Side refl (cond_both {A = Process} (is_none (row_at process.sides thread)) _ _ (λ now. now.connections ≡ process.connections) (λ none. refl) (λ some. refl))
 
+    attached_numbered : (over : Over) → Attaches over → ((coid : Coid) → new_coid over ≡ Some coid → IsFree process coid.0) → AreNumbered (sending over).connections
+    attached_numbered over attached free m connection is = by (new_coid over) refl
+      where
+        by : (own : Option Coid) → new_coid over ≡ own → (FIRST_CONNECTION ≤ m) × (m ≤ LAST_CONNECTION)
+        by None none = h.numbered m connection (sym (attached.others m (λ coid its. let clash : None ≡ Some coid = sym none ∙ its in absurd (cc))) ∙ is)
+        by (Some coid) own = elim (cases_eq m coid.0) [
+          | inl same ↦ let lowest = (free coid own).lowest in let few = (free coid own).few in (omega (arith, same, lowest), omega (arith, same, few))
+          | inr apart ↦ h.numbered m connection (sym (attached.others m (λ other its same. apart (same ∙ ap (λ (c : Coid). c.0) (same_Some _ _ (sym its ∙ own))))) ∙ is)
+        ]
+
     pub queued_sound : KeepsServers process (with_queued thread sent process) × IsSound mounts (with_queued thread sent process)
     queued_sound =
         let now : Process = with_queued thread sent process in
         let few : (coid : Coid) → new_coid sent.target.over ≡ Some coid → coid.0 ≤ length process.connections = λ coid is.
-        let free = at.free coid is in let lowest = lowest_few FIRST_CONNECTION process.connections (h.room lives) in omega (arith, free, lowest) in
+        let free = (at.free coid is).lowest in let lowest = lowest_few FIRST_CONNECTION process.connections (h.room lives) in omega (arith, free, lowest) in
         let attached = attaches sent.target.over few in
         let again : IsResettled process now = over_resettled process h.served thread (queued_thread sent) sent.target.over sent.target.manager in
         let threads : now.threads ≡ with_row process.threads thread (queued_thread sent) = over_changes thread (queued_thread sent) sent.target.over sent.target.manager process in (
@@ -225,13 +240,14 @@ module _ (mounts : List MountPoint) where
             served = resettled_served process now again h.served;
             sends = sending_sends mounts process h.sends (h.room lives) thread row there idle sent at now threads attached.others attached.own;
             room = same_room process now (ap (λ (rows : List (Option ThreadRow)). length rows) threads ∙ length-set process.threads thread _) attached.longer h;
+            numbered = attached_numbered sent.target.over attached at.free;
           },
         )
 
   -- ---- a process comes, and ends
 
   pub new_sound : (threads prio : ℕ) → IsSound mounts (new_process threads prio)
-  new_sound threads prio = record { served = new_served threads prio; sends = new_sends mounts threads prio; room = λ lives. omega arith }
+  new_sound threads prio = record { served = new_served threads prio; sends = new_sends mounts threads prio; room = λ lives. omega arith; numbered = none_numbered }
 
   pub spawn_continues : (processes : List (Option Process)) → AllSound mounts processes → (number threads prio : ℕ) → row_at processes number ≡ None → Continues mounts processes (put_row processes number (new_process threads prio))
   spawn_continues processes sound number threads prio free = record {
@@ -255,5 +271,6 @@ module _ (mounts : List MountPoint) where
       served = resettled_served process (ended process) (ended_resettled process) h.served;
       sends = quiet_sends mounts process (ended process) (record { was = λ t target is. absurd (cc); same = λ t target is. absurd (cc) }) h.sends;
       room = λ lives. absurd (cc);
+      numbered = λ coid connection there. let clash : None ≡ Some connection = there in absurd (cc);
     },
   )

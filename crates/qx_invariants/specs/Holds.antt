@@ -1,21 +1,25 @@
 -- How a user's inodes, names, files and pipes stand together.
-use Rattle.std.specs.Prelude.{All, ◌≡◌, ◌≢◌, ◌⊎◌, ℕ, ◌+◌, ◌≤◌, ◌<◌, ◌==◌, Bool, false, true, List, Option, Some, None, is_some, length, option_map, slice_get, if◌then◌else◌}
+use Rattle.std.specs.Prelude.{All, ◌≡◌, ◌≢◌, ◌⊎◌, ℕ, ◌+◌, ◌-◌, ◌≤◌, ◌<◌, ◌==◌, ◌&&◌, Bool, false, true, List, Option, Some, None, filter, is_some, length, map, option_map, slice_get, if◌then◌else◌}
 use Rattle.std.specs.FinMap.{get}
 use Rattle.std.specs.List.{count_by}
 use Rattle.qx_paths.specs.Prefixes.{MountPoint}
 use Rattle.qx_types.specs.Configuration.{Configuration}
-use Rattle.qx_types.specs.declared.limits.TheConstants.Limits.{BLOCKS, FILE, FILES, INODES, LAST_CONNECTION, PIPE}
+use Rattle.qx_types.specs.declared.limits.TheConstants.Limits.{BLOCKS, FILE, FILES, FIRST_CONNECTION, INODES, LAST_CONNECTION, PIPE}
 use Rattle.qx_types.specs.declared.names.Manager.{Manager}
 use Rattle.qx_types.specs.declared.step.Step.{Step}
 use Rattle.qx_wire.specs.Rests.{is_component}
 use Rattle.qx_machine.specs.declared.rows.Attribute.{Attribute}
 use Rattle.qx_machine.specs.declared.rows.Client.{Client}
+use Rattle.qx_machine.specs.declared.rows.Conditions.{Conditions}
 use Rattle.qx_machine.specs.declared.rows.Connection.{Connection}
+use Rattle.qx_machine.specs.declared.rows.Event.{Event}
 use Rattle.qx_machine.specs.declared.rows.Kind.{Kind}
 use Rattle.qx_machine.specs.declared.rows.Kind.TheVariants as kind
 use Rattle.qx_machine.specs.declared.rows.Ocb.{Ocb}
+use Rattle.qx_machine.specs.declared.rows.Pulse.{Pulse}
 use Rattle.qx_machine.specs.declared.rows.WaitingCall.{WaitingCall}
 use Rattle.qx_machine.specs.Defaults.{is_own}
+use Rattle.qx_machine.specs.Events.{is_due, pulse_of}
 use Rattle.qx_machine.specs.Files.{total_size}
 use Rattle.qx_machine.specs.Inodes.{is_unused}
 use Rattle.qx_machine.specs.Listings.{HasAtMostOnePath}
@@ -196,6 +200,26 @@ pub record HasConnections (part : Part) : Type 0 where
   pub opened : (number : ℕ) (process : Process) → row_at part.processes number ≡ Some process → (coid : ℕ) (connection : Connection) (which : ℕ) → row_at process.connections coid ≡ Some connection → connection.block ≡ Some which → IsOpenFor part.resources.inodes.blocks number process connection.manager which
   -- as many connections have it as it has uses, until its process ends
   pub uses : (which : ℕ) (block : Ocb) → row_at part.resources.inodes.blocks which ≡ Some block → (process : Process) → row_at part.processes block.client.process ≡ Some process → has_ended process ≡ false → block.uses ≡ count_by (has_open which) process.connections
+
+-- ---- how many connections
+
+-- the number of each is one from 3 to 66
+abbrev pub AreNumbered : List (Option Connection) → Type 0
+AreNumbered connections = (coid : ℕ) (connection : Connection) → row_at connections coid ≡ Some connection → (FIRST_CONNECTION ≤ coid) × (coid ≤ LAST_CONNECTION)
+
+pub record HasFewConnections (part : Part) : Type 0 where
+  -- so it is of each process
+  pub numbered : (number : ℕ) (process : Process) → row_at part.processes number ≡ Some process → AreNumbered process.connections
+  -- and none has more than 64
+  pub few : (number : ℕ) (process : Process) → row_at part.processes number ≡ Some process → count_by is_some process.connections ≤ LAST_CONNECTION + 1 - FIRST_CONNECTION
+  -- and until its process ends, an open control block has no more uses than that has connections
+  pub uses : (which : ℕ) (block : Ocb) → row_at part.resources.inodes.blocks which ≡ Some block → (process : Process) → row_at part.processes block.client.process ≡ Some process → has_ended process ≡ false → block.uses ≤ count_by is_some process.connections
+
+-- ---- events
+
+-- the pulses of a process' armed events that are due, in order of arming
+abbrev pub due_pulses : (ℕ → Conditions) → (ℕ → Conditions) → ℕ → List Event → List Pulse
+due_pulses before after process armed = map (λ event. pulse_of event (after event.block)) (filter (λ event. is_due before after event && (event.process == process)) armed)
 
 -- ---- threads
 

@@ -1,6 +1,6 @@
 //! What holds of each user's resources in every world that a run reaches.
 
-ghost use Rattle.std.specs.Prelude.{◌≡◌, ℕ, ◌+◌, ◌≤◌, ◌==◌, ◌||◌, Bool, true, List, [], Some, count_by, if◌then◌else◌, length};
+ghost use Rattle.std.specs.Prelude.{◌≡◌, ℕ, ◌+◌, ◌≤◌, ◌<◌, ◌==◌, ◌||◌, Bool, false, true, List, [], ◌++◌, Some, count_by, if◌then◌else◌, length};
 ghost use Rattle.std.specs.Cmp.Lexicographic.{slice_cmp};
 ghost use Rattle.std.specs.List.Sorted.{IsStrictlySortedBy};
 ghost use Rattle.std.specs.Ordering.{nat_cmp};
@@ -17,12 +17,13 @@ ghost use Rattle.qx_machine.specs.Names.{listed, listing, names_in};
 ghost use Rattle.qx_machine.specs.Mounting.{new_resources};
 ghost use Rattle.qx_machine.specs.Parts.{Part};
 ghost use Rattle.qx_machine.specs.Processes.{Process, has_ended, has_server};
+ghost use Rattle.qx_isolation.specs.Lines.{line_at};
 ghost use Rattle.qx_isolation.specs.Rows.{row_at};
 ghost use Rattle.qx_machine.specs.Runs.{run};
 ghost use Rattle.qx_machine.specs.Settling.{is_held};
 ghost use Rattle.qx_machine.specs.Waiting.{is_call};
 ghost use Rattle.qx_invariants.specs.Changes.{Become};
-ghost use Rattle.qx_invariants.specs.Holds.{HasClients, HasConnections, HasContents, HasKinds, HasLimits, HasMade, HasMounts, HasNames, HasOpenWaiters, HasOwnWaiters, HasRoom, HasSettledPipes, HasTree, HasUses, HoldsInRuns, HoldsOfParts, IsOwnedBy, WaitsOnce};
+ghost use Rattle.qx_invariants.specs.Holds.{HasClients, HasConnections, HasContents, HasFewConnections, HasKinds, HasLimits, HasMade, HasMounts, HasNames, HasOpenWaiters, HasOwnWaiters, HasRoom, HasSettledPipes, HasTree, HasUses, HoldsInRuns, HoldsOfParts, IsOwnedBy, WaitsOnce, due_pulses};
 ghost use Rattle.qx_invariants.specs.Waits.{count_waiting};
 
 /// A user's resources become what they are by a few kinds of change alone, one after another, each where it may happen.
@@ -64,6 +65,13 @@ pub fn connections_have_what_is_open()
     ensures { HoldsOfParts HasConnections }
 {}
 
+/// A process has at most 64 connections, numbered from 3 to 66; so until it ends, what it has open has no more uses (C Library
+/// Reference: `dup`).
+#[tactic(auto, using(crate::proofs::Reached::run_few_connections))]
+pub fn connections_are_within_the_limit()
+    ensures { HoldsOfParts HasFewConnections }
+{}
+
 /// What a path in a mount leads to, and what a client has open at a manager, is a directory or of the manager's own kind.
 #[tactic(auto, using(crate::proofs::Reached::run_kinds))]
 pub fn managers_have_their_kinds()
@@ -95,10 +103,11 @@ pub fn events_are_within_the_limit()
     ensures queues { HoldsInRuns (λ r. length r.events.pulses ≡ PROCESSES + 1) }
 {}
 
-/// An armed event gives one pulse at most: of the armed events and the untaken pulses together there are no more after a
-/// step's end than before, whatever became due.
+/// A due event gives one pulse: behind the untaken pulses that a process had come those of its armed events that are due, in
+/// order of arming, and nothing else; a process that has ended gets none.
 pub fn an_event_gives_one_pulse()
-    ensures { (lives : ℕ → Bool) (before after : ℕ → Conditions) (events : Events) → event_count (triggered lives before after events) ≤ event_count events }
+    ensures living { (lives : ℕ → Bool) (before after : ℕ → Conditions) (events : Events) (process : ℕ) → process < length events.pulses → lives process ≡ true → line_at (triggered lives before after events).pulses process ≡ line_at events.pulses process ++ due_pulses before after process events.armed }
+    ensures ended { (lives : ℕ → Bool) (before after : ℕ → Conditions) (events : Events) (process : ℕ) → process < length events.pulses → lives process ≡ false → line_at (triggered lives before after events).pulses process ≡ line_at events.pulses process }
 {}
 
 /// Nobody waits in a pipe who could be served: to settle it changes nothing and answers nobody.
@@ -147,10 +156,10 @@ pub fn who_waits_is_the_client()
     ensures { HoldsInRuns HasOwnWaiters }
 {}
 
-/// A process that has ended has a server connection or an item in a worker's hand; once it has neither, it is gone with its
-/// number.
+/// A process that has ended is there only while it has a server connection or a worker holds an item of it: once it has no
+/// server connection and no worker holds an item of it, it is freed, and gone with its number.
 #[tactic(auto, using(crate::proofs::Reached::run_ended))]
-pub fn ended_processes_have_servers()
+pub fn ended_processes_are_freed()
     ensures { (config : Configuration) (steps : List Step) (user : ℕ) (part : Part) (number : ℕ) (process : Process) → row_at (run config steps).world.parts user ≡ Some part → row_at part.processes number ≡ Some process → has_ended process ≡ true → (has_server process || is_held (own_held user (run config steps).world.hands) number) ≡ true }
 {}
 

@@ -53,7 +53,7 @@ none-new : (wanted_input wanted_output : Bool) (c : Conditions) → ((wanted_inp
 none-new wanted_input wanted_output c = rw (and-not_self c.input, and-not_self c.output, and-false wanted_input, and-false wanted_output) refl
 
 module _ (before after : ℕ → Conditions) where
-  not-due : (event : Event) → before event.block ≡ after event.block → is_due before after event ≡ false
+  pub not-due : (event : Event) → before event.block ≡ after event.block → is_due before after event ≡ false
   not-due event same = ap (λ c. is_any (wanted_of event.conditions (come_to_hold c (after event.block)))) same ∙ none-new (is_wanted event.conditions INPUT) (is_wanted event.conditions OUTPUT) (after event.block)
 
   all-stay : (events : List Event) → AllByRecursion (λ event. before event.block ≡ after event.block) events → filter (λ event. not (is_due before after event)) events ≡ events

@@ -16,5 +16,7 @@ pub mod EventFacts
 pub mod NotifyLemmas
 -- nothing is left to be settled between steps
 pub mod Settled
+-- after a step no event is due
+pub mod Due
 -- no process ends as an item is performed
 pub mod Living

@@ -34,7 +34,7 @@ settled-alike lives before after same = triggered-none (block_conditions before)
     all (event ∷ events) = (same event.block, all events)
 
 -- what holds of a block is told by inodes and pipes
-same-conditions : (before after : Resources) → after.inodes ≡ before.inodes → after.pipes ≡ before.pipes → (number : ℕ) → block_conditions before number ≡ block_conditions after number
+pub same-conditions : (before after : Resources) → after.inodes ≡ before.inodes → after.pipes ≡ before.pipes → (number : ℕ) → block_conditions before number ≡ block_conditions after number
 same-conditions before after inodes pipes number =
     ap (λ (i : Inodes). block_conditions (record before { inodes = i }) number) (sym inodes) ∙ ap (λ (p : Pipes). block_conditions (record before { inodes = after.inodes; pipes = p }) number) (sym pipes)
 

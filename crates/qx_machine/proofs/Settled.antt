@@ -67,7 +67,7 @@ settled_again before after held = same_settled (settle_part before held after) h
 abbrev SettledBut : ℕ → World → Type 0
 SettledBut user w = (other : ℕ) (part : Part) → other ≢ user → row_at w.parts other ≡ Some part → settle_part part (own_held other w.hands) part ≡ part
 
-row_at-set_same : {A : Type 0} (places : List (Option A)) (i : ℕ) (row : Option A) (there : A) → row_at (slice_set places i row) i ≡ Some there → row ≡ Some there
+pub row_at-set_same : {A : Type 0} (places : List (Option A)) (i : ℕ) (row : Option A) (there : A) → row_at (slice_set places i row) i ≡ Some there → row ≡ Some there
 row_at-set_same [] i row there is = absurd (cc)
 row_at-set_same (x ∷ places) zero row there is = is
 row_at-set_same (x ∷ places) (suc i) row there is = row_at-set_same places i row there is

@@ -13,7 +13,7 @@ ghost use Rattle.qx_machine.specs.declared.rows.Conditions.{Conditions};
 ghost use Rattle.qx_machine.specs.declared.rows.Event.{Event};
 ghost use Rattle.qx_isolation.specs.declared.rows.OwnItem.{OwnItem};
 ghost use Rattle.qx_machine.specs.Events.{Events, is_due, is_on, polled, triggered};
-ghost use Rattle.qx_machine.specs.Laws.{HoldsOfOwnSteps, IsInOrder, IsSettled, is_refusal, most_put, own_entries, put_count};
+ghost use Rattle.qx_machine.specs.Laws.{HoldsOfOwnSteps, IsInOrder, due_since, is_refusal, most_put, own_entries, put_count};
 ghost use Rattle.qx_machine.specs.Listings.{HasAtMostOnePath, HasSizedNames, IsZeroFree, listed_by, listed_next};
 ghost use Rattle.qx_machine.specs.Machine.{World, boot, line_of, own_held, owner, rank, step, view};
 ghost use Rattle.qx_machine.specs.Names.{Names, listing, names_in};
@@ -73,15 +73,12 @@ pub fn refusal_changes_nothing()
     ensures { (config : Configuration) (steps : List Step) (e : Step) → is_refusal (step (run config steps).world e).outcome ≡ true → (step (run config steps).world e).world ≡ (run config steps).world }
 {}
 
-/// Between steps nothing is left to be settled: no event is due, and no process that has ended could be freed.
+/// Nothing is left to be settled: after any step, in any world, no event is armed of which a wanted condition came to hold
+/// in that step; and between the steps of a run a process that has ended has a server connection, an item in a worker's hand
+/// or a call that waits, and is gone with its number once it has none of these.
 pub fn always_settled()
-    ensures { (config : Configuration) (steps : List Step) → IsSettled (run config steps).world }
-{}
-
-/// A process that has ended has a server connection, an item in a worker's hand or a call that waits; once it has none of
-/// these, it is gone with its number.
-pub fn ended_processes_are_freed()
-    ensures { (config : Configuration) (steps : List Step) (user : ℕ) (part : Part) (number : ℕ) (process : Process) → row_at (run config steps).world.parts user ≡ Some part → row_at part.processes number ≡ Some process → has_ended process ≡ true → is_kept (own_held user (run config steps).world.hands) part.resources.pipes number process ≡ true }
+    ensures events { (w : World) (e : Step) (user : ℕ) (before after : Part) → row_at w.parts user ≡ Some before → row_at (step w e).world.parts user ≡ Some after → due_since before after ≡ [] }
+    ensures processes { (config : Configuration) (steps : List Step) (user : ℕ) (part : Part) (number : ℕ) (process : Process) → row_at (run config steps).world.parts user ≡ Some part → row_at part.processes number ≡ Some process → has_ended process ≡ true → is_kept (own_held user (run config steps).world.hands) part.resources.pipes number process ≡ true }
 {}
 
 /// Nothing is due in a step that leaves all pipes and open control blocks as they were.
