@@ -8,7 +8,7 @@
 //!
 //! How much work a call is stands in its contract: two `Steps` (`steps.rt`) tick where `rings.rt` changes a link and where
 //! it looks at one. A link is a node's next or previous one, or a list's first or last; lengths and values are not counted.
-//! A caller that counts nothing makes the same calls through `uncounted.rt`.
+//! A caller that counts nothing makes the same calls through `qx_uncounted`.
 //!
 //! What contracts see is `Table.antt`, and of a value that is lent `Lends.antt`. A caller uses the ruleset
 //! `table_facts` (`proofs/TableFacts.antt`): named in `using(..)`, calls in a row need no answer, as `linked` in
@@ -27,7 +27,6 @@ ghost use Rattle.qx_lists.specs.inner.Table.{placed};
 
 mod rings;
 mod steps;
-pub mod uncounted;
 
 use rings::{Links, Node, Rings};
 use slab::Slab;
@@ -210,12 +209,21 @@ impl<T> Table<T> {
     }
 
     /// Puts a free node into the list right before `at`.
-    pub fn insert_before(&mut self, list: usize, at: usize, node: usize)
+    pub fn insert_before<L: Ledger, M: Ledger>(
+        &mut self,
+        list: usize,
+        at: usize,
+        node: usize,
+        changes: &mut Steps<L>,
+        looks: &mut Steps<M>,
+    )
         requires at { IsIn self.old list at }
         requires free { IsFree self.old node }
-        ensures { self.new ≡ with_nodes self.old list (put_before node at (nodes_of self.old list)) }
+        ensures inserted { self.new ≡ with_nodes self.old list (put_before node at (nodes_of self.old list)) }
+        ensures changes { changes.new ≡ changes.old + 4 }
+        ensures looks { looks.new ≡ looks.old + 2 }
     {
-        uncounted::link(self, list, node, Some(at));
+        self.link(list, node, Some(at), changes, looks);
     }
 
     /// Takes a node out of the list.

@@ -13,7 +13,7 @@ ghost use Rattle.qx_types.specs.declared.limits.TheConstants.Limits.{TRANSFER};
 use crate::entry::Entry;
 use crate::search::place_behind;
 use qx_attr::growth;
-use qx_lists::{Table, uncounted};
+use qx_lists::Table;
 use qx_process::Reply;
 use qx_types::Limits;
 use std::alloc::{AllocError, Global};
@@ -124,7 +124,7 @@ impl ChildList {
         };
         table.know();
         let node = self.index.remove(place);
-        uncounted::unlink(table, list, node);
+        qx_uncounted::unlink(table, list, node);
         table.free_node(node);
         if self.index.is_empty() {
             table.free_list(list);
@@ -173,7 +173,7 @@ impl ChildList {
             reply.push(&[0]);
             room -= name.len() + 1;
             count += 1;
-            next = uncounted::next(table, list, node);
+            next = qx_uncounted::next(table, list, node);
         }
         count
     }
@@ -195,7 +195,7 @@ fn link_at(table: &mut Table<Entry>, list: usize, index: &[usize], place: usize,
 {
     table.know();
     match node_at(index, place) {
-        Some(next) => table.insert_before(list, next, node),
-        None => uncounted::push_back(table, list, node),
+        Some(next) => qx_uncounted::insert_before(table, list, next, node),
+        None => qx_uncounted::push_back(table, list, node),
     }
 }

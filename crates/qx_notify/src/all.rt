@@ -8,7 +8,7 @@ ghost use Rattle.qx_notify.specs.Events.{AreLimited, arms_event, armed_outcome, 
 use crate::changes::Changes;
 use crate::conditions::{come_to_hold, is_any, pulse_value, status_of, wanted_of};
 use crate::lists::{UserLists, append, armed_of, find, move_to, pulses_of, take_out};
-use qx_lists::{Table, uncounted};
+use qx_lists::Table;
 use qx_machine::{Conditions, Event, Pulse};
 use qx_types::{Errno, Limits, NotifyAction, Proc, User};
 use std::alloc::{AllocError, Global};
@@ -72,7 +72,7 @@ impl AllEvents {
         requires user { user.0 < length self.now.events }
         ensures { result ≡ not (length (events_of self.now user.0).armed == 0) }
     {
-        uncounted::first(&self.table, armed_of(&self.lists, user)).is_some()
+        qx_uncounted::first(&self.table, armed_of(&self.lists, user)).is_some()
     }
 
     /// Takes away what a block had armed, as the block goes (C Library Reference: `iofunc_notify_remove`).
@@ -165,10 +165,10 @@ impl AllEvents {
     {
         self.table.know();
         let armed = armed_of(&self.lists, user);
-        let mut next = uncounted::first(&self.table, armed);
+        let mut next = qx_uncounted::first(&self.table, armed);
         'events: while let Some(node) = next {
             self.table.know();
-            next = uncounted::next(&self.table, armed, node);
+            next = qx_uncounted::next(&self.table, armed, node);
             let event = *self.table.value(node);
             let change = changes.of(event.block);
             if !is_any(wanted_of(event.conditions, come_to_hold(change))) {
@@ -201,7 +201,7 @@ impl AllEvents {
     {
         self.table.know();
         let queue = pulses_of(&self.lists, proc);
-        let node = uncounted::first(&self.table, queue)?;
+        let node = qx_uncounted::first(&self.table, queue)?;
         let event = take_out(&mut self.table, queue, node);
         self.counts[proc.user.0 as usize] -= 1;
         Some(Pulse {

@@ -7,7 +7,7 @@ ghost use Rattle.qx_lists.specs.Table.{ContainsList, IsIn, nodes_of};
 ghost use Rattle.qx_machine.specs.Events.{is_on};
 ghost use Rattle.qx_notify.specs.inner.Kept.{AreNew, Put, event_at, lists_at, lists_of, pulse_taken, unlinked};
 
-use qx_lists::{Table, uncounted};
+use qx_lists::Table;
 use qx_machine::Event;
 use qx_types::{Limits, Proc, User};
 use std::alloc::{AllocError, Global};
@@ -71,12 +71,12 @@ pub(crate) fn find(table: &Table<Event>, list: usize, block: u16) -> Option<usiz
     ensures { result ≡ slice_get (filter (λ node. is_on block (event_at table.now node)) (nodes_of table.now list)) 0 }
 {
     table.know();
-    let mut next = uncounted::first(table, list);
+    let mut next = qx_uncounted::first(table, list);
     'nodes: while let Some(node) = next {
         if table.value(node).block == block {
             return Some(node);
         }
-        next = uncounted::next(table, list, node);
+        next = qx_uncounted::next(table, list, node);
     }
     None
 }
@@ -87,7 +87,7 @@ pub(crate) fn take_out(table: &mut Table<Event>, list: usize, node: usize) -> Ev
     ensures event { result ≡ event_at table.old node }
     ensures taken { table.new ≡ pulse_taken table.old list node }
 {
-    uncounted::unlink(table, list, node);
+    qx_uncounted::unlink(table, list, node);
     table.free_node(node)
 }
 
@@ -98,9 +98,9 @@ pub(crate) fn move_to(table: &mut Table<Event>, from: usize, node: usize, to: us
     ensures put { Put (unlinked table.old from node) table.new to node event }
     ensures room { table.new.room ≡ table.old.room }
 {
-    uncounted::unlink(table, from, node);
+    qx_uncounted::unlink(table, from, node);
     *table.value_mut(node) = event;
-    uncounted::push_back(table, to, node);
+    qx_uncounted::push_back(table, to, node);
 }
 
 /// A new node stands last in a list, with an event.
@@ -117,6 +117,6 @@ pub(crate) fn append(
 {
     table.know();
     let node = table.new_node(event)?;
-    uncounted::push_back(table, list, node);
+    qx_uncounted::push_back(table, list, node);
     Ok(node)
 }

@@ -19,7 +19,7 @@ ghost use Rattle.qx_queues.specs.inner.Waiting.{KeepsRoom, load_of, ranked};
 use crate::nodes::{Nodes, ThreadNodes};
 use crate::waiting::{Answered, Slot, Waiting};
 use qx_lines::{Line, uncounted as lines};
-use qx_lists::{Table, uncounted as lists};
+use qx_lists::Table;
 use qx_machine::{OwnItem, Queued, ServerName};
 use qx_types::{Limits, Manager, Prio, Proc, Thread};
 use std::alloc::{AllocError, Global};
@@ -186,7 +186,7 @@ impl Queues {
     pub fn has_answered(&self) -> bool
         ensures answered { result ≡ is_some (slice_get self.now.answered 0) }
     {
-        lists::first(&self.table, self.answered).is_some()
+        qx_uncounted::first(&self.table, self.answered).is_some()
     }
 
     /// Takes out the first of those who were answered, with the answer, and with the room for the thread's replies, unless the
@@ -197,7 +197,7 @@ impl Queues {
         ensures rest { self.new ≡ record self.old { answered = drop 1 self.old.answered } }
         ensures gone { IfSome result (λ taken. HasNoListedCall self.new taken.thread) }
     {
-        let node = lists::first(&self.table, self.answered)?;
+        let node = qx_uncounted::first(&self.table, self.answered)?;
         self.table.know();
         Some(take_slot(&mut self.table, self.answered, node).into_answered())
     }
@@ -484,7 +484,7 @@ pub(crate) fn take_slot(table: &mut Table<Waiting>, list: usize, node: usize) ->
     ensures taken { table.new ≡ with_value (with_nodes table.old list (without node (nodes_of table.old list))) node (idle (entry_of_node table.old node)) }
     ensures free { IsFree table.new node }
 {
-    lists::unlink(table, list, node);
+    qx_uncounted::unlink(table, list, node);
     table.value_mut(node).replace(Slot::Empty)
 }
 

@@ -25,7 +25,7 @@ use crate::leaving::Leaving;
 use crate::nodes::{Nodes, ThreadNodes};
 use crate::queues::{Queues, take_slot};
 use crate::waiting::{Answered, Slot, Waiting};
-use qx_lists::{Table, uncounted as lists};
+use qx_lists::Table;
 use qx_types::{Errno, Proc, Thread, User};
 use std::alloc::AllocError;
 
@@ -55,7 +55,7 @@ impl Queues {
         ensures { option_copied result ≡ option_map (λ own. own.call) (slice_get (waiting_in_list self.now list) 0) }
     {
         self.table.know();
-        let node = lists::first(&self.table, list)?;
+        let node = qx_uncounted::first(&self.table, list)?;
         Some(self.table.value(node).call())
     }
 
@@ -230,7 +230,7 @@ fn put_slot(table: &mut Table<Waiting>, list: usize, node: usize, slot: Slot)
     ensures put { table.new ≡ with_value (with_nodes table.old list (nodes_of table.old list ++ node ∷ [])) node (carrying (entry_of_node table.old node) (load_of slot)) }
 {
     table.value_mut(node).carry(slot);
-    lists::push_back(table, list, node);
+    qx_uncounted::push_back(table, list, node);
 }
 
 /// Whether an answer takes the bytes that a call writes.
@@ -250,12 +250,12 @@ fn first_leaving(table: &Table<Waiting>, list: usize, which: Leaving) -> Option<
     ensures { result ≡ slice_get (filter (λ node. leaves which (call_carried (waiting_of_node table.now node))) (nodes_of table.now list)) 0 }
 {
     table.know();
-    let mut next = lists::first(table, list);
+    let mut next = qx_uncounted::first(table, list);
     'nodes: while let Some(node) = next {
         if which.means(table.value(node).call()) {
             return Some(node);
         }
-        next = lists::next(table, list, node);
+        next = qx_uncounted::next(table, list, node);
     }
     None
 }

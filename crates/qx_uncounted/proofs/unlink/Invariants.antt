@@ -1,4 +1,4 @@
-use Rattle.qx_lists.proofs.uncounted.unlink.Given as goal
+use Rattle.qx_uncounted.proofs.unlink.Given as goal
 
 abbrev pub ghosts-unlink_by-L-Ledger : goal.ghosts-unlink_by-L-Ledger
 ghosts-unlink_by-L-Ledger g a = record { name = a.changes.name; parts = a.changes.parts }

@@ -1,4 +1,4 @@
-use Rattle.qx_lists.proofs.uncounted.first.Given as goal
+use Rattle.qx_uncounted.proofs.first.Given as goal
 
 abbrev pub ghosts-first_by-L-Ledger : goal.ghosts-first_by-L-Ledger
 ghosts-first_by-L-Ledger g a = record { name = a.changes.name; parts = a.changes.parts }

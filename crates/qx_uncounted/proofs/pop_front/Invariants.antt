@@ -1,4 +1,4 @@
-use Rattle.qx_lists.proofs.uncounted.pop_front.Given as goal
+use Rattle.qx_uncounted.proofs.pop_front.Given as goal
 
 abbrev pub ghosts-pop_front_by-L-Ledger : goal.ghosts-pop_front_by-L-Ledger
 ghosts-pop_front_by-L-Ledger g a = record { name = a.changes.name; parts = a.changes.parts }

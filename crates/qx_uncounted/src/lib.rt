@@ -1,10 +1,12 @@
-//! The counted calls of a table for callers that count nothing.
-ghost use Rattle.std.specs.Prelude.{◌≡◌, ◌<◌, ◌++◌, ◌∷◌, [], IfSome, drop, slice_get};
-ghost use Rattle.qx_lists.specs.Table.{ContainsList, IsFree, IsIn, IsPlace, nodes_of, with_nodes, without, next_after};
-ghost use Rattle.qx_lists.specs.inner.Table.{placed};
+//! The counted calls of a table of `qx_lists`, for callers that count nothing.
+//!
+//! They stand in a crate of their own, so that a crate whose work is counted, as `qx_lines`, can be without them.
+#![tactic(auto)]
 
-use crate::Table;
-use crate::steps::Steps;
+ghost use Rattle.std.specs.Prelude.{◌≡◌, ◌<◌, ◌++◌, ◌∷◌, [], IfSome, drop, slice_get};
+ghost use Rattle.qx_lists.specs.Table.{ContainsList, IsFree, IsIn, next_after, nodes_of, put_before, with_nodes, without};
+
+use qx_lists::{Steps, Table};
 use std::marker::Brand;
 use std::sync::ledger::{Blank, Ledger};
 
@@ -30,7 +32,16 @@ pub fn push_back<T>(table: &mut Table<T>, list: usize, node: usize)
     requires free { IsFree table.old node }
     ensures { table.new ≡ with_nodes table.old list (nodes_of table.old list ++ node ∷ []) }
 {
-    link(table, list, node, None);
+    push_back_by::<T, Brand, Brand>(table, list, node, Blank::new(1), Blank::new(1))
+}
+
+/// Puts a free node into the list right before `at`.
+pub fn insert_before<T>(table: &mut Table<T>, list: usize, at: usize, node: usize)
+    requires at { IsIn table.old list at }
+    requires free { IsFree table.old node }
+    ensures { table.new ≡ with_nodes table.old list (put_before node at (nodes_of table.old list)) }
+{
+    insert_before_by::<T, Brand, Brand>(table, list, at, node, Blank::new(1), Blank::new(1))
 }
 
 /// Takes a node out of the list.
@@ -50,15 +61,6 @@ pub fn pop_front<T>(table: &mut Table<T>, list: usize) -> Option<usize>
     ensures freed { IfSome result (IsFree table.new) }
 {
     pop_front_by::<T, Brand, Brand>(table, list, Blank::new(1), Blank::new(1))
-}
-
-// Puts a free node into the list before a place, where `None` is the list's end.
-pub(crate) fn link<T>(table: &mut Table<T>, list: usize, node: usize, at: Option<usize>)
-    requires place { IsPlace table.old list at }
-    requires free { IsFree table.old node }
-    ensures { table.new ≡ with_nodes table.old list (placed node at (nodes_of table.old list)) }
-{
-    link_by::<T, Brand, Brand>(table, list, node, at, Blank::new(1), Blank::new(1))
 }
 
 fn first_by<T, L: Ledger, M: Ledger>(
@@ -97,6 +99,50 @@ fn next_by<T, L: Ledger, M: Ledger>(
         &mut Steps::<L>::new(changes),
         &mut Steps::<M>::new(looks),
     )
+}
+
+fn push_back_by<T, L: Ledger, M: Ledger>(
+    table: &mut Table<T>,
+    list: usize,
+    node: usize,
+    changes: Blank,
+    looks: Blank,
+)
+    requires list { ContainsList table.old list }
+    requires free { IsFree table.old node }
+    requires changes { (changes.name ≡ L.name) × (changes.parts ≡ L.parts) × (0 < changes.parts) }
+    requires looks { (looks.name ≡ M.name) × (looks.parts ≡ M.parts) × (0 < looks.parts) }
+    ensures { table.new ≡ with_nodes table.old list (nodes_of table.old list ++ node ∷ []) }
+{
+    table.push_back(
+        list,
+        node,
+        &mut Steps::<L>::new(changes),
+        &mut Steps::<M>::new(looks),
+    );
+}
+
+fn insert_before_by<T, L: Ledger, M: Ledger>(
+    table: &mut Table<T>,
+    list: usize,
+    at: usize,
+    node: usize,
+    changes: Blank,
+    looks: Blank,
+)
+    requires at { IsIn table.old list at }
+    requires free { IsFree table.old node }
+    requires changes { (changes.name ≡ L.name) × (changes.parts ≡ L.parts) × (0 < changes.parts) }
+    requires looks { (looks.name ≡ M.name) × (looks.parts ≡ M.parts) × (0 < looks.parts) }
+    ensures { table.new ≡ with_nodes table.old list (put_before node at (nodes_of table.old list)) }
+{
+    table.insert_before(
+        list,
+        at,
+        node,
+        &mut Steps::<L>::new(changes),
+        &mut Steps::<M>::new(looks),
+    );
 }
 
 fn unlink_by<T, L: Ledger, M: Ledger>(
@@ -138,27 +184,4 @@ fn pop_front_by<T, L: Ledger, M: Ledger>(
         &mut Steps::<L>::new(changes),
         &mut Steps::<M>::new(looks),
     )
-}
-
-fn link_by<T, L: Ledger, M: Ledger>(
-    table: &mut Table<T>,
-    list: usize,
-    node: usize,
-    at: Option<usize>,
-    changes: Blank,
-    looks: Blank,
-)
-    requires place { IsPlace table.old list at }
-    requires free { IsFree table.old node }
-    requires changes { (changes.name ≡ L.name) × (changes.parts ≡ L.parts) × (0 < changes.parts) }
-    requires looks { (looks.name ≡ M.name) × (looks.parts ≡ M.parts) × (0 < looks.parts) }
-    ensures { table.new ≡ with_nodes table.old list (placed node at (nodes_of table.old list)) }
-{
-    table.link(
-        list,
-        node,
-        at,
-        &mut Steps::<L>::new(changes),
-        &mut Steps::<M>::new(looks),
-    );
 }

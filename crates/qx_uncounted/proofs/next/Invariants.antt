@@ -1,4 +1,4 @@
-use Rattle.qx_lists.proofs.uncounted.next.Given as goal
+use Rattle.qx_uncounted.proofs.next.Given as goal
 
 abbrev pub ghosts-next_by-L-Ledger : goal.ghosts-next_by-L-Ledger
 ghosts-next_by-L-Ledger g a = record { name = a.changes.name; parts = a.changes.parts }
