@@ -20,7 +20,8 @@ use std::alloc::{AllocError, Global};
 use std::marker::Model;
 
 /// The entries of one directory: a list of the table, in the order of the names' bytes, and beside it an index, which has the
-/// list's nodes in the list's order. By the index a name is found, by the list the next one.
+/// list's nodes in the list's order. By the index a name is found, by the list the next one. Where there is no entry, there
+/// is no list, and the index has no room.
 #[derive(Drop)]
 pub(crate) struct ChildList {
     // None where there is no entry.
@@ -29,6 +30,7 @@ pub(crate) struct ChildList {
 }
 
 impl Model for ChildList {
+    ghost use Rattle.std.specs.Prelude.{◌≡◌, length, vec_capacity};
     ghost use Rattle.qx_names.specs.inner.Children.{Children, children_code};
 
     ghost Value = { Children };
@@ -36,6 +38,8 @@ impl Model for ChildList {
     ghost coded = { children_code };
 
     ghost view = { λ c. record { list = c.list; nodes = c.index.items } };
+
+    ghost invariant = { λ c. length c.index.items ≡ 0 → vec_capacity c.index ≡ 0 };
 }
 
 impl ChildList {
@@ -97,16 +101,45 @@ impl ChildList {
         ensures ok { OnOk result (folder_of table.new self.new ≡ map.insert (folder_of table.old self.old) name.now inode) }
         ensures err { OnErr result (folder_of table.new self.new ≡ folder_of table.old self.old) }
     {
+        let Some(list) = self.list else {
+            return self.insert_first(table, name, inode);
+        };
         table.know();
         let place = place_behind(table, &self.index, name);
         let entry = Entry::new(name, inode)?;
         growth::reserve(&mut self.index, 1)?;
         table.reserve(1)?;
-        let list = self.own_list(table)?;
         let node = table.new_node(entry)?;
         link_at(table, list, &self.index, place, node);
         self.index.insert(place, node)?;
-        self.list = Some(list);
+        Ok(())
+    }
+
+    /// Puts an entry in where there is none, which makes the list.
+    fn insert_first(
+        &mut self,
+        table: &mut Table<Entry>,
+        name: &[u8],
+        inode: u32,
+    ) -> Result<(), AllocError>
+        requires keeps { Keeps table.old self.old }
+        requires none { self.old.list ≡ None }
+        ensures turns { Turns table.old table.new self.old self.new }
+        ensures ok { OnOk result (folder_of table.new self.new ≡ map.insert (folder_of table.old self.old) name.now inode) }
+        ensures err { OnErr result (folder_of table.new self.new ≡ folder_of table.old self.old) }
+    {
+        table.know();
+        let entry = Entry::new(name, inode)?;
+        let mut index = Vec::with_capacity(*self.index.allocator(), 1)?;
+        table.reserve(1)?;
+        let list = table.add_list()?;
+        let node = table.new_node(entry)?;
+        qx_uncounted::push_back(table, list, node);
+        index.push_reserved(node);
+        *self = ChildList {
+            list: Some(list),
+            index,
+        };
         Ok(())
     }
 
@@ -130,23 +163,6 @@ impl ChildList {
             table.free_list(list);
             *self = ChildList::new(*self.index.allocator());
         }
-    }
-
-    /// The number of the list, or of a new one where there is none.
-    fn own_list(&self, table: &mut Table<Entry>) -> Result<usize, AllocError>
-        requires keeps { Keeps table.old self.now }
-        ensures own { IfOk result (λ list. map.get table.new.lists list ≡ Some self.now.nodes) }
-        ensures made { IfOk result (λ list. (self.now.list ≡ Some list) ⊎ ((self.now.list ≡ None) × (map.get table.old.lists list ≡ None))) }
-        ensures others { IfOk result (λ list. (other : ℕ) → other ≢ list → map.get table.new.lists other ≡ map.get table.old.lists other) }
-        ensures values { table.new.values ≡ table.old.values }
-        ensures room { table.new.room ≡ table.old.room }
-        ensures err { OnErr result (table.new ≡ table.old) }
-    {
-        if let Some(list) = self.list {
-            return Ok(list);
-        }
-        let list = table.add_list()?;
-        Ok(list)
     }
 
     /// Writes the names behind one, each followed by a zero byte, as many whole ones as fit a transfer, and tells how many.
