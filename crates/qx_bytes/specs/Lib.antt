@@ -1,2 +1,3 @@
--- where the bytes of a message stand
+-- where the bytes of a message stand, and the memory that is kept for them
 pub mod Items
+pub mod Memory

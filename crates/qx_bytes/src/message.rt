@@ -1,7 +1,8 @@
 //! The bytes of a message or of its answer: few stand in the value itself.
 
-ghost use Rattle.std.specs.Prelude.{◌≡◌, ◌+◌, ◌<◌, ◌≤◌, ◌^◌, ◌++◌, [], length, take, IfOk, IsOk, OnOk};
+ghost use Rattle.std.specs.Prelude.{◌≡◌, ◌+◌, ◌<◌, ◌≤◌, ◌^◌, ◌++◌, [], length, take, vec_capacity, IfOk, IsOk, OnErr, OnOk};
 ghost use Rattle.std.specs.Str.{bytes_eq};
+ghost use Rattle.qx_bytes.specs.Memory.{FitInto, Leave, kept_beside};
 ghost use Rattle.qx_bytes.specs.declared.message.TheConstants.MessageBytes.{INLINE};
 
 use std::alloc::{AllocError, Global};
@@ -127,7 +128,9 @@ impl MessageBytes {
     ) -> Result<Self, AllocError>
         requires fits { length (first.now ++ (second.now ++ third.now)) < 2 ^ 64 }
         ensures bytes { IfOk result (λ joined. joined ≡ first.now ++ (second.now ++ third.now)) }
-        ensures few { length (first.now ++ (second.now ++ third.now)) ≤ INLINE → IsOk result }
+        ensures sure { FitInto (first.now ++ (second.now ++ third.now)) (vec_capacity memory.old) → IsOk result }
+        ensures kept { OnOk result (vec_capacity memory.new ≡ kept_beside (first.now ++ (second.now ++ third.now)) (vec_capacity memory.old)) }
+        ensures err { OnErr result (vec_capacity memory.new ≡ vec_capacity memory.old) }
     {
         if first.len() + second.len() + third.len() > MessageBytes::INLINE {
             put_all(memory, first, second, third)?;
@@ -156,7 +159,9 @@ impl MessageBytes {
     }
 
     /// The bytes go, and the memory of more than a few comes in place of that which is there, so that others can stand in it.
-    pub fn into_memory(self, memory: &mut Vec<u8>) {
+    pub fn into_memory(self, memory: &mut Vec<u8>)
+        ensures memory { Leave self (vec_capacity memory.old) (vec_capacity memory.new) }
+    {
         if let Items::Many(items) = self.items {
             *memory = items;
         }
@@ -191,6 +196,8 @@ fn put_all(
 ) -> Result<(), AllocError>
     requires fits { length (first.now ++ (second.now ++ third.now)) < 2 ^ 64 }
     ensures bytes { OnOk result (memory.new.items ≡ first.now ++ (second.now ++ third.now)) }
+    ensures sure { length (first.now ++ (second.now ++ third.now)) ≤ vec_capacity memory.old → IsOk result }
+    ensures err { OnErr result (vec_capacity memory.new ≡ vec_capacity memory.old) }
 {
     memory.clear();
     memory.reserve_exact(first.len() + second.len() + third.len())?;

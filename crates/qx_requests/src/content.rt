@@ -1,7 +1,7 @@
 //! What a call sends, and its bytes.
 
-ghost use Rattle.std.specs.Prelude.{◌≡◌, ◌≤◌, [], length, IsOk, IsTrue, IfOk};
-ghost use Rattle.qx_bytes.specs.declared.message.TheConstants.MessageBytes.{INLINE};
+ghost use Rattle.std.specs.Prelude.{◌≡◌, [], vec_capacity, IsOk, IsTrue, IfOk, OnErr, OnOk};
+ghost use Rattle.qx_bytes.specs.Memory.{FitInto, kept_beside};
 ghost use Rattle.qx_machine.specs.Calls as calls;
 ghost use Rattle.qx_machine.specs.Calls.{bytes_of, can_send, content_of, request_in_ranges};
 ghost use Rattle.qx_wire.specs.Rests.{components_of};
@@ -22,7 +22,9 @@ pub fn encoded(
 ) -> Result<MessageBytes, NoMemory>
     requires sendable { IsTrue (can_send (content_of request.now rest.now)) }
     ensures bytes { IfOk result (λ bytes. bytes ≡ bytes_of (content_of request.now rest.now)) }
-    ensures few { rest.now ≡ [] → length (bytes_of (content_of request.now rest.now)) ≤ INLINE → IsOk result }
+    ensures sure { rest.now ≡ [] → FitInto (bytes_of (content_of request.now rest.now)) (vec_capacity memory.old) → IsOk result }
+    ensures kept { OnOk result (vec_capacity memory.new ≡ kept_beside (bytes_of (content_of request.now rest.now)) (vec_capacity memory.old)) }
+    ensures err { OnErr result (vec_capacity memory.new ≡ vec_capacity memory.old) }
 {
     let joined = joined(*memory.allocator(), rest)?;
     match content_of(request, Rest::new(joined.as_slice())) {

@@ -1,6 +1,6 @@
-ghost use Rattle.std.specs.Prelude.{◌≡◌, ◌≤◌, ◌++◌, IsTrue, IfOk, IsOk, length};
+ghost use Rattle.std.specs.Prelude.{◌≡◌, ◌≤◌, ◌++◌, IsTrue, IfOk, IsOk, OnErr, OnOk, length, vec_capacity};
 ghost use Rattle.std.specs.Int.{w8, w16, w32, to_le_bytes};
-ghost use Rattle.qx_bytes.specs.declared.message.TheConstants.MessageBytes.{INLINE};
+ghost use Rattle.qx_bytes.specs.Memory.{FitInto, kept_beside};
 ghost use Rattle.qx_types.specs.declared.limits.TheConstants.Limits.{BODY};
 ghost use Rattle.qx_wire.specs.Table.{action_number, framed, in_ranges, spelling, whence_number};
 
@@ -14,7 +14,9 @@ use qx_types::{MessageBytes, NoMemory, NotifyAction, Whence};
 pub fn encode(memory: &mut Vec<u8>, message: &Message<'_>) -> Result<MessageBytes, NoMemory>
     requires in_ranges { IsTrue (in_ranges message.now) }
     ensures spelling { IfOk result (λ bytes. bytes ≡ spelling message.now) }
-    ensures few { length (spelling message.now) ≤ INLINE → IsOk result }
+    ensures sure { FitInto (spelling message.now) (vec_capacity memory.old) → IsOk result }
+    ensures kept { OnOk result (vec_capacity memory.new ≡ kept_beside (spelling message.now) (vec_capacity memory.old)) }
+    ensures err { OnErr result (vec_capacity memory.new ≡ vec_capacity memory.old) }
 {
     match message {
         Message::Open { flags, mode, rest } => {
@@ -104,7 +106,9 @@ fn framed(
 ) -> Result<MessageBytes, NoMemory>
     requires fits { length (numbers.now ++ text.now) ≤ BODY }
     ensures framed { IfOk result (λ bytes. bytes ≡ framed kind subtype (numbers.now ++ text.now)) }
-    ensures few { length (framed kind subtype (numbers.now ++ text.now)) ≤ INLINE → IsOk result }
+    ensures sure { FitInto (framed kind subtype (numbers.now ++ text.now)) (vec_capacity memory.old) → IsOk result }
+    ensures kept { OnOk result (vec_capacity memory.new ≡ kept_beside (framed kind subtype (numbers.now ++ text.now)) (vec_capacity memory.old)) }
+    ensures err { OnErr result (vec_capacity memory.new ≡ vec_capacity memory.old) }
 {
     let len = numbers.len() + text.len();
     let header = header(kind, subtype, len as u32);
