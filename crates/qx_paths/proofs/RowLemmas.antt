@@ -110,7 +110,7 @@ no-fault mounts path none = by (list_any (is_at path) mounts) (nat_lt (length mo
 
 -- ---- at boot
 
-pub table-none : (places capacity : ℕ) → places * MOUNTS ≤ capacity → IsTable places [] capacity
+pub table-none : (places capacity : ℕ) → capacity ≡ places * MOUNTS → IsTable places [] capacity
 table-none places capacity room = record { owned = All-nil (IsOf places); few = All-replicate IsFew places [] (omega arith); room = room }
 
 -- what the users have once the first of them have their tops

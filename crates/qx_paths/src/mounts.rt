@@ -23,7 +23,7 @@ struct Row {
 
 /// The mounts of all users in one table, which contracts see as each user's mounts, at most 8. A mount's number is its place
 /// among its user's mounts, from 0, and stays (System Architecture: pathname management, the prefix tree; that each user has
-/// mounts of their own is this profile). There is room for all that the users may have.
+/// mounts of their own is this profile). There is room for just as many as the users may have.
 #[derive(Debug, Drop)]
 pub struct Mounts {
     // How many users there are, and one more, since nobody has number 0.

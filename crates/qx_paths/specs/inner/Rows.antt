@@ -1,5 +1,5 @@
 -- How the mounts of all users stand in one table.
-use Rattle.std.specs.Prelude.{ℕ, ◌<◌, ◌≤◌, ◌*◌, ◌==◌, ◌++◌, List, [], ◌∷◌, All, length, map, replicate, slice_set}
+use Rattle.std.specs.Prelude.{ℕ, ◌≡◌, ◌<◌, ◌≤◌, ◌*◌, ◌==◌, ◌++◌, List, [], ◌∷◌, All, length, map, replicate, slice_set}
 use Rattle.std.specs.List.{filter}
 use Rattle.qx_types.specs.declared.limits.TheConstants.Limits.{MOUNTS}
 use Rattle.qx_paths.specs.Mounts.{mounts_of}
@@ -19,8 +19,8 @@ put table (row ∷ rows) = put (slice_set table row.user.0 (mounts_of table row.
 abbrev pub shown : ℕ → List Row → List (List MountPoint)
 shown places rows = put (replicate places []) rows
 
--- each row is of one of the users, nobody has more than the limit, and there is room for as many as all may have
+-- each row is of one of the users, nobody has more than the limit, and there is room for just as many as all may have
 pub record IsTable (places : ℕ) (rows : List Row) (capacity : ℕ) : Type 0 where
   pub owned : All (λ (row : Row). row.user.0 < places) rows
   pub few : All (λ (mounts : List MountPoint). length mounts ≤ MOUNTS) (shown places rows)
-  pub room : places * MOUNTS ≤ capacity
+  pub room : capacity ≡ places * MOUNTS
