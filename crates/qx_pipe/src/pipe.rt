@@ -107,7 +107,9 @@ pub fn read_alone(
     let len = shared.pipe_len(user, inode);
     if len != 0 {
         let count = (count as usize).min(len);
-        reply.push(shared.front(user, inode, count));
+        let (first, second) = shared.front(user, inode, count);
+        reply.push(first);
+        reply.push(second);
         shared.drop_front(user, inode, count);
         return Some(count as u64);
     }

@@ -113,8 +113,9 @@ module _ (entry : Queued) (user : ℕ) (call : WaitingCall) (own : node_owner en
   pub waits-carried : Carries false (carrying entry (Waits call))
   waits-carried = record { own = own ∙ ap (λ u. Message (caller (users_call u call))) (sym user_is); load = tt }
 
-  pub answer-carried : (given : UsersAnswer) → given.thread ≡ caller (users_call user call) → Carries true (carrying entry (Answered given))
-  answer-carried given thread = record { own = own ∙ ap Message (sym thread); load = tt }
+-- and the node of a thread's messages carries an answer to the thread
+pub answer-carried : (entry : Queued) (given : UsersAnswer) → node_owner entry ≡ Message given.thread → Carries true (carrying entry (Answered given))
+answer-carried entry given own = record { own = own; load = tt }
 
 -- a call of that number waits where the node of its thread carries it
 waits_own : (number : ℕ) (load : Load) → HasLoad false load → ((unwrap_or (carried load) no_call).call == number) ≡ waits_in number load

@@ -1,8 +1,10 @@
 //! What the nodes of the table stand for and carry.
 
-ghost use Rattle.std.specs.Prelude.{◌≡◌, ◌≤◌, IfSome, false, is_some, length, true};
+ghost use Rattle.std.specs.Prelude.{◌≡◌, ◌+◌, ◌≤◌, ◌++◌, IfSome, false, is_some, length, true};
 ghost use Rattle.std.specs.Result.{ForOk};
-ghost use Rattle.qx_types.specs.declared.limits.TheConstants.Limits.{PRIORITY, TRANSFER};
+ghost use Rattle.qx_machine.specs.Processes.{keeps_room};
+ghost use Rattle.qx_types.specs.declared.limits.TheConstants.Limits.{BODY, PRIORITY, TRANSFER};
+ghost use Rattle.qx_types.specs.declared.outcome.Answer.TheVariants.{Reply};
 ghost use Rattle.qx_queues.specs.Kept.{HasLoad};
 ghost use Rattle.qx_queues.specs.Queues.{answer_to};
 ghost use Rattle.qx_queues.specs.Waiting.{Answered as Given, ComesWithRoom, Waits, addressed_by, call_carried, carried, carrying, idle, waits_in};
@@ -12,7 +14,7 @@ ghost use Rattle.qx_queues.specs.Waits.{handed, users_call};
 use crate::calls::PipeCall;
 use qx_machine::Queued;
 use qx_process::room::{Room, reply_bytes};
-use qx_types::{Answer, Errno, Prio, Ranked, Thread, User};
+use qx_types::{Answer, Errno, MessageBytes, Prio, Ranked, Thread, User};
 use std::marker::Model;
 use std::mem;
 
@@ -47,6 +49,49 @@ impl Answered {
             room,
         }
     }
+
+    /// The reply to a user's call that waited, for which there is room, with bytes in two pieces.
+    pub(crate) fn in_pieces(
+        user: User,
+        call: PipeCall,
+        status: u64,
+        first: &[u8],
+        second: &[u8],
+    ) -> Self
+        requires short { length first.now + length second.now ≤ TRANSFER }
+        ensures answered { addressed_by result ≡ answer_to (users_call user.0 call) (Reply status (first.now ++ second.now)) }
+        ensures room { ComesWithRoom result }
+    {
+        let thread = call.thread(user);
+        let number = call.number();
+        let (answer, room) = reply_in_pieces(call.into_room(), status, first, second);
+        Answered {
+            thread,
+            call: number,
+            answer,
+            room,
+        }
+    }
+}
+
+/// A reply with bytes in two pieces, and the room for a thread's replies, unless the reply takes that along.
+fn reply_in_pieces(
+    mut room: Room,
+    status: u64,
+    first: &[u8],
+    second: &[u8],
+) -> (Answer, Option<Room>)
+    requires fits { length first.now + length second.now ≤ BODY }
+    ensures reply { result.0 ≡ Reply status (first.now ++ second.now) }
+    ensures room { is_some result.1 ≡ keeps_room result.0 }
+{
+    room.keep(first);
+    room.push(second);
+    if room.as_slice().len() > MessageBytes::INLINE {
+        return (Answer::Reply(status, room.into_bytes()), None);
+    }
+    let few = room.inline(room.as_slice());
+    (Answer::Reply(status, few), Some(room))
 }
 
 /// What a node carries: nothing, a call that waits, or the answer to one.

@@ -1,12 +1,13 @@
 //! Calls that wait, in lists under numbers, and those that were answered.
 
-ghost use Rattle.std.specs.Prelude.{◌≡◌, ◌<◌, ◌≤◌, ◌++◌, ◌∷◌, ◌↔◌, [], ℕ, false, None, Some, IfNone, IfOk, IfSome, IsFalse, IsTrue, OnErr, drop, filter, is_some, length, map, option_map, slice_get, take};
+ghost use Rattle.std.specs.Prelude.{◌≡◌, ◌<◌, ◌≤◌, ◌+◌, ◌++◌, ◌∷◌, ◌↔◌, [], ℕ, false, None, Some, IfNone, IfOk, IfSome, IsFalse, IsTrue, OnErr, drop, filter, is_some, length, map, option_map, slice_get, take};
 ghost use Rattle.std.specs.FinMap as maps;
 ghost use Rattle.std.specs.List.{list_any};
 ghost use Rattle.std.specs.Option.{option_copied};
 ghost use Rattle.std.specs.Result.{ForOk};
 ghost use Rattle.qx_types.specs.declared.limits.TheConstants.Limits.{TRANSFER};
 ghost use Rattle.qx_types.specs.declared.names.Thread.{Thread as TheThread};
+ghost use Rattle.qx_types.specs.declared.outcome.Answer.TheVariants.{Reply};
 ghost use Rattle.qx_lists.specs.Table.{ContainsList, ContainsNode, IsFree, IsIn, nodes_of, with_nodes, with_value};
 ghost use Rattle.qx_machine.specs.Waiting.{is_written as is_written_by};
 ghost use Rattle.qx_machine.specs.Pipes.{staying};
@@ -16,7 +17,7 @@ ghost use Rattle.qx_queues.specs.inner.Kept.{Abandoned, entry_of_node, waiting_o
 ghost use Rattle.qx_queues.specs.Nodes.{Message, node_of, nodes_of_thread};
 ghost use Rattle.qx_queues.specs.Queues.{HasList, IsMessageReceived, answer_to, caller, has_call, has_call_of, waiting_in_list, with_abandoned, with_more_answers, with_waiting, without_list};
 ghost use Rattle.qx_queues.specs.inner.Waiting.{KeepsRoom, load_of};
-ghost use Rattle.qx_queues.specs.Waiting.{call_carried, carrying};
+ghost use Rattle.qx_queues.specs.Waiting.{ComesWithRoom, addressed_by, call_carried, carrying};
 ghost use Rattle.qx_queues.specs.Waits.{handed, is_users_call, leaves, users_call};
 ghost use Rattle.qx_queues.specs.inner.Waits.{without_first};
 
@@ -122,15 +123,44 @@ impl Queues {
         ensures written { result ≡ is_written_by call.bytes (handed answer.entry) }
     {
         let written = is_written(&call, answer);
-        let node = message_node(&self.nodes, call.thread(user));
-        let answered = Answered::new(user, call, answer);
+        self.give(Answered::new(user, call, answer));
+        written
+    }
+
+    /// A call whose message was received is answered, with a status and with bytes in two pieces; tells whether that takes the
+    /// bytes that it writes.
+    pub fn pass(
+        &mut self,
+        user: User,
+        call: PipeCall,
+        status: u64,
+        first: &[u8],
+        second: &[u8],
+    ) -> bool
+        requires received { IsMessageReceived self.old (caller (users_call user.0 call)) }
+        requires short { length first.now + length second.now ≤ TRANSFER }
+        ensures answered { self.new ≡ with_more_answers self.old (answer_to (users_call user.0 call) (Reply status (first.now ++ second.now)) ∷ []) }
+        ensures written { result ≡ is_written_by call.bytes (Reply status (first.now ++ second.now)) }
+    {
+        let written = is_written(&call, Ok((status, first)));
+        self.give(Answered::in_pieces(user, call, status, first, second));
+        written
+    }
+
+    /// The answer to a call whose message was received stands last among those that are given.
+    #[inline(always)]
+    fn give(&mut self, answered: Answered)
+        requires received { IsMessageReceived self.old answered.thread }
+        requires room { ComesWithRoom answered }
+        ensures given { self.new ≡ with_more_answers self.old (addressed_by answered ∷ []) }
+    {
+        let node = message_node(&self.nodes, answered.thread);
         put_slot(
             &mut self.table,
             self.answered,
             node,
             Slot::Answered(answered),
         );
-        written
     }
 
     /// The first call of a list is answered; tells whether that takes the bytes that it writes.
@@ -143,6 +173,21 @@ impl Queues {
     {
         match self.take_first(list, Leaving::All) {
             Some((user, call)) => self.answer(user, call, answer),
+            None => unreachable!(),
+        }
+    }
+
+    /// The first call of a list is answered, with a status and with bytes in two pieces; tells whether that takes the bytes that
+    /// it writes.
+    pub fn pass_first(&mut self, list: usize, status: u64, first: &[u8], second: &[u8]) -> bool
+        requires list { HasList self.old list }
+        requires waits { 0 < length (waiting_in_list self.old list) }
+        requires short { length first.now + length second.now ≤ TRANSFER }
+        ensures answered { self.new ≡ with_more_answers (with_waiting self.old list (drop 1 (waiting_in_list self.old list))) (map (λ own. answer_to own (Reply status (first.now ++ second.now))) (take 1 (waiting_in_list self.old list))) }
+        ensures written { result ≡ list_any (λ own. is_written_by own.call.bytes (Reply status (first.now ++ second.now))) (take 1 (waiting_in_list self.old list)) }
+    {
+        match self.take_first(list, Leaving::All) {
+            Some((user, call)) => self.pass(user, call, status, first, second),
             None => unreachable!(),
         }
     }

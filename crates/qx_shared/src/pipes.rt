@@ -17,6 +17,7 @@ ghost use Rattle.qx_types.specs.declared.limits.TheConstants.Limits.{INODES, PIP
 use crate::row::{PipeRow, UserPipes};
 use crate::shared::Shared;
 use crate::side::Side;
+use circular_buffer::HeapCircularBuffer;
 use qx_queues::{Leaving, PipeCall};
 use qx_types::{Errno, Limits, Proc, Thread, User};
 use std::alloc::AllocError;
@@ -38,7 +39,7 @@ impl Shared {
         ensures ok { OnOk result (self.new ≡ with_row_at self.old user.0 inode (Some (pipe_of [] [] []))) }
         ensures err { OnErr result (self.new ≡ self.old) }
     {
-        let bytes = Vec::with_capacity(*self.pipes.allocator(), PipeRow::ROOM)?;
+        let bytes = HeapCircularBuffer::with_capacity(*self.pipes.allocator(), Limits::PIPE)?;
         let readers = self.queues.add_list()?;
         match self.queues.add_list() {
             Ok(writers) => {
@@ -210,8 +211,8 @@ impl Shared {
         ensures written { result ≡ went_in (passed_to count (take 1 (pipe_at self.old user.0 inode).readers) (pipe_at self.old user.0 inode)).answers }
     {
         let readers = list(&self.pipes, user, inode, Side::Reading);
-        let bytes = first_bytes(&self.pipes, user, inode, count);
-        let written = self.queues.answer_first(readers, Ok((count as u64, bytes)));
+        let (first, second) = first_bytes(&self.pipes, user, inode, count);
+        let written = self.queues.pass_first(readers, count as u64, first, second);
         self.pipes[user.0 as usize].drop_front(inode, count);
         written
     }
@@ -225,8 +226,8 @@ impl Shared {
         ensures passed { self.new ≡ with_pipe_after self.old user.0 inode (passed_to count (call ∷ []) (pipe_at self.old user.0 inode)) }
         ensures written { result ≡ went_in (passed_to count (call ∷ []) (pipe_at self.old user.0 inode)).answers }
     {
-        let bytes = first_bytes(&self.pipes, user, inode, count);
-        let written = self.queues.answer(user, call, Ok((count as u64, bytes)));
+        let (first, second) = first_bytes(&self.pipes, user, inode, count);
+        let written = self.queues.pass(user, call, count as u64, first, second);
         self.pipes[user.0 as usize].drop_front(inode, count);
         written
     }
@@ -264,12 +265,12 @@ impl Shared {
         count != 0
     }
 
-    /// So many of the first bytes that stand in a pipe.
-    pub fn front(&self, user: User, inode: u32, count: usize) -> &[u8]
+    /// So many of the first bytes that stand in a pipe, in two pieces.
+    pub fn front(&self, user: User, inode: u32, count: usize) -> (&[u8], &[u8])
         requires pipe { HasPipe self.now user.0 inode }
         requires count { count ≤ length (pipe_at self.now user.0 inode).bytes }
-        ensures bytes { result.now ≡ take count (pipe_at self.now user.0 inode).bytes }
-        ensures within { length result.now ≤ PIPE }
+        ensures bytes { result.0.now ++ result.1.now ≡ take count (pipe_at self.now user.0 inode).bytes }
+        ensures within { length result.0.now + length result.1.now ≤ PIPE }
     {
         first_bytes(&self.pipes, user, inode, count)
     }
@@ -308,11 +309,11 @@ fn row(pipes: &[UserPipes], user: User, inode: u32) -> Option<&PipeRow>
     pipes.get(user.0 as usize)?.row(inode)
 }
 
-/// So many of the first bytes that stand in a pipe.
-fn first_bytes(pipes: &[UserPipes], user: User, inode: u32, count: usize) -> &[u8]
+/// So many of the first bytes that stand in a pipe, in two pieces.
+fn first_bytes(pipes: &[UserPipes], user: User, inode: u32, count: usize) -> (&[u8], &[u8])
     requires stand { (row : PipeRow) × (row_of pipes.now user.0 inode ≡ Some row) × (count ≤ length row.bytes) }
-    ensures bytes { IfSome (row_of pipes.now user.0 inode) (λ row. result.now ≡ take count row.bytes) }
-    ensures within { length result.now ≤ PIPE }
+    ensures bytes { IfSome (row_of pipes.now user.0 inode) (λ row. result.0.now ++ result.1.now ≡ take count row.bytes) }
+    ensures within { length result.0.now + length result.1.now ≤ PIPE }
 {
     let Some(row) = row(pipes, user, inode) else {
         unreachable!();

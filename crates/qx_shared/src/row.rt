@@ -1,6 +1,6 @@
 //! A pipe of a user: the bytes that stand in it, and the numbers of the lists in which calls wait.
 
-ghost use Rattle.std.specs.Prelude.{◌≡◌, ◌≤◌, ◌+◌, ◌*◌, ◌++◌, [], IfOk, IfSome, None, Some, drop, length, replicate, slice_set, take, vec_capacity, vec_len};
+ghost use Rattle.std.specs.Prelude.{◌≡◌, ◌≤◌, ◌+◌, ◌++◌, [], IfOk, IfSome, None, Some, drop, length, replicate, slice_set, take};
 ghost use Rattle.std.specs.Borrow.{sem};
 ghost use Rattle.std.specs.Option.{option_copied, option_copied_mut};
 ghost use Rattle.qx_isolation.specs.Rows.{row_at};
@@ -10,6 +10,7 @@ ghost use Rattle.qx_shared.specs.inner.Row.{list_on, row_with_bytes};
 ghost use Rattle.qx_types.specs.declared.limits.TheConstants.Limits.{INODES, PIPE};
 
 use crate::side::Side;
+use circular_buffer::HeapCircularBuffer;
 use qx_process::places;
 use qx_types::Limits;
 use std::alloc::{AllocError, Global};
@@ -18,44 +19,32 @@ use std::marker::Model;
 /// The bytes that stand in a pipe, and in which lists calls wait to read and to write.
 #[derive(Drop)]
 pub struct PipeRow {
-    // Bytes that have left, and then those that stand.
-    bytes: Vec<u8>,
-    start: usize,
+    bytes: HeapCircularBuffer<u8>,
     pub(crate) readers: usize,
     pub(crate) writers: usize,
 }
 
 impl Model for PipeRow {
-    ghost use Rattle.std.specs.Prelude.{◌+◌, ◌*◌, ◌≤◌, drop, vec_capacity, vec_len};
+    ghost use Rattle.std.specs.Prelude.{◌≡◌, ◌≤◌, length};
     ghost use Rattle.qx_shared.specs.Row.{PipeRow};
     ghost use Rattle.qx_types.specs.declared.limits.TheConstants.Limits.{PIPE};
 
     ghost Value = { PipeRow };
 
-    ghost view = { λ p. record { bytes = drop p.start p.bytes.items; readers = p.readers; writers = p.writers } };
+    ghost view = { λ p. record { bytes = p.bytes.items; readers = p.readers; writers = p.writers } };
 
-    ghost invariant = { λ p. record {
-      start : p.start ≤ vec_len p.bytes;
-      within : vec_len p.bytes ≤ p.start + PIPE;
-      len : vec_len p.bytes ≤ 2 * PIPE;
-      room : 2 * PIPE ≤ vec_capacity p.bytes;
-    } };
+    ghost invariant = { λ p. record { room : p.bytes.capacity ≡ PIPE; within : length p.bytes.items ≤ PIPE } };
 }
 
 impl PipeRow {
-    /// For how many bytes there is room: for all that may stand, behind as many that have left, so that they give way
-    /// seldom.
-    pub(crate) const ROOM: usize = 2 * Limits::PIPE;
-
-    /// No bytes, with room for them, and the numbers of two lists.
-    pub(crate) fn new(bytes: Vec<u8>, readers: usize, writers: usize) -> Self
-        requires none { vec_len bytes ≡ 0 }
-        requires room { 2 * PIPE ≤ vec_capacity bytes }
+    /// No bytes, with room for as many as may stand, and the numbers of two lists.
+    pub(crate) fn new(bytes: HeapCircularBuffer<u8>, readers: usize, writers: usize) -> Self
+        requires none { bytes.items ≡ [] }
+        requires room { bytes.capacity ≡ PIPE }
         ensures none { result ≡ record { bytes = []; readers = readers; writers = writers } }
     {
         PipeRow {
             bytes,
-            start: 0,
             readers,
             writers,
         }
@@ -76,16 +65,20 @@ impl PipeRow {
         ensures count { result ≡ length self.now.bytes }
         ensures within { result ≤ PIPE }
     {
-        self.bytes.len() - self.start
+        self.bytes.len()
     }
 
-    /// So many of the first bytes that stand.
-    pub(crate) fn first_bytes(&self, count: usize) -> &[u8]
+    /// So many of the first bytes that stand: those up to the end of the ring's block, and those behind them.
+    pub(crate) fn first_bytes(&self, count: usize) -> (&[u8], &[u8])
         requires stand { count ≤ length self.now.bytes }
-        ensures bytes { result.now ≡ take count self.now.bytes }
-        ensures within { length result.now ≤ PIPE }
+        ensures bytes { result.0.now ++ result.1.now ≡ take count self.now.bytes }
+        ensures within { length result.0.now + length result.1.now ≤ PIPE }
     {
-        &self.bytes[self.start..self.start + count]
+        let (first, second) = self.bytes.as_slices();
+        if count <= first.len() {
+            return (&first[..count], &[]);
+        }
+        (first, &second[..count - first.len()])
     }
 
     /// So many of the first bytes that stand go.
@@ -93,10 +86,7 @@ impl PipeRow {
         requires stand { count ≤ length self.old.bytes }
         ensures rest { self.new ≡ row_with_bytes self.old (drop count self.old.bytes) }
     {
-        self.start += count;
-        if self.start == self.bytes.len() {
-            self.clear();
-        }
+        self.bytes.truncate_front(self.bytes.len() - count);
     }
 
     /// Bytes that fit go in last.
@@ -105,11 +95,7 @@ impl PipeRow {
         requires fits { length self.old.bytes + length bytes.now ≤ PIPE }
         ensures appended { self.new ≡ row_with_bytes self.old (self.old.bytes ++ bytes.now) }
     {
-        self.start = make_room(&mut self.bytes, self.start, bytes.len());
-        match self.bytes.extend_from_slice(bytes) {
-            Ok(()) => {}
-            Err(_) => unreachable!(),
-        }
+        self.bytes.fill_from_slice(bytes);
     }
 
     /// The bytes that stand go.
@@ -117,31 +103,7 @@ impl PipeRow {
         ensures cleared { self.new ≡ row_with_bytes self.old [] }
     {
         self.bytes.clear();
-        self.start = 0;
     }
-}
-
-/// Makes room for so many more bytes behind those that stand from a place on: where need be, those before it give way.
-/// Gives the place from which they stand then.
-#[inline(always)]
-fn make_room(bytes: &mut Vec<u8>, start: usize, more: usize) -> usize
-    requires start { start ≤ vec_len bytes.old }
-    requires len { vec_len bytes.old ≤ 2 * PIPE }
-    requires fits { vec_len bytes.old + more ≤ start + PIPE }
-    requires room { 2 * PIPE ≤ vec_capacity bytes.old }
-    ensures stand { drop result bytes.new.items ≡ drop start bytes.old.items }
-    ensures place { result ≤ vec_len bytes.new }
-    ensures count { vec_len bytes.new + start ≡ vec_len bytes.old + result }
-    ensures room { 2 * PIPE ≤ vec_capacity bytes.new }
-    ensures fits { vec_len bytes.new + more ≤ 2 * PIPE }
-{
-    let len = bytes.len();
-    if more <= PipeRow::ROOM - len {
-        return start;
-    }
-    bytes.copy_within(start.., 0);
-    bytes.truncate(len - start);
-    0
 }
 
 /// The pipes of one user, under the numbers of their inodes, with a place for each.

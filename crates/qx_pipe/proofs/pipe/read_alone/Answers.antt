@@ -1,4 +1,4 @@
-use Rattle.std.proofs.Common.{◌≡◌, ◌∙◌, [], ◌++◌, ap₂, arith, drop, sym, take}
+use Rattle.std.proofs.Common.{◌≡◌, ◌∙◌, [], ◌++◌, ap, ap₂, arith, drop, sym, take}
 use Rattle.qx_types.specs.declared.outcome.Answer.TheVariants.{Reply}
 use Rattle.qx_machine.specs.declared.rows.WaitingCall.{WaitingCall}
 use Rattle.qx_machine.specs.Waiting.{waiting_call}
@@ -18,7 +18,8 @@ returns-then-len-ne0-clause-told c = λ opened.
     let call = waiting_call opened c.args.count [] in
     let count = c.min-count.result in
     let rest : Pipe WaitingCall = record p { bytes = drop count p.bytes } in
-    let pushed : c.push.new.self ≡ take count p.bytes = c.push.ensures.behind ∙ ap₂ (λ a b. a ++ b) c.requires.empty c.front.ensures.bytes in
+    let first : c.push.new.self ≡ c.front.result.0.now = c.push.ensures.behind ∙ ap (λ bytes. bytes ++ c.front.result.0.now) c.requires.empty in
+    let pushed : c.push-then-len-ne0.new.self ≡ take count p.bytes = c.push-then-len-ne0.ensures.behind ∙ ap (λ bytes. bytes ++ c.front.result.1.now) first ∙ c.front.ensures.bytes in
     read-first c.args.manner call p (c.anyone_waits.ensures.alone c.if-anyone_waits.false) count (omega arith) (omega arith) (omega arith)
     ∙ ap₂ (λ bytes q. one_answered call (Reply count bytes) q) (sym pushed) (sym (pipe-now c.args.shared.now c.drop_front.new.self c.args.user.0 c.args.inode c.requires.pipe rest c.drop_front.ensures.rest))
 
