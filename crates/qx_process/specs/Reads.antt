@@ -1,5 +1,5 @@
 -- What rows are asked.
-use Rattle.std.specs.Prelude.{ℕ, ◌≡◌, ◌≢◌, ◌<◌, ◌≤◌, ◌==◌, ◌&&◌, Bool, true, false, not, List, Option, Some, None, IfSome, IsSome, is_some, ⊤}
+use Rattle.std.specs.Prelude.{ℕ, [], ◌≡◌, ◌≢◌, ◌<◌, ◌≤◌, ◌==◌, ◌&&◌, Bool, true, false, not, List, Option, Some, None, IfSome, IsSome, is_some, ⊤}
 use Rattle.std.specs.List.{flat_map, list_any}
 use Rattle.std.specs.Option.{option_to_list}
 use Rattle.qx_types.specs.Managers.{manager_number}
@@ -14,7 +14,7 @@ use Rattle.qx_machine.specs.declared.rows.Target.{Target}
 use Rattle.qx_machine.specs.declared.rows.ThreadRow.{ThreadRow}
 use Rattle.qx_isolation.specs.declared.rows.ServerName.{ServerName}
 use Rattle.qx_machine.specs.Performing.{taken_in}
-use Rattle.qx_machine.specs.Processes.{Process, keeps_room, lost_servers, servers_at}
+use Rattle.qx_machine.specs.Processes.{Process, keeps_room, lost_servers, received_in, servers_at}
 use Rattle.qx_isolation.specs.Rows.{lowest_from, row_at}
 use Rattle.qx_machine.specs.Servers.{Servers, in_use}
 use Rattle.qx_types.specs.declared.names.Manager.{Manager}
@@ -65,6 +65,11 @@ BringsRoom answer room (Some row) = BringsRoomIn answer room row.state
 abbrev pub AwaitsReply : Option ThreadRow → Type 0
 AwaitsReply None = ⊥
 AwaitsReply (Some row) = IsSome (taken_in row.state)
+
+-- the bytes of the message of the thread in a place that was received and is not served, and else none
+abbrev pub bytes_received : Option ThreadRow → List ℕ
+bytes_received None = []
+bytes_received (Some row) = received_in row.state
 
 -- the thread is there, and its calls can be counted once more
 abbrev pub CanCall : Option ThreadRow → Type 0

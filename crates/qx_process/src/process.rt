@@ -1,13 +1,14 @@
-ghost use Rattle.std.specs.Prelude.{IsSome, ◌≡◌, ◌+◌, ◌≤◌, count_by, is_some, length, IfSome, IsOk, IsTrue, OnSome, OnOk, OnErr, Some, None, true};
+ghost use Rattle.std.specs.Prelude.{IsSome, ◌≡◌, ◌+◌, ◌≤◌, count_by, is_some, length, IfSome, IsOk, IsTrue, OnSome, OnOk, OnErr, Some, None, true, vec_capacity};
 ghost use Rattle.std.specs.Option.{option_copied, option_copied_mut};
 ghost use Rattle.std.specs.Borrow.{sem};
+ghost use Rattle.qx_bytes.specs.Memory.{Leave};
 ghost use Rattle.qx_types.specs.declared.limits.TheConstants.Limits.{FIRST_CONNECTION, LAST_CONNECTION, SERVERS, THREADS};
 ghost use Rattle.qx_types.specs.declared.outcome.Answer.TheVariants.{Reply as TheReply};
 ghost use Rattle.qx_machine.specs.Performing.{client_at};
 ghost use Rattle.qx_machine.specs.Processes as machine;
 ghost use Rattle.qx_machine.specs.Processes.{answered_thread, servers_at, with_thread};
 ghost use Rattle.qx_isolation.specs.Rows.{row_at, lowest_from};
-ghost use Rattle.qx_process.specs.Reads.{AwaitsReply, BringsRoom, CanAttach, CanCall, CanGo, HasNumber, HasPlace, IsPriority, Loses, LosesAll, Uses, UsesBy, has_own_room, is_served};
+ghost use Rattle.qx_process.specs.Reads.{AwaitsReply, BringsRoom, CanAttach, CanCall, CanGo, HasNumber, HasPlace, IsPriority, Loses, LosesAll, Uses, UsesBy, bytes_received, has_own_room, is_served};
 
 use crate::connections::{self, Connections};
 use crate::places;
@@ -343,6 +344,7 @@ impl Process {
         requires received { AwaitsReply (row_at self.old.threads thread) }
         ensures process { self.new ≡ machine.after_reply thread over replied.effect (with_thread thread (answered_thread (TheReply replied.status reply.old)) self.old) }
         ensures lost { Loses result self.old self.new }
+        ensures memory { Leave (bytes_received (row_at self.old.threads thread)) (vec_capacity memory.old) (vec_capacity memory.new) }
     {
         let cell = self.thread_there(thread);
         cell.reply(replied.status, reply, memory);

@@ -1,5 +1,6 @@
-ghost use Rattle.std.specs.Prelude.{◌≡◌, ◌<◌, ◌≤◌, IfSome, IsOk, IsSome, IsTrue, MatchOption, OnOk, OnErr, Some, option_map};
+ghost use Rattle.std.specs.Prelude.{◌≡◌, ◌<◌, ◌≤◌, IfSome, IsOk, IsSome, IsTrue, MatchOption, OnOk, OnErr, Some, option_map, vec_capacity};
 ghost use Rattle.std.specs.Option.{option_copied};
+ghost use Rattle.qx_bytes.specs.Memory.{Leave};
 ghost use Rattle.qx_types.specs.declared.limits.TheConstants.Limits.{CALLS};
 ghost use Rattle.qx_types.specs.declared.outcome.Answer.TheVariants.{Reply as TheReply};
 ghost use Rattle.qx_machine.specs.Calls.{is_ready};
@@ -209,6 +210,7 @@ impl ThreadCell {
     pub fn wait(&mut self, memory: &mut Vec<u8>) -> Room
         requires received { IsSome (taken_in self.old.state) }
         ensures row { self.new ≡ served_thread self.old }
+        ensures memory { Leave (received_in self.old.state) (vec_capacity memory.old) (vec_capacity memory.new) }
     {
         let Some(room) = self.room.take() else {
             assert_unchecked(false);
@@ -242,6 +244,7 @@ impl ThreadCell {
     pub fn reply(&mut self, status: u64, reply: &mut Reply, memory: &mut Vec<u8>)
         requires received { IsSome (taken_in self.old.state) }
         ensures row { self.new ≡ answered_thread (TheReply status reply.old) self.old }
+        ensures memory { Leave (received_in self.old.state) (vec_capacity memory.old) (vec_capacity memory.new) }
     {
         if reply.is_empty() {
             let none = MessageBytes::new(*memory.allocator());
@@ -301,6 +304,7 @@ impl ThreadCell {
 fn answered(doing: &mut Doing, answer: Answer, memory: &mut Vec<u8>)
     requires received { IsSome (taken_in (state_of doing.old)) }
     ensures answered { doing.new ≡ Doing.Answered answer }
+    ensures memory { Leave (received_in (state_of doing.old)) (vec_capacity memory.old) (vec_capacity memory.new) }
 {
     let Doing::Sent(_, sent) = mem::replace(doing, Doing::Answered(answer)) else {
         assert_unchecked(false);

@@ -1,6 +1,6 @@
 //! Calls that wait in pipes.
 
-ghost use Rattle.std.specs.Prelude.{◌≡◌, [], true};
+ghost use Rattle.std.specs.Prelude.{◌≡◌, ◌<◌, [], length, true};
 ghost use Rattle.qx_machine.specs.Waiting.{is_call, waiting_call};
 ghost use Rattle.qx_queues.specs.Calls.{wanted_by, written_by};
 ghost use Rattle.qx_queues.specs.Queues.{caller};
@@ -139,8 +139,10 @@ impl PipeCall {
         self.is_gone = true;
     }
 
-    /// The room for its reply, as it waits no more.
-    pub fn into_room(self) -> Room {
+    /// The room for its reply, as it waits no more, with the bytes that it writes in it still.
+    pub fn into_room(self) -> Room
+        ensures bytes { 0 < length self.bytes → result ≡ self.bytes }
+    {
         let PipeCall { room, .. } = self;
         room
     }
