@@ -4,3 +4,7 @@ mod MarkLemmas
 mod NoteLemmas
 -- which outcomes steps have
 mod OutcomeLemmas
+-- which threads are found to wait for no answer
+mod ReleasedLemmas
+-- sets of threads, as bits
+mod WaitLemmas

@@ -12,6 +12,7 @@
 //! - `agreement.rt`: whether all that was noted stands in what was stored
 //!
 //! `Notes.antt` says how notes stand in what was stored, `Ends.antt` what a call and a loop add to them.
+//! `Awaits.antt` says in the machine's words what threads wait for, `Waits.antt` how sets of threads stand in bits.
 #![tactic(auto)]
 
 mod agreement;

@@ -1,12 +1,16 @@
 //! What lies under the lock of a server, and the steps that are taken there.
 
-ghost use Rattle.std.specs.Prelude.{◌≡◌, ◌≢◌, ◌≤◌, ◌<◌, ◌+◌, ◌++◌, ◌∷◌, [], true, length, map, sum_by, vec_len, vec_capacity, IfOk, IfErr, OnOk, IsErrOf, MatchBool, is_ok};
+ghost use Rattle.std.specs.Prelude.{◌≡◌, ◌≢◌, ◌≤◌, ◌<◌, ◌+◌, ◌++◌, ◌∷◌, ◌==◌, ◌&&◌, [], true, not, length, map, sum_by, vec_len, vec_capacity, IfOk, IfErr, OnOk, IsErrOf, MatchBool, is_ok};
+ghost use Rattle.qx_types.specs.declared.names.Thread.{Thread};
 ghost use Rattle.qx_types.specs.declared.outcome.Outcome.{Outcome};
 ghost use Rattle.qx_types.specs.declared.step.Step.{Step};
 ghost use Rattle.qx_steps.specs.Held.{held_work, IsStale};
 ghost use Rattle.qx_steps.specs.declared.work.PerformFault.{PerformFault};
 ghost use Rattle.qx_world.specs.Trace.{IsAfter, IsLast, outcome_now, run_of};
+ghost use Rattle.qx_pool.specs.Awaits.{is_blocked, is_to_come, next_manager};
 ghost use Rattle.qx_pool.specs.Notes.{AddsOf, Agrees, notes_after, note};
+ghost use Rattle.qx_pool.specs.Waits.{IsPossible, is_awaited, is_in};
+ghost use Rattle.qx_pool.specs.declared.waits.Awaited.{Awaited};
 ghost use Rattle.qx_pool.specs.inner.Copies.{AreCopies};
 
 use crate::agreement::agree;
@@ -76,6 +80,8 @@ impl<L: Ledger> Locked<L> {
         ensures stored { IsAfter self.old.traced step (is_ok result) self.new.traced }
         ensures noted { seat.new.notes.items ≡ notes_after seat.old.notes.items self.old.traced step (is_ok result) }
         ensures handed_back { IfErr result (λ unstored. unstored.step ≡ step) }
+        ensures waits { self.new.waits ≡ self.old.waits }
+        ensures stopped { self.new.is_stopped ≡ self.old.is_stopped }
     {
         let Locked {
             traced,
@@ -111,6 +117,8 @@ impl<L: Ledger> Locked<L> {
         ensures stored { IsAfter self.old.traced (Step.Perform worker moment) (is_ok result) self.new.traced }
         ensures noted { seat.new.notes.items ≡ notes_after seat.old.notes.items self.old.traced (Step.Perform worker moment) (is_ok result) }
         ensures stale { IsErrOf result PerformFault.Stale → IsStale (held_work (run_of self.old.traced).world worker.0) work.now }
+        ensures waits { self.new.waits ≡ self.old.waits }
+        ensures stopped { self.new.is_stopped ≡ self.old.is_stopped }
     {
         let Locked {
             traced,
@@ -136,7 +144,9 @@ impl<L: Ledger> Locked<L> {
         worker: Worker,
         manager: Manager,
     ) -> Result<Option<(Item, HeldCopy)>, NoMemory>
-        ensures { AddsOf worker.0 seat.old.notes.items seat.new.notes.items }
+        ensures notes { AddsOf worker.0 seat.old.notes.items seat.new.notes.items }
+        ensures waits { self.new.waits ≡ self.old.waits }
+        ensures stopped { self.new.is_stopped ≡ self.old.is_stopped }
     {
         match self.take(seat, Step::Receive { worker, manager }) {
             Ok(Outcome::Took(item)) => Ok(self.held(worker)?.map(|held| (item, held))),
@@ -159,9 +169,11 @@ impl<L: Ledger> Locked<L> {
         })
     }
 
-    /// The manager whose line a worker serves next: the RAM manager, if an item stands in its line, else the pipe manager;
-    /// none where both lines are empty.
-    pub(crate) fn next_line(&self) -> Option<Manager> {
+    /// The manager whose line a worker serves next: the first one, by number, in whose line an item stands; none where all
+    /// lines are empty.
+    pub(crate) fn next_line(&self) -> Option<Manager>
+        ensures { result ≡ next_manager (run_of self.now.traced).world }
+    {
         if self.world().waiting(Manager::Ram) != 0 {
             Some(Manager::Ram)
         } else if self.world().waiting(Manager::Pipe) != 0 {
@@ -176,9 +188,14 @@ impl<L: Ledger> Locked<L> {
         self.world().owner(&Step::Perform { worker, moment: 0 })
     }
 
-    /// Whether what is awaited has yet to come. If it is an answer, the bell has to ring once that may have changed.
+    /// Whether what is awaited has yet to come, unless the server was stopped. If it is an answer, it is marked that a client
+    /// waits for it.
     pub(crate) fn waits_for(&mut self, awaited: Awaited) -> bool
-        ensures { self.new.traced ≡ self.old.traced }
+        ensures told { result ≡ (not self.old.is_stopped && is_to_come (run_of self.old.traced).world awaited) }
+        ensures marked { (thread : Thread) → awaited ≡ Awaited.Answer thread → result ≡ true → is_awaited self.new.waits thread ≡ true }
+        ensures others { (thread : Thread) → is_awaited self.old.waits thread ≡ true → is_awaited self.new.waits thread ≡ true }
+        ensures traced { self.new.traced ≡ self.old.traced }
+        ensures stopped { self.new.is_stopped ≡ self.old.is_stopped }
     {
         if self.is_stopped {
             return false;
@@ -195,14 +212,16 @@ impl<L: Ledger> Locked<L> {
         }
     }
 
-    /// The threads of a user for which clients wait no longer, as they wait for no answer.
+    /// The threads of a user that clients wait for and that wait for no answer. Clients wait for them no longer.
     pub(crate) fn released(&mut self, user: User) -> ThreadSet
-        ensures { self.new.traced ≡ self.old.traced }
+        ensures told { (thread : Thread) → IsPossible thread → is_in result thread ≡ ((thread.proc.user.0 == user.0) && is_awaited self.old.waits thread && not (is_blocked (run_of self.old.traced).world thread)) }
+        ensures waits { (thread : Thread) → is_awaited self.new.waits thread ≡ (is_awaited self.old.waits thread && not (is_in result thread)) }
+        ensures traced { self.new.traced ≡ self.old.traced }
+        ensures stopped { self.new.is_stopped ≡ self.old.is_stopped }
     {
         let mut waiting = self.waits.of(user);
         let mut released = ThreadSet::new(user);
-        for _ in 0..waiting.len() {
-            let thread = waiting.pop();
+        'looking: while let Some(thread) = waiting.pop() {
             if !self.world().blocked(thread) {
                 released.insert(thread);
             }
@@ -213,12 +232,16 @@ impl<L: Ledger> Locked<L> {
 
     /// From now on loops end once both lines are empty, and clients wait no longer.
     pub(crate) fn stop(&mut self)
-        ensures { self.new.traced ≡ self.old.traced }
+        ensures stopped { self.new.is_stopped ≡ true }
+        ensures waits { self.new.waits ≡ self.old.waits }
+        ensures traced { self.new.traced ≡ self.old.traced }
     {
         self.is_stopped = true;
     }
 
-    pub(crate) fn is_stopped(&self) -> bool {
+    pub(crate) fn is_stopped(&self) -> bool
+        ensures { result ≡ self.now.is_stopped }
+    {
         self.is_stopped
     }
 

@@ -7,7 +7,7 @@ use crate::locked::Locked;
 use crate::seat::Seat;
 use crate::spinner::Spinner;
 use crate::waits::{Awaited, THREADS, ThreadSet, place_of};
-use qx_types::{Config, NoMemory};
+use qx_types::{Config, Manager, NoMemory};
 use std::alloc::{AllocError, Global};
 use std::marker::Model;
 use std::sync::ledger::{Blank, Ledger, Share};
@@ -102,16 +102,17 @@ impl<L: Ledger> Server<L> {
         bell.wait_while(rt, guard, |locked| locked.waits_for(awaited))
     }
 
-    /// Wakes a worker, where one waits for an item.
-    pub(crate) fn wake_worker(&self) {
-        self.items.notify_one();
+    /// Wakes a worker, where one waits, if an item was left in a line as the lock was let go.
+    pub(crate) fn wake_worker(&self, left: Option<Manager>) {
+        if left.is_some() {
+            self.items.notify_one();
+        }
     }
 
     /// Wakes the clients that wait for these threads.
     pub(crate) fn wake_clients(&self, mut threads: ThreadSet) {
-        for _ in 0..threads.len() {
-            let bell = self.bell(Awaited::Answer(threads.pop()));
-            bell.notify_all();
+        'waking: while let Some(thread) = threads.pop() {
+            self.bell(Awaited::Answer(thread)).notify_all();
         }
     }
 

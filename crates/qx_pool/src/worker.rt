@@ -95,11 +95,9 @@ fn receive<L: Ledger, R: Wait>(
     let mut guard = server.lock_for(rt, spinner, Awaited::Item);
     let manager = guard.next_line()?;
     let received = guard.receive(seat, worker, manager);
-    let is_more = guard.next_line().is_some();
+    let left = guard.next_line();
     drop(guard);
-    if is_more {
-        server.wake_worker();
-    }
+    server.wake_worker(left);
     match received {
         Ok(received) => received,
         Err(_) => {

@@ -25,13 +25,11 @@ struct Role {
     ends: Vec<CallEnd>,
 }
 
-/// What came of a run: how the calls of each thread ended, the clients' first, and how many seats came back with the server
-/// while one was kept.
+/// What came of a run: how the calls of each thread ended, the clients' first.
 #[derive(Drop)]
 pub(crate) struct Ran {
     pub(crate) traced: Traced,
     ends: Vec<Vec<CallEnd>>,
-    pub(crate) came_back: usize,
 }
 
 /// A thread of a user's first process.
@@ -102,15 +100,17 @@ fn play<L: Ledger, R: Wait>(
     (helper.into_seat(), ends)
 }
 
-/// The trace of a server, and how many seats came back with it while one was kept.
-fn finished<L: Ledger>(server: Server<L>, mut seats: Vec<Seat<L>>) -> Option<(Traced, usize)> {
+/// A server and all its seats, once they were handed back since one seat was kept. None where they were not.
+fn handed_back<L: Ledger>(
+    server: Server<L>,
+    mut seats: Vec<Seat<L>>,
+) -> Option<(Server<L>, Vec<Seat<L>>)> {
     let kept = seats.pop()?;
     let Err(FinishFault::Missing(server, mut seats)) = finish(server, seats) else {
         return None;
     };
-    let came_back = seats.len();
     seats.push(kept).ok()?;
-    Some((finish(server, seats).ok()?, came_back))
+    Some((server, seats))
 }
 
 /// The seats, and for each role how its calls ended, for which there is room.
@@ -149,7 +149,8 @@ fn play_all<'a, L: Ledger + Send + Sync, R: Threads + Wait + Sync>(
     })
 }
 
-/// Runs a server with so many clients' seats. None where the trace is not whole.
+/// Runs a server with so many clients' seats, which was handed back before, and is once more before the trace is taken. None
+/// where it was not, or the trace is not whole.
 fn serve<L: Ledger + Send + Sync, R: Threads + Wait + Sync>(
     rt: &R,
     alloc: Global,
@@ -167,13 +168,16 @@ fn serve<L: Ledger + Send + Sync, R: Threads + Wait + Sync>(
     let ends = Vec::with_capacity(alloc, roles.len())?;
     let running = Vec::with_capacity(alloc, roles.len())?;
     let (server, seats) = Server::<L>::new(alloc, blank, config, clients)?;
+    let Some((server, seats)) = handed_back(server, seats) else {
+        return Ok(None);
+    };
     let played = (seats, ends);
     let (seats, ends) = play_all(rt, &server, signals, callers, roles, running, played);
-    Ok(finished(server, seats).map(|(traced, came_back)| Ran {
-        traced,
-        ends,
-        came_back,
-    }))
+    let Some((server, seats)) = handed_back(server, seats) else {
+        return Ok(None);
+    };
+    let traced = finish(server, seats).ok();
+    Ok(traced.map(|traced| Ran { traced, ends }))
 }
 
 /// Runs a server for the users whom the first lines of a script name, with a thread for each client and each worker. Asserts

@@ -1,7 +1,7 @@
 //! Calls that are served.
 
 use crate::pool::runs::{run, thread};
-use qx_types::{Item, NoMemory, Step, User};
+use qx_types::{Item, NoMemory, Outcome, Proc, Step, Thread, User};
 
 /// The calls of a script, whose answers tell no moment, and what it shows where each is served before the next.
 const SCRIPT: &str = "\
@@ -83,5 +83,29 @@ fn overlap(rt: HostRuntime) -> Result<(), NoMemory> {
     let answered = steps.position(|step| *step == Step::TakeReply { thread });
     assert_eq!(rt; answered, Some(7));
     assert!(rt; matches!(steps.next(), Some(Step::Perform { .. })));
+    Ok(())
+}
+
+/// The last thread that a user can have sleeps while its message is held, and is woken by its answer.
+#[test]
+fn last_thread_of_a_user(rt: HostRuntime) -> Result<(), NoMemory> {
+    let alloc = rt.alloc();
+    let mut ann = String::new(alloc);
+    for _ in 0..16 {
+        ann.push_str("spawn ann 4 10\n")?;
+    }
+    ann.push_str("open ann.16.4 /ann r 000")?;
+    let last = Thread {
+        proc: Proc {
+            user: User(1),
+            num: 16,
+        },
+        tid: 4,
+    };
+    let clients = [ann.as_str(), "await 1\nraise"];
+    let held = Some((Item::Message(last), 2));
+    let ran = run(&rt, alloc, "user ann\n", held, &clients, &["work 1"])?;
+    let end = ran.traced.entries().last().map(|entry| &entry.outcome);
+    assert!(rt; matches!(end, Some(Outcome::Reply(3, _))));
     Ok(())
 }

@@ -2,14 +2,17 @@
 
 use crate::pool::runs::{run, thread};
 use qx_pool::CallEnd;
-use qx_types::{Item, Manager, NoMemory, User};
+use qx_types::{Item, Manager, NoMemory, Outcome, User};
 
+/// A server that is handed back, since a seat was kept, goes on: it was before ann calls, and her call is answered; and it has
+/// all steps once it has all seats.
 #[test]
 fn one_seat_kept(rt: HostRuntime) -> Result<(), NoMemory> {
     let ann = "spawn ann 1 10\nopen ann.1.1 /ann r 000";
     let ran = run(&rt, rt.alloc(), "user ann\n", None, &[ann], &["work 1"])?;
-    assert_eq!(rt; ran.came_back, 1);
     assert_eq!(rt; ran.traced.entries().len(), 5);
+    let end = ran.traced.entries().last().map(|entry| &entry.outcome);
+    assert!(rt; matches!(end, Some(Outcome::Reply(3, _))));
     Ok(())
 }
 
