@@ -1,5 +1,6 @@
 -- A received message is performed: what its thread's row and the queues tell before, and what comes of that, as in the machine.
 use Rattle.std.proofs.Common.{◌≡◌, ◌≤◌, inl, inr, ℕ, List, Option, Some, None, Ok, Err, refl, sym, ◌∙◌, ap}
+use Rattle.std.proofs.lemmas.Option.{none-some}
 use Rattle.std.specs.Prelude.{[], IfOk, IsSome, Result}
 use Rattle.qx_types.specs.Managers.{manager_number}
 use Rattle.qx_types.specs.declared.errno.Errno.{Errno}
@@ -9,12 +10,15 @@ use Rattle.qx_types.specs.declared.names.Coid.{Coid}
 use Rattle.qx_types.specs.declared.names.Thread.{Thread}
 use Rattle.qx_wire.specs.Reading.{meaning}
 use Rattle.qx_machine.specs.declared.rows.Sent.{Sent}
+use Rattle.qx_machine.specs.declared.rows.State.{State}
+use Rattle.qx_machine.specs.declared.rows.State.TheVariants as stage
 use Rattle.qx_machine.specs.declared.rows.State.TheVariants.{Taken}
 use Rattle.qx_machine.specs.declared.rows.ThreadRow.{ThreadRow}
 use Rattle.qx_isolation.specs.Judgements.{◌>>=◌, found, need}
 use Rattle.qx_machine.specs.Parts.{Part, thread_at, thread_of}
 use Rattle.qx_machine.specs.Performing.{caller_of, context_of, deed_of, opened_by, or_kept, serve_message, served_by, taken_in, works_over}
-use Rattle.qx_machine.specs.Processes.{Process}
+use Rattle.qx_machine.specs.Processes.{Process, received_in}
+use Rattle.qx_process.specs.Reads.{bytes_received}
 use Rattle.qx_isolation.specs.Rows.{row_at}
 use Rattle.qx_machine.specs.Servers.{is_numbered}
 use Rattle.qx_machine.specs.Wants.{bytes_want_memory, thread_wants_memory}
@@ -53,6 +57,17 @@ received-alone users queues thread call is kept = record {
     answered = ap (λ answers. has_answer_among answers thread) kept.answered;
   };
 }
+
+-- of a thread with no message that was received and is not served, no bytes of one are there
+pub untaken-bytes : (row : ThreadRow) → None ≡ taken_in row.state → bytes_received (Some row) ≡ []
+untaken-bytes row none = by_state row.state none
+  where
+    by_state : (s : State) → None ≡ taken_in s → received_in s ≡ []
+    by_state stage.Ready none = refl
+    by_state (stage.Queued sent) none = refl
+    by_state (stage.Taken sent) none = absurd (none-some _ none)
+    by_state (stage.Waiting sent) none = refl
+    by_state (stage.Answered given) none = refl
 
 -- where a judgement gives something, it goes on with that
 module _ {B E : Type 0} (P : B → Type 0) where

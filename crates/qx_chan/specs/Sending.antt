@@ -1,6 +1,6 @@
 -- How a call of a thread is judged and sent, and what memory it wants.
-use Rattle.std.specs.Prelude.{⊤, ◌≤◌, false, List, Option, Some, None, Result, Ok, Err, IfSome, IsTrue, length}
-use Rattle.qx_bytes.specs.declared.message.TheConstants.MessageBytes.{INLINE}
+use Rattle.std.specs.Prelude.{⊤, ℕ, false, List, Option, Some, None, Result, Ok, Err, IfSome, IsTrue}
+use Rattle.qx_bytes.specs.Memory.{FitInto, kept_beside}
 use Rattle.qx_types.specs.Configuration.{Configuration}
 use Rattle.qx_types.specs.declared.names.Thread.{Thread}
 use Rattle.qx_types.specs.declared.outcome.Outcome.{Outcome}
@@ -40,9 +40,14 @@ abbrev pub told_of : Result Addressed Outcome → Result ⊤ Outcome
 told_of (Ok addressed) = Ok tt
 told_of (Err outcome) = Err outcome
 
--- what a call wants memory for is there: it goes over a connection that is there, its message stands in its value, and its thread has
--- room for the reply
-pub record HasMemory (place : Option ThreadRow) (request : Request) (addressed : Addressed) : Type 0 where
+-- the memory that is kept for messages once a call is sent to where it goes, if it goes anywhere
+abbrev pub kept_after : Request → Result Addressed Outcome → ℕ → ℕ
+kept_after request (Ok addressed) kept = kept_beside (bytes_of (content_of request addressed.rest)) kept
+kept_after request (Err outcome) kept = kept
+
+-- what a call wants memory for is there: it goes over a connection that is there, its message stands in its value or fits into the memory
+-- that is kept, and its thread has room for the reply
+pub record HasMemory (kept : ℕ) (place : Option ThreadRow) (request : Request) (addressed : Addressed) : Type 0 where
   pub over : IsExisting addressed.target.over
-  pub few : length (bytes_of (content_of request addressed.rest)) ≤ INLINE
+  pub message : FitInto (bytes_of (content_of request addressed.rest)) kept
   pub room : IfSome place (λ row. IsTrue row.has_room)

@@ -2,7 +2,7 @@
 //! of message passing: what stands beside a thread's message, the room for its reply, and its place in a line change
 //! together.
 
-ghost use Rattle.std.specs.Prelude.{◌≡◌, ◌*◌, ◌≤◌, ℕ, Ok, false, length, max, slice_get, IfOk, IfSome, IsErr, IsOk, IsTrue, OnOk, OnErr};
+ghost use Rattle.std.specs.Prelude.{◌≡◌, ◌*◌, ◌≤◌, ℕ, Ok, false, length, max, slice_get, IfOk, IfSome, IsErr, IsOk, IsTrue, OnOk, OnErr, vec_capacity};
 ghost use Rattle.std.specs.Option.{option_copied};
 ghost use Rattle.qx_machine.specs.Events.{first_pulse};
 ghost use Rattle.qx_machine.specs.Parts.{thread_of};
@@ -15,7 +15,7 @@ ghost use Rattle.qx_shared.specs.Shared.{HasNoCall, has_thread, shared_line};
 ghost use Rattle.qx_chan.specs.Calls.{answer_of, queued_call, unasked_call};
 ghost use Rattle.qx_chan.specs.Channel.{IsExisting, after_asking, after_interrupt, after_pulse, after_ranking, after_receive, after_spawn, after_taking, after_withdrawing, channel_events, channel_line, boot_channel, interrupt_outcome, pulse_outcome};
 ghost use Rattle.qx_chan.specs.Nodes.{room_for};
-ghost use Rattle.qx_chan.specs.Sending.{HasMemory, after_call, call_target, told_of};
+ghost use Rattle.qx_chan.specs.Sending.{HasMemory, after_call, call_target, kept_after, told_of};
 ghost use Rattle.qx_chan.specs.Users.{UsesAt, prio_outcome_in, process_of, spawn_number_in, thread_row};
 ghost use Rattle.qx_chan.specs.inner.Kept.{with_sent};
 
@@ -155,8 +155,9 @@ impl Channel {
     /// thread is not there or not ready; then EINVAL for fields out of their ranges, EAGAIN where the thread's calls are used
     /// up; for a path, the errors of `read_path`, EACCES and ENOENT by whose name is its first; for a connection, EBADF where it
     /// is not there; EMFILE where no connection is free for a new one; EAGAIN where the user has all its server connections at
-    /// the manager. A call that is refused wants no memory, nor does one over a connection that is there, with a message of few
-    /// bytes, of a thread that has room for the reply; more bytes take the memory that is there.
+    /// the manager. A call that is refused wants no memory, nor does one over a connection that is there, of a thread that has
+    /// room for the reply, with a message of few bytes or one that fits into the memory that is kept; more than a few take that
+    /// along.
     #[inline(always)]
     pub fn call(
         &mut self,
@@ -169,7 +170,8 @@ impl Channel {
         ensures outcome { IfOk result (λ told. told ≡ told_of (call_target config.now self.old thread request.now)) }
         ensures ok { OnOk result (self.new ≡ after_call self.old thread request.now (call_target config.now self.old thread request.now)) }
         ensures sure { IsErr (call_target config.now self.old thread request.now) → IsOk result }
-        ensures had_room { IfOk (call_target config.now self.old thread request.now) (HasMemory (thread_row self.old.users thread) request.now) → IsOk result }
+        ensures had_room { IfOk (call_target config.now self.old thread request.now) (HasMemory (vec_capacity memory.old) (thread_row self.old.users thread) request.now) → IsOk result }
+        ensures kept { OnOk result (vec_capacity memory.new ≡ kept_after request.now (call_target config.now self.old thread request.now) (vec_capacity memory.old)) }
         ensures err { OnErr result (self.new ≡ record self.old { room = self.new.room }) }
         ensures spare { OnErr result (IfOk (call_target config.now self.old thread request.now) (λ addressed. self.new.room ≤ room_for addressed.target.over self.old.room)) }
     {

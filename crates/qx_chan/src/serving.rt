@@ -1,7 +1,8 @@
 //! Messages and unblock pulses, as a worker performs them.
 
-ghost use Rattle.std.specs.Prelude.{◌≡◌, false, Ok, Option, Some, IfSome, IsFalse, IsOk, IsSome, None, OnErr, OnOk};
+ghost use Rattle.std.specs.Prelude.{◌≡◌, false, Ok, Option, Some, IfSome, IsFalse, IsOk, IsSome, None, OnErr, OnOk, vec_capacity};
 ghost use Rattle.std.specs.Option.{option_copied};
+ghost use Rattle.qx_bytes.specs.Memory.{Leave};
 ghost use Rattle.qx_types.specs.Managers.{manager_number};
 ghost use Rattle.qx_wire.specs.Reading as reading;
 ghost use Rattle.qx_machine.specs.Machine.{line_without};
@@ -11,7 +12,7 @@ ghost use Rattle.qx_machine.specs.Wants.{thread_wants_memory};
 ghost use Rattle.qx_isolation.specs.declared.rows.OwnItem.TheVariants as item;
 ghost use Rattle.qx_isolation.specs.declared.rows.ServerName.{ServerName as AnyServer};
 ghost use Rattle.qx_queues.specs.Queues.{unblock_call};
-ghost use Rattle.qx_process.specs.Reads.{Loses};
+ghost use Rattle.qx_process.specs.Reads.{Loses, bytes_received};
 ghost use Rattle.qx_shared.specs.Shared.{shared_line, with_shared_line};
 ghost use Rattle.qx_resmgr.specs.Deeds.{IsReplied};
 ghost use Rattle.qx_resources.specs.Ranges.{IsInRanges};
@@ -59,6 +60,8 @@ impl Channel {
         ensures room { OnOk result (self.new.room ≡ self.old.room) }
         ensures err { OnErr result ((self.new ≡ self.old) × (resources.new ≡ resources.old)) }
         ensures sure { IsFalse (thread_wants_memory (part_in self.old resources.old) thread.proc.num thread.tid moment) → IsOk result }
+        ensures memory { OnOk result (Leave (bytes_received (thread_row self.old.users thread)) (vec_capacity memory.old) (vec_capacity memory.new)) }
+        ensures kept { OnErr result (vec_capacity memory.new ≡ vec_capacity memory.old) }
     {
         let Some(processes) = self.users.processes_mut(thread.proc.user) else {
             return nothing();
@@ -146,7 +149,7 @@ impl Channel {
 
 /// A thread whose message was served is answered with what that came to, unless it is left without a reply: the message does
 /// what it does to the connection that it came over, a side connection goes, a new one goes with an error, and an unblock
-/// pulse of the call is in the line no more. There is a spare room again.
+/// pulse of the call is in the line no more. There is a spare room again, and the message leaves its memory for others.
 #[tactic(auto, using(crate::proofs::RoomLemmas::taken_awaits))]
 fn answer(
     process: &mut Process,
@@ -167,6 +170,7 @@ fn answer(
     ensures lost { IsReplied given → (lost : Option AnyServer) × Loses lost process.old process.new }
     ensures gone { IsReplied given → unblock_call (shared_line queues.old (manager_number call.target.manager)) thread ≡ Some call.number → unblock_call (line_without thread.proc.user.0 (item.Unblock thread.proc.num thread.tid call.number) (shared_line queues.old (manager_number call.target.manager))) thread ≡ None }
     ensures spare { IsSome spare.new }
+    ensures memory { Leave (bytes_received (row_at process.old.threads thread.tid)) (vec_capacity memory.old) (vec_capacity memory.new) }
 {
     let over = call.target.over;
     let lost = match given {
@@ -178,7 +182,7 @@ fn answer(
             let replied = Replied { status, effect };
             process.reply(thread.tid, over, replied, reply, memory)
         }
-        Err(error) => process.fail(thread.tid, over, error, None),
+        Err(error) => process.reply_error(thread.tid, over, error, memory),
     };
     drop_pulse(queues, thread, call);
     servers::disconnect(queues, thread.proc, lost);

@@ -312,6 +312,15 @@ impl Process {
         ensures lost { Loses result self.old self.new }
     {
         self.answer(thread, Answer::Failed(error), room);
+        self.give_back(thread, over)
+    }
+
+    /// What a call attached goes. Gives the server connection that the process has lost with that.
+    #[inline(always)]
+    fn give_back(&mut self, thread: u8, over: Over) -> Option<ServerName>
+        ensures process { self.new ≡ machine.after_error thread over self.old }
+        ensures lost { Loses result self.old self.new }
+    {
         match over {
             Over::New(coid) => self.detach(coid),
             Over::Side => self.detach_side(thread),
@@ -349,6 +358,26 @@ impl Process {
         let cell = self.thread_there(thread);
         cell.reply(replied.status, reply, memory);
         self.conclude(thread, over, replied.effect)
+    }
+
+    /// A thread whose message was received gets an error; what its call attached goes, and the message leaves its memory for
+    /// others (C Library Reference: `MsgError`). Gives the server connection that the process has lost with that.
+    #[tactic(auto, using(crate::proofs::RowLemmas::thread_absent))]
+    #[inline(always)]
+    pub fn reply_error(
+        &mut self,
+        thread: u8,
+        over: Over,
+        error: Errno,
+        memory: &mut Vec<u8>,
+    ) -> Option<ServerName>
+        requires received { AwaitsReply (row_at self.old.threads thread) }
+        ensures process { self.new ≡ machine.after_error thread over (with_thread thread (answered_thread (Answer.Failed error)) self.old) }
+        ensures lost { Loses result self.old self.new }
+        ensures memory { Leave (bytes_received (row_at self.old.threads thread)) (vec_capacity memory.old) (vec_capacity memory.new) }
+    {
+        self.thread_there(thread).reply_error(error, memory);
+        self.give_back(thread, over)
     }
 
     /// The process ends: its threads go, with their answers and rooms, and its connections, and what workers hold of its messages

@@ -2,7 +2,7 @@ ghost use Rattle.std.specs.Prelude.{◌≡◌, ◌<◌, ◌≤◌, IfSome, IsOk,
 ghost use Rattle.std.specs.Option.{option_copied};
 ghost use Rattle.qx_bytes.specs.Memory.{Leave};
 ghost use Rattle.qx_types.specs.declared.limits.TheConstants.Limits.{CALLS};
-ghost use Rattle.qx_types.specs.declared.outcome.Answer.TheVariants.{Reply as TheReply};
+ghost use Rattle.qx_types.specs.declared.outcome.Answer.TheVariants.{Failed, Reply as TheReply};
 ghost use Rattle.qx_machine.specs.Calls.{is_ready};
 ghost use Rattle.qx_machine.specs.Clients.{answer_in};
 ghost use Rattle.qx_machine.specs.Performing.{taken_in};
@@ -262,6 +262,17 @@ impl ThreadCell {
         self.has_room = false;
         let bytes = reply.take_many(room);
         answered(&mut self.doing, Answer::Reply(status, bytes), memory);
+    }
+
+    /// The thread, whose message was received, gets an error. The message leaves its memory for others (C Library Reference:
+    /// `MsgError`).
+    #[inline(always)]
+    pub fn reply_error(&mut self, error: Errno, memory: &mut Vec<u8>)
+        requires received { IsSome (taken_in self.old.state) }
+        ensures row { self.new ≡ answered_thread (Failed error) self.old }
+        ensures memory { Leave (received_in self.old.state) (vec_capacity memory.old) (vec_capacity memory.new) }
+    {
+        answered(&mut self.doing, Answer::Failed(error), memory);
     }
 
     /// The thread gets another priority (C Library Reference: `SchedSet`).

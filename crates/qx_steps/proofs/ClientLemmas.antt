@@ -1,7 +1,9 @@
 -- A client's step, by what the channel makes of it.
 use Rattle.std.proofs.Common.{◌≡◌, ◌≢◌, inl, inr, ℕ, List, Option, Some, None, Result, Ok, Err, slice_set, refl, sym, ap, ◌∙◌, Bool, false, true}
 use Rattle.std.specs.Prelude.{⊤, IfOk, IsErr, IsTrue, is_some}
+use Rattle.std.proofs.Math.Nat.{le-max_left, le_trans}
 use Rattle.std.proofs.lemmas.Bool.{cases_Bool}
+use Rattle.std.proofs.lemmas.Result.{IfOk-weaker}
 use Rattle.qx_types.specs.Configuration.{Configuration}
 use Rattle.qx_types.specs.declared.errno.Errno.TheVariants.{EINTR}
 use Rattle.qx_types.specs.declared.names.Prio.{Prio}
@@ -227,9 +229,11 @@ module _ (config : Configuration) (c : Channel) (ks : List (Option Kept)) (hands
     | inr refused ↦ rw refused.1 (call-refused thread request refused.0 (sym (call_target-told thread request) ∙ refused.1))
   ]
 
-  -- a call that has its memory in the world has it in the channel
-  pub has-memory : (thread : Thread) (request : Request) → IfOk (target_in w thread request) (HasMemory (row_among_parts w.parts thread) request) → IfOk (call_target config c thread request) (HasMemory (thread_row c.users thread) request)
-  has-memory thread request has = rw (call_target-told thread request, ← thread_row-told c ks thread sound.users) has
+  -- a call that has its memory in the world, with none kept, has it in the channel
+  pub has-memory : (kept : ℕ) (thread : Thread) (request : Request) → IfOk (target_in w thread request) (HasMemory 0 (row_among_parts w.parts thread) request) → IfOk (call_target config c thread request) (HasMemory kept (thread_row c.users thread) request)
+  has-memory kept thread request has =
+      rw (call_target-told thread request, ← thread_row-told c ks thread sound.users)
+      (IfOk-weaker (target_in w thread request) _ _ (λ addressed it. record { over = it.over; message = le_trans it.message (le-max_left _ kept); room = it.room }) has)
 
   -- ---- interrupt
 

@@ -217,7 +217,7 @@ impl World {
         ensures outcome { IfOk result (λ outcome. outcome ≡ (machine.step self.old (Step.Call thread request.now)).outcome) }
         ensures world { OnOk result (self.new ≡ (machine.step self.old (Step.Call thread request.now)).world) }
         ensures sure { IsTrue (is_refusal (machine.step self.old (Step.Call thread request.now)).outcome) → IsOk result }
-        ensures had_room { IfOk (target_in self.old thread request.now) (HasMemory (row_among_parts self.old.parts thread) request.now) → IsOk result }
+        ensures had_room { IfOk (target_in self.old thread request.now) (HasMemory 0 (row_among_parts self.old.parts thread) request.now) → IsOk result }
         ensures err { OnErr result (self.new ≡ self.old) }
     {
         let called = self.channel.call(

@@ -12,6 +12,9 @@ invariant_of-self-in-Err c = rw (set-row c.self.inside.users c.args.thread.proc.
 pub returns-in-Err-clause-ok : goal.returns-in-Err-clause-ok
 returns-in-Err-clause-ok c = rw (set-row c.self.inside.users c.args.thread.proc.user.0 c.in-Some.processes.now (sym c.in-Some.ensures.row), ← c.self.view_is, ← c.in-Some.ensures.row, ← c.in-Err.ensures.target) refl
 
+pub returns-in-Err-clause-kept : goal.returns-in-Err-clause-kept
+returns-in-Err-clause-kept c = rw (← c.self.view_is, ← c.in-Some.ensures.row, ← c.in-Err.ensures.target) refl
+
 pub invariant_of-self-in_err-encoded : goal.invariant_of-self-in_err-encoded
 invariant_of-self-in_err-encoded c = rw (set-row c.self.inside.users c.args.thread.proc.user.0 c.in-Some.processes.now (sym c.in-Some.ensures.row)) c.self.invariant
 
@@ -50,3 +53,6 @@ pub returns-clause-ok : goal.returns-clause-ok
 returns-clause-ok c =
     rw (← c.self.view_is, ← c.in-Some.ensures.row, ← c.in-Ok.ensures.target, ← c.in_ok-encoded.ensures.bytes)
     (shown-called c.self.inside.users c.args.thread c.in-Some.processes.now (sym c.in-Some.ensures.row) c.self.inside.tables.shared _ c.send_on.new.processes c.send_on.new.shared c.in_ok-send_on.ensures.ok c.in_ok-send_on.ensures.uses c.in_ok-send_on.ensures.sent c.self.invariant.shared c.self.inside.tables.mounts c.self.inside.tables.events.events)
+
+pub returns-clause-kept : goal.returns-clause-kept
+returns-clause-kept c = rw (← c.self.view_is, ← c.in-Some.ensures.row, ← c.in-Ok.ensures.target) c.in_ok-encoded.ensures.kept

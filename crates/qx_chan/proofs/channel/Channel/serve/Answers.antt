@@ -3,7 +3,7 @@ use Rattle.std.proofs.lemmas.Bool.{false≢true}
 use Rattle.qx_machine.specs.Performing.{dup_of}
 use Rattle.qx_chan.specs.inner.Calls.{taken_call}
 use Rattle.qx_chan.specs.Users.{thread_row}
-use Rattle.qx_chan.proofs.MessageLemmas.{Serves-untaken, caller-received, received, received-alone, received-wants, room-there, taken-received}
+use Rattle.qx_chan.proofs.MessageLemmas.{Serves-untaken, caller-received, received, received-alone, received-wants, room-there, taken-received, untaken-bytes}
 use Rattle.qx_chan.proofs.PerformLemmas.{fits-answered, is_done, nodes-done, performed, room-performed, unasked-done}
 use Rattle.qx_chan.proofs.ProcessLemmas.{process-put_back}
 use Rattle.qx_chan.proofs.PulseLemmas.{user-fits}
@@ -28,6 +28,10 @@ returns-in_default-taken-clause-ok c =
     let none : taken_call (thread_row c.self.inside.users c.args.thread) ≡ None = rw (← c.in-Some.ensures.row, ← c.in-Some-process_mut.ensures.row, ← c.in-Some-thread.ensures.row, ← c.in_default-taken.ensures.message) refl in
     rw (c.nothing-in_default-taken.ensures, ← c.self.view_is, process-put_back c.self.inside.users c.args.thread.proc c.in-Some.processes.now c.in-Some-process_mut.process.now c.in-Some.ensures.row c.in-Some-process_mut.ensures.row)
     (Serves-untaken c.args.thread c.args.moment c.self.inside.users c.self.inside.tables c.args.resources.now c.requires.user none)
+
+pub returns-in_default-taken-clause-memory : goal.returns-in_default-taken-clause-memory
+returns-in_default-taken-clause-memory c =
+    rw (c.nothing-in_default-taken.ensures, ← c.self.view_is, ← c.in-Some.ensures.row, ← c.in-Some-process_mut.ensures.row, ← c.in-Some-thread.ensures.row, untaken-bytes c.in-Some-thread.cell.now c.in_default-taken.ensures.message) (search rules)
 
 pub watch_message-watched-requires : goal.watch_message-watched-requires
 watch_message-watched-requires c = record { fits = user-fits c.self.inside.users c.self.inside.tables c.args.resources.now c.in-Some.processes.now (rw c.requires.user (sym c.in-Some.ensures.row)) c.self.invariant }
@@ -112,3 +116,6 @@ returns-clause-room c =
     c.meaning_of-meaning.result c.meaning_of-meaning.ensures.meaning c.context_of-context.result (rw c.caller.ensures at c.context_of-context.ensures.context)
     c.watch_message-watched.ensures.there c.watch_message-watched.result c.watch_message-watched.ensures.watched c.perform.new.self c.perform.new.all c.perform.new.reply c.in_ok-given.given c.in_ok-given.ensures.did in
     rw (← c.self.view_is, c.give_answers.ensures.queues) (room-performed done c.answer.new.process c.answer.ensures.process c.trigger.new.tables (rw c.answer.ensures.queues at c.trigger.ensures.triggered))
+
+pub returns-clause-memory : goal.returns-clause-memory
+returns-clause-memory c = rw (← c.self.view_is, ← c.in-Some.ensures.row, ← c.in-Some-process_mut.ensures.row) c.answer.ensures.memory

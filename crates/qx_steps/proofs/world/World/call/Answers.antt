@@ -1,4 +1,4 @@
-use Rattle.std.proofs.Common.{◌∙◌, refl, sym}
+use Rattle.std.proofs.Common.{◌∙◌, refl, sym, vec_capacity}
 use Rattle.std.proofs.lemmas.Bool.{false≢true}
 use Rattle.qx_chan.specs.Sending.{call_target}
 use Rattle.qx_steps.proofs.ClientLemmas.{call-refusal, call-sound, call-step, has-memory, told-refused, told-sent}
@@ -17,7 +17,7 @@ returns-in_err-called-clause-sure c =
 pub returns-in_err-called-clause-had_room : goal.returns-in_err-called-clause-had_room
 returns-in_err-called-clause-had_room c =
     rw (← c.self.view_is)
-    (λ has. absurd (false≢true (c.in_err-called.ensures.had_room (has-memory c.self.inside.config c.self.inside.channel c.self.inside.resources c.self.inside.hands.items c.self.invariant c.args.thread c.args.request.now has))))
+    (λ has. absurd (false≢true (c.in_err-called.ensures.had_room (has-memory c.self.inside.config c.self.inside.channel c.self.inside.resources c.self.inside.hands.items c.self.invariant (vec_capacity c.self.inside.memory) c.args.thread c.args.request.now has))))
 
 pub returns-in_err-called-clause-err : goal.returns-in_err-called-clause-err
 returns-in_err-called-clause-err c = on_err c.from_residual.result (rw c.in_err-called.ensures.err c.self.view_is)
